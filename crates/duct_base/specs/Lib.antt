@@ -1,0 +1,6 @@
+pub mod Entry
+pub mod Line
+pub mod Spec
+pub mod Status
+pub mod Streams
+pub mod Told

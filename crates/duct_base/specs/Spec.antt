@@ -1,0 +1,49 @@
+-- What a contract sees of a command's spec.
+use Rattle.std.specs.Prelude.{ℕ, List, ◌≡◌, string_bytes}
+use Rattle.std.specs.declared.option.Option.{Option}
+use Rattle.std.specs.declared.string.String.{String}
+use Rattle.std.specs.BTreeMap.{is_at}
+use Rattle.std.specs.Map.{lookup}
+use Rattle.std.specs.Cmp.Lexicographic.{slice_cmp}
+use Rattle.std.specs.Ordering.{nat_cmp}
+use Rattle.duct_base.specs.declared.spec.Port.{Port}
+use Rattle.duct_base.specs.declared.spec.Port.TheVariants.{Given}
+use Rattle.duct_base.specs.declared.spec.Stream.{Stream}
+use Rattle.duct_base.specs.declared.spec.Stream.TheVariants.{In, Out, Err}
+
+-- variables, in order of name
+abbrev pub Vars : Type 0
+Vars = List (List ℕ × List ℕ)
+
+-- the words, the folder, the variables in order of name, and the three streams
+pub record Spec : Type 0 where
+  pub words : List (List ℕ)
+  pub folder : Option (List ℕ)
+  pub vars : Vars
+  pub input : Port
+  pub output : Port
+  pub error : Port
+
+-- the value of a name
+abbrev pub value_of : List ℕ → Vars → Option (List ℕ)
+value_of name vars = lookup (is_at (slice_cmp nat_cmp name)) vars
+
+-- the text of a name and of its value
+abbrev pub pair_text : {Z : Type 0} → String Z × String Z → List ℕ × List ℕ
+pair_text p = (string_bytes p.0, string_bytes p.1)
+
+-- the port of a stream
+abbrev pub port_of : Stream → Spec → Port
+port_of In spec = spec.input
+port_of Out spec = spec.output
+port_of Err spec = spec.error
+
+-- the spec with this stream given an end
+abbrev pub gives : Stream → Spec → Spec
+gives In spec = record spec { input = Given }
+gives Out spec = record spec { output = Given }
+gives Err spec = record spec { error = Given }
+
+-- no stream is given an end afterwards that was not before
+abbrev pub GivesNothing : Spec → Spec → Type 0
+GivesNothing before after = (stream : Stream) → port_of stream after ≡ Given → port_of stream before ≡ Given

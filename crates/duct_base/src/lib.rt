@@ -1,0 +1,7 @@
+//! What every part of duct speaks of: the interface to the operating system, the spec of a command, the errors,
+//! statuses and abandoned children. It knows no expression.
+#![tactic(auto)]
+
+pub mod error;
+pub mod spec;
+pub mod system;
