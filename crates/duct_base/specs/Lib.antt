@@ -1,7 +1,10 @@
 pub mod Entry
 pub mod Kept
+pub mod Ledger
 pub mod Line
+pub mod Origin
 pub mod Spec
 pub mod Status
 pub mod Streams
 pub mod Told
+pub mod Trace
