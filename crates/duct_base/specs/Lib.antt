@@ -1,3 +1,4 @@
+pub mod Abandoned
 pub mod Entry
 pub mod Kept
 pub mod Ledger

@@ -4,5 +4,6 @@
 
 pub mod error;
 pub mod journal;
+pub mod pool;
 pub mod spec;
 pub mod system;
