@@ -1,4 +1,5 @@
 pub mod Entry
+pub mod Executable
 pub mod Line
 pub mod Spec
 pub mod Status

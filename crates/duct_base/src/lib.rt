@@ -3,5 +3,6 @@
 #![tactic(auto)]
 
 pub mod error;
+pub mod exe;
 pub mod spec;
 pub mod system;
