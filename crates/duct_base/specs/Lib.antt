@@ -1,5 +1,6 @@
 pub mod Abandoned
 pub mod Entry
+pub mod Executable
 pub mod Kept
 pub mod Ledger
 pub mod Line

@@ -1,0 +1,4 @@
+pub mod LastValues
+pub mod Texts
+pub mod Tree
+pub mod TreeOf
