@@ -6,6 +6,7 @@ pub mod Ledger
 pub mod Line
 pub mod Origin
 pub mod Spec
+pub mod Started
 pub mod Status
 pub mod Streams
 pub mod Told
