@@ -6,6 +6,7 @@ pub mod LastValues
 pub mod Lookup
 pub mod Path
 pub mod Plan
+pub mod Start
 pub mod Texts
 pub mod Tree
 pub mod TreeOf
