@@ -47,6 +47,13 @@ impl Journal {
         *self.entries.allocator()
     }
 
+    /// How many more entries go in without memory.
+    pub fn room(&self) -> usize
+        ensures { result ≡ self.now.room }
+    {
+        self.room
+    }
+
     /// Makes room for one entry and for this many after it. Where there is no memory the answer is `OutOfMemory` and the
     /// journal is as it was.
     pub fn prepare(&mut self, ends: usize) -> Result<(), Fault>
