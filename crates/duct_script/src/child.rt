@@ -1,9 +1,13 @@
 //! The children of a scripted system.
-ghost use Rattle.std.specs.Prelude.{◌≡◌, ℕ, ◌+◌, ◌-◌, ◌^◌, min, [], None};
+ghost use Rattle.std.specs.Prelude.{◌≡◌, [], None};
+ghost use Rattle.duct_base.specs.Told.{Notes};
 
 use crate::answers::Answers;
+use crate::calls::{Call, CallLog};
+use crate::gate::Gate;
 use duct_base::system::{Child, ExitStatus, Fault, Kind, Numbered, Order};
 use std::alloc::Global;
+use std::sync::Arc;
 
 /// What a child answers to a poll.
 #[derive(Clone, Copy, Debug, PartialEq, Eq)]
@@ -30,6 +34,8 @@ pub struct ChildScript {
     pub polls: Answers<PollAnswer>,
     pub kills: Answers<Result<(), Fault>>,
     pub signals: Answers<Result<(), Fault>>,
+    /// A gate that whoever asks for its number has to pass.
+    pub gate: Option<Gate>,
 }
 
 impl ChildScript {
@@ -39,6 +45,7 @@ impl ChildScript {
             polls: Answers::none(alloc),
             kills: Answers::none(alloc),
             signals: Answers::none(alloc),
+            gate: None,
         }
     }
 }
@@ -52,11 +59,17 @@ pub struct ScriptChild {
     last: Option<Result<Option<ExitStatus>, Fault>>,
     ending: Option<ExitStatus>,
     orders: Vec<(Order, Result<(), Fault>)>,
+    calls: Option<Arc<CallLog>>,
 }
 
 impl ScriptChild {
-    /// The child of this number, as it is before anybody asks it.
-    pub fn new(alloc: Global, number: u64, script: ChildScript) -> ScriptChild
+    /// The child of this number, as it is before anybody asks it. It notes its calls in this log.
+    pub fn new(
+        alloc: Global,
+        number: u64,
+        script: ChildScript,
+        calls: Option<Arc<CallLog>>,
+    ) -> ScriptChild
         ensures number { result.number ≡ number }
         ensures polls { result.polls ≡ 0 }
         ensures last { result.last ≡ None }
@@ -70,7 +83,35 @@ impl ScriptChild {
             last: None,
             ending: None,
             orders: Vec::new(alloc),
+            calls,
         }
+    }
+
+    /// Notes a call, where there is a log.
+    fn note(&self, call: Call) {
+        if let Some(calls) = &self.calls {
+            calls.write(call);
+        }
+    }
+
+    /// Notes an order with the answer that a list has for it, where there is memory.
+    fn order(&mut self, order: Order) -> Result<(), Fault>
+        ensures noted { Notes (λ _ _. Unit {0}) self.old.orders.items self.new.orders.items order result }
+        ensures ending { self.new.ending ≡ self.old.ending }
+        ensures last { self.new.last ≡ self.old.last }
+        ensures polls { self.new.polls ≡ self.old.polls }
+        ensures number { self.new.number ≡ self.old.number }
+    {
+        if self.orders.reserve(1).is_err() {
+            return Err(Fault::new(Kind::OutOfMemory));
+        }
+        self.note(Call::Order(self.number));
+        let answer = match order {
+            Order::Kill => self.script.kills.next_or(Ok(())),
+            Order::Signal(_) => self.script.signals.next_or(Ok(())),
+        };
+        self.orders.push_reserved((order, answer));
+        answer
     }
 
     /// How often it was polled.
@@ -92,6 +133,9 @@ impl Numbered for ScriptChild {
     ghost number_of = { λ c. c.number };
 
     fn number(&self) -> u64 {
+        if let Some(gate) = &self.script.gate {
+            let _ = gate.pass();
+        }
         self.number
     }
 }
@@ -114,6 +158,7 @@ impl Child for ScriptChild {
     ghost process = { λ c. min (c.number + 1000) (2 ^ 32 - 1) };
 
     fn poll(&mut self) -> Result<Option<ExitStatus>, Fault> {
+        self.note(Call::Poll(self.number));
         self.polls = self.polls.saturating_add(1);
         let answer = match self.ending {
             Some(status) => Ok(Some(status)),
@@ -127,21 +172,11 @@ impl Child for ScriptChild {
     }
 
     fn kill(&mut self) -> Result<(), Fault> {
-        if self.orders.reserve(1).is_err() {
-            return Err(Fault::new(Kind::OutOfMemory));
-        }
-        let answer = self.script.kills.next_or(Ok(()));
-        self.orders.push_reserved((Order::Kill, answer));
-        answer
+        self.order(Order::Kill)
     }
 
     fn signal(&mut self, signal: i32) -> Result<(), Fault> {
-        if self.orders.reserve(1).is_err() {
-            return Err(Fault::new(Kind::OutOfMemory));
-        }
-        let answer = self.script.signals.next_or(Ok(()));
-        self.orders.push_reserved((Order::Signal(signal), answer));
-        answer
+        self.order(Order::Signal(signal))
     }
 
     fn id(&self) -> u32 {

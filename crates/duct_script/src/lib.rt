@@ -3,7 +3,10 @@
 #![tactic(auto)]
 
 pub mod answers;
+pub mod calls;
 pub mod child;
+pub mod clock;
+pub mod gate;
 pub mod job;
 pub mod reader;
 pub mod requests;

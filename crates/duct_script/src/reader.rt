@@ -1,6 +1,7 @@
 //! The readers of a scripted system.
 ghost use Rattle.std.specs.Prelude.{◌≡◌, ℕ, ◌<◌, ◌≤◌, [], ◌++◌, take, drop, length, vec_len, Some, IfOk};
 
+use crate::gate::Gate;
 use std::alloc::Global;
 use std::collections::VecDeque;
 use std::io;
@@ -21,6 +22,8 @@ pub enum ReadStep {
 pub struct ReaderScript {
     pub bytes: Vec<u8>,
     pub steps: VecDeque<ReadStep>,
+    /// A gate that each read has to pass.
+    pub gate: Option<Gate>,
 }
 
 impl ReaderScript {
@@ -29,6 +32,7 @@ impl ReaderScript {
         ReaderScript {
             bytes: Vec::new(alloc),
             steps: VecDeque::new(alloc),
+            gate: None,
         }
     }
 }
@@ -40,6 +44,7 @@ pub struct ScriptReader {
     bytes: Vec<u8>,
     given: usize,
     steps: VecDeque<ReadStep>,
+    gate: Option<Gate>,
     ghost within: { given ≤ vec_len bytes },
 }
 
@@ -48,12 +53,13 @@ impl ScriptReader {
     pub fn new(number: u64, script: ReaderScript) -> ScriptReader
         ensures { result.number ≡ number }
     {
-        let ReaderScript { bytes, steps } = script;
+        let ReaderScript { bytes, steps, gate } = script;
         ScriptReader {
             number,
             bytes,
             given: 0,
             steps,
+            gate,
         }
     }
 
@@ -110,6 +116,9 @@ impl Read for ScriptReader {
     ghost remaining = { λ r. Some (drop r.given r.bytes.items) };
 
     fn read(&mut self, buf: &mut [u8]) -> io::Result<usize> {
+        if let Some(gate) = &self.gate {
+            let _ = gate.pass();
+        }
         let most = self.step()?;
         let count = self.give(buf, most);
         self.put_back(most - count);

@@ -6,6 +6,7 @@ ghost use Rattle.duct_base.specs.Spec.{pair_text};
 ghost use Rattle.duct_base.specs.Streams.{stream_of, end_of, ends_of};
 
 use crate::answers::Answers;
+use crate::calls::{Call, CallLog};
 use crate::child::{ChildScript, PollAnswer, ScriptChild};
 use crate::job::{DrainScript, FeedScript, ScriptDrain, ScriptFeed};
 use crate::reader::{ReaderScript, ScriptReader};
@@ -43,6 +44,8 @@ pub struct Script {
     drains: VecDeque<DrainScript>,
     readers: VecDeque<ReaderScript>,
     empty: Arc<Vec<u8>>,
+    calls: Option<Arc<CallLog>>,
+    starved: bool,
 }
 
 impl Script {
@@ -58,6 +61,8 @@ impl Script {
             drains: VecDeque::new(alloc),
             readers: VecDeque::new(alloc),
             empty: Arc::new(alloc, Vec::new(alloc))?,
+            calls: None,
+            starved: false,
         })
     }
 
@@ -129,6 +134,16 @@ impl Script {
         Ok(())
     }
 
+    /// Sets the log in which each request is noted, and each poll and order of the children of later spawns.
+    pub fn note_in(&mut self, calls: Arc<CallLog>) {
+        self.calls = Some(calls);
+    }
+
+    /// Says whether the system finds no memory from now on. A request that is given an end needs none.
+    pub fn starve(&mut self, starved: bool) {
+        self.starved = starved;
+    }
+
     /// Passes over the numbers below this one.
     pub fn skip_numbers_below(&mut self, number: u64)
         ensures log { self.new.journal.log ≡ self.old.journal.log }
@@ -156,6 +171,28 @@ impl Script {
         self.requests.asked()
     }
 
+    /// Counts a request, notes it, and answers the fault that is set for it.
+    fn ask(&mut self, sort: Sort) -> Option<Fault>
+        ensures { self.new.journal ≡ self.old.journal }
+    {
+        if let Some(calls) = &self.calls {
+            calls.write(Call::Request(sort));
+        }
+        self.requests.count(sort)
+    }
+
+    /// Makes room for an entry and for this many after it.
+    fn prepare(&mut self, ends: usize) -> Result<(), Fault>
+        ensures ok { OnOk result (self.new.journal ≡ record self.old.journal { room = self.old.journal.room + ends + 1 }) }
+        ensures err { IfErr result (λ fault. fault.kind ≡ OutOfMemory) }
+        ensures unchanged { OnErr result (self.new.journal ≡ self.old.journal) }
+    {
+        if self.starved {
+            return Err(Fault::new(Kind::OutOfMemory));
+        }
+        self.journal.prepare(ends)
+    }
+
     /// Counts a request, and takes this many numbers in a row for its answer.
     fn answer(&mut self, sort: Sort, count: u64) -> Result<u64, Fault>
         ensures ok { IfOk result (λ first. (first ≡ self.old.journal.next) × (self.new.journal.next ≡ first + count)) }
@@ -164,7 +201,7 @@ impl Script {
         ensures log { self.new.journal.log ≡ self.old.journal.log }
         ensures room { self.new.journal.room ≡ self.old.journal.room }
     {
-        if let Some(fault) = self.requests.count(sort) {
+        if let Some(fault) = self.ask(sort) {
             return Err(fault);
         }
         match self.journal.take_numbers(count) {
@@ -225,7 +262,13 @@ impl Script {
             Some(script) => script,
             None => ChildScript::running(alloc),
         };
-        ScriptChild::new(alloc, number, script)
+        ScriptChild::new(alloc, number, script, self.shared_calls())
+    }
+
+    /// One more owner of the log, if there is one and it isn't refused.
+    fn shared_calls(&self) -> Option<Arc<CallLog>> {
+        let calls = self.calls.as_ref()?;
+        Arc::try_clone(calls).ok()
     }
 
     /// The next feed, with this number.
@@ -249,7 +292,7 @@ impl Script {
         ensures polls { IfOk result (λ job. job.polls ≡ 0) }
         ensures kept { IfOk result (λ job. job.kept.value ≡ Running) }
     {
-        if let Some(fault) = self.requests.count(Sort::Drain) {
+        if let Some(fault) = self.ask(Sort::Drain) {
             return Err(fault);
         }
         let Ok(empty) = Arc::try_clone(&self.empty) else {
@@ -347,8 +390,8 @@ impl System for Script {
         let alloc = self.journal.allocator();
         let kept = copies_of(alloc, self.variables.as_slice())?;
         let answer = copies_of(alloc, self.variables.as_slice())?;
-        self.journal.prepare(0)?;
-        if let Some(fault) = self.requests.count(Sort::Environment) {
+        self.prepare(0)?;
+        if let Some(fault) = self.ask(Sort::Environment) {
             self.journal.add(Entry::Environment(Err(fault)));
             return Err(fault);
         }
@@ -357,7 +400,7 @@ impl System for Script {
     }
 
     fn pipe(&mut self) -> Result<(ScriptEnd, ScriptEnd), Fault> {
-        self.journal.prepare(2)?;
+        self.prepare(2)?;
         match self.answer(Sort::Pipe, 2) {
             Ok(first) => {
                 let second = first + 1;
@@ -374,7 +417,7 @@ impl System for Script {
 
     fn open_read(&mut self, path: &str) -> Result<ScriptEnd, Fault> {
         let kept = copy_of(self.journal.allocator(), path)?;
-        self.journal.prepare(1)?;
+        self.prepare(1)?;
         let got = self.answer(Sort::OpenRead, 1);
         self.journal.add(Entry::OpenRead(kept, got));
         self.got(got)
@@ -382,21 +425,21 @@ impl System for Script {
 
     fn create(&mut self, path: &str) -> Result<ScriptEnd, Fault> {
         let kept = copy_of(self.journal.allocator(), path)?;
-        self.journal.prepare(1)?;
+        self.prepare(1)?;
         let got = self.answer(Sort::Create, 1);
         self.journal.add(Entry::Create(kept, got));
         self.got(got)
     }
 
     fn duplicate(&mut self, end: &ScriptEnd) -> Result<ScriptEnd, Fault> {
-        self.journal.prepare(1)?;
+        self.prepare(1)?;
         let got = self.answer(Sort::Duplicate, 1);
         self.journal.add(Entry::Duplicate(end.number, got));
         self.got(got)
     }
 
     fn parent(&mut self, side: Side) -> Result<ScriptEnd, Fault> {
-        self.journal.prepare(1)?;
+        self.prepare(1)?;
         let got = self.answer(Sort::Parent, 1);
         self.journal.add(Entry::Parent(side, got));
         self.got(got)
@@ -407,8 +450,8 @@ impl System for Script {
         let asked = copy_of(alloc, path)?;
         let kept = copy_of(alloc, self.canonical_text(path))?;
         let answer = copy_of(alloc, kept.as_str())?;
-        self.journal.prepare(0)?;
-        if let Some(fault) = self.requests.count(Sort::Canonicalize) {
+        self.prepare(0)?;
+        if let Some(fault) = self.ask(Sort::Canonicalize) {
             self.journal.add(Entry::Canonicalize(asked, Err(fault)));
             return Err(fault);
         }
@@ -428,7 +471,7 @@ impl System for Script {
     {
         let (streams, ends) = numbered_streams(io);
         if ends == 0 {
-            self.journal.prepare(0)?;
+            self.prepare(0)?;
         }
         let answer = self.answer(Sort::Spawn, 1);
         self.journal.add(Entry::Spawn(spec, streams, answer));
@@ -440,7 +483,7 @@ impl System for Script {
     }
 
     fn start_feed(&mut self, end: ScriptEnd, bytes: Arc<Vec<u8>>) -> Result<ScriptFeed, Fault> {
-        let started = match self.requests.count(Sort::Feed) {
+        let started = match self.ask(Sort::Feed) {
             Some(fault) => Err(fault),
             None => Ok(()),
         };
@@ -460,7 +503,7 @@ impl System for Script {
     }
 
     fn reader(&mut self, end: ScriptEnd) -> ScriptReader {
-        let _ = self.requests.count(Sort::Reader);
+        let _ = self.ask(Sort::Reader);
         self.journal.add(Entry::Reader(end.number));
         let script = match self.readers.pop_front() {
             Some(script) => script,
@@ -470,7 +513,7 @@ impl System for Script {
     }
 
     fn close(&mut self, end: ScriptEnd) {
-        let _ = self.requests.count(Sort::Close);
+        let _ = self.ask(Sort::Close);
         self.journal.add(Entry::Close(end.number));
     }
 
