@@ -3,6 +3,8 @@
 #![tactic(auto)]
 
 pub mod error;
+pub mod exe;
 pub mod journal;
+pub mod pool;
 pub mod spec;
 pub mod system;

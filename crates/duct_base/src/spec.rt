@@ -163,3 +163,6 @@ pub trait Hook: Drop {
         ensures err { IfErr result (refuses self.now spec.old) }
         ensures given { OnOk result (GivesNothing spec.old spec.new) };
 }
+
+/// A hook of any type, as an expression keeps it.
+pub type HookBox = Box<dyn Hook + Send + Sync>;

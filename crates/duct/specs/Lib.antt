@@ -1,0 +1,11 @@
+pub mod Asked
+pub mod Causes
+pub mod Chain
+pub mod Follows
+pub mod LastValues
+pub mod Lookup
+pub mod Path
+pub mod Plan
+pub mod Texts
+pub mod Tree
+pub mod TreeOf
