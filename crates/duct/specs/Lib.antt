@@ -1,4 +1,7 @@
 pub mod LastValues
-pub mod Texts
+pub mod Pairs
+pub mod Printed
+pub mod Shown
+pub mod Text
 pub mod Tree
 pub mod TreeOf

@@ -1,6 +1,8 @@
 pub mod Entry
 pub mod Executable
 pub mod Line
+pub mod Name
+pub mod Quoted
 pub mod Spec
 pub mod Status
 pub mod Streams

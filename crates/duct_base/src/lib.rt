@@ -4,5 +4,6 @@
 
 pub mod error;
 pub mod exe;
+pub mod names;
 pub mod spec;
 pub mod system;
