@@ -1,5 +1,12 @@
+pub mod Asked
+pub mod Causes
+pub mod Chain
+pub mod Follows
 pub mod LastValues
+pub mod Lookup
 pub mod Pairs
+pub mod Path
+pub mod Plan
 pub mod Printed
 pub mod Shown
 pub mod Text

@@ -2,6 +2,7 @@
 #![tactic(auto)]
 
 mod expression;
+mod start;
 
 pub use duct_base::error::Error;
 pub use duct_base::exe::IntoExecutablePath;

@@ -1,9 +1,15 @@
+pub mod Abandoned
 pub mod Entry
 pub mod Executable
+pub mod Kept
+pub mod Ledger
 pub mod Line
 pub mod Name
+pub mod Origin
 pub mod Quoted
 pub mod Spec
+pub mod Started
 pub mod Status
 pub mod Streams
 pub mod Told
+pub mod Trace

@@ -4,6 +4,8 @@
 
 pub mod error;
 pub mod exe;
+pub mod journal;
 pub mod names;
+pub mod pool;
 pub mod spec;
 pub mod system;
