@@ -1,2 +1,3 @@
+pub mod Debug
 pub mod Environments
-pub mod Variables
+pub mod Printing

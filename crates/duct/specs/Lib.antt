@@ -4,8 +4,11 @@ pub mod Chain
 pub mod Follows
 pub mod LastValues
 pub mod Lookup
+pub mod Pairs
 pub mod Path
 pub mod Plan
-pub mod Texts
+pub mod Printed
+pub mod Shown
+pub mod Text
 pub mod Tree
 pub mod TreeOf
