@@ -4,9 +4,12 @@ pub mod Chain
 pub mod Follows
 pub mod LastValues
 pub mod Lookup
+pub mod Pairs
 pub mod Path
 pub mod Plan
+pub mod Printed
+pub mod Shown
 pub mod Start
-pub mod Texts
+pub mod Text
 pub mod Tree
 pub mod TreeOf

@@ -1,11 +1,12 @@
 //! An expression: a shared tree of commands, pipes between them, and what is asked of them.
 ghost use Rattle.std.specs.Prelude.{◌≡◌, ◌∷◌, map, string_bytes, IfOk, IsOkUnless};
 ghost use Rattle.std.specs.Arc.{arc_value};
-ghost use Rattle.duct.specs.Texts.{texts_of};
+ghost use Rattle.duct_base.specs.Spec.{texts_of};
 ghost use Rattle.duct.specs.Tree.{command};
 ghost use Rattle.duct.specs.TreeOf.{tree_of};
 
 mod builders;
+mod debug;
 
 use duct_base::error::Error;
 use duct_base::exe::IntoExecutablePath;

@@ -1,1 +1,3 @@
+pub mod Entries
+pub mod Quotes
 pub mod Variables

@@ -4,7 +4,9 @@ pub mod Executable
 pub mod Kept
 pub mod Ledger
 pub mod Line
+pub mod Name
 pub mod Origin
+pub mod Quoted
 pub mod Spec
 pub mod Started
 pub mod Status

@@ -5,6 +5,7 @@
 pub mod error;
 pub mod exe;
 pub mod journal;
+pub mod names;
 pub mod pool;
 pub mod spec;
 pub mod system;

@@ -3,7 +3,7 @@
 ghost use Rattle.std.specs.Prelude.{◌≡◌, map, IfOk, IsOkUnless};
 ghost use Rattle.duct_base.specs.Spec.{pair_text};
 ghost use Rattle.duct.specs.LastValues.{last_values};
-ghost use Rattle.duct.specs.Texts.{pairs_of};
+ghost use Rattle.duct.specs.Pairs.{pairs_of};
 ghost use Rattle.duct.specs.Tree.{pipe, around, stdin_bytes, stdin_path, stdin_file, stdin_null, stdout_path, stdout_file, stdout_null, stdout_capture, stdout_to_stderr, stderr_path, stderr_file, stderr_null, stderr_capture, stderr_to_stdout, stdout_stderr_swap, dir, env, env_remove, full_env, unchecked, before_spawn};
 ghost use Rattle.duct.specs.TreeOf.{layer_of, tree_of};
 

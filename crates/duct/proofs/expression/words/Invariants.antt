@@ -1,5 +1,5 @@
 use Rattle.std.proofs.Common.{map, ◌≡◌, ◌∷◌, string_bytes, take}
-use Rattle.duct.specs.Texts.{texts_of}
+use Rattle.duct_base.specs.Spec.{texts_of}
 use Rattle.duct.proofs.expression.words.Given as goal
 
 abbrev pub invariant-loop-arg : goal.invariant-loop-arg

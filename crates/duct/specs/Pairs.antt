@@ -1,11 +1,7 @@
--- Borrowed texts as lists of bytes.
+-- Borrowed names and values as lists of bytes.
 use Rattle.std.specs.Prelude.{ℕ, List, map}
 use Rattle.std.specs.Borrow.{Bor}
 use Rattle.duct_base.specs.Spec.{Vars}
-
--- the texts of some words
-abbrev pub texts_of : List (Bor (List ℕ)) → List (List ℕ)
-texts_of words = map (λ word. word.now) words
 
 -- the texts of some names and their values
 abbrev pub pairs_of : List (Bor (List ℕ) × Bor (List ℕ)) → Vars
