@@ -1,7 +1,7 @@
 pub mod Abandoned
 pub mod Entry
 pub mod Executable
-pub mod Kept
+pub mod Journal
 pub mod Ledger
 pub mod Line
 pub mod Name

@@ -1,7 +1,7 @@
 //! The journal that a system keeps: its entries, the room for more of them, and the count of numbers.
 ghost use Rattle.std.specs.Prelude.{◌≡◌, ◌+◌, ◌-◌, ◌^◌, ◌<◌, ◌≤◌, [], ◌∷◌, ◌++◌, map, IfSome, IfNone, OnSome, OnOk, OnErr, IfErr, MatchOption};
 ghost use Rattle.duct_base.specs.Entry.{line_of};
-ghost use Rattle.duct_base.specs.Kept.{Kept};
+ghost use Rattle.duct_base.specs.Journal.{Kept};
 ghost use Rattle.duct_base.specs.Line.{Line};
 ghost use Rattle.duct_base.specs.declared.system.Kind.TheVariants.{OutOfMemory};
 
@@ -21,7 +21,7 @@ pub struct Journal {
 impl Model for Journal {
     ghost use Rattle.std.specs.Prelude.{◌+◌, ◌≤◌, map, vec_len, vec_capacity};
     ghost use Rattle.duct_base.specs.Entry.{line_of};
-    ghost use Rattle.duct_base.specs.Kept.{Kept};
+    ghost use Rattle.duct_base.specs.Journal.{Kept};
 
     ghost Value = { Kept };
 

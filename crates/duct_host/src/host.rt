@@ -35,7 +35,7 @@ pub struct Host<R> {
 
 /// What contracts see of a host is its journal.
 impl<R> Model for Host<R> {
-    ghost use Rattle.duct_base.specs.Kept.{Kept};
+    ghost use Rattle.duct_base.specs.Journal.{Kept};
 
     ghost Value = { Kept };
 
