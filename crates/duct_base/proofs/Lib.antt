@@ -1,1 +1,5 @@
+pub mod Changes
+pub mod Looks
+pub mod Order
+pub mod Shown
 pub mod Variables

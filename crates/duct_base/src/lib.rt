@@ -4,4 +4,5 @@
 
 pub mod error;
 pub mod spec;
+pub mod status;
 pub mod system;
