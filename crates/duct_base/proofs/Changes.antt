@@ -2,10 +2,10 @@
 use Rattle.std.proofs.Common.{◌≡◌, ℕ, zero, suc, ◌+◌, ◌<◌, ◌≤◌, List, [], ◌∷◌, length, get_or, set, refl, ap, sym, ◌∙◌, arith}
 use Rattle.duct_base.specs.Words.{change_at}
 
-pub changed_set : {T : Type 0} (change : T → T) (k : ℕ) (xs : List T) (d y : T) → k < length xs → y ≡ change (get_or xs k d) → set xs k y ≡ change_at change k xs
-changed_set change k [] d y low new = absurd (omega arith)
-changed_set change zero (w ∷ xs) d y low new = ap (λ v. v ∷ xs) new
-changed_set change (suc k) (w ∷ xs) d y low new = ap (λ ys. w ∷ ys) (changed_set change k xs d y (omega arith) new)
+pub changed_set : {T : Type 0} (change : T → T) (k : ℕ) (xs : List T) (x y : T) → k < length xs → x ≡ get_or xs k x → y ≡ change x → set xs k y ≡ change_at change k xs
+changed_set change k [] x y low is new = absurd (omega arith)
+changed_set change zero (w ∷ xs) x y low is new = ap (λ v. v ∷ xs) (new ∙ ap change is)
+changed_set change (suc k) (w ∷ xs) x y low is new = ap (λ ys. w ∷ ys) (changed_set change k xs x y (omega arith) is new)
 
 pub changed_past : {T : Type 0} (change : T → T) (k : ℕ) (xs : List T) → length xs ≤ k → change_at change k xs ≡ xs
 changed_past change k [] past = refl

@@ -1,3 +1,4 @@
+pub mod Bytes
 pub mod Choice
 pub mod Conclusion
 pub mod Endings
@@ -13,6 +14,7 @@ pub mod Response
 pub mod Shapes
 pub mod Spec
 pub mod Standing
+pub mod State
 pub mod Status
 pub mod Streams
 pub mod Texts

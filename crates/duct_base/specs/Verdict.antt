@@ -49,12 +49,16 @@ pub data Verdict : Type 0 where
   faults : Fault → Verdict
   finished : List ℕ → List ℕ → Verdict
 
--- what a capture worker's word comes to, and these where it has given its bytes; without a worker there are none
-abbrev pub captured : Option (Said (List ℕ)) → (List ℕ → Verdict) → Verdict
-captured None next = next []
-captured (Some said.Running) next = waits
-captured (Some (said.Fault fault)) next = faults fault
-captured (Some (said.Done bytes)) next = next bytes
+-- the word of a capture worker; without one no bytes are captured
+abbrev pub captured : Option (Said (List ℕ)) → Said (List ℕ)
+captured None = said.Done []
+captured (Some heard) = heard
+
+-- what a capture worker's word comes to: while it runs all wait, its fault is the fault, and with its bytes this
+abbrev pub with_bytes : Said (List ℕ) → (List ℕ → Verdict) → Verdict
+with_bytes said.Running next = waits
+with_bytes (said.Fault fault) next = faults fault
+with_bytes (said.Done bytes) next = next bytes
 
 -- a fault, and else whether something runs, and else this
 abbrev pub ended : Option Fault → Bool → Verdict → Verdict
@@ -66,4 +70,4 @@ ended None false next = next
 abbrev pub verdict : Outline → Words → Verdict
 verdict outline words =
     let said = in_tree_order outline 0 0 words.commands words.inputs in
-    ended (first_fault said) (some_runs said) (captured words.output (λ output. captured words.error (λ error. finished output error)))
+    ended (first_fault said) (some_runs said) (with_bytes (captured words.output) (λ output. with_bytes (captured words.error) (λ error. finished output error)))
