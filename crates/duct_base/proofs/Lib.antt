@@ -1,3 +1,4 @@
+pub mod Begins
 pub mod Changes
 pub mod Concluded
 pub mod Looks

@@ -7,6 +7,7 @@ ghost use Rattle.duct_base.specs.Outline.{command_count, input_count};
 ghost use Rattle.duct_base.specs.Shapes.{outline_of};
 
 mod answer;
+mod begin;
 mod choose;
 mod keep;
 pub mod law;
@@ -14,7 +15,9 @@ mod look;
 mod message;
 mod verdict;
 
+use crate::error::Error;
 use crate::status::answer::{answer, failure};
+use crate::status::begin::{begin, first_word};
 use crate::status::choose::choose;
 use crate::status::keep::{keep_at, keep_bytes, tell_at};
 use crate::status::look::look;
@@ -110,7 +113,7 @@ impl Core {
     ghost use Rattle.duct_base.specs.Standing.{Again, Repeats, standing_after};
     ghost use Rattle.duct_base.specs.State.{outline_in, words_in, standing_in};
     ghost use Rattle.duct_base.specs.Verdict.{finished, verdict};
-    ghost use Rattle.duct_base.specs.Words.{words_after};
+    ghost use Rattle.duct_base.specs.Words.{is_due, words_after};
 
     /// Keeps what a command said.
     fn tell(&mut self, at: usize, word: Word) -> Reply
@@ -246,5 +249,80 @@ impl Core {
             },
             reply => reply,
         }
+    }
+
+    /// The answer that stands, and else what the latest words come to.
+    fn conclude(&mut self) -> Reply
+        ensures shape { outline_in self.new ≡ outline_in self.old }
+        ensures words { words_in self.new ≡ words_in self.old }
+        ensures reply { Concludes (outline_in self.old) (words_in self.old) (response_of result) }
+        ensures repeats { Repeats (standing_in self.old) conclude (response_of result) }
+        ensures standing { standing_in self.new ≡ standing_after (standing_in self.old) (response_of result) }
+    {
+        if let Some(reply) = self.again() {
+            return reply;
+        }
+        let reply = self.outcome();
+        self.stand(reply)
+    }
+
+    /// Keeps what was told and replies `Noted`, or `Unknown` where the event names nothing that is there. `Conclude` gives
+    /// the outcome of what was told so far: the first fault in tree order, else `Pending` while something runs, else what
+    /// stdout's capture worker and then stderr's says, else the answer. The answer stands from then on. `Memory` comes
+    /// only in its place; nothing is lost by it, and the next `Conclude` tries again.
+    pub fn step(&mut self, event: Event) -> Reply
+        ensures shape { outline_in self.new ≡ outline_in self.old }
+        ensures words { words_in self.new ≡ words_after (words_in self.old) (notice_of event) }
+        ensures reply { Responds (outline_in self.old) (words_in self.old) (notice_of event) (response_of result) }
+        ensures repeats { Repeats (standing_in self.old) (notice_of event) (response_of result) }
+        ensures standing { standing_in self.new ≡ standing_after (standing_in self.old) (response_of result) }
+    {
+        match event {
+            Event::Command(at, word) => self.tell(at, word),
+            Event::Input(at, said) => self.hear(at, said),
+            Event::Drain(Side::Out, said) => self.hear_output(said),
+            Event::Drain(Side::Err, said) => self.hear_error(said),
+            Event::Conclude => self.conclude(),
+        }
+    }
+
+    /// Whether this command is there and has not ended.
+    pub fn is_due(&self, i: usize) -> bool
+        ensures { result ≡ is_due (words_in self.now) i }
+    {
+        match self.commands.get(i) {
+            Some(Word::Running | Word::Fault(_)) => true,
+            Some(Word::Ended(_)) | None => false,
+        }
+    }
+}
+
+impl Core {
+    ghost use Rattle.std.specs.Prelude.{◌≡◌, [], IfOk, IfErr, None};
+    ghost use Rattle.duct_base.specs.declared.error.Error.TheVariants.{Memory};
+    ghost use Rattle.duct_base.specs.Shapes.{outline_of};
+    ghost use Rattle.duct_base.specs.State.{outline_in, words_in, standing_in};
+    ghost use Rattle.duct_base.specs.Words.{words_told};
+
+    /// A core that was told nothing, or `Memory`.
+    pub fn new(alloc: Global, shape: Shape, drains: Drains) -> Result<Core, Error>
+        ensures shape { IfOk result (λ core. outline_in core ≡ outline_of shape) }
+        ensures words { IfOk result (λ core. words_in core ≡ words_told (outline_of shape) drains []) }
+        ensures standing { IfOk result (λ core. standing_in core ≡ None) }
+        ensures err { IfErr result (λ error. error ≡ Memory) }
+    {
+        let mut commands = Vec::new(alloc);
+        let mut inputs = Vec::new(alloc);
+        begin(&shape, &mut commands, &mut inputs)?;
+        Ok(Core {
+            alloc,
+            shape,
+            commands,
+            inputs,
+            output: first_word(drains.out),
+            error: first_word(drains.err),
+            answer: None,
+            failure: None,
+        })
     }
 }
