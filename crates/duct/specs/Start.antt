@@ -1,5 +1,5 @@
 -- What a start promises: of the journal, of the children that it holds, and of the pool that it is lent.
-use Rattle.std.specs.Prelude.{ℕ, ◌+◌, ◌-◌, ◌^◌, min, List, ◌≡◌, length, map}
+use Rattle.std.specs.Prelude.{ℕ, ◌+◌, ◌-◌, ◌^◌, min, List, ◌≡◌, length}
 use Rattle.duct_base.specs.Abandoned.{Abandoned}
 use Rattle.duct_base.specs.Ledger.{IsBalanced}
 use Rattle.duct_base.specs.Line.{Line}

@@ -2,6 +2,7 @@
 #![tactic(auto)]
 
 mod expression;
+mod handle;
 mod start;
 
 pub use duct_base::error::Error;

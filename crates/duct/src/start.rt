@@ -57,7 +57,14 @@ fn command<S: System, H: Hook>(
     let pairs = sys.environment()?;
     let vars = variables(alloc, pairs)?;
     let copy = copied(alloc, words)?;
-    let spec = spec_of(copy, None, vars, Port::Inherit, Port::Inherit, Port::Inherit);
+    let spec = spec_of(
+        copy,
+        None,
+        vars,
+        Port::Inherit,
+        Port::Inherit,
+        Port::Inherit,
+    );
     let child = sys.spawn(spec, [Stdio::Inherit, Stdio::Inherit, Stdio::Inherit])?;
     Ok(place_new(child, seat))
 }
