@@ -5,8 +5,12 @@ mod expression;
 mod start;
 
 pub use duct_base::error::Error;
-pub use duct_base::exe::IntoExecutablePath;
+pub use duct_base::exe::{IntoExecutablePath, asks_canonical};
 pub use duct_base::spec::{CommandSpec, Hook, HookBox, Port, Stream};
+pub use duct_base::system::{
+    Child, Clock, Entry, ExitStatus, Fault, Job, Kind, Numbered, Order, Output, Said, Side, Stdio,
+    System,
+};
 pub use expression::{Expression, cmd};
 
 /// A command: `cmd!(in alloc; program, arg, ..)` is `cmd(alloc, program, &[arg, ..])`. A trailing comma is allowed.
