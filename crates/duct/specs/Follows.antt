@@ -7,7 +7,7 @@ use Rattle.duct_base.specs.Line.{Line, Environment, Pipe, OpenRead, Create, Cano
 use Rattle.duct_base.specs.Origin.{Origin, Opened, origin}
 use Rattle.duct_base.specs.Spec.{Spec, Vars}
 use Rattle.duct_base.specs.Streams.{stream_of}
-use Rattle.duct_base.specs.Trace.{IsFront, segment, trace, is_close, fault_of}
+use Rattle.duct_base.specs.Trace.{trace, IsClean, StopsAtFault}
 use Rattle.duct_base.specs.declared.error.Error.{Error}
 use Rattle.duct_base.specs.declared.error.Error.TheVariants as error
 use Rattle.duct_base.specs.declared.system.Fault.{Fault}
@@ -65,11 +65,6 @@ AnswersFrom allows number_of added plan place [] (line ∷ lines) = ⊥
 AnswersFrom allows number_of added plan place (item ∷ items) (line ∷ lines) =
     Answers allows number_of added plan place item line × AnswersFrom allows number_of added plan (place + 1) items lines
 
--- after an entry with a fault there are only closes
-abbrev pub StopsAtFault : List Line → Type 0
-StopsAtFault [] = Unit {0}
-StopsAtFault (line ∷ lines) = IfSome (fault_of line) (λ fault. All (λ later. IsTrue (is_close later)) lines) × StopsAtFault lines
-
 -- what was added follows a front of the plan
 pub record Follows {E H : Type 0} (allows : Allows H) (number_of : E → ℕ) (plan : Plan E H) (added : List Line) : Type 0 where
   pub answers : AnswersFrom allows number_of added plan 0 plan.items (trace added)
@@ -79,4 +74,4 @@ pub record Follows {E H : Type 0} (allows : Allows H) (number_of : E → ℕ) (p
 pub record FollowsWhole {E H : Type 0} (allows : Allows H) (number_of : E → ℕ) (plan : Plan E H) (added : List Line) : Type 0 where
   pub follows : Follows allows number_of plan added
   pub whole : length (trace added) ≡ length plan.items
-  pub clean : All (λ line. fault_of line ≡ None) added
+  pub clean : IsClean added

@@ -4,11 +4,13 @@ pub mod Chain
 pub mod Follows
 pub mod LastValues
 pub mod Lookup
+pub mod OutlineOfTree
 pub mod Pairs
 pub mod Path
 pub mod Plan
 pub mod Printed
 pub mod Shown
+pub mod Start
 pub mod Text
 pub mod Tree
 pub mod TreeOf

@@ -1,3 +1,11 @@
+pub mod Begins
+pub mod Changes
+pub mod Concluded
 pub mod Entries
+pub mod Looks
+pub mod Order
 pub mod Quotes
+pub mod Settled
+pub mod Shown
+pub mod Stays
 pub mod Variables

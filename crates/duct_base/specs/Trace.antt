@@ -1,5 +1,5 @@
 -- What a call added to the journal, and what of it a plan speaks of.
-use Rattle.std.specs.Prelude.{Bool, true, false, List, ◌++◌, ◌≡◌, length, drop, filter, Err, Some, None}
+use Rattle.std.specs.Prelude.{Bool, true, false, List, [], ◌∷◌, ◌++◌, ◌≡◌, length, drop, filter, Err, Some, None, IfSome}
 use Rattle.std.specs.declared.option.Option.{Option}
 use Rattle.duct_base.specs.Line.{Line, Environment, Pipe, OpenRead, Create, Duplicate, Parent, Canonicalize, Spawn, Feed, Drain, Close}
 use Rattle.duct_base.specs.declared.system.Fault.{Fault}
@@ -41,3 +41,18 @@ fault_of (Spawn spec io (Err fault)) = Some fault
 fault_of (Feed number bytes (Err fault)) = Some fault
 fault_of (Drain number (Err fault)) = Some fault
 fault_of _ = None
+
+-- no entry has a fault
+abbrev pub IsClean : List Line → Type 0
+IsClean [] = Unit {0}
+IsClean (line ∷ lines) = (fault_of line ≡ None) × IsClean lines
+
+-- each entry is a close
+abbrev pub OnlyCloses : List Line → Type 0
+OnlyCloses [] = Unit {0}
+OnlyCloses (line ∷ lines) = (is_close line ≡ true) × OnlyCloses lines
+
+-- after an entry with a fault there are only closes
+abbrev pub StopsAtFault : List Line → Type 0
+StopsAtFault [] = Unit {0}
+StopsAtFault (line ∷ lines) = IfSome (fault_of line) (λ fault. OnlyCloses lines) × StopsAtFault lines

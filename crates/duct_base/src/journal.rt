@@ -1,7 +1,7 @@
 //! The journal that a system keeps: its entries, the room for more of them, and the count of numbers.
-ghost use Rattle.std.specs.Prelude.{◌≡◌, ◌+◌, ◌-◌, ◌^◌, ◌<◌, ◌≤◌, [], ◌∷◌, ◌++◌, map, IfSome, IfNone, OnOk, OnErr, IfErr, MatchOption};
+ghost use Rattle.std.specs.Prelude.{◌≡◌, ◌+◌, ◌-◌, ◌^◌, ◌<◌, ◌≤◌, [], ◌∷◌, ◌++◌, map, IfSome, IfNone, OnSome, OnOk, OnErr, IfErr, MatchOption};
 ghost use Rattle.duct_base.specs.Entry.{line_of};
-ghost use Rattle.duct_base.specs.Kept.{Kept};
+ghost use Rattle.duct_base.specs.Journal.{Kept};
 ghost use Rattle.duct_base.specs.Line.{Line};
 ghost use Rattle.duct_base.specs.declared.system.Kind.TheVariants.{OutOfMemory};
 
@@ -21,7 +21,7 @@ pub struct Journal {
 impl Model for Journal {
     ghost use Rattle.std.specs.Prelude.{◌+◌, ◌≤◌, map, vec_len, vec_capacity};
     ghost use Rattle.duct_base.specs.Entry.{line_of};
-    ghost use Rattle.duct_base.specs.Kept.{Kept};
+    ghost use Rattle.duct_base.specs.Journal.{Kept};
 
     ghost Value = { Kept };
 
@@ -45,6 +45,13 @@ impl Journal {
     /// The allocator of the entries.
     pub fn allocator(&self) -> Global {
         *self.entries.allocator()
+    }
+
+    /// How many more entries go in without memory.
+    pub fn room(&self) -> usize
+        ensures { result ≡ self.now.room }
+    {
+        self.room
     }
 
     /// Makes room for one entry and for this many after it. Where there is no memory the answer is `OutOfMemory` and the
@@ -85,9 +92,17 @@ impl Journal {
         self.room -= ends;
     }
 
+    /// The number that is given next.
+    pub fn next(&self) -> u64
+        ensures { result ≡ self.now.next }
+    {
+        self.next
+    }
+
     /// Takes this many numbers in a row and answers the first of them, or none where so many are not left.
     pub fn take_numbers(&mut self, count: u64) -> Option<u64>
         ensures some { IfSome result (λ first. (first ≡ self.old.next) × (self.new ≡ record self.old { next = self.old.next + count })) }
+        ensures fits { OnSome result (self.new.next < 2 ^ 64) }
         ensures none { IfNone result ((self.new ≡ self.old) × (2 ^ 64 ≤ self.old.next + count)) }
     {
         let first = self.next;

@@ -8,4 +8,5 @@ pub mod journal;
 pub mod names;
 pub mod pool;
 pub mod spec;
+pub mod status;
 pub mod system;

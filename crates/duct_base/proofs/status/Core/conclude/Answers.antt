@@ -1,0 +1,15 @@
+use Rattle.std.proofs.Common.{◌≡◌, sym, subst}
+use Rattle.duct_base.specs.Conclusion.{Concludes}
+use Rattle.duct_base.specs.State.{outline_in, words_in}
+use Rattle.duct_base.proofs.Concluded.{fits_concludes}
+use Rattle.duct_base.proofs.status.Core.conclude.Goals as goal
+
+pub returns-in-Some-clause-reply : goal.returns-in-Some-clause-reply
+returns-in-Some-clause-reply c =
+    let s = c.args.self.now in
+    fits_concludes (outline_in s) (words_in s) c.in-Some.reply c.in-Some.ensures.fits
+
+pub returns-clause-reply : goal.returns-clause-reply
+returns-clause-reply c =
+    let s = c.args.self.now in
+    fits_concludes (outline_in s) (words_in s) c.stand.result c.stand.ensures.fits
