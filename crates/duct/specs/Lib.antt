@@ -6,6 +6,7 @@ pub mod Held
 pub mod LastValues
 pub mod Life
 pub mod Lookup
+pub mod OutlineOfTree
 pub mod Pairs
 pub mod Path
 pub mod Plan

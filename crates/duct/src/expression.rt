@@ -42,11 +42,27 @@ pub(crate) enum Modifier<E, H> {
 }
 
 // The words of a command are shared with the shape that a start answers.
-#[derive(Drop)]
 pub(crate) enum Node<E, H> {
     Cmd(Arc<Vec<String>>),
     Pipe(Arc<Node<E, H>>, Arc<Node<E, H>>),
     Io(Modifier<E, H>, Arc<Node<E, H>>),
+}
+
+// A loop, so that many nodes round one another take no stack. Only the right sides of pipes stand within one another.
+impl<E: Drop, H: Drop> Drop for Node<E, H> {
+    fn drop(mut self) {
+        loop {
+            let inner = match self {
+                Node::Cmd(_) => return,
+                Node::Pipe(left, _) => left,
+                Node::Io(_, inner) => inner,
+            };
+            match Arc::into_inner(inner) {
+                Some(node) => self = node,
+                None => return,
+            }
+        }
+    }
 }
 
 /// A command, a pipe of two expressions, or a modifier round one expression, with ends of type `E` and hooks of type `H`.

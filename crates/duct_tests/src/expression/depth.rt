@@ -1,0 +1,16 @@
+//! Deep trees.
+use super::{a, shows};
+use duct::Error;
+
+#[test]
+fn ten_thousand_modifiers(rt: HostRuntime) -> Result<(), Error> {
+    let mut deep = a(rt.alloc())?;
+    for _ in 0..10_000u32 {
+        deep = deep.unchecked()?;
+    }
+    let copy = deep.clone()?;
+    drop(deep);
+    drop(copy);
+    let left = a(rt.alloc())?;
+    shows(&rt, &left, "Cmd([\"a\"])")
+}
