@@ -12,7 +12,6 @@ use Rattle.duct_base.specs.Spec.{Spec, Vars, value_of}
 use Rattle.duct_base.specs.declared.spec.Port.TheVariants as port
 use Rattle.duct_base.specs.declared.spec.Stream.TheVariants as stream
 use Rattle.duct_base.specs.Origin.{origin}
-use Rattle.duct_base.specs.Started.{children_in}
 use Rattle.duct_base.specs.Streams.{stream_of}
 use Rattle.duct_base.specs.Trace.{IsFront, segment, trace}
 use Rattle.duct_base.specs.declared.error.Error.{Error}
@@ -134,12 +133,6 @@ module _ {E H : Type 0} (allows : Allows H) (refuses : Refuses H) (number_of : E
         whole = subst (λ l. FollowsWhole allows number_of plan l) same (whole pairs spec number asked);
         balanced = subst IsBalanced same (balanced added refl refl);
       }
-
--- the one child that was started
-pub child_started : (old mid new : List Line) (pairs : Vars) (spec : Spec) (number : ℕ) → Adds old mid (Environment (Ok pairs)) →
-    Adds mid new (Spawn spec inherited (Ok number)) → children_in (segment old new) ≡ number ∷ []
-child_started old mid new pairs spec number first is =
-    ap children_in (added_segment old new (Environment (Ok pairs) ∷ Spawn spec inherited (Ok number) ∷ []) (two_added old mid new _ _ first is))
 
 with_own_program : (words : List (List ℕ)) → with_program (program_of words) words ≡ words
 with_own_program [] = refl

@@ -1,6 +1,7 @@
 //! An expression that runs: its children, and what they said so far.
-ghost use Rattle.std.specs.Prelude.{◌≡◌, ◌<◌, length, map};
+ghost use Rattle.std.specs.Prelude.{◌≡◌, ◌<◌, [], length, map};
 ghost use Rattle.duct_base.specs.Response.{response_of};
+ghost use Rattle.duct_base.specs.State.{words_in};
 ghost use Rattle.duct_base.specs.Shapes.{outline_of};
 ghost use Rattle.duct.specs.Life.{life, AllAsked, AskedAt};
 ghost use Rattle.duct.specs.Polled.{IsConclusion, Gives, IsOutcome};
@@ -48,6 +49,26 @@ fn word(answer: Result<Option<ExitStatus>, Fault>) -> Word
 }
 
 impl<S: System> Running<S> {
+    // One command with its child, which nobody has polled yet.
+    pub(crate) fn of_command(core: Core, children: Vec<Place<S::Child>>) -> Running<S>
+        requires { words_in core ≡ stored_words S.Child.ending S.Child.last children.items }
+        ensures { result ≡ record { shape = core.shape; children = children.items } }
+    {
+        Running { core, children }
+    }
+
+    /// The children from left to right, the input workers and the capture workers. Nobody polls them from then on.
+    pub fn into_parts(self) -> (Vec<Place<S::Child>>, Vec<S::Feed>, Vec<S::Drain>)
+        ensures children { result.0.items ≡ self.children }
+        ensures feeds { result.1.items ≡ [] }
+        ensures drains { result.2.items ≡ [] }
+    {
+        let Running { core, children } = self;
+        drop(core);
+        let alloc = *children.allocator();
+        (children, Vec::new(alloc), Vec::new(alloc))
+    }
+
     // Polls the child at this place, if it has not ended, and tells the core.
     fn ask(&mut self, at: usize)
         requires { at < length self.old.children }
