@@ -90,8 +90,10 @@ impl<E: Drop, H: Hook> Expression<E, H> {
         ensures ok { OnOk result (Succeeds H.allows E.number_of (plan_of (tree_of self.now)) (S.log sys.old) (S.log sys.new)) }
         ensures running { IfOk result (IsRunning S.Child.number_of S.Child.polls (tree_of self.now) (S.log sys.old) (S.log sys.new)) }
         ensures err { IfErr result (IsRefused H.allows H.refuses E.number_of (plan_of (tree_of self.now)) (S.log sys.old) (S.log sys.new)) }
-        ensures pool_kept { OnOk result (pool.new ≡ pool.old) }
         ensures pool_given { OnErr result (GivenStarted pool.old pool.new (segment (S.log sys.old) (S.log sys.new))) }
+
+        // One command leaves nothing to a pool, whatever it answers.
+        ensures pool_kept { pool.new ≡ pool.old }
     {
         let _pool = pool;
         let words = match self.root() {
