@@ -8,4 +8,5 @@ pub mod Ran
 pub mod Settled
 pub mod Shown
 pub mod Stays
+pub mod TreeOrders
 pub mod Variables

@@ -19,6 +19,7 @@ pub mod Status
 pub mod Streams
 pub mod Texts
 pub mod Told
+pub mod TreeOrder
 pub mod Verdict
 pub mod Winner
 pub mod Words
