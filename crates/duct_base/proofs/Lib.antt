@@ -1,8 +1,10 @@
 pub mod Begins
+pub mod ByNumber
 pub mod Changes
 pub mod Concluded
 pub mod Latest
 pub mod Looks
+pub mod Numbers
 pub mod Order
 pub mod Ran
 pub mod Settled

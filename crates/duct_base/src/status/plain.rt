@@ -4,3 +4,4 @@
 pub mod count;
 pub mod latest;
 pub mod outcome;
+pub mod winner;
