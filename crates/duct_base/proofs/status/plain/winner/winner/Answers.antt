@@ -19,7 +19,7 @@ loop-one-preserved c =
     let P : ℕ → Type 0 = λ k. ¬ (BeatsAll (endings_of (outline_of c.args.shape.now) 0 c.args.words.now) k) in
     below_more P c.loop-one.one c.loop-one.invariant c.if-beats_all.ensures
 
-pub unreachable-requires : goal.prove-unreachable-requires
+pub unreachable-requires : goal.unreachable-requires
 unreachable-requires c =
     let t = endings_of (outline_of c.args.shape.now) 0 c.args.words.now in
     let n = counts (outline_of c.args.shape.now) 0 c.args.words.now in
