@@ -1,5 +1,5 @@
 -- From an entry to its line.
-use Rattle.std.specs.Prelude.{ℕ, List, map, string_bytes, Ok, Err}
+use Rattle.std.specs.Prelude.{map, string_bytes, Ok, Err}
 use Rattle.std.specs.Arc.{arc_value}
 use Rattle.duct_base.specs.Spec.{pair_text}
 use Rattle.duct_base.specs.Line.{Line, Environment, Pipe, OpenRead, Create, Duplicate, Parent, Canonicalize, Spawn, Feed, Drain, Reader, Close}

@@ -1,11 +1,12 @@
 -- What a contract sees of a command's spec.
-use Rattle.std.specs.Prelude.{ℕ, List, ◌≡◌, string_bytes}
+use Rattle.std.specs.Prelude.{ℕ, Bool, List, ◌≡◌, map, string_bytes}
+use Rattle.std.specs.Borrow.{Bor}
 use Rattle.std.specs.declared.option.Option.{Option}
 use Rattle.std.specs.declared.string.String.{String}
-use Rattle.std.specs.BTreeMap.{is_at}
-use Rattle.std.specs.Map.{lookup}
+use Rattle.std.specs.BTreeMap.{insert_entry}
+use Rattle.std.specs.Map.{lookup, remove_entry}
 use Rattle.std.specs.Cmp.Lexicographic.{slice_cmp}
-use Rattle.std.specs.Ordering.{nat_cmp}
+use Rattle.std.specs.Ordering.{nat_cmp, is_eq}
 use Rattle.duct_base.specs.declared.spec.Port.{Port}
 use Rattle.duct_base.specs.declared.spec.Port.TheVariants.{Given}
 use Rattle.duct_base.specs.declared.spec.Stream.{Stream}
@@ -24,9 +25,21 @@ pub record Spec : Type 0 where
   pub output : Port
   pub error : Port
 
+-- whether two names are the same variable's
+abbrev pub same_name : List ℕ → List ℕ → Bool
+same_name name other = is_eq (slice_cmp nat_cmp name other)
+
 -- the value of a name
 abbrev pub value_of : List ℕ → Vars → Option (List ℕ)
-value_of name vars = lookup (is_at (slice_cmp nat_cmp name)) vars
+value_of name vars = lookup (same_name name) vars
+
+-- the variables with this value of a name, in place of the one that it had
+abbrev pub with_var : List ℕ → List ℕ → Vars → Vars
+with_var name value vars = insert_entry (slice_cmp nat_cmp) vars name value
+
+-- the variables without this name
+abbrev pub without_var : List ℕ → Vars → Vars
+without_var name vars = remove_entry (same_name name) vars
 
 -- the text of a name and of its value
 abbrev pub pair_text : {Z : Type 0} → String Z × String Z → List ℕ × List ℕ
@@ -37,6 +50,10 @@ abbrev pub port_of : Stream → Spec → Port
 port_of In spec = spec.input
 port_of Out spec = spec.output
 port_of Err spec = spec.error
+
+-- the texts of some words
+abbrev pub texts_of : List (Bor (List ℕ)) → List (List ℕ)
+texts_of words = map (λ word. word.now) words
 
 -- the spec with this stream given an end
 abbrev pub gives : Stream → Spec → Spec

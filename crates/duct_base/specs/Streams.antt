@@ -1,5 +1,5 @@
 -- The three streams of a child: their ends by number, and that they fit in memory.
-use Rattle.std.specs.Prelude.{ℕ, ◌*◌, ◌<◌, ◌^◌, List, [], ◌∷◌, map, flat_map}
+use Rattle.std.specs.Prelude.{◌*◌, ◌<◌, ◌^◌, List, [], ◌∷◌, flat_map}
 use Rattle.std.specs.Borrow.{RattleType}
 use prog.Memory.{size}
 use denote.Param.{layout}

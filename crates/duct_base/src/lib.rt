@@ -3,6 +3,10 @@
 #![tactic(auto)]
 
 pub mod error;
+pub mod exe;
+pub mod journal;
+pub mod names;
+pub mod pool;
 pub mod spec;
 pub mod status;
 pub mod system;

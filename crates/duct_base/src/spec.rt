@@ -1,11 +1,12 @@
 //! The spec of a command: the words, the folder, the variables and the streams that its child is started with.
-ghost use Rattle.std.specs.Prelude.{◌≡◌, map, string_bytes, IfOk, IfErr, OnOk};
+ghost use Rattle.std.specs.Prelude.{◌≡◌, ◌≢◌, [], ◌∷◌, ◌++◌, map, string_bytes, Some, IfOk, IfErr, IsOkUnless, OnOk, OnErr};
 ghost use Rattle.std.specs.Option.{option_copied, option_map};
-ghost use Rattle.duct_base.specs.Spec.{Spec, value_of, pair_text, port_of, gives, GivesNothing};
+ghost use Rattle.duct_base.specs.Spec.{Spec, value_of, with_var, without_var, pair_text, texts_of, port_of, gives, GivesNothing};
 ghost use Rattle.duct_base.specs.declared.system.Fault.{Fault};
 
 use crate::error::Error;
 use crate::system::Fault;
+use std::alloc::Global;
 use std::collections::BTreeMap;
 use std::marker::Model;
 
@@ -138,6 +139,105 @@ impl CommandSpec {
     }
 }
 
+impl CommandSpec {
+    /// Adds an argument at the end. Refused, by `Error::Memory`, only for want of memory; the spec is then as it was.
+    pub fn arg(&mut self, arg: &str) -> Result<(), Error>
+        ensures ok { OnOk result (self.new ≡ record self.old { words = self.old.words ++ arg.now ∷ [] }) }
+        ensures err { OnErr result (self.new ≡ self.old) }
+        ensures memory { IsOkUnless result Error.Memory }
+    {
+        let arg = String::from_str(*self.words.allocator(), arg)?;
+        self.words.push(arg)?;
+        Ok(())
+    }
+
+    /// Adds arguments at the end. Refused, by `Error::Memory`, only for want of memory; the spec is then as it was.
+    pub fn args(&mut self, args: &[&str]) -> Result<(), Error>
+        ensures ok { OnOk result (self.new ≡ record self.old { words = self.old.words ++ texts_of args.now }) }
+        ensures err { OnErr result (self.new ≡ self.old) }
+        ensures memory { IsOkUnless result Error.Memory }
+    {
+        let mut more = texts(*self.words.allocator(), args)?;
+        self.words.append(&mut more)?;
+        Ok(())
+    }
+
+    /// Gives a variable a value, in place of the one that it had. Refused, by `Error::Memory`, only for want of memory; the
+    /// spec is then as it was.
+    pub fn env(&mut self, name: &str, value: &str) -> Result<(), Error>
+        ensures ok { OnOk result (self.new ≡ record self.old { vars = with_var name.now value.now self.old.vars }) }
+        ensures err { OnErr result (self.new ≡ self.old) }
+        ensures memory { IsOkUnless result Error.Memory }
+    {
+        let alloc = *self.words.allocator();
+        let name = String::from_str(alloc, name)?;
+        let value = String::from_str(alloc, value)?;
+        self.vars.insert(name, value)?;
+        Ok(())
+    }
+
+    /// Takes a variable away, if the child has one of that name.
+    pub fn env_remove(&mut self, name: &str)
+        ensures { self.new ≡ record self.old { vars = without_var name.now self.old.vars } }
+    {
+        let _ = self.vars.remove(name);
+    }
+
+    /// Takes all variables away.
+    pub fn env_clear(&mut self)
+        ensures { self.new ≡ record self.old { vars = [] } }
+    {
+        self.vars.clear();
+    }
+
+    /// Sets the folder that the child starts in. Refused, by `Error::Memory`, only for want of memory; the spec is then as
+    /// it was.
+    pub fn current_dir(&mut self, folder: &str) -> Result<(), Error>
+        ensures ok { OnOk result (self.new ≡ record self.old { folder = Some folder.now }) }
+        ensures err { OnErr result (self.new ≡ self.old) }
+        ensures memory { IsOkUnless result Error.Memory }
+    {
+        self.folder = Some(String::from_str(*self.words.allocator(), folder)?);
+        Ok(())
+    }
+
+    /// Sets where the child's stdin comes from: the parent's, nothing, or an end that stands beside the hook.
+    pub fn stdin(&mut self, port: Port)
+        requires { port ≢ Port.Given }
+        ensures { self.new ≡ record self.old { input = port } }
+    {
+        self.stdin = port;
+    }
+
+    /// Sets where the child's stdout goes: to the parent's, to nothing, or to an end that stands beside the hook.
+    pub fn stdout(&mut self, port: Port)
+        requires { port ≢ Port.Given }
+        ensures { self.new ≡ record self.old { output = port } }
+    {
+        self.stdout = port;
+    }
+
+    /// Sets where the child's stderr goes: to the parent's, to nothing, or to an end that stands beside the hook.
+    pub fn stderr(&mut self, port: Port)
+        requires { port ≢ Port.Given }
+        ensures { self.new ≡ record self.old { error = port } }
+    {
+        self.stderr = port;
+    }
+}
+
+// The texts as words.
+fn texts(alloc: Global, texts: &[&str]) -> Result<Vec<String>, Error>
+    ensures words { IfOk result (λ words. map string_bytes words.items ≡ texts_of texts.now) }
+    ensures memory { IsOkUnless result Error.Memory }
+{
+    let mut words = Vec::new(alloc);
+    for text in texts {
+        words.push(String::from_str(alloc, text)?)?;
+    }
+    Ok(words)
+}
+
 /// Makes a stream one that is given an end. For a start alone: a hook that calls this breaks its promise.
 pub fn give(spec: &mut CommandSpec, stream: Stream)
     ensures { spec.new ≡ gives stream spec.old }
@@ -162,4 +262,17 @@ pub trait Hook: Drop {
         ensures ok { OnOk result (allows self.now spec.old spec.new) }
         ensures err { IfErr result (refuses self.now spec.old) }
         ensures given { OnOk result (GivesNothing spec.old spec.new) };
+}
+
+/// A hook of any type, as an expression keeps it.
+pub type HookBox = Box<dyn Hook + Send + Sync>;
+
+impl Hook for HookBox {
+    ghost allows = { λ hook. (Hook-box hook).allows hook.value };
+
+    ghost refuses = { λ hook. (Hook-box hook).refuses hook.value };
+
+    fn change(&self, spec: &mut CommandSpec) -> Result<(), Fault> {
+        (**self).change(spec)
+    }
 }

@@ -1,0 +1,4 @@
+pub mod Debug
+pub mod Environments
+pub mod OneCommand
+pub mod Printing

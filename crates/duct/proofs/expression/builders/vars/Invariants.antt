@@ -1,0 +1,8 @@
+use Rattle.std.proofs.Common.{map, ◌≡◌, take}
+use Rattle.duct_base.specs.Spec.{pair_text}
+use Rattle.duct.specs.LastValues.{last_values}
+use Rattle.duct.specs.Pairs.{pairs_of}
+use Rattle.duct.proofs.expression.builders.vars.Given as goal
+
+abbrev pub invariant-loop-name : goal.invariant-loop-name
+invariant-loop-name l = map pair_text l.vars.entries ≡ last_values (pairs_of (take l.name-index l.pairs))

@@ -1,0 +1,6 @@
+use Rattle.std.proofs.Common.{map, ◌≡◌, ◌∷◌, string_bytes, take}
+use Rattle.duct_base.specs.Spec.{texts_of}
+use Rattle.duct.proofs.expression.words.Given as goal
+
+abbrev pub invariant-loop-arg : goal.invariant-loop-arg
+invariant-loop-arg l = map string_bytes l.words.items ≡ string_bytes l.fn.program ∷ texts_of (take l.arg-index l.args)

@@ -1,0 +1,94 @@
+-- What the hooks of a command make of its spec and its streams, the outermost first, and when one of them stops the start.
+use Rattle.std.specs.Prelude.{ℕ, List, [], ◌∷◌, ◌≡◌, ◌⊎◌, length, map, slice_get, Some, None, nat_lt, if◌then◌else◌}
+use Rattle.std.specs.declared.option.Option.{Option}
+use Rattle.duct_base.specs.Origin.{Origin, Lent}
+use Rattle.duct_base.specs.Spec.{Spec}
+use Rattle.duct_base.specs.declared.error.Error.{Error}
+use Rattle.duct_base.specs.declared.error.Error.TheVariants.{Hook, HookEnd}
+use Rattle.duct_base.specs.declared.spec.Port.{Port}
+use Rattle.duct_base.specs.declared.spec.Port.TheVariants as port
+use Rattle.duct_base.specs.declared.system.Fault.{Fault}
+use Rattle.duct_base.specs.declared.system.Stdio.{Stdio}
+use Rattle.duct_base.specs.declared.system.Stdio.TheVariants.{Inherit, Null, End}
+
+-- a spec, and where each of its streams comes from
+pub record Wired : Type 0 where
+  pub spec : Spec
+  pub input : Stdio Origin
+  pub output : Stdio Origin
+  pub error : Stdio Origin
+
+-- what the hooks of one type may make of a spec
+abbrev pub Allows : Type 0 → Type 1
+Allows H = H → Spec → Spec → Type 0
+
+-- the faults by which they may refuse one
+abbrev pub Refuses : Type 0 → Type 1
+Refuses H = H → Spec → Fault → Type 0
+
+-- the place that a port names, if fewer ends than that stand beside the hook
+abbrev pub missing_at : ℕ → Port → Option ℕ
+missing_at count (port.Place place) = if nat_lt place count then None else Some place
+missing_at count _ = None
+
+-- the first of them, if there is one
+abbrev pub either : Option ℕ → Option ℕ → Option ℕ
+either (Some place) other = Some place
+either None other = other
+
+-- the first place of a spec that is not there, in the order stdin, stdout, stderr
+abbrev pub missing : ℕ → Spec → Option ℕ
+missing count spec = either (missing_at count spec.input) (either (missing_at count spec.output) (missing_at count spec.error))
+
+-- a place that was found is given
+abbrev pub found : Port → Port
+found (port.Place place) = port.Given
+found other = other
+
+-- the end at a place
+abbrev pub end_of_place : Option Origin → Stdio Origin
+end_of_place (Some origin) = End origin
+end_of_place None = Inherit
+
+-- what a port makes of a stream: a given stream keeps what it has
+abbrev pub settled : List Origin → Port → Stdio Origin → Stdio Origin
+settled ends port.Inherit stream = Inherit
+settled ends port.Null stream = Null
+settled ends port.Given stream = stream
+settled ends (port.Place place) stream = end_of_place (slice_get ends place)
+
+-- a spec that a hook made, with its places found among the ends beside the hook
+abbrev pub settle : List Origin → Spec → Wired → Wired
+settle ends made before = record {
+    spec = record made { input = found made.input; output = found made.output; error = found made.error };
+    input = settled ends made.input before.input;
+    output = settled ends made.output before.output;
+    error = settled ends made.error before.error
+}
+
+-- one hook leads from one to the other
+abbrev pub Changes : {H : Type 0} → Allows H → H → List Origin → Wired → Wired → Type 0
+Changes allows hook ends before after =
+    (made : Spec) × allows hook before.spec made × (missing (length ends) made ≡ None) × (after ≡ settle ends made before)
+
+-- the hooks lead from one to the other, each with the ends beside it
+abbrev pub Chain : {H : Type 0} → Allows H → List (H × List Origin) → Wired → Wired → Type 0
+Chain allows [] before after = after ≡ before
+Chain allows (hook ∷ hooks) before after = (between : Wired) × Changes allows hook.0 hook.1 before between × Chain allows hooks between after
+
+-- one hook stops the start with this error: by a fault of its own, or by the first place that is not there
+abbrev pub Stops : {H : Type 0} → Allows H → Refuses H → H → List Origin → Wired → Error → Type 0
+Stops allows refuses hook ends before (Hook fault) = refuses hook before.spec fault
+Stops allows refuses hook ends before (HookEnd place) = (made : Spec) × allows hook before.spec made × (missing (length ends) made ≡ Some place)
+Stops allows refuses hook ends before other = ⊥
+
+-- one of the hooks stops the start with this error
+abbrev pub ChainStops : {H : Type 0} → Allows H → Refuses H → List (H × List Origin) → Wired → Error → Type 0
+ChainStops allows refuses [] before error = ⊥
+ChainStops allows refuses (hook ∷ hooks) before error =
+    Stops allows refuses hook.0 hook.1 before error
+    ⊎ ((between : Wired) × Changes allows hook.0 hook.1 before between × ChainStops allows refuses hooks between error)
+
+-- the hooks with where the ends beside them come from: these are the caller's own
+abbrev pub lent : {E H : Type 0} → (E → ℕ) → List (H × List E) → List (H × List Origin)
+lent number_of hooks = map (λ hook. (hook.0, map (λ end. Lent (number_of end)) hook.1)) hooks

@@ -1,0 +1,15 @@
+pub mod Asked
+pub mod Causes
+pub mod Chain
+pub mod Follows
+pub mod LastValues
+pub mod Lookup
+pub mod Pairs
+pub mod Path
+pub mod Plan
+pub mod Printed
+pub mod Shown
+pub mod Start
+pub mod Text
+pub mod Tree
+pub mod TreeOf

@@ -1,0 +1,28 @@
+-- The debug text of an expression as it is promised: that of its tree, where all that is printed is printable ASCII.
+use Rattle.std.specs.Prelude.{ℕ, List, Bool, true, ◌&&◌, Some, None, if◌then◌else◌}
+use Rattle.std.specs.List.{list_all}
+use Rattle.std.specs.declared.option.Option.{Option}
+use Rattle.duct_base.specs.Quoted.{is_printable}
+use Rattle.duct.specs.Tree.{Layer, Tree, command, pipe, around, stdin_path, stdout_path, stderr_path, dir, env, env_remove, full_env}
+use Rattle.duct.specs.Text.{text}
+
+-- whether the texts of a layer are printable
+abbrev pub is_layer_printable : {E H : Type 0} → Layer E H → Bool
+is_layer_printable (stdin_path path) = is_printable path
+is_layer_printable (stdout_path path) = is_printable path
+is_layer_printable (stderr_path path) = is_printable path
+is_layer_printable (dir path) = is_printable path
+is_layer_printable (env name value) = is_printable name && is_printable value
+is_layer_printable (env_remove name) = is_printable name
+is_layer_printable (full_env vars) = list_all (λ variable. is_printable variable.0 && is_printable variable.1) vars
+is_layer_printable _ = true
+
+-- whether all texts of a tree are printable
+abbrev pub is_tree_printable : {E H : Type 0} → Tree E H → Bool
+is_tree_printable (command words) = list_all is_printable words
+is_tree_printable (pipe left right) = is_tree_printable left && is_tree_printable right
+is_tree_printable (around layer inner) = is_layer_printable layer && is_tree_printable inner
+
+-- the text of a tree, or no promise
+abbrev pub shown : {E H : Type 0} → Tree E H → Option (List ℕ)
+shown tree = if is_tree_printable tree then Some (text tree) else None

@@ -1,0 +1,112 @@
+//! An expression: a shared tree of commands, pipes between them, and what is asked of them.
+ghost use Rattle.std.specs.Prelude.{◌≡◌, ◌∷◌, map, string_bytes, IfOk, IsOkUnless};
+ghost use Rattle.std.specs.Arc.{arc_value};
+ghost use Rattle.duct_base.specs.Spec.{texts_of};
+ghost use Rattle.duct.specs.Tree.{command};
+ghost use Rattle.duct.specs.TreeOf.{tree_of};
+
+mod builders;
+mod debug;
+
+use duct_base::error::Error;
+use duct_base::exe::IntoExecutablePath;
+use duct_base::spec::HookBox;
+use std::alloc::{AllocError, Global};
+use std::collections::BTreeMap;
+use std::sync::Arc;
+
+// What a node asks of the one expression that it stands round.
+#[derive(Drop)]
+pub(crate) enum Modifier<E, H> {
+    StdinBytes(Arc<Vec<u8>>),
+    StdinPath(String),
+    StdinFile(E),
+    StdinNull,
+    StdoutPath(String),
+    StdoutFile(E),
+    StdoutNull,
+    StdoutCapture,
+    StdoutToStderr,
+    StderrPath(String),
+    StderrFile(E),
+    StderrNull,
+    StderrCapture,
+    StderrToStdout,
+    StdoutStderrSwap,
+    Dir(String),
+    Env(String, String),
+    EnvRemove(String),
+    FullEnv(BTreeMap<String, String>),
+    Unchecked,
+    BeforeSpawn(H, Vec<E>),
+}
+
+// The words of a command are shared with the shape that a start answers.
+#[derive(Drop)]
+pub(crate) enum Node<E, H> {
+    Cmd(Arc<Vec<String>>),
+    Pipe(Arc<Node<E, H>>, Arc<Node<E, H>>),
+    Io(Modifier<E, H>, Arc<Node<E, H>>),
+}
+
+/// A command, a pipe of two expressions, or a modifier round one expression, with ends of type `E` and hooks of type `H`.
+/// Its parts are shared: each call that makes one of an old one adds one node, and leaves the old one as it was.
+#[derive(Drop)]
+pub struct Expression<E, H = HookBox> {
+    root: Arc<Node<E, H>>,
+    alloc: Global,
+}
+
+impl<E: Drop, H: Drop> Clone for Expression<E, H> {
+    ghost is_clone = { λ expression copy. tree_of copy ≡ tree_of expression };
+
+    /// One more owner of the same tree, which takes no memory. Refused only where there are too many owners.
+    fn clone(&self) -> Result<Expression<E, H>, AllocError> {
+        Ok(Expression {
+            root: Arc::try_clone(&self.root)?,
+            alloc: self.alloc,
+        })
+    }
+}
+
+/// A command: a program and its arguments. Refused, by `Error::Memory`, only for want of memory.
+pub fn cmd<E: Drop, P: IntoExecutablePath, H: Drop>(
+    alloc: Global,
+    program: P,
+    args: &[&str],
+) -> Result<Expression<E, H>, Error>
+    ensures tree { IfOk result (λ made. tree_of made ≡ command (P.executable program ∷ texts_of args.now)) }
+    ensures memory { IsOkUnless result Error.Memory }
+{
+    let words = words(alloc, program.to_executable(alloc)?, args)?;
+    let words = Arc::new(alloc, words)?;
+    let root = Arc::new(alloc, Node::Cmd(words))?;
+    Ok(Expression { root, alloc })
+}
+
+// The words of a command, the program first.
+fn words(alloc: Global, program: String, args: &[&str]) -> Result<Vec<String>, Error>
+    ensures words { IfOk result (λ words. map string_bytes words.items ≡ string_bytes program ∷ texts_of args.now) }
+    ensures memory { IsOkUnless result Error.Memory }
+{
+    let mut words = Vec::new(alloc);
+    words.push(program)?;
+    for arg in args {
+        words.push(String::from_str(alloc, arg)?)?;
+    }
+    Ok(words)
+}
+
+impl<E, H> Expression<E, H> {
+    // The outermost node.
+    pub(crate) fn root(&self) -> &Node<E, H>
+        ensures { result.now ≡ arc_value self.now.root }
+    {
+        &self.root
+    }
+
+    // What the expression takes its memory from.
+    pub(crate) fn allocator(&self) -> Global {
+        self.alloc
+    }
+}

@@ -1,0 +1,18 @@
+//! Commands, pipes between them, and what is asked of them: a description of children of the operating system.
+#![tactic(auto)]
+
+mod expression;
+mod start;
+
+pub use duct_base::error::Error;
+pub use duct_base::exe::IntoExecutablePath;
+pub use duct_base::spec::{CommandSpec, Hook, HookBox, Port, Stream};
+pub use expression::{Expression, cmd};
+
+/// A command: `cmd!(in alloc; program, arg, ..)` is `cmd(alloc, program, &[arg, ..])`. A trailing comma is allowed.
+#[macro_export]
+macro_rules! cmd {
+    (in $alloc:expr; $program:expr $(, $arg:expr)* $(,)?) => {
+        $crate::cmd($alloc, $program, &[$($arg),*])
+    };
+}

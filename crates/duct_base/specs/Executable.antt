@@ -1,0 +1,20 @@
+-- The name by which a program is started, and when that name is made canonical first.
+use Rattle.std.specs.Prelude.{ℕ, List, [], ◌∷◌, Bool, false, ◌==◌, if◌then◌else◌, ◌&&◌, not}
+use Rattle.std.specs.List.{list_any}
+
+-- the code of `/`
+abbrev pub slash : ℕ
+slash = 47
+
+-- whether a text begins with `/`
+abbrev pub begins_with_slash : List ℕ → Bool
+begins_with_slash [] = false
+begins_with_slash (b ∷ bs) = b == slash
+
+-- a path as a program: as it stands where it begins with `/`, and else after `./`
+abbrev pub dotted : List ℕ → List ℕ
+dotted path = if begins_with_slash path then path else 46 ∷ slash ∷ path
+
+-- whether a program is made canonical before it is started: a folder is set, and the program has a `/`, not at its front
+abbrev pub asks_canonical : List ℕ → Bool → Bool
+asks_canonical program folder_is_set = folder_is_set && list_any (λ b. b == slash) program && not (begins_with_slash program)

@@ -1,0 +1,33 @@
+//! From an error of std to a fault.
+ghost use Rattle.std.specs.Prelude.{◌≡◌};
+ghost use Rattle.std.specs.IoError.{error_kind};
+ghost use Rattle.duct_base.specs.declared.system.Kind.TheVariants.{OutOfMemory};
+ghost use Rattle.duct_host.specs.Kinds.{kind_of};
+
+use duct_base::system::{Fault, Kind};
+use std::io;
+use std::io::ErrorKind;
+
+/// The fault of an error of std: its kind where a fault has one of that name, and `Other` for each other one.
+pub fn fault_of(error: io::Error) -> Fault
+    ensures { result.kind ≡ kind_of (error_kind error) }
+{
+    let kind = match error.kind() {
+        ErrorKind::NotFound => Kind::NotFound,
+        ErrorKind::PermissionDenied => Kind::PermissionDenied,
+        ErrorKind::BrokenPipe => Kind::BrokenPipe,
+        ErrorKind::WriteZero => Kind::WriteZero,
+        ErrorKind::InvalidInput => Kind::InvalidInput,
+        ErrorKind::Unsupported => Kind::Unsupported,
+        ErrorKind::OutOfMemory => Kind::OutOfMemory,
+        _ => Kind::Other,
+    };
+    Fault::new(kind)
+}
+
+/// The fault of a growth that was refused.
+pub(crate) fn no_memory() -> Fault
+    ensures { result.kind ≡ OutOfMemory }
+{
+    Fault::new(Kind::OutOfMemory)
+}

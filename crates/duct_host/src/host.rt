@@ -1,0 +1,421 @@
+//! The host: a system over the real machine.
+ghost use Rattle.std.specs.Prelude.{◌≡◌, ◌+◌, ◌-◌, ◌^◌, ◌<◌, ◌≤◌, [], map, min, string_bytes, IfOk, IfErr, OnOk};
+ghost use Rattle.duct_base.specs.Spec.{pair_text};
+ghost use Rattle.duct_base.specs.declared.system.Kind.TheVariants.{Other, OutOfMemory};
+ghost use Rattle.duct_host.specs.Steps.{OnlyCounts, OnlyRoom};
+
+use crate::child::Child;
+use crate::end::End;
+use crate::environment::{copy_of, variables};
+use crate::fault::{fault_of, no_memory};
+use crate::parents::Parents;
+use crate::reader::Reader;
+use crate::spawn::{all_wired, count_of_ends, start};
+use crate::worker::{DrainWorker, FeedWorker};
+use duct_base::journal::Journal;
+use duct_base::spec::CommandSpec;
+use duct_base::system::{Entry, Fault, Kind, Numbered, Side, Stdio, System};
+use std::alloc::{AllocError, Global};
+use std::fs::File;
+use std::io::{ErrorKind, PipeReader, PipeWriter};
+use std::marker::Model;
+use std::os::fd::OwnedFd;
+use std::process::Processes;
+use std::rt::{Env, Files};
+use std::sync::Arc;
+use std::{io, process};
+
+/// A system over the runtime `R`, with its journal. It owns none of the ends that it gives: who has one closes it.
+#[derive(Drop)]
+pub struct Host<R> {
+    rt: R,
+    alloc: Global,
+    journal: Journal,
+}
+
+/// What contracts see of a host is its journal.
+impl<R> Model for Host<R> {
+    ghost use Rattle.duct_base.specs.Journal.{Kept};
+
+    ghost Value = { Kept };
+
+    ghost view = { λ h. h.journal };
+}
+
+impl<R> Host<R> {
+    /// A host with an empty journal, which keeps the runtime and takes its memory from this allocator.
+    pub fn new(rt: R, alloc: Global) -> Host<R>
+        ensures { result ≡ record { log = []; room = 0; next = 1 } }
+    {
+        Host {
+            rt,
+            alloc,
+            journal: Journal::new(alloc),
+        }
+    }
+
+    /// The allocator that the host takes its memory from.
+    pub fn allocator(&self) -> Global {
+        self.alloc
+    }
+
+    /// An end of an open file, with the next number. It adds no entry. Where no number is left the answer is `Other`, and
+    /// the file is closed.
+    pub fn adopt_file(&mut self, file: File) -> Result<End, Fault>
+        ensures ok { IfOk result (λ end. (end ≡ self.old.next) × (self.new ≡ record self.old { next = self.old.next + 1 })) }
+        ensures err { IfErr result (λ fault. (fault.kind ≡ Other) × (self.new ≡ self.old) × (2 ^ 64 ≤ self.old.next + 1)) }
+    {
+        let number = self.take_number()?;
+        Ok(End::new(number, OwnedFd::from(file)))
+    }
+
+    /// An end of a pipe's reader, as `adopt_file` gives one of a file.
+    pub fn adopt_reader(&mut self, reader: PipeReader) -> Result<End, Fault>
+        ensures ok { IfOk result (λ end. (end ≡ self.old.next) × (self.new ≡ record self.old { next = self.old.next + 1 })) }
+        ensures err { IfErr result (λ fault. (fault.kind ≡ Other) × (self.new ≡ self.old) × (2 ^ 64 ≤ self.old.next + 1)) }
+    {
+        let number = self.take_number()?;
+        Ok(End::new(number, OwnedFd::from(reader)))
+    }
+
+    /// An end of a pipe's writer, as `adopt_file` gives one of a file.
+    pub fn adopt_writer(&mut self, writer: PipeWriter) -> Result<End, Fault>
+        ensures ok { IfOk result (λ end. (end ≡ self.old.next) × (self.new ≡ record self.old { next = self.old.next + 1 })) }
+        ensures err { IfErr result (λ fault. (fault.kind ≡ Other) × (self.new ≡ self.old) × (2 ^ 64 ≤ self.old.next + 1)) }
+    {
+        let number = self.take_number()?;
+        Ok(End::new(number, OwnedFd::from(writer)))
+    }
+
+    /// The next number, or `Other` where none is left.
+    fn take_number(&mut self) -> Result<u64, Fault>
+        ensures ok { IfOk result (λ number. (number ≡ self.old.next) × (self.new ≡ record self.old { next = self.old.next + 1 })) }
+        ensures err { IfErr result (λ fault. (fault.kind ≡ Other) × (self.new ≡ self.old) × (2 ^ 64 ≤ self.old.next + 1)) }
+    {
+        match self.journal.take_numbers(1) {
+            Some(number) => Ok(number),
+            None => Err(Fault::new(Kind::Other)),
+        }
+    }
+
+    /// Makes room for an entry that names a path and for this many ends, and copies the path. Where there is no memory the
+    /// host is as it was.
+    fn prepare_named(&mut self, path: &str, ends: usize) -> Result<String, Fault>
+        ensures ok { IfOk result (λ kept. (string_bytes kept ≡ path.now) × (self.new ≡ record self.old { room = self.old.room + ends + 1 })) }
+        ensures err { IfErr result (λ fault. (fault.kind ≡ OutOfMemory) × (self.new ≡ self.old)) }
+    {
+        let Ok(kept) = String::from_str(self.alloc, path) else {
+            return Err(no_memory());
+        };
+        self.journal.prepare(ends)?;
+        Ok(kept)
+    }
+
+    /// Takes the room of a spawn's ends but for one entry, and makes that room where no stream is an end.
+    fn prepare_spawn(&mut self, ends: usize) -> Result<(), Fault>
+        requires { min 1 ends ≤ self.old.room }
+        ensures ok { OnOk result (OnlyRoom self.old self.new × (0 < self.new.room) × (self.old.room + 1 ≤ self.new.room + ends)) }
+        ensures err { IfErr result (λ fault. (fault.kind ≡ OutOfMemory) × (self.new ≡ self.old) × (ends ≡ 0)) }
+    {
+        match ends.checked_sub(1) {
+            None => self.journal.prepare(0),
+            Some(others) => {
+                let spare = others.min(self.journal.room() - 1);
+                self.journal.give_back(spare);
+                Ok(())
+            }
+        }
+    }
+
+    /// An end with the next number, if one is left and the machine gave its descriptor.
+    fn numbered(&mut self, answer: io::Result<OwnedFd>) -> Result<End, Fault>
+        ensures kept { OnlyCounts self.old self.new }
+        ensures fresh { IfOk result (λ end. (self.old.next ≤ end) × (end < self.new.next)) }
+    {
+        match answer {
+            Ok(fd) => Ok(End::new(self.take_number()?, fd)),
+            Err(error) => Err(fault_of(error)),
+        }
+    }
+}
+
+impl<R: Processes + Files<File = File> + Env + Parents + Clone + Drop> Host<R> {
+    /// Two ends of a new pipe, with the next two numbers.
+    fn new_pipe(&mut self) -> Result<(End, End), Fault>
+        ensures kept { OnlyCounts self.old self.new }
+        ensures fresh { IfOk result (λ ends. (self.old.next ≤ ends.0) × (ends.0 < ends.1) × (ends.1 < self.new.next)) }
+    {
+        let (reader, writer) = io::pipe(&self.rt).map_err(fault_of)?;
+        let read = self.adopt_reader(reader)?;
+        let write = self.adopt_writer(writer)?;
+        Ok((read, write))
+    }
+
+    /// Starts a child with the next number, which is taken before the machine is asked.
+    fn new_child(
+        &mut self,
+        spec: &CommandSpec,
+        streams: [process::Stdio; 3],
+    ) -> Result<Child<R>, Fault>
+        ensures kept { OnlyCounts self.old self.new }
+        ensures fresh { IfOk result (λ child. (self.old.next ≤ child.number) × (child.number < self.new.next)) }
+        ensures unasked { IfOk result (λ child. (child.polls ≡ 0) × (child.last ≡ None) × (child.ending ≡ None) × (child.orders.items ≡ [])) }
+    {
+        let number = self.take_number()?;
+        let Ok(rt) = self.rt.clone() else {
+            return Err(no_memory());
+        };
+        let started = start(&self.rt, self.alloc, spec, streams)?;
+        Ok(Child::new(rt, self.alloc, number, started))
+    }
+}
+
+/// What the machine may give by a reader is left open.
+impl<R: Processes + Files<File = File> + Env + Parents + Clone + Drop> System for Host<R> {
+    ghost use Rattle.std.specs.Prelude.{◌≡◌, ◌+◌, ◌<◌, ◌≤◌, [], length, map, min, IfOk, IfErr};
+    ghost use Rattle.std.proofs.Common.{lit<};
+    ghost use Rattle.duct_base.specs.Line.{Spawn, Adds, AddsOrNoMemory};
+    ghost use Rattle.duct_base.specs.Streams.{stream_of, ends_of};
+
+    type End = End;
+
+    type Child = Child<R>;
+
+    type Feed = FeedWorker;
+
+    type Drain = DrainWorker;
+
+    type Reader = Reader;
+
+    ghost log = { λ h. h.log };
+
+    ghost next = { λ h. h.next };
+
+    ghost room = { λ h. h.room };
+
+    ghost may_read = { λ _ _. Unit {0} };
+
+    fn environment(&mut self) -> Result<Vec<(String, String)>, Fault> {
+        self.journal.prepare(0)?;
+        match variables_twice(&self.rt, self.alloc) {
+            Ok((pairs, kept)) => {
+                self.journal.add(Entry::Environment(Ok(kept)));
+                Ok(pairs)
+            }
+            Err(_) => {
+                let fault = no_memory();
+                self.journal.add(Entry::Environment(Err(fault)));
+                Err(fault)
+            }
+        }
+    }
+
+    fn pipe(&mut self) -> Result<(End, End), Fault> {
+        self.journal.prepare(2)?;
+        match self.new_pipe() {
+            Ok((reader, writer)) => {
+                let entry = Entry::Pipe(Ok((reader.number(), writer.number())));
+                self.journal.add(entry);
+                Ok((reader, writer))
+            }
+            Err(fault) => {
+                self.journal.give_back(2);
+                self.journal.add(Entry::Pipe(Err(fault)));
+                Err(fault)
+            }
+        }
+    }
+
+    fn open_read(&mut self, path: &str) -> Result<End, Fault> {
+        let kept = self.prepare_named(path, 1)?;
+        let answer = open(&self.rt, path, Access::Read);
+        match self.numbered(answer) {
+            Ok(end) => {
+                self.journal.add(Entry::OpenRead(kept, Ok(end.number())));
+                Ok(end)
+            }
+            Err(fault) => {
+                self.journal.give_back(1);
+                self.journal.add(Entry::OpenRead(kept, Err(fault)));
+                Err(fault)
+            }
+        }
+    }
+
+    fn create(&mut self, path: &str) -> Result<End, Fault> {
+        let kept = self.prepare_named(path, 1)?;
+        let answer = open(&self.rt, path, Access::Create);
+        match self.numbered(answer) {
+            Ok(end) => {
+                self.journal.add(Entry::Create(kept, Ok(end.number())));
+                Ok(end)
+            }
+            Err(fault) => {
+                self.journal.give_back(1);
+                self.journal.add(Entry::Create(kept, Err(fault)));
+                Err(fault)
+            }
+        }
+    }
+
+    fn duplicate(&mut self, end: &End) -> Result<End, Fault> {
+        self.journal.prepare(1)?;
+        let lent = end.number();
+        match self.numbered(end.descriptor().try_clone()) {
+            Ok(made) => {
+                self.journal.add(Entry::Duplicate(lent, Ok(made.number())));
+                Ok(made)
+            }
+            Err(fault) => {
+                self.journal.give_back(1);
+                self.journal.add(Entry::Duplicate(lent, Err(fault)));
+                Err(fault)
+            }
+        }
+    }
+
+    fn parent(&mut self, side: Side) -> Result<End, Fault> {
+        self.journal.prepare(1)?;
+        let answer = match side {
+            Side::Out => self.rt.duplicate_stdout(),
+            Side::Err => self.rt.duplicate_stderr(),
+        };
+        match self.numbered(answer) {
+            Ok(made) => {
+                self.journal.add(Entry::Parent(side, Ok(made.number())));
+                Ok(made)
+            }
+            Err(fault) => {
+                self.journal.give_back(1);
+                self.journal.add(Entry::Parent(side, Err(fault)));
+                Err(fault)
+            }
+        }
+    }
+
+    fn canonicalize(&mut self, path: &str) -> Result<String, Fault> {
+        let kept = self.prepare_named(path, 0)?;
+        match canonical_twice(&self.rt, self.alloc, path) {
+            Ok((text, noted)) => {
+                self.journal.add(Entry::Canonicalize(kept, Ok(noted)));
+                Ok(text)
+            }
+            Err(fault) => {
+                self.journal.add(Entry::Canonicalize(kept, Err(fault)));
+                Err(fault)
+            }
+        }
+    }
+
+    fn spawn(&mut self, spec: CommandSpec, io: [Stdio<End>; 3]) -> Result<Child<R>, Fault>
+        requires { min 1 (length (ends_of io)) ≤ self.old.room }
+        ensures ok { IfOk result (λ child. Adds self.old.log self.new.log (Spawn spec (map (stream_of (λ e. e)) io) (Ok child.number))) }
+        ensures err { IfErr result (λ fault. AddsOrNoMemory self.old.log self.new.log fault (Spawn spec (map (stream_of (λ e. e)) io) (Err fault))) }
+        ensures added { 0 < length (ends_of io) → IfErr result (λ fault. Adds self.old.log self.new.log (Spawn spec (map (stream_of (λ e. e)) io) (Err fault))) }
+        ensures fresh { IfOk result (λ child. (self.old.next ≤ child.number) × (child.number < self.new.next)) }
+        ensures unasked { IfOk result (λ child. (child.polls ≡ 0) × (child.last ≡ None) × (child.ending ≡ None) × (child.orders.items ≡ [])) }
+        ensures next { self.old.next ≤ self.new.next }
+        ensures room { self.old.room ≤ self.new.room + length (ends_of io) }
+    {
+        let ends = count_of_ends(&io);
+        self.prepare_spawn(ends)?;
+        let (kept, streams) = all_wired(io);
+        match self.new_child(&spec, streams) {
+            Ok(child) => {
+                self.journal
+                    .add(Entry::Spawn(spec, kept, Ok(child.number())));
+                Ok(child)
+            }
+            Err(fault) => {
+                self.journal.add(Entry::Spawn(spec, kept, Err(fault)));
+                Err(fault)
+            }
+        }
+    }
+
+    fn start_feed(&mut self, end: End, bytes: Arc<Vec<u8>>) -> Result<FeedWorker, Fault> {
+        let fault = Fault::new(Kind::Unsupported);
+        self.journal
+            .add(Entry::Feed(end.number(), bytes, Err(fault)));
+        drop(end);
+        Err(fault)
+    }
+
+    fn start_drain(&mut self, end: End) -> Result<DrainWorker, Fault> {
+        let fault = Fault::new(Kind::Unsupported);
+        self.journal.add(Entry::Drain(end.number(), Err(fault)));
+        drop(end);
+        Err(fault)
+    }
+
+    fn reader(&mut self, end: End) -> Reader {
+        self.journal.add(Entry::Reader(end.number()));
+        Reader::new(end.into_descriptor())
+    }
+
+    fn close(&mut self, end: End) {
+        self.journal.add(Entry::Close(end.number()));
+        drop(end);
+    }
+
+    fn journal(&self) -> &[Entry] {
+        self.journal.entries()
+    }
+
+    fn clear_journal(&mut self) {
+        self.journal.clear();
+    }
+
+    ghost streams_fit = { lit< tt };
+
+    ghost same_bytes = { λ one other same. same };
+}
+
+/// How a file is opened.
+#[derive(Clone, Copy)]
+enum Access {
+    Read,
+    Create,
+}
+
+/// The descriptor of a file that is opened. It is tried again where a signal interrupts it.
+fn open<R: Files<File = File>>(rt: &R, path: &str, access: Access) -> io::Result<OwnedFd> {
+    for _ in 0..u64::MAX {
+        let answer = match access {
+            Access::Read => File::open(rt, path),
+            Access::Create => File::create(rt, path),
+        };
+        match answer {
+            Ok(file) => return Ok(OwnedFd::from(file)),
+            Err(error) if error.kind() == ErrorKind::Interrupted => {}
+            Err(error) => return Err(error),
+        }
+    }
+    Err(io::Error::from(ErrorKind::Other))
+}
+
+/// The canonical name of a path, and a copy of it for the journal.
+fn canonical_twice<R: Files>(rt: &R, alloc: Global, path: &str) -> Result<(String, String), Fault>
+    ensures { IfOk result (λ texts. string_bytes texts.1 ≡ string_bytes texts.0) }
+{
+    let name = rt.canonicalize(alloc, path).map_err(fault_of)?;
+    match (
+        name.as_str().to_string(alloc),
+        name.as_str().to_string(alloc),
+    ) {
+        (Ok(text), Ok(noted)) => Ok((text, noted)),
+        _ => Err(no_memory()),
+    }
+}
+
+/// The variables of the environment, and a copy of them for the journal.
+fn variables_twice<E: Env>(
+    rt: &E,
+    alloc: Global,
+) -> Result<(Vec<(String, String)>, Vec<(String, String)>), AllocError>
+    ensures { IfOk result (λ both. map pair_text both.1.items ≡ map pair_text both.0.items) }
+{
+    let pairs = variables(rt, alloc)?;
+    let kept = copy_of(pairs.as_slice(), alloc)?;
+    Ok((pairs, kept))
+}

@@ -1,0 +1,22 @@
+-- What a drain says again.
+use Rattle.std.specs.Prelude.{ℕ, List, ◌≡◌, IfSome, IfNone, Some, None}
+use Rattle.std.specs.Option.{unwrap_or}
+use Rattle.std.specs.declared.option.Option.{Option}
+use Rattle.duct_base.specs.Told.{SaysAgain}
+use Rattle.duct_base.specs.declared.system.Said.{Said}
+use Rattle.duct_base.specs.declared.system.Said.TheVariants.{Running, Done, Fault}
+use Rattle.duct_script.specs.Said.{Shared, SameBytes, word_of}
+
+-- one more owner of what is kept says it again, and where it was refused Running is said, which happens at bytes alone
+pub says_again : (kept said : Said Shared) (answer : Option (Said Shared)) →
+    word_of said ≡ word_of kept → IfSome answer (λ again. word_of again ≡ word_of said) → IfNone answer ((bytes : List ℕ) × (word_of said ≡ Done bytes)) →
+    SaysAgain SameBytes kept (unwrap_or answer Running)
+says_again Running said answer is same refused = tt
+says_again (Done bytes) said None is same refused = tt
+says_again (Done bytes) said (Some Running) is same refused = cc
+says_again (Done bytes) said (Some (Done again)) is same refused = cc
+says_again (Done bytes) said (Some (Fault fault)) is same refused = cc
+says_again (Fault fault) said None is same refused = let word = refused.1 in cc
+says_again (Fault fault) said (Some Running) is same refused = cc
+says_again (Fault fault) said (Some (Done again)) is same refused = cc
+says_again (Fault fault) said (Some (Fault again)) is same refused = cc

@@ -1,0 +1,6 @@
+use Rattle.std.proofs.Common.{◌≡◌, map, take}
+use Rattle.duct_base.specs.Spec.{pair_text}
+use Rattle.duct_script.proofs.system.copies_of.Given as goal
+
+abbrev pub invariant-loop-name : goal.invariant-loop-name
+invariant-loop-name l = map pair_text l.copies.items ≡ map pair_text (take l.name-index l.variables)

@@ -1,0 +1,4 @@
+pub mod Answers
+pub mod Refusals
+pub mod Said
+pub mod Shows

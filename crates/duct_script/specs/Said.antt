@@ -1,0 +1,22 @@
+-- What a drain says, with the bytes themselves in place of one of their owners.
+use Rattle.std.specs.Prelude.{ℕ, List, ◌≡◌}
+use Rattle.std.specs.declared.alloc.Global.{Global}
+use Rattle.std.specs.declared.sync.Arc.{Arc}
+use Rattle.std.specs.declared.vec.Vec.{Vec}
+use Rattle.std.specs.Arc.{arc_value}
+use Rattle.duct_base.specs.declared.system.Said.{Said}
+use Rattle.duct_base.specs.declared.system.Said.TheVariants.{Running, Done, Fault}
+
+-- an owner of bytes that others may own too
+abbrev pub Shared : Type 0
+Shared = Arc (Vec ℕ Global) Global
+
+-- two owners of the same bytes
+abbrev pub SameBytes : Shared → Shared → Type 0
+SameBytes one other = (arc_value other).items ≡ (arc_value one).items
+
+-- what is said, whoever owns its bytes
+abbrev pub word_of : Said Shared → Said (List ℕ)
+word_of Running = Running
+word_of (Done bytes) = Done (arc_value bytes).items
+word_of (Fault fault) = Fault fault

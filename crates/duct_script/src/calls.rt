@@ -1,0 +1,81 @@
+//! A log that a scripted system, its children and the hooks of a test write to, so that a test sees in which order they
+//! were called. Threads may share it, and nobody waits for it.
+
+use crate::requests::Sort;
+use std::alloc::{AllocError, Global};
+use std::sync::atomic::{AtomicU64, Ordering};
+
+/// What was called.
+#[derive(Clone, Copy, Debug, PartialEq, Eq)]
+pub enum Call {
+    /// A request of this sort.
+    Request(Sort),
+    /// A hook with this label.
+    Hook(u8),
+    /// A poll of the child of this number.
+    Poll(u64),
+    /// A kill or a signal of the child of this number.
+    Order(u64),
+}
+
+/// Calls in the order in which they were noted, up to a number that is fixed when the log is made.
+#[derive(Drop)]
+pub struct CallLog {
+    cells: Vec<[AtomicU64; 2]>,
+    noted: AtomicU64,
+}
+
+impl CallLog {
+    /// An empty log for this many calls.
+    pub fn new(alloc: Global, most: usize) -> Result<CallLog, AllocError> {
+        let mut cells = Vec::with_capacity(alloc, most)?;
+        for _ in 0..most {
+            cells.push([AtomicU64::new(0), AtomicU64::new(0)])?;
+        }
+        Ok(CallLog {
+            cells,
+            noted: AtomicU64::new(0),
+        })
+    }
+
+    /// Notes a call. Once the log is full it is only counted.
+    pub fn write(&self, call: Call) {
+        let place = self.noted.fetch_add(1, Ordering::SeqCst);
+        let (word, number) = match call {
+            Call::Request(sort) => (1 + sort.place() as u64, 0),
+            Call::Hook(label) => (HOOK, u64::from(label)),
+            Call::Poll(child) => (POLL, child),
+            Call::Order(child) => (ORDER, child),
+        };
+        if let Some(cell) = self.cells.get(place as usize) {
+            cell[1].store(number, Ordering::SeqCst);
+            cell[0].store(word, Ordering::SeqCst);
+        }
+    }
+
+    /// How many calls were noted.
+    pub fn noted(&self) -> u64 {
+        self.noted.load(Ordering::SeqCst)
+    }
+
+    /// The call at this place, counted from 0.
+    pub fn get(&self, place: usize) -> Option<Call> {
+        let cell = self.cells.get(place)?;
+        let word = cell[0].load(Ordering::SeqCst);
+        let number = cell[1].load(Ordering::SeqCst);
+        match word {
+            0 => None,
+            HOOK => Some(Call::Hook((number % 256) as u8)),
+            POLL => Some(Call::Poll(number)),
+            ORDER => Some(Call::Order(number)),
+            word => Sort::at((word - 1) as usize).map(Call::Request),
+        }
+    }
+}
+
+/// The words of calls that are no request. A request has the place of its sort, counted from 1.
+const HOOK: u64 = 100;
+
+const POLL: u64 = 101;
+
+const ORDER: u64 = 102;

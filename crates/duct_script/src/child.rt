@@ -1,0 +1,186 @@
+//! The children of a scripted system.
+ghost use Rattle.std.specs.Prelude.{◌≡◌, [], None};
+ghost use Rattle.duct_base.specs.Told.{Notes};
+
+use crate::answers::Answers;
+use crate::calls::{Call, CallLog};
+use crate::gate::Gate;
+use duct_base::system::{Child, ExitStatus, Fault, Kind, Numbered, Order};
+use std::alloc::Global;
+use std::sync::Arc;
+
+/// What a child answers to a poll.
+#[derive(Clone, Copy, Debug, PartialEq, Eq)]
+pub enum PollAnswer {
+    Running,
+    Ended(ExitStatus),
+    Fault(Fault),
+}
+
+impl PollAnswer {
+    /// The answer in the form of the interface.
+    fn told(self) -> Result<Option<ExitStatus>, Fault> {
+        match self {
+            PollAnswer::Running => Ok(None),
+            PollAnswer::Ended(status) => Ok(Some(status)),
+            PollAnswer::Fault(fault) => Err(fault),
+        }
+    }
+}
+
+/// What a child answers to polls, kills and signals. An empty list of polls says Running, another empty list Ok.
+#[derive(Drop)]
+pub struct ChildScript {
+    pub polls: Answers<PollAnswer>,
+    pub kills: Answers<Result<(), Fault>>,
+    pub signals: Answers<Result<(), Fault>>,
+    /// A gate that whoever asks for its number has to pass.
+    pub gate: Option<Gate>,
+}
+
+impl ChildScript {
+    /// A child that says Running and obeys.
+    pub fn running(alloc: Global) -> ChildScript {
+        ChildScript {
+            polls: Answers::none(alloc),
+            kills: Answers::none(alloc),
+            signals: Answers::none(alloc),
+            gate: None,
+        }
+    }
+}
+
+/// A child whose answers come from lists.
+#[derive(Drop)]
+pub struct ScriptChild {
+    number: u64,
+    script: ChildScript,
+    polls: u64,
+    last: Option<Result<Option<ExitStatus>, Fault>>,
+    ending: Option<ExitStatus>,
+    orders: Vec<(Order, Result<(), Fault>)>,
+    calls: Option<Arc<CallLog>>,
+}
+
+impl ScriptChild {
+    /// The child of this number, as it is before anybody asks it. It notes its calls in this log.
+    pub fn new(
+        alloc: Global,
+        number: u64,
+        script: ChildScript,
+        calls: Option<Arc<CallLog>>,
+    ) -> ScriptChild
+        ensures number { result.number ≡ number }
+        ensures polls { result.polls ≡ 0 }
+        ensures last { result.last ≡ None }
+        ensures ending { result.ending ≡ None }
+        ensures orders { result.orders.items ≡ [] }
+    {
+        ScriptChild {
+            number,
+            script,
+            polls: 0,
+            last: None,
+            ending: None,
+            orders: Vec::new(alloc),
+            calls,
+        }
+    }
+
+    /// Notes a call, where there is a log.
+    fn note(&self, call: Call) {
+        if let Some(calls) = &self.calls {
+            calls.write(call);
+        }
+    }
+
+    /// Notes an order with the answer that a list has for it, where there is memory.
+    fn order(&mut self, order: Order) -> Result<(), Fault>
+        ensures noted { Notes (λ _ _. Unit {0}) self.old.orders.items self.new.orders.items order result }
+        ensures ending { self.new.ending ≡ self.old.ending }
+        ensures last { self.new.last ≡ self.old.last }
+        ensures polls { self.new.polls ≡ self.old.polls }
+        ensures number { self.new.number ≡ self.old.number }
+    {
+        if self.orders.reserve(1).is_err() {
+            return Err(Fault::new(Kind::OutOfMemory));
+        }
+        self.note(Call::Order(self.number));
+        let answer = match order {
+            Order::Kill => self.script.kills.next_or(Ok(())),
+            Order::Signal(_) => self.script.signals.next_or(Ok(())),
+        };
+        self.orders.push_reserved((order, answer));
+        answer
+    }
+
+    /// How often it was polled.
+    pub fn polls(&self) -> u64
+        ensures { result ≡ self.now.polls }
+    {
+        self.polls
+    }
+
+    /// The orders that it was given, with their answers.
+    pub fn orders(&self) -> &[(Order, Result<(), Fault>)]
+        ensures { result.now ≡ self.now.orders.items }
+    {
+        self.orders.as_slice()
+    }
+}
+
+impl Numbered for ScriptChild {
+    ghost number_of = { λ c. c.number };
+
+    fn number(&self) -> u64 {
+        if let Some(gate) = &self.script.gate {
+            let _ = gate.pass();
+        }
+        self.number
+    }
+}
+
+impl Child for ScriptChild {
+    ghost use Rattle.std.specs.Prelude.{◌+◌, ◌-◌, ◌^◌, min};
+
+    ghost may_answer = { λ _ _. Unit {0} };
+
+    ghost may_obey = { λ _ _ _. Unit {0} };
+
+    ghost polls = { λ c. c.polls };
+
+    ghost last = { λ c. c.last };
+
+    ghost ending = { λ c. c.ending };
+
+    ghost orders = { λ c. c.orders.items };
+
+    ghost process = { λ c. min (c.number + 1000) (2 ^ 32 - 1) };
+
+    fn poll(&mut self) -> Result<Option<ExitStatus>, Fault> {
+        self.note(Call::Poll(self.number));
+        self.polls = self.polls.saturating_add(1);
+        let answer = match self.ending {
+            Some(status) => Ok(Some(status)),
+            None => self.script.polls.next_or(PollAnswer::Running).told(),
+        };
+        if let Ok(Some(status)) = answer {
+            self.ending = Some(status);
+        }
+        self.last = Some(answer);
+        answer
+    }
+
+    fn kill(&mut self) -> Result<(), Fault> {
+        self.order(Order::Kill)
+    }
+
+    fn signal(&mut self, signal: i32) -> Result<(), Fault> {
+        self.order(Order::Signal(signal))
+    }
+
+    fn id(&self) -> u32 {
+        let id = self.number.saturating_add(1000).min(u64::from(u32::MAX));
+        id as u32
+    }
+}

@@ -1,0 +1,179 @@
+//! The feeds and drains of a scripted system.
+ghost use Rattle.std.specs.Prelude.{◌≡◌, ℕ, List, IfSome, IfNone, IsTrue, ◌↔◌};
+ghost use Rattle.duct_base.specs.declared.system.Said.TheVariants.{Running, Done};
+ghost use Rattle.duct_script.specs.Said.{word_of, SameBytes};
+
+use crate::answers::Answers;
+use duct_base::system::{Job, Numbered, Said};
+use std::alloc::AllocError;
+use std::collections::VecDeque;
+use std::snapshot::Snapshot;
+use std::sync::Arc;
+
+/// What a feed says, in order. An empty list says `Done`.
+pub type FeedScript = Answers<Said<()>>;
+
+/// What a drain says, in order. The last one is repeated, and an empty list says `Done` with no bytes.
+pub type DrainScript = VecDeque<Said<Arc<Vec<u8>>>>;
+
+/// A worker that writes nothing and says what a list says.
+#[derive(Drop)]
+pub struct ScriptFeed {
+    number: u64,
+    script: FeedScript,
+    polls: u64,
+    kept: Said<()>,
+}
+
+impl ScriptFeed {
+    /// The feed of the end of this number, before anybody asks it.
+    pub fn new(number: u64, script: FeedScript) -> ScriptFeed
+        ensures number { result.number ≡ number }
+        ensures polls { result.polls ≡ 0 }
+        ensures kept { result.kept ≡ Running }
+    {
+        ScriptFeed {
+            number,
+            script,
+            polls: 0,
+            kept: Said::Running,
+        }
+    }
+
+    /// How often it was polled.
+    pub fn polls(&self) -> u64
+        ensures { result ≡ self.now.polls }
+    {
+        self.polls
+    }
+}
+
+impl Numbered for ScriptFeed {
+    ghost number_of = { λ f. f.number };
+
+    fn number(&self) -> u64 {
+        self.number
+    }
+}
+
+impl Job for ScriptFeed {
+    type Result = ();
+
+    ghost same = { λ _ _. Unit {0} };
+
+    ghost may_say = { λ _ _. Unit {0} };
+
+    ghost polls = { λ f. f.polls };
+
+    ghost kept = { λ f. f.kept };
+
+    fn poll(&mut self) -> Said<()> {
+        self.polls = self.polls.saturating_add(1);
+        if self.kept == Said::Running {
+            self.kept = self.script.next_or(Said::Done(()));
+        }
+        self.kept
+    }
+}
+
+/// A worker that reads nothing and says what a list says.
+#[derive(Drop)]
+pub struct ScriptDrain {
+    number: u64,
+    script: DrainScript,
+    otherwise: Said<Arc<Vec<u8>>>,
+    polls: u64,
+    said: Said<Arc<Vec<u8>>>,
+    kept: Snapshot<Said<Arc<Vec<u8>>>>,
+    ghost same_word: { word_of said ≡ word_of kept.value },
+}
+
+impl ScriptDrain {
+    /// The drain of the end of this number, before anybody asks it. It shares these bytes, which are none, where its list
+    /// is empty.
+    pub fn new(number: u64, script: DrainScript, empty: Arc<Vec<u8>>) -> ScriptDrain
+        ensures number { result.number ≡ number }
+        ensures polls { result.polls ≡ 0 }
+        ensures kept { result.kept.value ≡ Running }
+    {
+        let said = Said::Running;
+        let kept = Snapshot::of(&said);
+        ScriptDrain {
+            number,
+            script,
+            otherwise: Said::Done(empty),
+            polls: 0,
+            said,
+            kept,
+        }
+    }
+
+    /// How often it was polled.
+    pub fn polls(&self) -> u64
+        ensures { result ≡ self.now.polls }
+    {
+        self.polls
+    }
+}
+
+impl Numbered for ScriptDrain {
+    ghost number_of = { λ d. d.number };
+
+    fn number(&self) -> u64 {
+        self.number
+    }
+}
+
+impl Job for ScriptDrain {
+    type Result = Arc<Vec<u8>>;
+
+    ghost same = { SameBytes };
+
+    ghost may_say = { λ _ _. Unit {0} };
+
+    ghost polls = { λ d. d.polls };
+
+    ghost kept = { λ d. d.kept.value };
+
+    fn poll(&mut self) -> Said<Arc<Vec<u8>>> {
+        self.polls = self.polls.saturating_add(1);
+        if !is_running(&self.said) {
+            return said_again(&self.said).unwrap_or(Said::Running);
+        }
+        let next = self.script.front().unwrap_or(&self.otherwise);
+        let Some(answer) = said_again(next) else {
+            return Said::Running;
+        };
+        let Some(said) = said_again(&answer) else {
+            return Said::Running;
+        };
+        if self.script.len() > 1 {
+            let _ = self.script.pop_front();
+        }
+        self.kept = Snapshot::of(&answer);
+        self.said = said;
+        answer
+    }
+}
+
+/// Whether nothing is said yet.
+fn is_running(said: &Said<Arc<Vec<u8>>>) -> bool
+    ensures { IsTrue result ↔ (said.now ≡ Running) }
+{
+    matches!(said, Said::Running)
+}
+
+/// The same, with one more owner of its bytes, if that isn't refused.
+fn said_again(said: &Said<Arc<Vec<u8>>>) -> Option<Said<Arc<Vec<u8>>>>
+    ensures same { IfSome result (λ again. word_of again ≡ word_of said.now) }
+    ensures refused { IfNone result ((bytes : List ℕ) × (word_of said.now ≡ Done bytes)) }
+{
+    match said {
+        Said::Running => Some(Said::Running),
+        Said::Done(bytes) => match Arc::try_clone(bytes) {
+            Ok(bytes) => Some(Said::Done(bytes)),
+            Err(_) => None,
+        },
+        Said::Fault(fault) => Some(Said::Fault(*fault)),
+    }
+}

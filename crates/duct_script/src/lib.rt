@@ -1,0 +1,13 @@
+//! A system for tests, whose answers come from lists that a test writes. It is proved to keep the interface to the
+//! operating system.
+#![tactic(auto)]
+
+pub mod answers;
+pub mod calls;
+pub mod child;
+pub mod clock;
+pub mod gate;
+pub mod job;
+pub mod reader;
+pub mod requests;
+pub mod system;

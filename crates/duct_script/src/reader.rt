@@ -1,0 +1,127 @@
+//! The readers of a scripted system.
+ghost use Rattle.std.specs.Prelude.{◌≡◌, ℕ, ◌<◌, ◌≤◌, [], ◌++◌, take, drop, length, vec_len, Some, IfOk};
+
+use crate::gate::Gate;
+use std::alloc::Global;
+use std::collections::VecDeque;
+use std::io;
+use std::io::{ErrorKind, Read};
+
+/// What a read does.
+#[derive(Clone, Copy, Drop)]
+pub enum ReadStep {
+    /// It gives a piece of this length, or less where the buffer or the bytes are shorter; the rest of the piece is given by
+    /// the reads that follow. A piece of no bytes counts as one of one byte.
+    Piece(usize),
+    /// It fails by an error of this kind.
+    Fault(ErrorKind),
+}
+
+/// The bytes that a reader gives, and how its reads go. Once the steps are used up, a read gives all that is left.
+#[derive(Drop)]
+pub struct ReaderScript {
+    pub bytes: Vec<u8>,
+    pub steps: VecDeque<ReadStep>,
+    /// A gate that each read has to pass.
+    pub gate: Option<Gate>,
+}
+
+impl ReaderScript {
+    /// A reader of no bytes.
+    pub fn empty(alloc: Global) -> ReaderScript {
+        ReaderScript {
+            bytes: Vec::new(alloc),
+            steps: VecDeque::new(alloc),
+            gate: None,
+        }
+    }
+}
+
+/// A reader whose bytes come from a list.
+#[derive(Drop)]
+pub struct ScriptReader {
+    number: u64,
+    bytes: Vec<u8>,
+    given: usize,
+    steps: VecDeque<ReadStep>,
+    gate: Option<Gate>,
+    ghost within: { given ≤ vec_len bytes },
+}
+
+impl ScriptReader {
+    /// The reader of the end of this number, before anything is read.
+    pub fn new(number: u64, script: ReaderScript) -> ScriptReader
+        ensures { result.number ≡ number }
+    {
+        let ReaderScript { bytes, steps, gate } = script;
+        ScriptReader {
+            number,
+            bytes,
+            given: 0,
+            steps,
+            gate,
+        }
+    }
+
+    /// The number of its end.
+    pub fn number(&self) -> u64
+        ensures { result ≡ self.now.number }
+    {
+        self.number
+    }
+}
+
+impl ScriptReader {
+    /// Takes the next step: the most bytes that it gives, which is at least one.
+    fn step(&mut self) -> Result<usize, ErrorKind>
+        ensures most { IfOk result (λ most. 0 < most) }
+        ensures bytes { self.new.bytes ≡ self.old.bytes }
+        ensures given { self.new.given ≡ self.old.given }
+    {
+        match self.steps.pop_front() {
+            Some(ReadStep::Piece(length)) => Ok(length.max(1)),
+            Some(ReadStep::Fault(kind)) => Err(kind),
+            None => Ok(usize::MAX),
+        }
+    }
+
+    /// Gives bytes, at most so many.
+    fn give(&mut self, buf: &mut [u8], most: usize) -> usize
+        requires { 0 < most }
+        ensures count { result ≤ length buf.new }
+        ensures most { result ≤ most }
+        ensures bytes { drop self.old.given self.old.bytes.items ≡ take result buf.new ++ drop self.new.given self.new.bytes.items }
+        ensures end { result ≡ 0 → 0 < length buf.new → drop self.new.given self.new.bytes.items ≡ [] }
+    {
+        let bytes = &self.bytes.as_slice()[self.given..];
+        let count = most.min(buf.len().min(bytes.len()));
+        let (front, _) = buf.split_at_mut(count);
+        front.copy_from_slice(&bytes[..count]);
+        self.given += count;
+        count
+    }
+
+    /// Puts what is left of a piece in front of the steps that follow, while bytes are left.
+    fn put_back(&mut self, length: usize)
+        ensures bytes { self.new.bytes ≡ self.old.bytes }
+        ensures given { self.new.given ≡ self.old.given }
+    {
+        if length > 0 && self.given < self.bytes.len() {
+            let _ = self.steps.push_front(ReadStep::Piece(length));
+        }
+    }
+}
+
+impl Read for ScriptReader {
+    ghost remaining = { λ r. Some (drop r.given r.bytes.items) };
+
+    fn read(&mut self, buf: &mut [u8]) -> io::Result<usize> {
+        if let Some(gate) = &self.gate {
+            let _ = gate.pass();
+        }
+        let most = self.step()?;
+        let count = self.give(buf, most);
+        self.put_back(most - count);
+        Ok(count)
+    }
+}

@@ -1,0 +1,172 @@
+//! The requests that a scripted system was asked, counted, and the faults that a test set for some of them.
+ghost use Rattle.std.specs.Prelude.{◌≡◌, ◌<◌, ◌++◌, ◌∷◌, [], replicate, slice_index, slice_set, OnOk, OnErr};
+ghost use Rattle.duct_base.specs.Told.{one_more};
+ghost use Rattle.duct_script.specs.Refusals.{place_of, fault_for};
+
+use duct_base::system::Fault;
+use std::alloc::{AllocError, Global};
+
+/// A sort of request: a call that adds entries of this name.
+#[derive(Clone, Copy, Debug, PartialEq, Eq)]
+pub enum Sort {
+    Environment,
+    Pipe,
+    OpenRead,
+    Create,
+    Duplicate,
+    Parent,
+    Canonicalize,
+    Spawn,
+    Feed,
+    Drain,
+    Reader,
+    Close,
+}
+
+/// How many sorts there are.
+const SORTS: usize = 12;
+
+impl Sort {
+    /// Its place among all sorts, counted from 0.
+    pub fn place(self) -> usize
+        ensures place { result ≡ place_of self }
+        ensures within { result < SORTS }
+    {
+        match self {
+            Sort::Environment => 0,
+            Sort::Pipe => 1,
+            Sort::OpenRead => 2,
+            Sort::Create => 3,
+            Sort::Duplicate => 4,
+            Sort::Parent => 5,
+            Sort::Canonicalize => 6,
+            Sort::Spawn => 7,
+            Sort::Feed => 8,
+            Sort::Drain => 9,
+            Sort::Reader => 10,
+            Sort::Close => 11,
+        }
+    }
+
+    /// All sorts, in their order.
+    const ALL: [Sort; SORTS] = [
+        Sort::Environment,
+        Sort::Pipe,
+        Sort::OpenRead,
+        Sort::Create,
+        Sort::Duplicate,
+        Sort::Parent,
+        Sort::Canonicalize,
+        Sort::Spawn,
+        Sort::Feed,
+        Sort::Drain,
+        Sort::Reader,
+        Sort::Close,
+    ];
+
+    /// The sort at this place among all sorts, counted from 0.
+    pub fn at(place: usize) -> Option<Sort> {
+        Sort::ALL.get(place).copied()
+    }
+}
+
+/// A fault for the request of this number, counted among those of its sort where it has one, else among all.
+#[derive(Clone, Copy, Drop)]
+struct Refusal {
+    sort: Option<Sort>,
+    request: u64,
+    fault: Fault,
+}
+
+impl Refusal {
+    ghost use Rattle.std.specs.Prelude.{◌≡◌};
+    ghost use Rattle.duct_script.specs.Refusals.{is_for};
+
+    /// Whether it is for the request of this number among all, and of this number among those of the sort at this place.
+    fn is_for(&self, place: usize, among_all: u64, among_sort: u64) -> bool
+        ensures { result ≡ is_for place among_all among_sort self.now }
+    {
+        match self.sort {
+            None => self.request == among_all,
+            Some(sort) => sort.place() == place && self.request == among_sort,
+        }
+    }
+}
+
+/// The requests so far, counted from 1, and the faults that are set.
+#[derive(Drop)]
+pub struct Requests {
+    asked: u64,
+    of_sort: [u64; SORTS],
+    refusals: Vec<Refusal>,
+}
+
+impl Requests {
+    /// No request so far, and no fault.
+    pub fn new(alloc: Global) -> Requests
+        ensures asked { result.asked ≡ 0 }
+        ensures of_sort { result.of_sort ≡ replicate SORTS 0 }
+        ensures refusals { result.refusals.items ≡ [] }
+    {
+        Requests {
+            asked: 0,
+            of_sort: [0; SORTS],
+            refusals: Vec::new(alloc),
+        }
+    }
+
+    /// Sets a fault for the request of this number, counted among those of its sort where one is named.
+    pub fn refuse(
+        &mut self,
+        sort: Option<Sort>,
+        request: u64,
+        fault: Fault,
+    ) -> Result<(), AllocError>
+        ensures ok { OnOk result (self.new.refusals.items ≡ self.old.refusals.items ++ record { sort = sort; request = request; fault = fault } ∷ []) }
+        ensures err { OnErr result (self.new.refusals.items ≡ self.old.refusals.items) }
+        ensures asked { self.new.asked ≡ self.old.asked }
+        ensures of_sort { self.new.of_sort ≡ self.old.of_sort }
+    {
+        let refusal = Refusal {
+            sort,
+            request,
+            fault,
+        };
+        self.refusals.push(refusal)?;
+        Ok(())
+    }
+
+    /// How many requests there were.
+    pub fn asked(&self) -> u64
+        ensures { result ≡ self.now.asked }
+    {
+        self.asked
+    }
+
+    /// Counts a request of this sort, and answers the fault that is set for it.
+    pub fn count(&mut self, sort: Sort) -> Option<Fault>
+        ensures fault { result ≡ fault_for (place_of sort) (one_more self.old.asked) (one_more (slice_index self.old.of_sort (place_of sort))) self.old.refusals.items }
+        ensures asked { self.new.asked ≡ one_more self.old.asked }
+        ensures of_sort { self.new.of_sort ≡ slice_set self.old.of_sort (place_of sort) (one_more (slice_index self.old.of_sort (place_of sort))) }
+        ensures refusals { self.new.refusals.items ≡ self.old.refusals.items }
+    {
+        self.asked = self.asked.saturating_add(1);
+        let place = sort.place();
+        let of_sort = self.of_sort[place].saturating_add(1);
+        self.of_sort[place] = of_sort;
+        first_fault(self.refusals.as_slice(), place, self.asked, of_sort)
+    }
+}
+
+/// The fault of the first refusal for the request of this number among all, and of this number among those of the sort at
+/// this place.
+fn first_fault(refusals: &[Refusal], place: usize, among_all: u64, among_sort: u64) -> Option<Fault>
+    ensures { result ≡ fault_for place among_all among_sort refusals.now }
+{
+    for refusal in refusals {
+        if refusal.is_for(place, among_all, among_sort) {
+            return Some(refusal.fault);
+        }
+    }
+    None
+}

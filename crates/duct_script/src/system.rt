@@ -1,0 +1,527 @@
+//! The scripted system.
+ghost use Rattle.std.specs.Prelude.{◌≡◌, ℕ, ◌+◌, ◌-◌, ◌^◌, ◌<◌, ◌≤◌, max, length, map, string_bytes, IfOk, IfErr, IfSome, OnOk, OnErr, Ok, Err, None, []};
+ghost use Rattle.duct_base.specs.declared.system.Kind.TheVariants.{OutOfMemory, Other};
+ghost use Rattle.duct_base.specs.declared.system.Said.TheVariants.{Running};
+ghost use Rattle.duct_base.specs.Spec.{pair_text};
+ghost use Rattle.duct_base.specs.Streams.{stream_of, end_of, ends_of};
+
+use crate::answers::Answers;
+use crate::calls::{Call, CallLog};
+use crate::child::{ChildScript, PollAnswer, ScriptChild};
+use crate::job::{DrainScript, FeedScript, ScriptDrain, ScriptFeed};
+use crate::reader::{ReaderScript, ScriptReader};
+use crate::requests::{Requests, Sort};
+use duct_base::journal::Journal;
+use duct_base::spec::CommandSpec;
+use duct_base::system::{Entry, Fault, Kind, Numbered, Side, Stdio, System};
+use std::alloc::{AllocError, Global};
+use std::collections::{BTreeMap, VecDeque};
+use std::sync::Arc;
+
+/// An end of a scripted system. It has a number, and nothing reads or writes it.
+#[derive(Debug, Drop)]
+pub struct ScriptEnd {
+    number: u64,
+}
+
+impl Numbered for ScriptEnd {
+    ghost number_of = { λ e. e.number };
+
+    fn number(&self) -> u64 {
+        self.number
+    }
+}
+
+/// A system whose answers come from lists that a test writes. A request for which no fault is set is answered Ok.
+#[derive(Drop)]
+pub struct Script {
+    journal: Journal,
+    requests: Requests,
+    variables: Vec<(String, String)>,
+    canonical: BTreeMap<String, String>,
+    children: VecDeque<ChildScript>,
+    feeds: VecDeque<FeedScript>,
+    drains: VecDeque<DrainScript>,
+    readers: VecDeque<ReaderScript>,
+    empty: Arc<Vec<u8>>,
+    calls: Option<Arc<CallLog>>,
+    starved: bool,
+}
+
+impl Script {
+    /// A system with no variables, whose requests are all answered Ok, and whose next number is 1.
+    pub fn new(alloc: Global) -> Result<Script, AllocError> {
+        Ok(Script {
+            journal: Journal::new(alloc),
+            requests: Requests::new(alloc),
+            variables: Vec::new(alloc),
+            canonical: BTreeMap::new(alloc),
+            children: VecDeque::new(alloc),
+            feeds: VecDeque::new(alloc),
+            drains: VecDeque::new(alloc),
+            readers: VecDeque::new(alloc),
+            empty: Arc::new(alloc, Vec::new(alloc))?,
+            calls: None,
+            starved: false,
+        })
+    }
+
+    /// Sets a fault for the request of this number, counted from 1 among all. For a Close or a Reader it is ignored.
+    pub fn refuse(&mut self, request: u64, fault: Fault) -> Result<(), AllocError> {
+        self.requests.refuse(None, request, fault)
+    }
+
+    /// Sets a fault for the request of this number, counted from 1 among those of its sort.
+    pub fn refuse_sort(
+        &mut self,
+        sort: Sort,
+        request: u64,
+        fault: Fault,
+    ) -> Result<(), AllocError> {
+        self.requests.refuse(Some(sort), request, fault)
+    }
+
+    /// Sets one more variable of the environment, behind those that are set. A name may be set twice.
+    pub fn variable(&mut self, name: &str, value: &str) -> Result<(), AllocError> {
+        let alloc = self.journal.allocator();
+        let pair = (
+            String::from_str(alloc, name)?,
+            String::from_str(alloc, value)?,
+        );
+        self.variables.push(pair)?;
+        Ok(())
+    }
+
+    /// Sets the canonical name of a path. Each other path is its own.
+    pub fn canonical(&mut self, path: &str, text: &str) -> Result<(), AllocError> {
+        let alloc = self.journal.allocator();
+        let path = String::from_str(alloc, path)?;
+        let text = String::from_str(alloc, text)?;
+        self.canonical.insert(path, text)?;
+        Ok(())
+    }
+
+    /// Sets what the next child says for which nothing is set yet: the first is that of the first spawn that is Ok. A child
+    /// for which nothing is set says Running and obeys.
+    pub fn child(&mut self, script: ChildScript) -> Result<(), AllocError> {
+        self.children.push_back(script)?;
+        Ok(())
+    }
+
+    /// The same by a list of answers to polls, for a child that obeys.
+    pub fn polls(&mut self, answers: &[PollAnswer]) -> Result<(), AllocError> {
+        let alloc = self.journal.allocator();
+        let mut script = ChildScript::running(alloc);
+        script.polls = Answers::of(Vec::from_slice(alloc, answers)?);
+        self.child(script)
+    }
+
+    /// Sets what the next feed says for which nothing is set yet. A feed for which nothing is set says `Done`.
+    pub fn feed(&mut self, script: FeedScript) -> Result<(), AllocError> {
+        self.feeds.push_back(script)?;
+        Ok(())
+    }
+
+    /// Sets what the next drain says for which nothing is set yet. A drain for which nothing is set says `Done` with no bytes.
+    pub fn drain(&mut self, script: DrainScript) -> Result<(), AllocError> {
+        self.drains.push_back(script)?;
+        Ok(())
+    }
+
+    /// Sets what the next reader gives for which nothing is set yet. A reader for which nothing is set gives no bytes.
+    pub fn bytes(&mut self, script: ReaderScript) -> Result<(), AllocError> {
+        self.readers.push_back(script)?;
+        Ok(())
+    }
+
+    /// Sets the log in which each request is noted, and each poll and order of the children of later spawns.
+    pub fn note_in(&mut self, calls: Arc<CallLog>) {
+        self.calls = Some(calls);
+    }
+
+    /// Says whether the system finds no memory from now on. A request that is given an end needs none.
+    pub fn starve(&mut self, starved: bool) {
+        self.starved = starved;
+    }
+
+    /// Passes over the numbers below this one.
+    pub fn skip_numbers_below(&mut self, number: u64)
+        ensures log { self.new.journal.log ≡ self.old.journal.log }
+        ensures room { self.new.journal.room ≡ self.old.journal.room }
+        ensures next { self.new.journal.next ≡ max self.old.journal.next number }
+    {
+        let next = self.journal.next();
+        let _ = self.journal.take_numbers(number.saturating_sub(next));
+    }
+
+    /// An end of somebody else, with the next number. No entry is added, and no room is made: such an end is to be lent
+    /// alone. Refused by `Other` where no number is left.
+    pub fn adopt(&mut self) -> Result<ScriptEnd, Fault>
+        ensures number { IfOk result (λ end. (end.number ≡ self.old.journal.next) × (self.new.journal ≡ record self.old.journal { next = self.old.journal.next + 1 })) }
+        ensures none_left { IfErr result (λ fault. (fault.kind ≡ Other) × (self.new.journal ≡ self.old.journal) × (2 ^ 64 ≤ self.old.journal.next + 1)) }
+    {
+        match self.journal.take_numbers(1) {
+            Some(number) => Ok(ScriptEnd { number }),
+            None => Err(Fault::new(Kind::Other)),
+        }
+    }
+
+    /// How many requests there were, since the system was made.
+    pub fn requests(&self) -> u64 {
+        self.requests.asked()
+    }
+
+    /// Counts a request, notes it, and answers the fault that is set for it.
+    fn ask(&mut self, sort: Sort) -> Option<Fault>
+        ensures { self.new.journal ≡ self.old.journal }
+    {
+        if let Some(calls) = &self.calls {
+            calls.write(Call::Request(sort));
+        }
+        self.requests.count(sort)
+    }
+
+    /// Makes room for an entry and for this many after it.
+    fn prepare(&mut self, ends: usize) -> Result<(), Fault>
+        ensures ok { OnOk result (self.new.journal ≡ record self.old.journal { room = self.old.journal.room + ends + 1 }) }
+        ensures err { IfErr result (λ fault. fault.kind ≡ OutOfMemory) }
+        ensures unchanged { OnErr result (self.new.journal ≡ self.old.journal) }
+    {
+        if self.starved {
+            return Err(Fault::new(Kind::OutOfMemory));
+        }
+        self.journal.prepare(ends)
+    }
+
+    /// Counts a request, and takes this many numbers in a row for its answer.
+    fn answer(&mut self, sort: Sort, count: u64) -> Result<u64, Fault>
+        ensures ok { IfOk result (λ first. (first ≡ self.old.journal.next) × (self.new.journal.next ≡ first + count)) }
+        ensures fits { OnOk result (self.new.journal.next < 2 ^ 64) }
+        ensures err { OnErr result (self.new.journal.next ≡ self.old.journal.next) }
+        ensures log { self.new.journal.log ≡ self.old.journal.log }
+        ensures room { self.new.journal.room ≡ self.old.journal.room }
+    {
+        if let Some(fault) = self.ask(sort) {
+            return Err(fault);
+        }
+        match self.journal.take_numbers(count) {
+            Some(first) => Ok(first),
+            None => Err(Fault::new(Kind::Other)),
+        }
+    }
+
+    /// The end that a request was answered. Where it was refused, the room that was made for it is given back.
+    fn got(&mut self, answer: Result<u64, Fault>) -> Result<ScriptEnd, Fault>
+        requires { 0 < self.old.journal.room }
+        ensures ok { IfOk result (λ end. answer ≡ Ok end.number) }
+        ensures err { IfErr result (λ fault. answer ≡ Err fault) }
+        ensures log { self.new.journal.log ≡ self.old.journal.log }
+        ensures next { self.new.journal.next ≡ self.old.journal.next }
+        ensures made { OnOk result (self.new.journal.room ≡ self.old.journal.room) }
+        ensures given_back { OnErr result (self.new.journal.room + 1 ≡ self.old.journal.room) }
+    {
+        match answer {
+            Ok(number) => Ok(ScriptEnd { number }),
+            Err(fault) => {
+                self.journal.give_back(1);
+                Err(fault)
+            }
+        }
+    }
+
+    /// Says that the room of these ends isn't wanted any more. One of them had its room used by the entry that spent them.
+    fn spent(&mut self, ends: usize)
+        ensures log { self.new.journal.log ≡ self.old.journal.log }
+        ensures next { self.new.journal.next ≡ self.old.journal.next }
+        ensures room { self.old.journal.room ≤ self.new.journal.room + (ends - 1) }
+    {
+        let others = ends.saturating_sub(1);
+        let room = self.journal.room();
+        self.journal.give_back(others.min(room));
+    }
+
+    /// What a path is answered as its canonical name: the text that was set for it, or the path itself.
+    fn canonical_text<'a>(&'a self, path: &'a str) -> &'a str {
+        match self.canonical.get(path) {
+            Some(text) => text.as_str(),
+            None => path,
+        }
+    }
+
+    /// The next child, with this number.
+    fn next_child(&mut self, number: u64) -> ScriptChild
+        ensures journal { self.new.journal ≡ self.old.journal }
+        ensures number { result.number ≡ number }
+        ensures polls { result.polls ≡ 0 }
+        ensures last { result.last ≡ None }
+        ensures ending { result.ending ≡ None }
+        ensures orders { result.orders.items ≡ [] }
+    {
+        let alloc = self.journal.allocator();
+        let script = match self.children.pop_front() {
+            Some(script) => script,
+            None => ChildScript::running(alloc),
+        };
+        ScriptChild::new(alloc, number, script, self.shared_calls())
+    }
+
+    /// One more owner of the log, if there is one and it isn't refused.
+    fn shared_calls(&self) -> Option<Arc<CallLog>> {
+        let calls = self.calls.as_ref()?;
+        Arc::try_clone(calls).ok()
+    }
+
+    /// The next feed, with this number.
+    fn next_feed(&mut self, number: u64) -> ScriptFeed
+        ensures journal { self.new.journal ≡ self.old.journal }
+        ensures number { result.number ≡ number }
+        ensures polls { result.polls ≡ 0 }
+        ensures kept { result.kept ≡ Running }
+    {
+        let script = match self.feeds.pop_front() {
+            Some(script) => script,
+            None => FeedScript::none(self.journal.allocator()),
+        };
+        ScriptFeed::new(number, script)
+    }
+
+    /// Counts the start of a drain, and answers the next one, with this number.
+    fn next_drain(&mut self, number: u64) -> Result<ScriptDrain, Fault>
+        ensures journal { self.new.journal ≡ self.old.journal }
+        ensures number { IfOk result (λ job. job.number ≡ number) }
+        ensures polls { IfOk result (λ job. job.polls ≡ 0) }
+        ensures kept { IfOk result (λ job. job.kept.value ≡ Running) }
+    {
+        if let Some(fault) = self.ask(Sort::Drain) {
+            return Err(fault);
+        }
+        let Ok(empty) = Arc::try_clone(&self.empty) else {
+            return Err(Fault::new(Kind::OutOfMemory));
+        };
+        let script = match self.drains.pop_front() {
+            Some(script) => script,
+            None => DrainScript::new(self.journal.allocator()),
+        };
+        Ok(ScriptDrain::new(number, script, empty))
+    }
+}
+
+/// One more text of these bytes.
+fn copy_of(alloc: Global, text: &str) -> Result<String, Fault>
+    ensures ok { IfOk result (λ copy. string_bytes copy ≡ text.now) }
+    ensures err { IfErr result (λ fault. fault.kind ≡ OutOfMemory) }
+{
+    String::from_str(alloc, text).map_err(|_| Fault::new(Kind::OutOfMemory))
+}
+
+/// One more list of these variables.
+fn copies_of(alloc: Global, variables: &[(String, String)]) -> Result<Vec<(String, String)>, Fault>
+    ensures ok { IfOk result (λ copies. map pair_text copies.items ≡ map pair_text variables.now) }
+    ensures err { IfErr result (λ fault. fault.kind ≡ OutOfMemory) }
+{
+    let mut copies = Vec::new(alloc);
+    for (name, value) in variables.iter() {
+        let copy = (
+            copy_of(alloc, name.as_str())?,
+            copy_of(alloc, value.as_str())?,
+        );
+        if copies.push(copy).is_err() {
+            return Err(Fault::new(Kind::OutOfMemory));
+        }
+    }
+    Ok(copies)
+}
+
+/// The stream with its end's number in place of the end, and how many ends it has.
+fn numbered(stream: Stdio<ScriptEnd>) -> (Stdio<u64>, usize)
+    ensures stream { result.0 ≡ stream_of (λ e. e.number) stream }
+    ensures ends { result.1 ≡ length (end_of stream) }
+    ensures one { result.1 ≤ 1 }
+{
+    match stream {
+        Stdio::Inherit => (Stdio::Inherit, 0),
+        Stdio::Null => (Stdio::Null, 0),
+        Stdio::End(end) => (Stdio::End(end.number), 1),
+    }
+}
+
+/// The streams with their ends' numbers in place of the ends, and how many ends they have.
+fn numbered_streams(io: [Stdio<ScriptEnd>; 3]) -> ([Stdio<u64>; 3], usize)
+    ensures streams { result.0 ≡ map (stream_of (λ e. e.number)) io }
+    ensures ends { result.1 ≡ length (ends_of io) }
+{
+    let [input, output, error] = io;
+    let (input, first) = numbered(input);
+    let (output, second) = numbered(output);
+    let (error, third) = numbered(error);
+    ([input, output, error], first + second + third)
+}
+
+impl System for Script {
+    ghost use Rattle.std.specs.Prelude.{◌≡◌, ℕ, ◌+◌, ◌≤◌, ◌<◌, min, [], length, map, Ok, Err, None, IfOk, IfErr};
+    ghost use Rattle.duct_base.specs.Line.{Spawn, Adds, AddsOrNoMemory};
+    ghost use Rattle.duct_base.specs.Streams.{stream_of, ends_of};
+    ghost use Rattle.duct_script.specs.Said.{SameBytes};
+    ghost use Rattle.std.proofs.Common.{lit<};
+
+    type End = ScriptEnd;
+
+    type Child = ScriptChild;
+
+    type Feed = ScriptFeed;
+
+    type Drain = ScriptDrain;
+
+    type Reader = ScriptReader;
+
+    ghost log = { λ s. s.journal.log };
+
+    ghost next = { λ s. s.journal.next };
+
+    ghost room = { λ s. s.journal.room };
+
+    ghost may_read = { λ number reader. reader.number ≡ number };
+
+    ghost streams_fit = { lit< tt };
+
+    ghost same_bytes = { λ one other same. same };
+
+    fn environment(&mut self) -> Result<Vec<(String, String)>, Fault> {
+        let alloc = self.journal.allocator();
+        let kept = copies_of(alloc, self.variables.as_slice())?;
+        let answer = copies_of(alloc, self.variables.as_slice())?;
+        self.prepare(0)?;
+        if let Some(fault) = self.ask(Sort::Environment) {
+            self.journal.add(Entry::Environment(Err(fault)));
+            return Err(fault);
+        }
+        self.journal.add(Entry::Environment(Ok(kept)));
+        Ok(answer)
+    }
+
+    fn pipe(&mut self) -> Result<(ScriptEnd, ScriptEnd), Fault> {
+        self.prepare(2)?;
+        match self.answer(Sort::Pipe, 2) {
+            Ok(first) => {
+                let second = first + 1;
+                self.journal.add(Entry::Pipe(Ok((first, second))));
+                Ok((ScriptEnd { number: first }, ScriptEnd { number: second }))
+            }
+            Err(fault) => {
+                self.journal.add(Entry::Pipe(Err(fault)));
+                self.journal.give_back(2);
+                Err(fault)
+            }
+        }
+    }
+
+    fn open_read(&mut self, path: &str) -> Result<ScriptEnd, Fault> {
+        let kept = copy_of(self.journal.allocator(), path)?;
+        self.prepare(1)?;
+        let got = self.answer(Sort::OpenRead, 1);
+        self.journal.add(Entry::OpenRead(kept, got));
+        self.got(got)
+    }
+
+    fn create(&mut self, path: &str) -> Result<ScriptEnd, Fault> {
+        let kept = copy_of(self.journal.allocator(), path)?;
+        self.prepare(1)?;
+        let got = self.answer(Sort::Create, 1);
+        self.journal.add(Entry::Create(kept, got));
+        self.got(got)
+    }
+
+    fn duplicate(&mut self, end: &ScriptEnd) -> Result<ScriptEnd, Fault> {
+        self.prepare(1)?;
+        let got = self.answer(Sort::Duplicate, 1);
+        self.journal.add(Entry::Duplicate(end.number, got));
+        self.got(got)
+    }
+
+    fn parent(&mut self, side: Side) -> Result<ScriptEnd, Fault> {
+        self.prepare(1)?;
+        let got = self.answer(Sort::Parent, 1);
+        self.journal.add(Entry::Parent(side, got));
+        self.got(got)
+    }
+
+    fn canonicalize(&mut self, path: &str) -> Result<String, Fault> {
+        let alloc = self.journal.allocator();
+        let asked = copy_of(alloc, path)?;
+        let kept = copy_of(alloc, self.canonical_text(path))?;
+        let answer = copy_of(alloc, kept.as_str())?;
+        self.prepare(0)?;
+        if let Some(fault) = self.ask(Sort::Canonicalize) {
+            self.journal.add(Entry::Canonicalize(asked, Err(fault)));
+            return Err(fault);
+        }
+        self.journal.add(Entry::Canonicalize(asked, Ok(kept)));
+        Ok(answer)
+    }
+
+    fn spawn(&mut self, spec: CommandSpec, io: [Stdio<ScriptEnd>; 3]) -> Result<ScriptChild, Fault>
+        requires { min 1 (length (ends_of io)) ≤ self.old.journal.room }
+        ensures ok { IfOk result (λ child. Adds self.old.journal.log self.new.journal.log (Spawn spec (map (stream_of (λ e. e.number)) io) (Ok child.number))) }
+        ensures err { IfErr result (λ fault. AddsOrNoMemory self.old.journal.log self.new.journal.log fault (Spawn spec (map (stream_of (λ e. e.number)) io) (Err fault))) }
+        ensures added { 0 < length (ends_of io) → IfErr result (λ fault. Adds self.old.journal.log self.new.journal.log (Spawn spec (map (stream_of (λ e. e.number)) io) (Err fault))) }
+        ensures fresh { IfOk result (λ child. (self.old.journal.next ≤ child.number) × (child.number < self.new.journal.next)) }
+        ensures unasked { IfOk result (λ child. (child.polls ≡ 0) × (child.last ≡ None) × (child.ending ≡ None) × (child.orders.items ≡ [])) }
+        ensures next { self.old.journal.next ≤ self.new.journal.next }
+        ensures room { self.old.journal.room ≤ self.new.journal.room + length (ends_of io) }
+    {
+        let (streams, ends) = numbered_streams(io);
+        if ends == 0 {
+            self.prepare(0)?;
+        }
+        let answer = self.answer(Sort::Spawn, 1);
+        self.journal.add(Entry::Spawn(spec, streams, answer));
+        self.spent(ends);
+        match answer {
+            Ok(number) => Ok(self.next_child(number)),
+            Err(fault) => Err(fault),
+        }
+    }
+
+    fn start_feed(&mut self, end: ScriptEnd, bytes: Arc<Vec<u8>>) -> Result<ScriptFeed, Fault> {
+        let started = match self.ask(Sort::Feed) {
+            Some(fault) => Err(fault),
+            None => Ok(()),
+        };
+        self.journal.add(Entry::Feed(end.number, bytes, started));
+        started?;
+        Ok(self.next_feed(end.number))
+    }
+
+    fn start_drain(&mut self, end: ScriptEnd) -> Result<ScriptDrain, Fault> {
+        let started = self.next_drain(end.number);
+        let answer = match &started {
+            Ok(_) => Ok(()),
+            Err(fault) => Err(*fault),
+        };
+        self.journal.add(Entry::Drain(end.number, answer));
+        started
+    }
+
+    fn reader(&mut self, end: ScriptEnd) -> ScriptReader {
+        let _ = self.ask(Sort::Reader);
+        self.journal.add(Entry::Reader(end.number));
+        let script = match self.readers.pop_front() {
+            Some(script) => script,
+            None => ReaderScript::empty(self.journal.allocator()),
+        };
+        ScriptReader::new(end.number, script)
+    }
+
+    fn close(&mut self, end: ScriptEnd) {
+        let _ = self.ask(Sort::Close);
+        self.journal.add(Entry::Close(end.number));
+    }
+
+    fn journal(&self) -> &[Entry] {
+        self.journal.entries()
+    }
+
+    fn clear_journal(&mut self) {
+        self.journal.clear();
+    }
+}
