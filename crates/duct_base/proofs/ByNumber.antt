@@ -1,7 +1,7 @@
 -- Levels and comparisons by number, in the endings of an outline that is a pipe or unchecked.
-use Rattle.std.proofs.Common.{◌≡◌, ℕ, ◌+◌, ◌-◌, ◌<◌, ◌≤◌, min, Bool, List, refl, ap, sym, ◌∙◌, subst, arith}
+use Rattle.std.proofs.Common.{◌≡◌, ℕ, ◌+◌, ◌-◌, ◌<◌, ◌≤◌, min, Bool, List, ap, sym, ◌∙◌, subst, arith}
 use Rattle.duct_base.specs.declared.status.Word.{Word}
-use Rattle.duct_base.specs.Endings.{Endings, Way, ending_count, way_at, endings_of}
+use Rattle.duct_base.specs.Endings.{ending_count, way_at, endings_of}
 use Rattle.duct_base.specs.Outline.{Outline, pipe, unchecked, command_count}
 use Rattle.duct_base.specs.Winner.{level, LeftBeats, RightBeats, Beats, Tells}
 use Rattle.duct_base.proofs.Numbers.{counts, level_left, level_right, tells_left, tells_right, tells_left_right, tells_right_left}

@@ -1,18 +1,13 @@
 -- What fits the words is their outcome, and an answer fits where it was made of the verdict's bytes for the chosen command.
-use Rattle.std.proofs.Common.{◌≡◌, ℕ, Bool, true, false, List, refl, ap, sym, ◌∙◌, subst, Some, None}
-use Rattle.std.specs.declared.option.Option.{Option}
-use Rattle.std.specs.declared.alloc.Global.{Global}
-use Rattle.std.specs.declared.string.String.{String}
-use Rattle.std.specs.Arc.{arc_value}
-use Rattle.duct_base.specs.declared.system.Output.{Output}
+use Rattle.std.proofs.Common.{◌≡◌, true, refl, sym, subst}
 use Rattle.duct_base.specs.declared.status.Reply.{Reply}
 use Rattle.duct_base.specs.declared.status.Reply.TheVariants as reply
-use Rattle.duct_base.specs.Choice.{chosen, is_checked_failure}
-use Rattle.duct_base.specs.Conclusion.{AnswersFor, AnswersWinner, AnswersVerdict, Concludes}
-use Rattle.duct_base.specs.Endings.{Endings, Way, status_at, texts_at, endings_of}
-use Rattle.duct_base.specs.Kept.{Fits, FitsAnswer, FitsMessage, is_finished, output_of, error_of}
+use Rattle.duct_base.specs.Choice.{chosen}
+use Rattle.duct_base.specs.Conclusion.{AnswersFor, AnswersVerdict, Concludes}
+use Rattle.duct_base.specs.Endings.{Endings, endings_of}
+use Rattle.duct_base.specs.Kept.{Fits, is_finished, output_of, error_of}
 use Rattle.duct_base.specs.Outline.{Outline}
-use Rattle.duct_base.specs.Response.{Response, response_of, answered, failed, no_memory}
+use Rattle.duct_base.specs.Response.{Response, response_of, no_memory}
 use Rattle.duct_base.specs.Verdict.{Verdict, waits, faults, finished, verdict}
 use Rattle.duct_base.specs.Words.{Words}
 use Rattle.duct_base.proofs.Order.{chosen_wins}

@@ -5,7 +5,6 @@ use Rattle.std.proofs.lemmas.List.{append-nil}
 use Rattle.std.specs.List.{range_with_len}
 use Rattle.std.specs.Option.{option_map}
 use Rattle.std.specs.declared.option.Option.{Option}
-use Rattle.duct_base.specs.declared.system.ExitStatus.{ExitStatus}
 use Rattle.duct_base.specs.declared.system.Said.{Said}
 use Rattle.duct_base.specs.declared.system.Said.TheVariants as said
 use Rattle.duct_base.specs.declared.system.Side.{Side}
@@ -137,36 +136,36 @@ pub words_more : (t : Outline) (drains : Drains) (es : List Notice) (e : Notice)
 words_more t drains es (from_command j x) =
     let e = from_command j x in
     same_words _ _ _ _ _ _ _ _
-      (map_changed (λ k. latest_of_command k es) (λ k. latest_of_command k (es ++ e ∷ [])) (λ old. word_after old x) 0 (command_count t) j j (omega arith)
-        (λ k same. command_told k es e x (cond_one (j == k) x same)) (λ k other. command_same k es e (cond_none (j == k) x other)))
-      (inputs_same t es e (λ k. refl))
-      (drain_still drains.out side.Out es e refl)
-      (drain_still drains.err side.Err es e refl)
+    (map_changed (λ k. latest_of_command k es) (λ k. latest_of_command k (es ++ e ∷ [])) (λ old. word_after old x) 0 (command_count t) j j (omega arith)
+    (λ k same. command_told k es e x (cond_one (j == k) x same)) (λ k other. command_same k es e (cond_none (j == k) x other)))
+    (inputs_same t es e (λ k. refl))
+    (drain_still drains.out side.Out es e refl)
+    (drain_still drains.err side.Err es e refl)
 words_more t drains es (from_input j x) =
     let e = from_input j x in
     same_words _ _ _ _ _ _ _ _
-      (commands_same t es e (λ k. refl))
-      (map_changed (λ k. latest_of_input k es) (λ k. latest_of_input k (es ++ e ∷ [])) (λ old. kept_after old x) 0 (input_count t) j j (omega arith)
-        (λ k same. input_told k es e x (cond_one (j == k) x same)) (λ k other. input_same k es e (cond_none (j == k) x other)))
-      (drain_still drains.out side.Out es e refl)
-      (drain_still drains.err side.Err es e refl)
+    (commands_same t es e (λ k. refl))
+    (map_changed (λ k. latest_of_input k es) (λ k. latest_of_input k (es ++ e ∷ [])) (λ old. kept_after old x) 0 (input_count t) j j (omega arith)
+    (λ k same. input_told k es e x (cond_one (j == k) x same)) (λ k other. input_same k es e (cond_none (j == k) x other)))
+    (drain_still drains.out side.Out es e refl)
+    (drain_still drains.err side.Err es e refl)
 words_more t drains es (from_drain side.Out x) =
     let e = from_drain side.Out x in
     same_words _ _ _ _ _ _ _ _
-      (commands_same t es e (λ k. refl))
-      (inputs_same t es e (λ k. refl))
-      (drain_changed drains.out side.Out es e x refl)
-      (drain_still drains.err side.Err es e refl)
+    (commands_same t es e (λ k. refl))
+    (inputs_same t es e (λ k. refl))
+    (drain_changed drains.out side.Out es e x refl)
+    (drain_still drains.err side.Err es e refl)
 words_more t drains es (from_drain side.Err x) =
     let e = from_drain side.Err x in
     same_words _ _ _ _ _ _ _ _
-      (commands_same t es e (λ k. refl))
-      (inputs_same t es e (λ k. refl))
-      (drain_still drains.out side.Out es e refl)
-      (drain_changed drains.err side.Err es e x refl)
+    (commands_same t es e (λ k. refl))
+    (inputs_same t es e (λ k. refl))
+    (drain_still drains.out side.Out es e refl)
+    (drain_changed drains.err side.Err es e x refl)
 words_more t drains es conclude =
     same_words _ _ _ _ _ _ _ _
-      (commands_same t es conclude (λ k. refl))
-      (inputs_same t es conclude (λ k. refl))
-      (drain_still drains.out side.Out es conclude refl)
-      (drain_still drains.err side.Err es conclude refl)
+    (commands_same t es conclude (λ k. refl))
+    (inputs_same t es conclude (λ k. refl))
+    (drain_still drains.out side.Out es conclude refl)
+    (drain_still drains.err side.Err es conclude refl)

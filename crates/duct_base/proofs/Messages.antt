@@ -1,11 +1,10 @@
 -- What the standard forms print of a failure is its message.
-use Rattle.std.specs.Prelude.{◌≡◌, ℕ, List, ◌++◌, codes, IfSome, Option, Some, true}
-use Rattle.std.specs.Fmt.{◌++?◌, debug_list, debug_str}
-use Rattle.std.specs.List.{list_all}
+use Rattle.std.specs.Prelude.{◌≡◌, ℕ, List, ◌++◌, codes, IfSome, Option, Some}
+use Rattle.std.specs.Fmt.{◌++?◌}
 use Rattle.std.proofs.Common.{subst, sym, ◌∙◌, append_assoc}
 use Rattle.duct_base.specs.declared.system.ExitStatus.{ExitStatus}
-use Rattle.duct_base.specs.Message.{status_text, message, IsMessage, printed_message}
-use Rattle.duct_base.specs.Quoted.{is_printable, quoted_list}
+use Rattle.duct_base.specs.Message.{status_text, IsMessage, printed_message}
+use Rattle.duct_base.specs.Quoted.{quoted_list}
 use Rattle.duct_base.proofs.Quotes.{debug_list-printable}
 
 joined : (a b c d : List ℕ) → a ++ (b ++ (c ++ d)) ≡ ((a ++ b) ++ c) ++ d

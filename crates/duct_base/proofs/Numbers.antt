@@ -1,5 +1,5 @@
 -- Commands by their numbers: the way to a number and the number of a way, levels at a pipe, and the winner by number.
-use Rattle.std.proofs.Common.{◌≡◌, ◌≢◌, ℕ, zero, suc, ◌+◌, ◌-◌, ◌<◌, ◌≤◌, ◌⊎◌, inl, inr, Bool, true, false, cond, nat_lt, List, refl, ap, sym, ◌∙◌, subst, arith, MatchBool}
+use Rattle.std.proofs.Common.{◌≡◌, ◌≢◌, ℕ, ◌+◌, ◌-◌, ◌<◌, ◌≤◌, ◌⊎◌, inl, inr, Bool, true, false, cond, nat_lt, List, refl, ap, sym, ◌∙◌, subst, arith}
 use Rattle.std.proofs.lemmas.Bool.Decides.{nat_tests}
 use Rattle.duct_base.specs.declared.status.Word.{Word}
 use Rattle.duct_base.specs.Endings.{Endings, ending, pipe, unchecked, Way, ending_count, number_at, way_at, endings_of}
@@ -46,8 +46,8 @@ pub number_back : (t : Endings) (k : ℕ) → k < ending_count t → number_at t
 number_back (ending texts status) k low = omega arith
 number_back (pipe l r) k low =
     elim (below_or_not k (ending_count l)) [
-      inl less ↦ ap (number_at (pipe l r)) (way_left l r k less) ∙ number_back l k less
-    | inr more ↦ let h = number_back r (k - ending_count l) (omega arith) in ap (number_at (pipe l r)) (way_right l r k more) ∙ omega arith
+      | inl less ↦ ap (number_at (pipe l r)) (way_left l r k less) ∙ number_back l k less
+      | inr more ↦ let h = number_back r (k - ending_count l) (omega arith) in ap (number_at (pipe l r)) (way_right l r k more) ∙ omega arith
     ]
 number_back (unchecked t) k low = number_back t k low
 
@@ -58,8 +58,8 @@ same_or_not a b = grind arith
 pub wins_by_number : (t : Endings) (i : ℕ) → BeatsAll t i → IsWinner t (way_at t i)
 wins_by_number t i all w =
     elim (same_or_not (number_at t w) i) [
-      inl same ↦ inl (ap (way_at t) (sym same) ∙ way_back t w)
-    | inr other ↦ let P : Way t → Type 0 = λ v. Beats t (way_at t i) v in inr (subst P (way_back t w) (all (number_at t w) (number_low t w) other))
+      | inl same ↦ inl (ap (way_at t) (sym same) ∙ way_back t w)
+      | inr other ↦ let P : Way t → Type 0 = λ v. Beats t (way_at t i) v in inr (subst P (way_back t w) (all (number_at t w) (number_low t w) other))
     ]
 
 -- a winner beats the command of each other number
@@ -67,8 +67,8 @@ pub winner_beats_all : (t : Endings) (winner : Way t) → IsWinner t winner → 
 winner_beats_all t winner wins k low other =
     let P : Way t → Type 0 = λ v. Beats t v (way_at t k) in
     elim (wins (way_at t k)) [
-      inl same ↦ absurd (other (sym (number_back t k low) ∙ ap (number_at t) (sym same)))
-    | inr beats ↦ subst P (sym (way_back t winner)) beats
+      | inl same ↦ absurd (other (sym (number_back t k low) ∙ ap (number_at t) (sym same)))
+      | inr beats ↦ subst P (sym (way_back t winner)) beats
     ]
 
 -- a test that tells of two ways tells of the same two ways

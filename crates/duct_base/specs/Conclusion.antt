@@ -1,6 +1,5 @@
 -- What the core replies: to the question how an expression ended, and to each event of a list.
-use Rattle.std.specs.Prelude.{◌≡◌, ℕ, Bool, true, false, ◌⊎◌, MatchBool, List, [], ◌∷◌, ◌++◌, Some, None}
-use Rattle.std.specs.declared.option.Option.{Option}
+use Rattle.std.specs.Prelude.{◌≡◌, ℕ, true, false, MatchBool, List, [], ◌∷◌, ◌++◌}
 use Rattle.duct_base.specs.declared.status.Drains.{Drains}
 use Rattle.duct_base.specs.Choice.{is_checked_failure}
 use Rattle.duct_base.specs.Endings.{Endings, Way, status_at, texts_at, endings_of}
@@ -10,7 +9,7 @@ use Rattle.duct_base.specs.Outline.{Outline}
 use Rattle.duct_base.specs.Response.{Response, noted, unknown, pending, faulted, answered, failed, no_memory}
 use Rattle.duct_base.specs.Verdict.{Verdict, waits, faults, finished, verdict}
 use Rattle.duct_base.specs.Winner.{IsWinner}
-use Rattle.duct_base.specs.Words.{Words, words_told, words_after, is_known}
+use Rattle.duct_base.specs.Words.{Words, words_told, is_known}
 
 -- the response for the command there: its message where it failed and no unchecked stands round it, and else its status
 -- with the captured bytes; or no memory, where the making or one more owner of it was refused

@@ -13,7 +13,7 @@ use Rattle.duct_base.specs.declared.status.Reply.{Reply}
 use Rattle.duct_base.specs.declared.status.Reply.TheVariants as reply
 use Rattle.duct_base.specs.declared.status.Word.{Word}
 use Rattle.duct_base.specs.Choice.{chosen, is_checked_failure}
-use Rattle.duct_base.specs.Endings.{Endings, status_at, texts_at, endings_of}
+use Rattle.duct_base.specs.Endings.{status_at, texts_at, endings_of}
 use Rattle.duct_base.specs.Message.{IsMessage}
 use Rattle.duct_base.specs.Notice.{bytes_said}
 use Rattle.duct_base.specs.Outline.{Outline}

@@ -197,7 +197,13 @@ impl Core {
     fn outcome(&self) -> Reply
         ensures { Fits (outline_in self.now) (words_in self.now) result }
     {
-        let found = look(&self.shape, self.commands.as_slice(), self.inputs.as_slice(), 0, 0);
+        let found = look(
+            &self.shape,
+            self.commands.as_slice(),
+            self.inputs.as_slice(),
+            0,
+            0,
+        );
         match judge(found, &self.output, &self.error) {
             Verdict::Waits => Reply::Pending,
             Verdict::Faults(fault) => Reply::Fault(fault),

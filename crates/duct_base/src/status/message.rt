@@ -15,9 +15,7 @@ pub(crate) fn message(
     ensures { IfOk result (λ text. IfSome (printed_message (map string_bytes words.now.items) status) (λ bytes. string_bytes text ≡ bytes)) }
 {
     match status {
-        ExitStatus::Code(code) => {
-            format!(in alloc; "command {words:?} exited with code {code}")
-        }
+        ExitStatus::Code(code) => { format!(in alloc; "command {words:?} exited with code {code}") }
         ExitStatus::Signal(signal) => {
             format!(in alloc; "command {words:?} exited with code <signal {signal}>")
         }

@@ -1,4 +1,4 @@
-use Rattle.std.proofs.Common.{map, ap, subst, ◌∙◌, List, ℕ, string_bytes}
+use Rattle.std.proofs.Common.{map, List, ℕ, string_bytes}
 use Rattle.duct_base.specs.Message.{IsMessage}
 use Rattle.duct_base.proofs.Messages.{from_printed}
 use Rattle.duct_base.proofs.status.answer.failure.Goals as goal

@@ -1,7 +1,6 @@
-use Rattle.std.proofs.Common.{arith, ap, ◌+◌, ◌-◌, ◌≡◌}
-use Rattle.duct_base.specs.Outline.{command_count}
+use Rattle.std.proofs.Common.{arith, ap}
 use Rattle.duct_base.specs.Shapes.{outline_of}
-use Rattle.duct_base.proofs.ByNumber.{level_in, level_in_left, level_in_right, level_in_unchecked}
+use Rattle.duct_base.proofs.ByNumber.{level_in_left, level_in_right, level_in_unchecked}
 use Rattle.duct_base.proofs.status.plain.winner.+level.Goals as goal
 
 pub returns-then-at-count : goal.returns-then-at-count

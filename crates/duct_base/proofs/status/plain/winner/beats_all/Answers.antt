@@ -1,4 +1,4 @@
-use Rattle.std.proofs.Common.{◌≡◌, ◌≢◌, ℕ, ◌<◌, arith, sym, ◌∙◌}
+use Rattle.std.proofs.Common.{◌≢◌, ℕ, arith}
 use borrow.Author.Count.{below_more}
 use Rattle.duct_base.specs.Endings.{endings_of, way_at}
 use Rattle.duct_base.specs.Shapes.{outline_of}
@@ -17,9 +17,9 @@ loop-other-preserved c =
     let t = endings_of (outline_of c.args.shape.now) 0 c.args.words.now in
     let P : ℕ → Type 0 = λ k. k ≢ c.args.one → Beats t (way_at t c.args.one) (way_at t k) in
     let here : P c.loop-other.other = elim c.else-other-one.branch [
-        else-other-one-via-then-other-one+else-not-beats w ↦ λ other. w.if-not-beats.ensures
+      | else-other-one-via-then-other-one+else-not-beats w ↦ λ other. w.if-not-beats.ensures
       | else-other-one-via-else-other-one w ↦ λ other. absurd (other w.if-other-one.false)
-      ] in
+    ] in
     below_more P c.loop-other.other c.loop-other.invariant here
 
 pub returns : goal.returns

@@ -1,4 +1,4 @@
-use Rattle.std.proofs.Common.{ℕ, ◌<◌, arith}
+use Rattle.std.proofs.Common.{ℕ, arith}
 use borrow.Author.Count.{below_more}
 use Rattle.duct_base.specs.Choice.{chosen}
 use Rattle.duct_base.specs.Endings.{endings_of, number_at, way_at}
