@@ -7,7 +7,10 @@ use duct_base::system::{ExitStatus, Side};
 use std::alloc::{AllocError, Global};
 use std::process::Abort;
 
-const BOTH: Drains = Drains { out: true, err: true };
+const BOTH: Drains = Drains {
+    out: true,
+    err: true,
+};
 
 // An unchecked failure piped into a success, or the failure alone.
 fn shape(alloc: Global, is_answer: bool) -> Result<Shape, AllocError> {
@@ -37,7 +40,11 @@ fn either<T: Drop>(rt: &impl Abort, first: Option<T>, second: Option<T>) -> T {
 // A core of that shape, made again where it was refused: the refusal is `Memory` and nothing else.
 fn core(rt: &impl Abort, alloc: Global, is_answer: bool) -> Core {
     for _ in 0..2 {
-        let shape = either(rt, shape(alloc, is_answer).ok(), shape(alloc, is_answer).ok());
+        let shape = either(
+            rt,
+            shape(alloc, is_answer).ok(),
+            shape(alloc, is_answer).ok(),
+        );
         match Core::new(alloc, shape, BOTH) {
             Ok(core) => return core,
             Err(error) => assert!(rt; matches!(error, Error::Memory)),
@@ -85,7 +92,11 @@ fn tell(rt: &impl Abort, core: &mut Core, events: Vec<Event>) {
 // A first question may be refused, and the next ones give the answer.
 fn asked(rt: &impl Abort, alloc: Global, wants_answer: bool) {
     let mut core = core(rt, alloc, wants_answer);
-    tell(rt, &mut core, either(rt, words(alloc).ok(), words(alloc).ok()));
+    tell(
+        rt,
+        &mut core,
+        either(rt, words(alloc).ok(), words(alloc).ok()),
+    );
     let first = core.step(Event::Conclude);
     assert!(rt; is_wanted(&first, wants_answer) || matches!(first, Reply::Memory));
     assert!(rt; !core.is_due(0));
@@ -116,9 +127,14 @@ fn questions(alloc: Global) -> Result<Vec<Event>, AllocError> {
 // Whether the replies are six, the last the answer, and the one before it the answer or the refusal.
 fn are_wanted(replies: &[Reply]) -> bool {
     match replies {
-        [Reply::Noted, Reply::Noted, Reply::Noted, Reply::Noted, first, last] => {
-            is_answer(last) && (is_answer(first) || matches!(first, Reply::Memory))
-        }
+        [
+            Reply::Noted,
+            Reply::Noted,
+            Reply::Noted,
+            Reply::Noted,
+            first,
+            last,
+        ] => { is_answer(last) && (is_answer(first) || matches!(first, Reply::Memory)) }
         _ => false,
     }
 }

@@ -6,7 +6,10 @@ use std::alloc::{AllocError, Global};
 use std::process::Abort;
 use std::test::Fail;
 
-const NONE: Drains = Drains { out: false, err: false };
+const NONE: Drains = Drains {
+    out: false,
+    err: false,
+};
 
 // Tells the events one by one, and compares the texts of the replies.
 fn expect(
@@ -129,7 +132,11 @@ fn precedence_below_an_unchecked_whole(rt: HostRuntime) -> Result<(), Fail> {
 fn a_second_ending_is_ignored(rt: HostRuntime) -> Result<(), Fail> {
     let alloc = rt.alloc();
     let events = vec![in alloc; ended(0, 1), ended(0, 0), Event::Conclude]?;
-    let wanted = ["Noted", "Noted", "Failed command [\"one\"] exited with code 1"];
+    let wanted = [
+        "Noted",
+        "Noted",
+        "Failed command [\"one\"] exited with code 1",
+    ];
     expect(&rt, alloc, named(alloc, 1)?, NONE, events, &wanted)
 }
 
@@ -155,15 +162,30 @@ fn a_commands_fault_lasts_until_its_next_word(rt: HostRuntime) -> Result<(), Fai
     let alloc = rt.alloc();
     let shape = pipe(alloc, named(alloc, 0)?, named(alloc, 0)?)?;
     let fault = Event::Command(1, Word::Fault(other()));
-    let events = vec![in alloc; fault, Event::Conclude, ended(0, 0), ended(1, 0), Event::Conclude]?;
-    let wanted = ["Noted", "Fault Other", "Noted", "Noted", "Answer Code(0) [] []"];
+    let events = vec![in alloc;
+        fault,
+        Event::Conclude,
+        ended(0, 0),
+        ended(1, 0),
+        Event::Conclude,
+    ]?;
+    let wanted = [
+        "Noted",
+        "Fault Other",
+        "Noted",
+        "Noted",
+        "Answer Code(0) [] []",
+    ];
     expect(&rt, alloc, shape, NONE, events, &wanted)
 }
 
 #[test]
 fn stderrs_fault_waits_for_stdout(rt: HostRuntime) -> Result<(), Fail> {
     let alloc = rt.alloc();
-    let both = Drains { out: true, err: true };
+    let both = Drains {
+        out: true,
+        err: true,
+    };
     let fault = Event::Drain(Side::Err, Said::Fault(other()));
     let bytes = done(alloc, Side::Out, b"x")?;
     let events = vec![in alloc; ended(0, 0), fault, Event::Conclude, bytes, Event::Conclude]?;
@@ -174,22 +196,43 @@ fn stderrs_fault_waits_for_stdout(rt: HostRuntime) -> Result<(), Fail> {
 #[test]
 fn what_is_not_there_is_unknown(rt: HostRuntime) -> Result<(), Fail> {
     let alloc = rt.alloc();
-    let out = Drains { out: true, err: false };
+    let out = Drains {
+        out: true,
+        err: false,
+    };
     let command = Event::Command(7, Word::Running);
     let worker = Event::Input(0, Said::Done(()));
     let drain = done(alloc, Side::Err, b"x")?;
     let events = vec![in alloc; command, worker, drain]?;
-    expect(&rt, alloc, named(alloc, 0)?, out, events, &["Unknown", "Unknown", "Unknown"])
+    expect(
+        &rt,
+        alloc,
+        named(alloc, 0)?,
+        out,
+        events,
+        &["Unknown", "Unknown", "Unknown"],
+    )
 }
 
 #[test]
 fn an_answer_keeps_its_bytes(rt: HostRuntime) -> Result<(), Fail> {
     let alloc = rt.alloc();
-    let both = Drains { out: true, err: true };
+    let both = Drains {
+        out: true,
+        err: true,
+    };
     let out = done(alloc, Side::Out, b"x")?;
     let again = done(alloc, Side::Out, b"z")?;
     let err = done(alloc, Side::Err, b"y")?;
-    let events = vec![in alloc; ended(0, 0), out, err, Event::Conclude, again, ended(0, 1), Event::Conclude]?;
+    let events = vec![in alloc;
+        ended(0, 0),
+        out,
+        err,
+        Event::Conclude,
+        again,
+        ended(0, 1),
+        Event::Conclude,
+    ]?;
     let answer = "Answer Code(0) [120] [121]";
     let wanted = ["Noted", "Noted", "Noted", answer, "Noted", "Noted", answer];
     expect(&rt, alloc, named(alloc, 0)?, both, events, &wanted)
