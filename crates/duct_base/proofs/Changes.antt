@@ -1,5 +1,5 @@
 -- A list with its k-th item changed: by a write at that index, past the end, and its length.
-use Rattle.std.proofs.Common.{◌≡◌, ℕ, zero, suc, ◌+◌, ◌<◌, ◌≤◌, List, [], ◌∷◌, length, get_or, set, refl, ap, sym, ◌∙◌, arith}
+use Rattle.std.proofs.Common.{◌≡◌, ℕ, zero, suc, ◌<◌, ◌≤◌, List, [], ◌∷◌, length, get_or, set, refl, ap, ◌∙◌, arith}
 use Rattle.duct_base.specs.Words.{change_at}
 
 pub changed_set : {T : Type 0} (change : T → T) (k : ℕ) (xs : List T) (x y : T) → k < length xs → x ≡ get_or xs k x → y ≡ change x → set xs k y ≡ change_at change k xs

@@ -1,28 +1,16 @@
 -- What fits the words is their outcome, and an answer fits where it was made of the verdict's bytes for the chosen command.
-use Rattle.std.proofs.Common.{◌≡◌, ℕ, Bool, true, false, List, refl, ap, sym, ◌∙◌, subst, Some, None}
-use Rattle.std.specs.declared.option.Option.{Option}
-use Rattle.std.specs.declared.alloc.Global.{Global}
-use Rattle.std.specs.declared.string.String.{String}
-use Rattle.std.specs.Prelude.{string_bytes, IfSome}
-use Rattle.std.specs.Arc.{arc_value}
-use Rattle.std.specs.Option.{ForSome}
-use Rattle.duct_base.specs.declared.system.Output.{Output}
+use Rattle.std.proofs.Common.{◌≡◌, true, refl, sym, subst}
 use Rattle.duct_base.specs.declared.status.Reply.{Reply}
 use Rattle.duct_base.specs.declared.status.Reply.TheVariants as reply
-use Rattle.duct_base.specs.Choice.{chosen, is_checked_failure}
-use Rattle.duct_base.specs.Conclusion.{AnswersFor, AnswersWinner, AnswersVerdict, Concludes}
-use Rattle.duct_base.specs.Endings.{Endings, Way, status_at, texts_at, endings_of}
-use Rattle.duct_base.specs.Kept.{Fits, FitsAnswer, FitsMessage, is_finished, output_of, error_of}
-use Rattle.duct_base.specs.Message.{message}
+use Rattle.duct_base.specs.Choice.{chosen}
+use Rattle.duct_base.specs.Conclusion.{AnswersFor, AnswersVerdict, Concludes}
+use Rattle.duct_base.specs.Endings.{Endings, endings_of}
+use Rattle.duct_base.specs.Kept.{Fits, is_finished, output_of, error_of}
 use Rattle.duct_base.specs.Outline.{Outline}
-use Rattle.duct_base.specs.Response.{Response, response_of, answered, failed, no_memory}
+use Rattle.duct_base.specs.Response.{Response, response_of, no_memory}
 use Rattle.duct_base.specs.Verdict.{Verdict, waits, faults, finished, verdict}
 use Rattle.duct_base.specs.Words.{Words}
 use Rattle.duct_base.proofs.Order.{chosen_wins}
-
-if_some : (o : Option (List ℕ)) (P : List ℕ → Type 0) → ForSome o P → IfSome o P
-if_some None P h = tt
-if_some (Some x) P h = h x refl
 
 -- with a finished verdict the response for the chosen command is one for the winner
 for_verdict : (v : Verdict) (t : Endings) (r : Response) → is_finished v ≡ true → AnswersFor t (chosen t) (output_of v) (error_of v) r → AnswersVerdict v t r
@@ -35,7 +23,7 @@ pub fits_concludes : (outline : Outline) (words : Words) (made : Reply) → Fits
 fits_concludes outline words reply.Pending fits = let P : Verdict → Type 0 = λ v. AnswersVerdict v (endings_of outline 0 words.commands) (response_of reply.Pending) in subst P (sym fits) refl
 fits_concludes outline words (reply.Fault fault) fits = let P : Verdict → Type 0 = λ v. AnswersVerdict v (endings_of outline 0 words.commands) (response_of (reply.Fault fault)) in subst P (sym fits) refl
 fits_concludes outline words (reply.Answer output) fits = for_verdict (verdict outline words) (endings_of outline 0 words.commands) (response_of (reply.Answer output)) fits.ended (fits.checked, fits.status, fits.stdout, fits.stderr)
-fits_concludes outline words (reply.Failed text) fits = let t = endings_of outline 0 words.commands in for_verdict (verdict outline words) t (response_of (reply.Failed text)) fits.ended (fits.checked, if_some (message (texts_at t (chosen t)) (status_at t (chosen t))) (λ bytes. string_bytes (arc_value text) ≡ bytes) fits.text)
+fits_concludes outline words (reply.Failed text) fits = let t = endings_of outline 0 words.commands in for_verdict (verdict outline words) t (response_of (reply.Failed text)) fits.ended (fits.checked, fits.text)
 fits_concludes outline words reply.Memory fits = for_verdict (verdict outline words) (endings_of outline 0 words.commands) no_memory fits tt
 fits_concludes outline words reply.Noted fits = absurd fits
 fits_concludes outline words reply.Unknown fits = absurd fits

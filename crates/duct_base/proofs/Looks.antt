@@ -1,12 +1,9 @@
 -- The first fault, and whether something runs, of two lists of words one after the other, and at an index.
-use Rattle.std.proofs.Common.{◌≡◌, ℕ, ◌+◌, ◌<◌, Bool, true, false, ◌||◌, List, [], ◌∷◌, ◌++◌, length, get_or, refl, ap, sym, ◌∙◌, Some, None}
-use Rattle.std.specs.declared.option.Option.{Option}
+use Rattle.std.proofs.Common.{◌≡◌, ◌||◌, List, [], ◌∷◌, ◌++◌, refl}
 use Rattle.std.specs.Option.{option_or}
-use Rattle.std.specs.List.{slice_get}
-use Rattle.duct_base.specs.declared.system.Fault.{Fault}
 use Rattle.duct_base.specs.declared.system.Said.{Said}
 use Rattle.duct_base.specs.declared.system.Said.TheVariants as said
-use Rattle.duct_base.specs.Verdict.{first_fault, some_runs, input_said}
+use Rattle.duct_base.specs.Verdict.{first_fault, some_runs}
 
 pub fault_append : (xs ys : List (Said (Unit {0}))) → first_fault (xs ++ ys) ≡ option_or (first_fault xs) (first_fault ys)
 fault_append [] ys = refl

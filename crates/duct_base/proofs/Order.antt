@@ -1,9 +1,9 @@
 -- Beats is a strict total order, and the choice made pipe by pipe finds the one that beats each other one.
-use Rattle.std.proofs.Common.{◌≡◌, ℕ, ◌+◌, ◌<◌, ◌≤◌, ◌⊎◌, min, Bool, true, false, not, ◌&&◌, ◌||◌, cond, refl, inl, inr, arith, ap, subst, sym, ◌∙◌}
+use Rattle.std.proofs.Common.{◌≡◌, ℕ, ◌<◌, ◌≤◌, ◌⊎◌, min, Bool, true, false, not, ◌&&◌, ◌||◌, cond, refl, inl, inr, arith, ap, subst, sym}
 use Rattle.duct_base.specs.Status.{is_success}
-use Rattle.duct_base.specs.Endings.{Endings, ending, pipe, unchecked, Way, status_at, is_checked}
+use Rattle.duct_base.specs.Endings.{Endings, ending, pipe, unchecked, Way, is_checked}
 use Rattle.duct_base.specs.Winner.{level, LeftBeats, RightBeats, Beats, IsWinner}
-use Rattle.duct_base.specs.Choice.{is_failure, is_checked_failure, takes_right, chosen}
+use Rattle.duct_base.specs.Choice.{is_failure, takes_right, chosen}
 use Rattle.duct_base.specs.Laws.{IsStrictTotalOrder, ExactlyOneWins, FailsWhereSomeFails, UncheckedKeeps}
 
 -- the level of the one that beats is never the lower
@@ -39,9 +39,9 @@ total (pipe l r) (inr v) (inl w) = inr (across_back (level l w) (level r v))
 higher_beats : (t : Endings) (v w : Way t) → level t w < level t v → Beats t v w
 higher_beats t v w h =
     elim (total t v w) [
-      inl e ↦ absurd (let P : Way t → Type 0 = λ x. level t x < level t v in let k : level t v < level t v = subst P (sym e) h in omega arith)
-    | inr (inl b) ↦ b
-    | inr (inr b) ↦ absurd (let k = beats_level t w v b in omega arith)
+      | inl e ↦ absurd (let P : Way t → Type 0 = λ x. level t x < level t v in let k : level t v < level t v = subst P (sym e) h in omega arith)
+      | inr (inl b) ↦ b
+      | inr (inr b) ↦ absurd (let k = beats_level t w v b in omega arith)
     ]
 
 transitive : (t : Endings) (u v w : Way t) → Beats t u v → Beats t v w → Beats t u w
@@ -136,8 +136,8 @@ chosen_wins (pipe l r) w = wins_at_pipe l r (chosen_wins l) (chosen_wins r) (tak
 pub winners_same : (t : Endings) (v w : Way t) → IsWinner t v → IsWinner t w → v ≡ w
 winners_same t v w hv hw =
     elim (hv w) [
-      inl e ↦ e
-    | inr b ↦ elim (hw v) [ inl e ↦ sym e | inr d ↦ absurd (irreflexive t v (transitive t v w v b d)) ]
+      | inl e ↦ e
+      | inr b ↦ elim (hw v) [ inl e ↦ sym e | inr d ↦ absurd (irreflexive t v (transitive t v w v b d)) ]
     ]
 
 pub one_wins : (t : Endings) → ExactlyOneWins t

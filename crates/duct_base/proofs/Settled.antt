@@ -19,7 +19,7 @@ use Rattle.duct_base.specs.Kept.{FitsAnswer, FitsMessage, is_finished}
 use Rattle.duct_base.specs.Notice.{Notice, from_command, from_input, from_drain, conclude}
 use Rattle.duct_base.specs.Outline.{Outline, command, pipe, input, unchecked, command_count, input_count}
 use Rattle.duct_base.specs.Told.{kept_after}
-use Rattle.duct_base.specs.Verdict.{Verdict, command_said, input_said, in_tree_order, first_fault, some_runs, waits, faults, finished, captured, with_bytes, ended, verdict}
+use Rattle.duct_base.specs.Verdict.{Verdict, command_said, input_said, in_tree_order, first_fault, some_runs, finished, captured, with_bytes, ended, verdict}
 use Rattle.duct_base.specs.Words.{Words, word_after, change_at, words_after}
 use Rattle.duct_base.proofs.Changes.{changed_past}
 
@@ -57,8 +57,8 @@ commands_done (command texts) c i words inputs done k low high =
 commands_done (pipe l r) c i words inputs done k low high =
     let parts = done_parts (in_tree_order l c i words inputs) (in_tree_order r (c + command_count l) (i + input_count l) words inputs) done in
     elim (below_or_not k (c + command_count l)) [
-      inl less ↦ commands_done l c i words inputs parts.0 k low less
-    | inr more ↦ commands_done r (c + command_count l) (i + input_count l) words inputs parts.1 k more (omega arith)
+      | inl less ↦ commands_done l c i words inputs parts.0 k low less
+      | inr more ↦ commands_done r (c + command_count l) (i + input_count l) words inputs parts.1 k more (omega arith)
     ]
 commands_done (input t) c i words inputs done k low high =
     commands_done t c i words inputs (done_parts (in_tree_order t c i words inputs) (input_said (slice_get inputs (i + input_count t)) ∷ []) done).0 k low high
@@ -70,17 +70,17 @@ inputs_done (command texts) c i words inputs done k low high = absurd (omega ari
 inputs_done (pipe l r) c i words inputs done k low high =
     let parts = done_parts (in_tree_order l c i words inputs) (in_tree_order r (c + command_count l) (i + input_count l) words inputs) done in
     elim (below_or_not k (i + input_count l)) [
-      inl less ↦ inputs_done l c i words inputs parts.0 k low less
-    | inr more ↦ inputs_done r (c + command_count l) (i + input_count l) words inputs parts.1 k more (omega arith)
+      | inl less ↦ inputs_done l c i words inputs parts.0 k low less
+      | inr more ↦ inputs_done r (c + command_count l) (i + input_count l) words inputs parts.1 k more (omega arith)
     ]
 inputs_done (input t) c i words inputs done k low high =
     let parts = done_parts (in_tree_order t c i words inputs) (input_said (slice_get inputs (i + input_count t)) ∷ []) done in
     elim (below_or_not k (i + input_count t)) [
-      inl less ↦ inputs_done t c i words inputs parts.0 k low less
-    | inr more ↦
-      let P : ℕ → Type 0 = λ n. slice_get inputs n ≡ Some (said.Done tt) in
-      let e : i + input_count t ≡ k = omega arith in
-      subst P e (input_done (slice_get inputs (i + input_count t)) parts.1)
+      | inl less ↦ inputs_done t c i words inputs parts.0 k low less
+      | inr more ↦
+          let P : ℕ → Type 0 = λ n. slice_get inputs n ≡ Some (said.Done tt) in
+          let e : i + input_count t ≡ k = omega arith in
+          subst P e (input_done (slice_get inputs (i + input_count t)) parts.1)
     ]
 inputs_done (unchecked t) c i words inputs done k low high = inputs_done t c i words inputs done k low high
 
@@ -115,18 +115,18 @@ commands_same : (t : Outline) (words : Words) (k : ℕ) (heard : Word) → Fit t
 commands_same t words k heard fit done =
     let total = fit.commands in
     elim (below_or_not k (length words.commands)) [
-      inl less ↦
-      let at = commands_done t 0 0 words.commands words.inputs done k (omega arith) (omega arith) in
-      changed_same (λ old. word_after old heard) k words.commands (word.Ended at.0) at.1 refl
-    | inr more ↦ changed_past (λ old. word_after old heard) k words.commands more
+      | inl less ↦
+          let at = commands_done t 0 0 words.commands words.inputs done k (omega arith) (omega arith) in
+          changed_same (λ old. word_after old heard) k words.commands (word.Ended at.0) at.1 refl
+      | inr more ↦ changed_past (λ old. word_after old heard) k words.commands more
     ]
 
 inputs_same : (t : Outline) (words : Words) (k : ℕ) (heard : Said (Unit {0})) → Fit t words → AllDone (in_tree_order t 0 0 words.commands words.inputs) → change_at (λ old. kept_after old heard) k words.inputs ≡ words.inputs
 inputs_same t words k heard fit done =
     let total = fit.inputs in
     elim (below_or_not k (length words.inputs)) [
-      inl less ↦ changed_same (λ old. kept_after old heard) k words.inputs (said.Done tt) (inputs_done t 0 0 words.commands words.inputs done k (omega arith) (omega arith)) refl
-    | inr more ↦ changed_past (λ old. kept_after old heard) k words.inputs more
+      | inl less ↦ changed_same (λ old. kept_after old heard) k words.inputs (said.Done tt) (inputs_done t 0 0 words.commands words.inputs done k (omega arith) (omega arith)) refl
+      | inr more ↦ changed_past (λ old. kept_after old heard) k words.inputs more
     ]
 
 -- once all have ended, no further event changes a word

@@ -1,5 +1,5 @@
 -- The choice of a status made pipe by pipe.
-use Rattle.std.specs.Prelude.{Bool, true, false, not, ◌&&◌, ◌||◌, if◌then◌else◌}
+use Rattle.std.specs.Prelude.{Bool, not, ◌&&◌, ◌||◌, if◌then◌else◌}
 use Rattle.std.proofs.Common.{inl, inr}
 use Rattle.duct_base.specs.Status.{is_success}
 use Rattle.duct_base.specs.Endings.{Endings, ending, pipe, unchecked, Way, status_at, is_checked}

@@ -1,22 +1,21 @@
 -- What the core replies: to the question how an expression ended, and to each event of a list.
-use Rattle.std.specs.Prelude.{◌≡◌, ℕ, Bool, true, false, ◌⊎◌, MatchBool, List, [], ◌∷◌, ◌++◌, IfSome, Some, None}
-use Rattle.std.specs.declared.option.Option.{Option}
+use Rattle.std.specs.Prelude.{◌≡◌, ℕ, true, false, MatchBool, List, [], ◌∷◌, ◌++◌}
 use Rattle.duct_base.specs.declared.status.Drains.{Drains}
 use Rattle.duct_base.specs.Choice.{is_checked_failure}
 use Rattle.duct_base.specs.Endings.{Endings, Way, status_at, texts_at, endings_of}
-use Rattle.duct_base.specs.Message.{message}
+use Rattle.duct_base.specs.Message.{IsMessage}
 use Rattle.duct_base.specs.Notice.{Notice, from_command, from_input, from_drain, conclude}
 use Rattle.duct_base.specs.Outline.{Outline}
 use Rattle.duct_base.specs.Response.{Response, noted, unknown, pending, faulted, answered, failed, no_memory}
 use Rattle.duct_base.specs.Verdict.{Verdict, waits, faults, finished, verdict}
 use Rattle.duct_base.specs.Winner.{IsWinner}
-use Rattle.duct_base.specs.Words.{Words, words_told, words_after, is_known}
+use Rattle.duct_base.specs.Words.{Words, words_told, is_known}
 
 -- the response for the command there: its message where it failed and no unchecked stands round it, and else its status
 -- with the captured bytes; or no memory, where the making or one more owner of it was refused
 abbrev pub AnswersFor : (t : Endings) → Way t → List ℕ → List ℕ → Response → Type 0
 AnswersFor t way output error (answered status out err) = (is_checked_failure t way ≡ false) × (status ≡ status_at t way) × (out ≡ output) × (err ≡ error)
-AnswersFor t way output error (failed text) = (is_checked_failure t way ≡ true) × IfSome (message (texts_at t way) (status_at t way)) (λ bytes. text ≡ bytes)
+AnswersFor t way output error (failed text) = (is_checked_failure t way ≡ true) × IsMessage (texts_at t way) (status_at t way) text
 AnswersFor t way output error no_memory = Unit {0}
 AnswersFor t way output error noted = ⊥
 AnswersFor t way output error unknown = ⊥

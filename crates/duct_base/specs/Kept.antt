@@ -1,6 +1,6 @@
 -- What the core keeps: its words, and an answer or a message that fits them.
 use Rattle.std.specs.Prelude.{◌≡◌, ℕ, Bool, true, false, List, [], Some, None, string_bytes}
-use Rattle.std.specs.Option.{ForSome, option_map}
+use Rattle.std.specs.Option.{option_map}
 use Rattle.std.specs.Arc.{arc_value}
 use Rattle.std.specs.declared.alloc.Global.{Global}
 use Rattle.std.specs.declared.option.Option.{Option}
@@ -13,8 +13,8 @@ use Rattle.duct_base.specs.declared.status.Reply.{Reply}
 use Rattle.duct_base.specs.declared.status.Reply.TheVariants as reply
 use Rattle.duct_base.specs.declared.status.Word.{Word}
 use Rattle.duct_base.specs.Choice.{chosen, is_checked_failure}
-use Rattle.duct_base.specs.Endings.{Endings, status_at, texts_at, endings_of}
-use Rattle.duct_base.specs.Message.{message}
+use Rattle.duct_base.specs.Endings.{status_at, texts_at, endings_of}
+use Rattle.duct_base.specs.Message.{IsMessage}
 use Rattle.duct_base.specs.Notice.{bytes_said}
 use Rattle.duct_base.specs.Outline.{Outline}
 use Rattle.duct_base.specs.Response.{Response, response_of}
@@ -59,7 +59,7 @@ pub record FitsAnswer (outline : Outline) (words : Words) (output : Output) : Ty
 pub record FitsMessage (outline : Outline) (words : Words) (said : String Global) : Type 0 where
   pub ended : is_finished (verdict outline words) ≡ true
   pub checked : is_checked_failure (endings_of outline 0 words.commands) (chosen (endings_of outline 0 words.commands)) ≡ true
-  pub text : ForSome (message (texts_at (endings_of outline 0 words.commands) (chosen (endings_of outline 0 words.commands))) (status_at (endings_of outline 0 words.commands) (chosen (endings_of outline 0 words.commands)))) (λ bytes. string_bytes said ≡ bytes)
+  pub text : IsMessage (texts_at (endings_of outline 0 words.commands) (chosen (endings_of outline 0 words.commands))) (status_at (endings_of outline 0 words.commands) (chosen (endings_of outline 0 words.commands))) (string_bytes said)
 
 -- the reply was made for these words: the verdict's, and for a finished one the answer, the message, or want of memory
 abbrev pub Fits : Outline → Words → Reply → Type 0

@@ -25,9 +25,9 @@ pub mod Started
 pub mod State
 pub mod Status
 pub mod Streams
-pub mod Texts
 pub mod Told
 pub mod Trace
+pub mod TreeOrder
 pub mod Verdict
 pub mod Winner
 pub mod Words

@@ -1,5 +1,5 @@
 -- An answer that stands, and that each later question is answered by it.
-use Rattle.std.specs.Prelude.{◌≡◌, Bool, true, false, ◌⊎◌, List, [], ◌∷◌, IfSome, Some, None}
+use Rattle.std.specs.Prelude.{◌≡◌, ◌⊎◌, List, [], ◌∷◌, IfSome, Some, None}
 use Rattle.std.specs.declared.option.Option.{Option}
 use Rattle.duct_base.specs.Notice.{Notice, from_command, from_input, from_drain, conclude}
 use Rattle.duct_base.specs.Response.{Response, noted, unknown, pending, faulted, answered, failed, no_memory}

@@ -1,5 +1,5 @@
 -- What the latest words come to: a fault, something that still runs, or that all have ended, with the captured bytes.
-use Rattle.std.specs.Prelude.{ℕ, ◌+◌, Bool, true, false, if◌then◌else◌, List, [], ◌∷◌, ◌++◌, Some, None, slice_get}
+use Rattle.std.specs.Prelude.{ℕ, ◌+◌, Bool, true, false, List, [], ◌∷◌, ◌++◌, Some, None, slice_get}
 use Rattle.std.specs.declared.option.Option.{Option}
 use Rattle.duct_base.specs.declared.system.Fault.{Fault}
 use Rattle.duct_base.specs.declared.system.Said.{Said}

@@ -9,16 +9,19 @@ ghost use Rattle.duct_base.specs.Shapes.{outline_of};
 mod answer;
 mod begin;
 mod choose;
+mod copy;
 mod keep;
 pub mod law;
 mod look;
 mod message;
+pub mod plain;
 mod verdict;
 
 use crate::error::Error;
 use crate::status::answer::{answer, failure};
 use crate::status::begin::{begin, first_word};
 use crate::status::choose::choose;
+use crate::status::copy::copy;
 use crate::status::keep::{keep_at, keep_bytes, tell_at};
 use crate::status::look::look;
 use crate::status::verdict::{Verdict, judge};
@@ -194,7 +197,13 @@ impl Core {
     fn outcome(&self) -> Reply
         ensures { Fits (outline_in self.now) (words_in self.now) result }
     {
-        let found = look(&self.shape, self.commands.as_slice(), self.inputs.as_slice(), 0, 0);
+        let found = look(
+            &self.shape,
+            self.commands.as_slice(),
+            self.inputs.as_slice(),
+            0,
+            0,
+        );
         match judge(found, &self.output, &self.error) {
             Verdict::Waits => Reply::Pending,
             Verdict::Faults(fault) => Reply::Fault(fault),
@@ -298,9 +307,13 @@ impl Core {
 }
 
 impl Core {
-    ghost use Rattle.std.specs.Prelude.{◌≡◌, [], IfOk, IfErr, None};
+    ghost use Rattle.std.specs.Prelude.{◌≡◌, [], map, IfOk, IfErr, None};
     ghost use Rattle.duct_base.specs.declared.error.Error.TheVariants.{Memory};
+    ghost use Rattle.duct_base.specs.Conclusion.{RespondsToAll};
+    ghost use Rattle.duct_base.specs.Notice.{notice_of};
+    ghost use Rattle.duct_base.specs.Response.{response_of};
     ghost use Rattle.duct_base.specs.Shapes.{outline_of};
+    ghost use Rattle.duct_base.specs.Standing.{AllRepeated};
     ghost use Rattle.duct_base.specs.State.{outline_in, words_in, standing_in};
     ghost use Rattle.duct_base.specs.Words.{words_told};
 
@@ -324,5 +337,26 @@ impl Core {
             answer: None,
             failure: None,
         })
+    }
+
+    /// The replies to the events, one for each, by a core that was told nothing before; or `Memory`, where there is none for
+    /// the core or the replies, or std refuses one more owner of captured bytes.
+    pub fn run(
+        alloc: Global,
+        shape: Shape,
+        drains: Drains,
+        events: &[Event],
+    ) -> Result<Vec<Reply>, Error>
+        ensures replies { IfOk result (λ replies. RespondsToAll (outline_of shape) drains [] (map notice_of events.now) (map response_of replies.items)) }
+        ensures repeated { IfOk result (λ replies. AllRepeated (map notice_of events.now) (map response_of replies.items)) }
+        ensures err { IfErr result (λ error. error ≡ Memory) }
+    {
+        let mut core = Core::new(alloc, shape, drains)?;
+        let mut replies = Vec::new(alloc);
+        for event in events {
+            let event = copy(event)?;
+            replies.push(core.step(event))?;
+        }
+        Ok(replies)
     }
 }

@@ -5,3 +5,5 @@
 mod command;
 #[cfg(test)]
 mod expression;
+#[cfg(test)]
+mod status;

@@ -1,7 +1,7 @@
 //! The answer of an expression that has ended.
-ghost use Rattle.std.specs.Prelude.{◌≡◌, IfOk, IfSome, map, string_bytes};
+ghost use Rattle.std.specs.Prelude.{◌≡◌, IfOk, map, string_bytes};
 ghost use Rattle.std.specs.Arc.{arc_value};
-ghost use Rattle.duct_base.specs.Message.{message};
+ghost use Rattle.duct_base.specs.Message.{IsMessage};
 
 use crate::status::message::message;
 use crate::system::{ExitStatus, Output};
@@ -38,7 +38,7 @@ pub(crate) fn failure(
     words: &Vec<String>,
     status: ExitStatus,
 ) -> Result<Arc<String>, AllocError>
-    ensures { IfOk result (λ made. IfSome (message (map string_bytes words.now.items) status) (λ bytes. string_bytes (arc_value made) ≡ bytes)) }
+    ensures { IfOk result (λ made. IsMessage (map string_bytes words.now.items) status (string_bytes (arc_value made))) }
 {
     let text = message(alloc, words, status)?;
     let made = Arc::new(alloc, text)?;

@@ -58,10 +58,7 @@ pub(crate) fn tell_at(commands: &mut Vec<Word>, at: usize, heard: Word) -> bool
 }
 
 /// Keeps a capture worker's word, and says whether there is such a worker.
-pub(crate) fn keep_bytes(
-    drain: &mut Option<Said<Arc<Vec<u8>>>>,
-    heard: Said<Arc<Vec<u8>>>,
-) -> bool
+pub(crate) fn keep_bytes(drain: &mut Option<Said<Arc<Vec<u8>>>>, heard: Said<Arc<Vec<u8>>>) -> bool
     ensures bytes { option_map bytes_said drain.new ≡ option_map (λ old. kept_after old (bytes_said heard)) (option_map bytes_said drain.old) }
     ensures known { result ≡ is_some (option_map bytes_said drain.old) }
 {

@@ -13,5 +13,4 @@ pub fn precedence()
     ensures choice { (t : Endings) → IsWinner t (chosen t) }
     ensures failure { (t : Endings) → FailsWhereSomeFails t }
     ensures unchecked { (t : Endings) → UncheckedKeeps t }
-{
-}
+{}

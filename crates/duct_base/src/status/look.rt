@@ -91,27 +91,15 @@ pub(crate) fn look(
     ensures next_input { result.next_input ≡ input + input_count (outline_of shape.now) }
 {
     match shape {
-        Shape::Command(_) => {
-            Found::new(command_at(commands, command), command + 1, input)
-        }
+        Shape::Command(_) => { Found::new(command_at(commands, command), command + 1, input) }
         Shape::Pipe(left, right) => {
             let left = look(left, commands, inputs, command, input);
-            left.before(look(
-                right,
-                commands,
-                inputs,
-                left.next_command,
-                left.next_input,
-            ))
+            left.before(look(right, commands, inputs, left.next_command, left.next_input))
         }
         Shape::Input(inner) => {
             let inner = look(inner, commands, inputs, command, input);
             let said = input_at(inputs, inner.next_input);
-            inner.before(Found::new(
-                said,
-                inner.next_command,
-                inner.next_input + 1,
-            ))
+            inner.before(Found::new(said, inner.next_command, inner.next_input + 1))
         }
         Shape::Unchecked(inner) => look(inner, commands, inputs, command, input),
     }

@@ -1,6 +1,6 @@
 //! The message of a failure that is not unchecked.
 ghost use Rattle.std.specs.Prelude.{◌≡◌, IfOk, IfSome, map, string_bytes};
-ghost use Rattle.duct_base.specs.Message.{message};
+ghost use Rattle.duct_base.specs.Message.{printed_message};
 
 use crate::system::ExitStatus;
 use std::alloc::{AllocError, Global};
@@ -12,12 +12,10 @@ pub(crate) fn message(
     words: &Vec<String>,
     status: ExitStatus,
 ) -> Result<String, AllocError>
-    ensures { IfOk result (λ text. IfSome (message (map string_bytes words.now.items) status) (λ bytes. string_bytes text ≡ bytes)) }
+    ensures { IfOk result (λ text. IfSome (printed_message (map string_bytes words.now.items) status) (λ bytes. string_bytes text ≡ bytes)) }
 {
     match status {
-        ExitStatus::Code(code) => {
-            format!(in alloc; "command {words:?} exited with code {code}")
-        }
+        ExitStatus::Code(code) => { format!(in alloc; "command {words:?} exited with code {code}") }
         ExitStatus::Signal(signal) => {
             format!(in alloc; "command {words:?} exited with code <signal {signal}>")
         }

@@ -1,5 +1,3 @@
-use Rattle.std.proofs.Common.{◌≡◌, sym, subst}
-use Rattle.duct_base.specs.Conclusion.{Concludes}
 use Rattle.duct_base.specs.State.{outline_in, words_in}
 use Rattle.duct_base.proofs.Concluded.{fits_concludes}
 use Rattle.duct_base.proofs.status.Core.conclude.Goals as goal
