@@ -1,4 +1,5 @@
 pub mod Debug
 pub mod Environments
 pub mod OneCommand
+pub mod Polls
 pub mod Printing

@@ -1,10 +1,10 @@
 -- What the start of one command adds to the journal follows its plan.
-use Rattle.std.specs.Prelude.{ℕ, List, [], ◌∷◌, ◌++◌, map, reverse, drop, Ok, Err, Some, None, OnOk, OnErr}
+use Rattle.std.specs.Prelude.{ℕ, List, [], ◌∷◌, ◌++◌, map, reverse, Ok, Err, Some, None}
 use Rattle.std.specs.declared.result.Result.{Result}
 use Rattle.std.specs.Cmp.Lexicographic.{slice_cmp}
 use Rattle.std.specs.List.Sorted.{IsStrictlySortedBy}
 use Rattle.std.specs.Ordering.{nat_cmp}
-use Rattle.std.proofs.Common.{◌≡◌, refl, ap, sym, ◌∙◌, subst, arith, inl, inr, append_assoc, rules}
+use Rattle.std.proofs.Common.{◌≡◌, refl, ap, sym, ◌∙◌, subst, arith, inl, inr, append_assoc}
 use Rattle.std.proofs.lemmas.List.{append-nil}
 use Rattle.duct_base.specs.Ledger.{IsBalanced, got, spent}
 use Rattle.duct_base.specs.Line.{Line, Environment, Spawn, Adds, AddsOrNoMemory}
@@ -12,22 +12,20 @@ use Rattle.duct_base.specs.Spec.{Spec, Vars, value_of}
 use Rattle.duct_base.specs.declared.spec.Port.TheVariants as port
 use Rattle.duct_base.specs.declared.spec.Stream.TheVariants as stream
 use Rattle.duct_base.specs.Origin.{origin}
-use Rattle.duct_base.specs.Started.{children_in}
 use Rattle.duct_base.specs.Streams.{stream_of}
 use Rattle.duct_base.specs.Trace.{IsFront, segment, trace}
 use Rattle.duct_base.specs.declared.error.Error.{Error}
 use Rattle.duct_base.specs.declared.error.Error.TheVariants as error
 use Rattle.duct_base.specs.declared.system.Fault.{Fault}
-use Rattle.duct_base.specs.declared.system.Kind.TheVariants.{OutOfMemory}
 use Rattle.duct_base.specs.declared.system.Stdio.{Stdio}
-use Rattle.duct_base.specs.declared.system.Stdio.TheVariants.{Inherit, Null, End}
+use Rattle.duct_base.specs.declared.system.Stdio.TheVariants.{Inherit}
 use Rattle.duct.specs.Asked.{IsAsked, with_program}
 use Rattle.duct.specs.Chain.{Allows, Refuses, Wired}
 use Rattle.duct.specs.Follows.{Follows, FollowsWhole, IsGiven}
 use Rattle.duct.specs.Causes.{HasCause, AnswersLastFault}
 use Rattle.duct.specs.Plan.{Plan, plan_of, program_of}
 use Rattle.duct.specs.Start.{Succeeds, IsRefused}
-use Rattle.duct.specs.Tree.{Tree, command}
+use Rattle.duct.specs.Tree.{command}
 
 segment-added : (old xs : List Line) → segment old (old ++ xs) ≡ xs
 segment-added [] xs = refl
@@ -93,7 +91,7 @@ module _ {E H : Type 0} (allows : Allows H) (refuses : Refuses H) (number_of : E
         follows = subst (λ l. Follows allows number_of plan l) same follows;
         cause = subst (λ l. HasCause allows refuses number_of plan l e) same cause;
         last_fault = subst (λ l. AnswersLastFault l e) same last;
-        balanced = subst IsBalanced same even
+        balanced = subst IsBalanced same even;
       }
 
   -- no memory, before anything was asked
@@ -133,14 +131,8 @@ module _ {E H : Type 0} (allows : Allows H) (refuses : Refuses H) (number_of : E
       let same = sym (added_segment old new added all) in record {
         front = added_front old new added all;
         whole = subst (λ l. FollowsWhole allows number_of plan l) same (whole pairs spec number asked);
-        balanced = subst IsBalanced same (balanced added refl refl)
+        balanced = subst IsBalanced same (balanced added refl refl);
       }
-
--- the one child that was started
-pub child_started : (old mid new : List Line) (pairs : Vars) (spec : Spec) (number : ℕ) → Adds old mid (Environment (Ok pairs)) →
-    Adds mid new (Spawn spec inherited (Ok number)) → children_in (segment old new) ≡ number ∷ []
-child_started old mid new pairs spec number first is =
-    ap children_in (added_segment old new (Environment (Ok pairs) ∷ Spawn spec inherited (Ok number) ∷ []) (two_added old mid new _ _ first is))
 
 with_own_program : (words : List (List ℕ)) → with_program (program_of words) words ≡ words
 with_own_program [] = refl
@@ -152,9 +144,9 @@ pub plainly_asked : {E H : Type 0} (pairs vars : Vars) (words copy : List (List 
     ((name : List ℕ) → value_of name vars ≡ value_of name (reverse pairs)) → IsStrictlySortedBy (slice_cmp nat_cmp) (map (λ pair. pair.0) vars) →
     IsAsked {E = E} {H = H} pairs (program_of words) [] words spec
 plainly_asked {E} {H} pairs vars words copy spec is same values ordered = rw is (record {
-    words_are = same ∙ sym (with_own_program words);
-    folder_is = refl;
-    vars_are = values;
-    vars_ordered = ordered;
-    ports_are = elim [ stream.In ↦ refl | stream.Out ↦ refl | stream.Err ↦ refl ]
+  words_are = same ∙ sym (with_own_program words);
+  folder_is = refl;
+  vars_are = values;
+  vars_ordered = ordered;
+  ports_are = elim [ stream.In ↦ refl | stream.Out ↦ refl | stream.Err ↦ refl ];
 })

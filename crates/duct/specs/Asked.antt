@@ -1,6 +1,5 @@
 -- The spec and the streams that a tree asks for a command, before its hooks.
 use Rattle.std.specs.Prelude.{ℕ, List, [], ◌∷◌, ◌≡◌, map, slice_index, slice_get, flat_map, unwrap_or}
-use Rattle.std.specs.declared.option.Option.{Option}
 use Rattle.std.specs.Option.{option_to_list}
 use Rattle.std.specs.List.Sorted.{IsStrictlySortedBy}
 use Rattle.std.specs.Cmp.Lexicographic.{slice_cmp}

@@ -1,5 +1,5 @@
 -- Why a start may be refused.
-use Rattle.std.specs.Prelude.{ℕ, ◌-◌, List, [], ◌∷◌, ◌≡◌, ◌⊎◌, length, filter, not, slice_get, Some, None}
+use Rattle.std.specs.Prelude.{ℕ, ◌-◌, List, ◌≡◌, ◌⊎◌, length, filter, not, slice_get, Some}
 use Rattle.std.specs.declared.option.Option.{Option}
 use Rattle.std.specs.Option.{option_and_then}
 use Rattle.duct_base.specs.Line.{Line}

@@ -60,10 +60,10 @@ settled ends (port.Place place) stream = end_of_place (slice_get ends place)
 -- a spec that a hook made, with its places found among the ends beside the hook
 abbrev pub settle : List Origin → Spec → Wired → Wired
 settle ends made before = record {
-    spec = record made { input = found made.input; output = found made.output; error = found made.error };
-    input = settled ends made.input before.input;
-    output = settled ends made.output before.output;
-    error = settled ends made.error before.error
+  spec = record made { input = found made.input; output = found made.output; error = found made.error };
+  input = settled ends made.input before.input;
+  output = settled ends made.output before.output;
+  error = settled ends made.error before.error;
 }
 
 -- one hook leads from one to the other

@@ -1,20 +1,14 @@
 -- What a start added to the journal must be to follow a plan, whole or up to the first refusal.
-use Rattle.std.specs.Prelude.{ℕ, ◌+◌, ◌-◌, List, [], ◌∷◌, ◌≡◌, ◌⊎◌, length, map, slice_get, filter, not, All, IfSome, IsTrue, Ok, Err, Some, None, if◌then◌else◌}
+use Rattle.std.specs.Prelude.{ℕ, ◌+◌, ◌-◌, List, [], ◌∷◌, ◌≡◌, length, map, slice_get, Ok, Some, if◌then◌else◌}
 use Rattle.std.specs.declared.option.Option.{Option}
-use Rattle.std.specs.Option.{option_and_then}
-use Rattle.duct_base.specs.Ledger.{IsBalanced}
 use Rattle.duct_base.specs.Line.{Line, Environment, Pipe, OpenRead, Create, Canonicalize, Spawn, Feed, Drain, Reader}
 use Rattle.duct_base.specs.Origin.{Origin, Opened, origin}
 use Rattle.duct_base.specs.Spec.{Spec, Vars}
 use Rattle.duct_base.specs.Streams.{stream_of}
 use Rattle.duct_base.specs.Trace.{trace, IsClean, StopsAtFault}
-use Rattle.duct_base.specs.declared.error.Error.{Error}
-use Rattle.duct_base.specs.declared.error.Error.TheVariants as error
-use Rattle.duct_base.specs.declared.system.Fault.{Fault}
-use Rattle.duct_base.specs.declared.system.Kind.TheVariants.{OutOfMemory}
 use Rattle.duct_base.specs.declared.system.Stdio.{Stdio}
 use Rattle.duct.specs.Asked.{IsAsked, end_at, streams_to}
-use Rattle.duct.specs.Chain.{Wired, Allows, Refuses, Chain, ChainStops, lent}
+use Rattle.duct.specs.Chain.{Wired, Allows, Chain, lent}
 use Rattle.duct.specs.Lookup.{hooks}
 use Rattle.duct.specs.Path.{Path}
 use Rattle.duct.specs.Plan.{Plan, Item, AskEnvironment, AskPipe, AskOpenRead, AskCreate, AskCanonicalize, AskSpawn, AskFeed, AskDrain, AskReader, is_canonical, program_of}

@@ -1,12 +1,11 @@
 -- What a command finds on its way outwards: where its streams go, its folder, its variables and its hooks.
-use Rattle.std.specs.Prelude.{ℕ, Bool, List, [], ◌∷◌, ◌++◌, reverse, Some, None, if◌then◌else◌}
+use Rattle.std.specs.Prelude.{ℕ, List, [], ◌∷◌, ◌++◌, reverse, Some, None, if◌then◌else◌}
 use Rattle.std.specs.declared.option.Option.{Option}
 use Rattle.duct_base.specs.Spec.{Vars, value_of, same_name}
 use Rattle.duct_base.specs.declared.spec.Stream.{Stream}
 use Rattle.duct_base.specs.declared.spec.Stream.TheVariants.{In, Out, Err}
-use Rattle.duct_base.specs.declared.system.Side as side
-use Rattle.duct.specs.Path.{Crumb, Path, left_of, right_of, within}
-use Rattle.duct.specs.Tree.{Layer, stdin_bytes, stdin_path, stdin_file, stdin_null, stdout_path, stdout_file, stdout_null, stdout_capture, stdout_to_stderr, stderr_path, stderr_file, stderr_null, stderr_capture, stderr_to_stdout, stdout_stderr_swap, dir, env, env_remove, full_env, before_spawn}
+use Rattle.duct.specs.Path.{Path, left_of, right_of, within}
+use Rattle.duct.specs.Tree.{stdin_bytes, stdin_path, stdin_file, stdin_null, stdout_path, stdout_file, stdout_null, stdout_capture, stdout_to_stderr, stderr_path, stderr_file, stderr_null, stderr_capture, stderr_to_stdout, stdout_stderr_swap, dir, env, env_remove, full_env, before_spawn}
 
 -- where a stream goes: to the parent's own stream, to nothing, to an end of the pipe or the file that the item at this
 -- place of the plan got, to an end of the caller, or into the one capture pipe of a stream

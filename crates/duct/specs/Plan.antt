@@ -2,11 +2,9 @@
 use Rattle.std.specs.Prelude.{ℕ, Bool, List, [], ◌∷◌, ◌++◌, length, Some, None, is_some, if◌then◌else◌, slice_get, unwrap_or}
 use Rattle.std.specs.declared.option.Option.{Option}
 use Rattle.duct_base.specs.Executable.{asks_canonical}
-use Rattle.duct_base.specs.declared.system.Side.{Side}
-use Rattle.duct_base.specs.declared.system.Side.TheVariants.{Out, Err}
 use Rattle.duct.specs.Lookup.{folder}
 use Rattle.duct.specs.Path.{Path, left_of, right_of, within}
-use Rattle.duct.specs.Tree.{Tree, command, pipe, around, Layer, stdin_bytes, stdin_path, stdout_path, stdout_capture, stderr_path, stderr_capture}
+use Rattle.duct.specs.Tree.{Tree, command, pipe, around, stdin_bytes, stdin_path, stdout_path, stdout_capture, stderr_path, stderr_capture}
 
 -- one request: a canonical name is asked for a program, a spawn for a command with its way outwards and its words; a worker
 -- and the reader get an end of the pipe that the item at this place got

@@ -1,4 +1,4 @@
-use Rattle.std.proofs.Common.{◌≡◌, map, string_bytes}
+use Rattle.std.proofs.Common.{map, string_bytes}
 use Rattle.std.proofs.lemmas.Result.{err_from_is_err_and}
 use Rattle.duct_base.specs.Spec.{pair_text}
 use Rattle.duct.proofs.OneCommand.{spawn_refused, spawn_succeeds, plainly_asked}

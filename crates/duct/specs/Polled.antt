@@ -1,0 +1,52 @@
+-- What a poll of a start that runs answers, by the outcome of the words that are stored.
+use Rattle.std.specs.Prelude.{ℕ, List, ◌≡◌, string_bytes, Ok, Err, None, IsOkAnd, IsErrAnd, IsSomeAnd}
+use Rattle.std.specs.declared.option.Option.{Option}
+use Rattle.std.specs.declared.result.Result.{Result}
+use Rattle.std.specs.declared.alloc.Global.{Global}
+use Rattle.std.specs.declared.sync.Arc.{Arc}
+use Rattle.std.specs.Arc.{arc_value}
+use Rattle.duct_base.specs.Conclusion.{Concludes}
+use Rattle.duct_base.specs.Outline.{Outline}
+use Rattle.duct_base.specs.Response.{Response, noted, unknown, pending, faulted, answered, failed, no_memory}
+use Rattle.duct_base.specs.Words.{Words}
+use Rattle.duct_base.specs.declared.error.Error.{Error}
+use Rattle.duct_base.specs.declared.error.Error.TheVariants as error
+use Rattle.duct_base.specs.declared.system.ExitStatus.{ExitStatus}
+use Rattle.duct_base.specs.declared.system.Output.{Output}
+
+-- what a poll answers: nothing yet, an output, or an error
+abbrev pub Polled : Type 0
+Polled = Result (Option (Arc Output Global)) Error
+
+-- the output has this status and these bytes
+abbrev pub IsOutput : ExitStatus → List ℕ → List ℕ → Output → Type 0
+IsOutput status out err output = (output.status ≡ status) × (output.stdout.items ≡ out) × (output.stderr.items ≡ err)
+
+-- the error is that of a checked failure with this message
+abbrev pub IsChecked : List ℕ → Error → Type 0
+IsChecked text (error.Checked message) = string_bytes (arc_value message) ≡ text
+IsChecked text other = ⊥
+
+-- the answer that a response of the core gives
+abbrev pub Gives : Response → Polled → Type 0
+Gives pending polled = polled ≡ Ok None
+Gives (faulted fault) polled = polled ≡ Err (error.System fault)
+Gives (answered status out err) polled = IsOkAnd polled (λ found. IsSomeAnd found (λ output. IsOutput status out err (arc_value output)))
+Gives (failed text) polled = IsErrAnd polled (IsChecked text)
+Gives no_memory polled = polled ≡ Err error.Memory
+Gives noted polled = ⊥
+Gives unknown polled = ⊥
+
+-- the response is one to the question how an expression ended
+abbrev pub IsConclusion : Response → Type 0
+IsConclusion noted = ⊥
+IsConclusion unknown = ⊥
+IsConclusion pending = Unit {0}
+IsConclusion (faulted fault) = Unit {0}
+IsConclusion (answered status out err) = Unit {0}
+IsConclusion (failed text) = Unit {0}
+IsConclusion no_memory = Unit {0}
+
+-- the answer is the outcome of these words
+abbrev pub IsOutcome : Outline → Words → Polled → Type 0
+IsOutcome outline words polled = (response : Response) × Concludes outline words response × Gives response polled

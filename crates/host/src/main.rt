@@ -1,0 +1,47 @@
+//! The program `host`: starts the command that its arguments name, and ends as the command does.
+#![tactic(auto)]
+
+mod pause;
+mod perform;
+
+use duct_host::host::Host;
+use perform::perform;
+use std::io::{ErrorKind, Write};
+use std::process::ExitCode;
+use std::{env, io};
+
+/// The arguments after the program's own name. One that is not UTF-8 fails the whole.
+fn arguments<R: std::rt::Env + AllocGlobal>(rt: &R) -> io::Result<Vec<String>> {
+    let mut words = Vec::new(rt.alloc());
+    for word in env::args(rt)?.skip(1) {
+        words.push(word)?;
+    }
+    Ok(words)
+}
+
+/// The status and the text for arguments that could not be read.
+fn unread(error: &io::Error) -> (u8, &'static str) {
+    match error.kind() {
+        ErrorKind::OutOfMemory => (1, "host: out of memory"),
+        _ => (2, "host: argument is not UTF-8"),
+    }
+}
+
+fn main(rt: HostRuntime) -> ExitCode {
+    let mut out = io::writer(&rt);
+    let mut err = rt.stderr();
+    let status = match arguments(&rt) {
+        Ok(words) => {
+            let mut host = Host::new(&rt, rt.alloc());
+            perform(&rt, &mut host, words.as_slice(), &mut out, &mut err)
+        }
+        Err(error) => {
+            let (status, text) = unread(&error);
+            match writeln!(err, "{text}") {
+                Ok(()) => status,
+                Err(_) => 1,
+            }
+        }
+    };
+    ExitCode::from(status)
+}
