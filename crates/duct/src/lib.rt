@@ -9,14 +9,13 @@ pub use duct_base::error::Error;
 pub use duct_base::exe::{IntoExecutablePath, asks_canonical};
 pub use duct_base::pool::{Place, Pool};
 pub use duct_base::spec::{CommandSpec, Hook, HookBox, Port, Stream};
-pub use handle::Running;
-
 pub use duct_base::status::{Core, Drains, Event, Reply, Shape, Word};
 pub use duct_base::system::{
     Child, Clock, Entry, ExitStatus, Fault, Job, Kind, Numbered, Order, Output, Said, Side, Stdio,
     System,
 };
 pub use expression::{Expression, cmd};
+pub use handle::Running;
 
 /// A command: `cmd!(in alloc; program, arg, ..)` is `cmd(alloc, program, &[arg, ..])`. A trailing comma is allowed.
 #[macro_export]

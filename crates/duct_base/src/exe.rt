@@ -55,7 +55,7 @@ impl IntoExecutablePath for PathBuf {
     ghost executable = { λ path. dotted (path_buf_bytes path) };
 
     fn to_executable(self, alloc: Global) -> Result<String, Error> {
-        dot(alloc, self.as_path().as_os_str())
+        dot(alloc, self.as_str())
     }
 }
 
@@ -63,7 +63,7 @@ impl IntoExecutablePath for &PathBuf {
     ghost executable = { λ path. dotted (path_buf_bytes path.now) };
 
     fn to_executable(self, alloc: Global) -> Result<String, Error> {
-        dot(alloc, self.as_path().as_os_str())
+        self.as_path().to_executable(alloc)
     }
 }
 

@@ -1,19 +1,58 @@
 //! A caller of duct: expressions of every kind, built by its public calls alone.
 #![tactic(auto)]
 
-use duct::{Error, Expression, HookBox, cmd};
-use std::alloc::Global;
-use std::path::Path;
+ghost use Rattle.std.specs.Prelude.{◌≡◌, OnOk};
 
-/// Two commands, one named by a path and one by a text.
-pub fn commands<E: Drop>(alloc: Global) -> Result<(Expression<E>, Expression<E>), Error> {
-    let a = cmd!(in alloc; Path::new("tools/a"), "-v", "in")?;
-    let b = cmd!(in alloc; "b")?;
-    Ok((a, b))
+use duct::{CommandSpec, Error, Expression, Fault, Hook, HookBox, IntoExecutablePath, Port, cmd};
+use std::alloc::{AllocError, Global};
+use std::path::{Path, PathBuf};
+
+/// A hook that starts its commands with an empty stdin and one more argument.
+#[derive(Drop)]
+pub struct Verbose;
+
+impl Hook for Verbose {
+    ghost allows = { λ _ _ _. Unit {0} };
+
+    ghost refuses = { λ _ _ _. Unit {0} };
+
+    fn change(&self, spec: &mut CommandSpec) -> Result<(), Fault> {
+        spec.stdin(Port::Null);
+        match spec.arg("-v") {
+            Ok(()) => Ok(()),
+            Err(_) => Err(Fault::new(duct::Kind::OutOfMemory)),
+        }
+    }
 }
 
-/// Modifiers of stdin round an expression.
-pub fn with_input<E: Drop>(
+/// A command of a program that is named by a text or by a path.
+pub fn named<E: Drop, P: IntoExecutablePath>(
+    alloc: Global,
+    program: P,
+) -> Result<Expression<E>, Error> {
+    cmd!(in alloc; program)
+}
+
+/// Two commands, one with arguments and named by a path, one by a text, and both in a pipe.
+pub fn piped<E: Drop>(alloc: Global) -> Result<Expression<E>, Error> {
+    let left = cmd!(in alloc; Path::new("tools/a"), "-v", "in")?;
+    let right = cmd!(in alloc; "b",)?;
+    left.pipe(&right)
+}
+
+/// A command of a path of one's own, with numbers as its ends.
+pub fn owned(alloc: Global) -> Result<Expression<u64>, Error> {
+    let path = PathBuf::from_str(alloc, "tools/a")?;
+    duct::cmd(alloc, &path, &["-v"])
+}
+
+/// One more owner of an expression.
+pub fn copied(e: &Expression<u64>) -> Result<Expression<u64>, AllocError> {
+    e.clone()
+}
+
+/// Each modifier of stdin round an expression.
+pub fn with_stdin<E: Drop>(
     alloc: Global,
     e: &Expression<E>,
     end: E,
@@ -25,6 +64,34 @@ pub fn with_input<E: Drop>(
         .stdin_null()
 }
 
+/// Each modifier of stdout round an expression.
+pub fn with_stdout<E: Drop>(e: &Expression<E>, end: E) -> Result<Expression<E>, Error> {
+    e.stdout_path("out")?
+        .stdout_file(end)?
+        .stdout_null()?
+        .stdout_capture()?
+        .stdout_to_stderr()?
+        .stdout_stderr_swap()
+}
+
+/// Each modifier of stderr round an expression.
+pub fn with_stderr<E: Drop>(e: &Expression<E>, end: E) -> Result<Expression<E>, Error> {
+    e.stderr_path("err")?
+        .stderr_file(end)?
+        .stderr_null()?
+        .stderr_capture()?
+        .stderr_to_stdout()
+}
+
+/// The folder, the variables and unchecked round an expression.
+pub fn with_surroundings<E: Drop>(e: &Expression<E>) -> Result<Expression<E>, Error> {
+    e.dir("/in")?
+        .env("A", "1")?
+        .env_remove("B")?
+        .full_env(&[("A", "1"), ("C", "2")])?
+        .unchecked()
+}
+
 /// A hook round an expression, with ends beside it.
 pub fn with_hook<E: Drop>(
     e: &Expression<E>,
@@ -32,4 +99,24 @@ pub fn with_hook<E: Drop>(
     ends: Vec<E>,
 ) -> Result<Expression<E>, Error> {
     e.before_spawn(hook, ends)
+}
+
+/// The debug text of a command inside a boxed hook.
+pub fn shown(alloc: Global) -> Result<String, Error> {
+    let hook: HookBox = Box::new(alloc, Verbose)?;
+    let e: Expression<u64> = cmd!(in alloc; "a")?;
+    let hooked = e.before_spawn(hook, Vec::new(alloc))?;
+    Ok(format!(in alloc; "{hooked:?}")?)
+}
+
+#[cfg(test)]
+mod tests {
+    use super::*;
+
+    #[test]
+    fn a_hook_in_a_box(rt: HostRuntime) -> Result<(), Error> {
+        let text = shown(rt.alloc())?;
+        assert_eq!(rt; text.as_str(), "Io(BeforeSpawn(<closure>), Cmd([\"a\"]))");
+        Ok(())
+    }
 }

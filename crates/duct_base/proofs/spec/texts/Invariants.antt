@@ -1,3 +1,4 @@
+-- The words so far are the texts so far.
 use Rattle.std.proofs.Common.{map, ◌≡◌, string_bytes, take}
 use Rattle.duct_base.specs.Spec.{texts_of}
 use Rattle.duct_base.proofs.spec.texts.Given as goal

@@ -1,3 +1,4 @@
+-- The map so far has the last values of the pairs so far.
 use Rattle.std.proofs.Common.{map, ◌≡◌, take}
 use Rattle.duct_base.specs.Spec.{pair_text}
 use Rattle.duct.specs.LastValues.{last_values}

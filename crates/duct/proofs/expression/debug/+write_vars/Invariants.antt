@@ -1,3 +1,4 @@
+-- Each call has one variable less to write.
 use Rattle.std.proofs.Common.{length}
 use Rattle.duct.proofs.expression.debug.+write_vars.Given as goal
 

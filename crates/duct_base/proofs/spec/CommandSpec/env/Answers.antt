@@ -1,3 +1,4 @@
+-- One more variable is put in.
 use Rattle.std.proofs.Common.{refl}
 use Rattle.duct_base.proofs.Entries.{insert_texts}
 use Rattle.duct_base.proofs.spec.CommandSpec.env.Goals as goal

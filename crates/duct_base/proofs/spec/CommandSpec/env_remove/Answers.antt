@@ -1,3 +1,4 @@
+-- A variable is taken out.
 use Rattle.std.proofs.Common.{refl}
 use Rattle.duct_base.proofs.Entries.{remove_texts}
 use Rattle.duct_base.proofs.spec.CommandSpec.env_remove.Goals as goal

@@ -1,3 +1,4 @@
+-- What the root prints is the text that is promised.
 use Rattle.duct.specs.TreeOf.{tree_of_node}
 use Rattle.duct.specs.Printed.{printed}
 use Rattle.duct.specs.Text.{text}
