@@ -1,2 +1,3 @@
+pub mod Balance
 pub mod Bytes
 pub mod Said
