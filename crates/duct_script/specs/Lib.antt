@@ -1,5 +1,6 @@
 pub mod Answers
 pub mod Balance
+pub mod Change
 pub mod Refusals
 pub mod Said
 pub mod Shows

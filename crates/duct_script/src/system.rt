@@ -4,6 +4,7 @@ ghost use Rattle.duct_base.specs.declared.system.Kind.TheVariants.{OutOfMemory, 
 ghost use Rattle.duct_base.specs.declared.system.Said.TheVariants.{Running};
 ghost use Rattle.duct_base.specs.Spec.{pair_text};
 ghost use Rattle.duct_base.specs.Streams.{stream_of, end_of, ends_of};
+ghost use Rattle.duct_base.specs.Told.{one_more};
 
 use crate::answers::Answers;
 use crate::calls::{Call, CallLog};
@@ -166,14 +167,24 @@ impl Script {
         }
     }
 
+    /// How many entries can be added without memory.
+    pub fn room(&self) -> usize
+        ensures { result ≡ self.now.journal.room }
+    {
+        self.journal.room()
+    }
+
     /// How many requests there were, since the system was made.
-    pub fn requests(&self) -> u64 {
+    pub fn requests(&self) -> u64
+        ensures { result ≡ self.now.requests.asked }
+    {
         self.requests.asked()
     }
 
     /// Counts a request, notes it, and answers the fault that is set for it.
     fn ask(&mut self, sort: Sort) -> Option<Fault>
-        ensures { self.new.journal ≡ self.old.journal }
+        ensures journal { self.new.journal ≡ self.old.journal }
+        ensures asked { self.new.requests.asked ≡ one_more self.old.requests.asked }
     {
         if let Some(calls) = &self.calls {
             calls.write(Call::Request(sort));
@@ -186,6 +197,7 @@ impl Script {
         ensures ok { OnOk result (self.new.journal ≡ record self.old.journal { room = self.old.journal.room + ends + 1 }) }
         ensures err { IfErr result (λ fault. fault.kind ≡ OutOfMemory) }
         ensures unchanged { OnErr result (self.new.journal ≡ self.old.journal) }
+        ensures requests { self.new.requests ≡ self.old.requests }
     {
         if self.starved {
             return Err(Fault::new(Kind::OutOfMemory));
@@ -193,15 +205,28 @@ impl Script {
         self.journal.prepare(ends)
     }
 
-    /// Counts a request, and takes this many numbers in a row for its answer.
-    fn answer(&mut self, sort: Sort, count: u64) -> Result<u64, Fault>
+    /// Makes room for the entry of a request and for the ends that it would get, and only then counts the request and
+    /// answers the fault that is set for it. Where there is no memory nothing is counted.
+    fn begin(&mut self, sort: Sort, ends: usize) -> Result<Option<Fault>, Fault>
+        ensures room { OnOk result (self.new.journal ≡ record self.old.journal { room = self.old.journal.room + ends + 1 }) }
+        ensures asked { OnOk result (self.new.requests.asked ≡ one_more self.old.requests.asked) }
+        ensures err { IfErr result (λ fault. fault.kind ≡ OutOfMemory) }
+        ensures unchanged { OnErr result (self.new.journal ≡ self.old.journal) }
+        ensures unasked { OnErr result (self.new.requests ≡ self.old.requests) }
+    {
+        self.prepare(ends)?;
+        Ok(self.ask(sort))
+    }
+
+    /// Takes this many numbers in a row for the answer of a request for which this fault is set, if one is.
+    fn answer(&mut self, fault: Option<Fault>, count: u64) -> Result<u64, Fault>
         ensures ok { IfOk result (λ first. (first ≡ self.old.journal.next) × (self.new.journal.next ≡ first + count)) }
         ensures fits { OnOk result (self.new.journal.next < 2 ^ 64) }
         ensures err { OnErr result (self.new.journal.next ≡ self.old.journal.next) }
         ensures log { self.new.journal.log ≡ self.old.journal.log }
         ensures room { self.new.journal.room ≡ self.old.journal.room }
     {
-        if let Some(fault) = self.ask(sort) {
+        if let Some(fault) = fault {
             return Err(fault);
         }
         match self.journal.take_numbers(count) {
@@ -390,8 +415,7 @@ impl System for Script {
         let alloc = self.journal.allocator();
         let kept = copies_of(alloc, self.variables.as_slice())?;
         let answer = copies_of(alloc, self.variables.as_slice())?;
-        self.prepare(0)?;
-        if let Some(fault) = self.ask(Sort::Environment) {
+        if let Some(fault) = self.begin(Sort::Environment, 0)? {
             self.journal.add(Entry::Environment(Err(fault)));
             return Err(fault);
         }
@@ -400,8 +424,8 @@ impl System for Script {
     }
 
     fn pipe(&mut self) -> Result<(ScriptEnd, ScriptEnd), Fault> {
-        self.prepare(2)?;
-        match self.answer(Sort::Pipe, 2) {
+        let fault = self.begin(Sort::Pipe, 2)?;
+        match self.answer(fault, 2) {
             Ok(first) => {
                 let second = first + 1;
                 self.journal.add(Entry::Pipe(Ok((first, second))));
@@ -417,30 +441,30 @@ impl System for Script {
 
     fn open_read(&mut self, path: &str) -> Result<ScriptEnd, Fault> {
         let kept = copy_of(self.journal.allocator(), path)?;
-        self.prepare(1)?;
-        let got = self.answer(Sort::OpenRead, 1);
+        let fault = self.begin(Sort::OpenRead, 1)?;
+        let got = self.answer(fault, 1);
         self.journal.add(Entry::OpenRead(kept, got));
         self.got(got)
     }
 
     fn create(&mut self, path: &str) -> Result<ScriptEnd, Fault> {
         let kept = copy_of(self.journal.allocator(), path)?;
-        self.prepare(1)?;
-        let got = self.answer(Sort::Create, 1);
+        let fault = self.begin(Sort::Create, 1)?;
+        let got = self.answer(fault, 1);
         self.journal.add(Entry::Create(kept, got));
         self.got(got)
     }
 
     fn duplicate(&mut self, end: &ScriptEnd) -> Result<ScriptEnd, Fault> {
-        self.prepare(1)?;
-        let got = self.answer(Sort::Duplicate, 1);
+        let fault = self.begin(Sort::Duplicate, 1)?;
+        let got = self.answer(fault, 1);
         self.journal.add(Entry::Duplicate(end.number, got));
         self.got(got)
     }
 
     fn parent(&mut self, side: Side) -> Result<ScriptEnd, Fault> {
-        self.prepare(1)?;
-        let got = self.answer(Sort::Parent, 1);
+        let fault = self.begin(Sort::Parent, 1)?;
+        let got = self.answer(fault, 1);
         self.journal.add(Entry::Parent(side, got));
         self.got(got)
     }
@@ -450,8 +474,7 @@ impl System for Script {
         let asked = copy_of(alloc, path)?;
         let kept = copy_of(alloc, self.canonical_text(path))?;
         let answer = copy_of(alloc, kept.as_str())?;
-        self.prepare(0)?;
-        if let Some(fault) = self.ask(Sort::Canonicalize) {
+        if let Some(fault) = self.begin(Sort::Canonicalize, 0)? {
             self.journal.add(Entry::Canonicalize(asked, Err(fault)));
             return Err(fault);
         }
@@ -470,10 +493,12 @@ impl System for Script {
         ensures room { self.old.journal.room ≤ self.new.journal.room + length (ends_of io) }
     {
         let (streams, ends) = numbered_streams(io);
-        if ends == 0 {
-            self.prepare(0)?;
-        }
-        let answer = self.answer(Sort::Spawn, 1);
+        let fault = if ends == 0 {
+            self.begin(Sort::Spawn, 0)?
+        } else {
+            self.ask(Sort::Spawn)
+        };
+        let answer = self.answer(fault, 1);
         self.journal.add(Entry::Spawn(spec, streams, answer));
         self.spent(ends);
         match answer {
