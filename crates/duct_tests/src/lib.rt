@@ -2,4 +2,6 @@
 #![tactic(auto)]
 
 #[cfg(test)]
+mod checker;
+#[cfg(test)]
 mod script;

@@ -1,0 +1,1 @@
+//! The checker, on journals that are written by hand.
