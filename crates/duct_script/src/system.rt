@@ -1,5 +1,5 @@
 //! The scripted system.
-ghost use Rattle.std.specs.Prelude.{◌≡◌, ℕ, ◌+◌, ◌-◌, ◌^◌, ◌<◌, ◌≤◌, max, length, map, string_bytes, IfOk, IfErr, IfSome, OnOk, OnErr, Ok, Err, None, []};
+ghost use Rattle.std.specs.Prelude.{◌≡◌, ℕ, ◌+◌, ◌-◌, ◌^◌, ◌<◌, ◌≤◌, max, length, map, string_bytes, IfOk, IfErr, IfSome, OnOk, OnErr, Ok, Err, Some, None, [], ◌∷◌, ◌++◌};
 ghost use Rattle.duct_base.specs.declared.system.Kind.TheVariants.{OutOfMemory, Other};
 ghost use Rattle.duct_base.specs.declared.system.Said.TheVariants.{Running};
 ghost use Rattle.duct_base.specs.Spec.{pair_text};
@@ -51,7 +51,11 @@ pub struct Script {
 
 impl Script {
     /// A system with no variables, whose requests are all answered Ok, and whose next number is 1.
-    pub fn new(alloc: Global) -> Result<Script, AllocError> {
+    pub fn new(alloc: Global) -> Result<Script, AllocError>
+        ensures journal { IfOk result (λ sys. sys.journal ≡ record { log = []; room = 0; next = 1 }) }
+        ensures asked { IfOk result (λ sys. sys.requests.asked ≡ 0) }
+        ensures refusals { IfOk result (λ sys. sys.requests.refusals.items ≡ []) }
+    {
         Ok(Script {
             journal: Journal::new(alloc),
             requests: Requests::new(alloc),
@@ -68,22 +72,29 @@ impl Script {
     }
 
     /// Sets a fault for the request of this number, counted from 1 among all. For a Close or a Reader it is ignored.
-    pub fn refuse(&mut self, request: u64, fault: Fault) -> Result<(), AllocError> {
+    pub fn refuse(&mut self, request: u64, fault: Fault) -> Result<(), AllocError>
+        ensures ok { OnOk result (self.new.requests.refusals.items ≡ self.old.requests.refusals.items ++ record { sort = None; request = request; fault = fault } ∷ []) }
+        ensures err { OnErr result (self.new.requests.refusals.items ≡ self.old.requests.refusals.items) }
+        ensures journal { self.new.journal ≡ self.old.journal }
+    {
         self.requests.refuse(None, request, fault)
     }
 
     /// Sets a fault for the request of this number, counted from 1 among those of its sort.
-    pub fn refuse_sort(
-        &mut self,
-        sort: Sort,
-        request: u64,
-        fault: Fault,
-    ) -> Result<(), AllocError> {
+    pub fn refuse_sort(&mut self, sort: Sort, request: u64, fault: Fault) -> Result<(), AllocError>
+        ensures ok { OnOk result (self.new.requests.refusals.items ≡ self.old.requests.refusals.items ++ record { sort = Some sort; request = request; fault = fault } ∷ []) }
+        ensures err { OnErr result (self.new.requests.refusals.items ≡ self.old.requests.refusals.items) }
+        ensures journal { self.new.journal ≡ self.old.journal }
+    {
         self.requests.refuse(Some(sort), request, fault)
     }
 
     /// Sets one more variable of the environment, behind those that are set. A name may be set twice.
-    pub fn variable(&mut self, name: &str, value: &str) -> Result<(), AllocError> {
+    pub fn variable(&mut self, name: &str, value: &str) -> Result<(), AllocError>
+        ensures ok { OnOk result (map pair_text self.new.variables.items ≡ map pair_text self.old.variables.items ++ (name.now, value.now) ∷ []) }
+        ensures err { OnErr result (self.new.variables.items ≡ self.old.variables.items) }
+        ensures journal { self.new.journal ≡ self.old.journal }
+    {
         let alloc = self.journal.allocator();
         let pair = (
             String::from_str(alloc, name)?,
@@ -94,7 +105,9 @@ impl Script {
     }
 
     /// Sets the canonical name of a path. Each other path is its own.
-    pub fn canonical(&mut self, path: &str, text: &str) -> Result<(), AllocError> {
+    pub fn canonical(&mut self, path: &str, text: &str) -> Result<(), AllocError>
+        ensures journal { self.new.journal ≡ self.old.journal }
+    {
         let alloc = self.journal.allocator();
         let path = String::from_str(alloc, path)?;
         let text = String::from_str(alloc, text)?;
@@ -104,13 +117,20 @@ impl Script {
 
     /// Sets what the next child says for which nothing is set yet: the first is that of the first spawn that is Ok. A child
     /// for which nothing is set says Running and obeys.
-    pub fn child(&mut self, script: ChildScript) -> Result<(), AllocError> {
+    pub fn child(&mut self, script: ChildScript) -> Result<(), AllocError>
+        ensures ok { OnOk result (self.new.children.items ≡ self.old.children.items ++ script ∷ []) }
+        ensures err { OnErr result (self.new.children.items ≡ self.old.children.items) }
+        ensures journal { self.new.journal ≡ self.old.journal }
+    {
         self.children.push_back(script)?;
         Ok(())
     }
 
     /// The same by a list of answers to polls, for a child that obeys.
-    pub fn polls(&mut self, answers: &[PollAnswer]) -> Result<(), AllocError> {
+    pub fn polls(&mut self, answers: &[PollAnswer]) -> Result<(), AllocError>
+        ensures err { OnErr result (self.new.children.items ≡ self.old.children.items) }
+        ensures journal { self.new.journal ≡ self.old.journal }
+    {
         let alloc = self.journal.allocator();
         let mut script = ChildScript::running(alloc);
         script.polls = Answers::of(Vec::from_slice(alloc, answers)?);
@@ -118,30 +138,48 @@ impl Script {
     }
 
     /// Sets what the next feed says for which nothing is set yet. A feed for which nothing is set says `Done`.
-    pub fn feed(&mut self, script: FeedScript) -> Result<(), AllocError> {
+    pub fn feed(&mut self, script: FeedScript) -> Result<(), AllocError>
+        ensures ok { OnOk result (self.new.feeds.items ≡ self.old.feeds.items ++ script ∷ []) }
+        ensures err { OnErr result (self.new.feeds.items ≡ self.old.feeds.items) }
+        ensures journal { self.new.journal ≡ self.old.journal }
+    {
         self.feeds.push_back(script)?;
         Ok(())
     }
 
     /// Sets what the next drain says for which nothing is set yet. A drain for which nothing is set says `Done` with no bytes.
-    pub fn drain(&mut self, script: DrainScript) -> Result<(), AllocError> {
+    pub fn drain(&mut self, script: DrainScript) -> Result<(), AllocError>
+        ensures ok { OnOk result (self.new.drains.items ≡ self.old.drains.items ++ script ∷ []) }
+        ensures err { OnErr result (self.new.drains.items ≡ self.old.drains.items) }
+        ensures journal { self.new.journal ≡ self.old.journal }
+    {
         self.drains.push_back(script)?;
         Ok(())
     }
 
     /// Sets what the next reader gives for which nothing is set yet. A reader for which nothing is set gives no bytes.
-    pub fn bytes(&mut self, script: ReaderScript) -> Result<(), AllocError> {
+    pub fn bytes(&mut self, script: ReaderScript) -> Result<(), AllocError>
+        ensures ok { OnOk result (self.new.readers.items ≡ self.old.readers.items ++ script ∷ []) }
+        ensures err { OnErr result (self.new.readers.items ≡ self.old.readers.items) }
+        ensures journal { self.new.journal ≡ self.old.journal }
+    {
         self.readers.push_back(script)?;
         Ok(())
     }
 
     /// Sets the log in which each request is noted, and each poll and order of the children of later spawns.
-    pub fn note_in(&mut self, calls: Arc<CallLog>) {
+    pub fn note_in(&mut self, calls: Arc<CallLog>)
+        ensures calls { self.new.calls ≡ Some calls }
+        ensures journal { self.new.journal ≡ self.old.journal }
+    {
         self.calls = Some(calls);
     }
 
     /// Says whether the system finds no memory from now on. A request that is given an end needs none.
-    pub fn starve(&mut self, starved: bool) {
+    pub fn starve(&mut self, starved: bool)
+        ensures starved { self.new.starved ≡ starved }
+        ensures journal { self.new.journal ≡ self.old.journal }
+    {
         self.starved = starved;
     }
 

@@ -1,6 +1,6 @@
 //! The scripted system: what it answers, counts and keeps.
 
-mod asks;
+pub mod asks;
 mod children;
 mod hooks;
 mod jobs;
