@@ -8,6 +8,7 @@ pub mod checker;
 pub mod child;
 pub mod clock;
 pub mod gate;
+pub mod gated;
 pub mod hook;
 pub mod job;
 pub mod reader;

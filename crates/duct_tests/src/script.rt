@@ -2,6 +2,7 @@
 
 pub mod asks;
 mod children;
+mod gates;
 mod hooks;
 mod jobs;
 mod requests;

@@ -1,17 +1,15 @@
-//! The hooks of the tests, the log that they share with a scripted system, and the gates.
+//! The hooks of the tests, and the log that they share with a scripted system.
 use super::asks::spec_of_words;
 use duct_base::spec::{CommandSpec, Hook, Port, Stream};
-use duct_base::system::{Child, Fault, Kind, Numbered, Stdio, System};
+use duct_base::system::{Child, Fault, Kind, Stdio, System};
 use duct_script::calls::{Call, CallLog};
-use duct_script::child::{ChildScript, ScriptChild};
-use duct_script::gate::Gate;
+use duct_script::child::ScriptChild;
 use duct_script::hook::{Change, HookAnswer, ScriptHook, Target};
 use duct_script::requests::Sort;
 use duct_script::system::Script;
 use std::alloc::{AllocError, Global};
 use std::sync::Arc;
 use std::test::Fail;
-use std::thread;
 
 fn text(alloc: Global, text: &str) -> Result<String, AllocError> {
     String::from_str(alloc, text)
@@ -119,32 +117,5 @@ fn a_log_has_all_calls_in_order(rt: HostRuntime) -> Result<(), Fail> {
         assert_eq!(rt; log.get(place), *call);
     }
     assert_eq!(rt; log.noted(), 6);
-    Ok(())
-}
-
-#[test]
-fn a_thread_stands_at_a_shut_gate(rt: HostRuntime) -> Result<(), Fail> {
-    let alloc = rt.alloc();
-    let gate = Gate::new(alloc)?;
-    let mut script = ChildScript::running(alloc);
-    script.gate = Some(gate.share()?);
-    let mut sys = Script::new(alloc)?;
-    sys.child(script)?;
-    let child = start(alloc, &mut sys)?;
-    assert_eq!(rt; child.number(), 1);
-    gate.shut();
-    let there = thread::spawn(&rt, move || child.number())?;
-    let mut standing = 0;
-    for _ in 0..1_000_000 {
-        standing = gate.standing();
-        if standing > 0 {
-            break;
-        }
-        thread::yield_now();
-    }
-    assert_eq!(rt; standing, 1);
-    gate.open();
-    assert_eq!(rt; there.join(&rt), 1);
-    assert_eq!(rt; gate.standing(), 0);
     Ok(())
 }

@@ -82,12 +82,6 @@ fn drained(alloc: Global, drain: &mut ScriptDrain) -> Result<String, AllocError>
     Ok(text)
 }
 
-/// A list of what a drain says.
-fn list(alloc: Global, said: Vec<Said<Arc<Vec<u8>>>>) -> DrainScript {
-    let _ = alloc;
-    DrainScript::from_vec(said)
-}
-
 #[test]
 fn a_drain_says_what_its_list_says(rt: HostRuntime) -> Result<(), Fail> {
     let alloc = rt.alloc();
@@ -96,7 +90,7 @@ fn a_drain_says_what_its_list_says(rt: HostRuntime) -> Result<(), Fail> {
     said.push(Said::Running)?;
     said.push(Said::Done(shared(alloc, &[7, 8])?))?;
     said.push(Said::Done(shared(alloc, &[9])?))?;
-    sys.drain(list(alloc, said))?;
+    sys.drain(DrainScript::from_vec(said))?;
     let mut first = drain(&rt, &mut sys)?;
     let text = drained(alloc, &mut first)?;
     assert_eq!(rt; text.as_str(), "running [7, 8] [7, 8] | 3 polls | number 1");
@@ -112,10 +106,10 @@ fn a_drain_repeats_the_last_word(rt: HostRuntime) -> Result<(), Fail> {
     let mut sys = Script::new(alloc)?;
     let mut said = Vec::new(alloc);
     said.push(Said::Running)?;
-    sys.drain(list(alloc, said))?;
+    sys.drain(DrainScript::from_vec(said))?;
     let mut said = Vec::new(alloc);
     said.push(Said::Fault(Fault::new(Kind::Other)))?;
-    sys.drain(list(alloc, said))?;
+    sys.drain(DrainScript::from_vec(said))?;
     let mut first = drain(&rt, &mut sys)?;
     let text = drained(alloc, &mut first)?;
     assert_eq!(rt;
