@@ -4,10 +4,14 @@
 
 pub mod answers;
 pub mod calls;
+pub mod checker;
 pub mod child;
 pub mod clock;
 pub mod gate;
+pub mod gated;
+pub mod hook;
 pub mod job;
 pub mod reader;
 pub mod requests;
 pub mod system;
+pub mod text;

@@ -1,9 +1,10 @@
 //! The scripted system.
-ghost use Rattle.std.specs.Prelude.{◌≡◌, ℕ, ◌+◌, ◌-◌, ◌^◌, ◌<◌, ◌≤◌, max, length, map, string_bytes, IfOk, IfErr, IfSome, OnOk, OnErr, Ok, Err, None, []};
+ghost use Rattle.std.specs.Prelude.{◌≡◌, ℕ, ◌+◌, ◌-◌, ◌^◌, ◌<◌, ◌≤◌, max, length, map, string_bytes, IfOk, IfErr, IfSome, OnOk, OnErr, Ok, Err, Some, None, [], ◌∷◌, ◌++◌};
 ghost use Rattle.duct_base.specs.declared.system.Kind.TheVariants.{OutOfMemory, Other};
 ghost use Rattle.duct_base.specs.declared.system.Said.TheVariants.{Running};
 ghost use Rattle.duct_base.specs.Spec.{pair_text};
 ghost use Rattle.duct_base.specs.Streams.{stream_of, end_of, ends_of};
+ghost use Rattle.duct_base.specs.Told.{one_more};
 
 use crate::answers::Answers;
 use crate::calls::{Call, CallLog};
@@ -50,7 +51,11 @@ pub struct Script {
 
 impl Script {
     /// A system with no variables, whose requests are all answered Ok, and whose next number is 1.
-    pub fn new(alloc: Global) -> Result<Script, AllocError> {
+    pub fn new(alloc: Global) -> Result<Script, AllocError>
+        ensures journal { IfOk result (λ sys. sys.journal ≡ record { log = []; room = 0; next = 1 }) }
+        ensures asked { IfOk result (λ sys. sys.requests.asked ≡ 0) }
+        ensures refusals { IfOk result (λ sys. sys.requests.refusals.items ≡ []) }
+    {
         Ok(Script {
             journal: Journal::new(alloc),
             requests: Requests::new(alloc),
@@ -67,22 +72,29 @@ impl Script {
     }
 
     /// Sets a fault for the request of this number, counted from 1 among all. For a Close or a Reader it is ignored.
-    pub fn refuse(&mut self, request: u64, fault: Fault) -> Result<(), AllocError> {
+    pub fn refuse(&mut self, request: u64, fault: Fault) -> Result<(), AllocError>
+        ensures ok { OnOk result (self.new.requests.refusals.items ≡ self.old.requests.refusals.items ++ record { sort = None; request = request; fault = fault } ∷ []) }
+        ensures err { OnErr result (self.new.requests.refusals.items ≡ self.old.requests.refusals.items) }
+        ensures journal { self.new.journal ≡ self.old.journal }
+    {
         self.requests.refuse(None, request, fault)
     }
 
     /// Sets a fault for the request of this number, counted from 1 among those of its sort.
-    pub fn refuse_sort(
-        &mut self,
-        sort: Sort,
-        request: u64,
-        fault: Fault,
-    ) -> Result<(), AllocError> {
+    pub fn refuse_sort(&mut self, sort: Sort, request: u64, fault: Fault) -> Result<(), AllocError>
+        ensures ok { OnOk result (self.new.requests.refusals.items ≡ self.old.requests.refusals.items ++ record { sort = Some sort; request = request; fault = fault } ∷ []) }
+        ensures err { OnErr result (self.new.requests.refusals.items ≡ self.old.requests.refusals.items) }
+        ensures journal { self.new.journal ≡ self.old.journal }
+    {
         self.requests.refuse(Some(sort), request, fault)
     }
 
     /// Sets one more variable of the environment, behind those that are set. A name may be set twice.
-    pub fn variable(&mut self, name: &str, value: &str) -> Result<(), AllocError> {
+    pub fn variable(&mut self, name: &str, value: &str) -> Result<(), AllocError>
+        ensures ok { OnOk result (map pair_text self.new.variables.items ≡ map pair_text self.old.variables.items ++ (name.now, value.now) ∷ []) }
+        ensures err { OnErr result (self.new.variables.items ≡ self.old.variables.items) }
+        ensures journal { self.new.journal ≡ self.old.journal }
+    {
         let alloc = self.journal.allocator();
         let pair = (
             String::from_str(alloc, name)?,
@@ -93,7 +105,9 @@ impl Script {
     }
 
     /// Sets the canonical name of a path. Each other path is its own.
-    pub fn canonical(&mut self, path: &str, text: &str) -> Result<(), AllocError> {
+    pub fn canonical(&mut self, path: &str, text: &str) -> Result<(), AllocError>
+        ensures journal { self.new.journal ≡ self.old.journal }
+    {
         let alloc = self.journal.allocator();
         let path = String::from_str(alloc, path)?;
         let text = String::from_str(alloc, text)?;
@@ -103,13 +117,20 @@ impl Script {
 
     /// Sets what the next child says for which nothing is set yet: the first is that of the first spawn that is Ok. A child
     /// for which nothing is set says Running and obeys.
-    pub fn child(&mut self, script: ChildScript) -> Result<(), AllocError> {
+    pub fn child(&mut self, script: ChildScript) -> Result<(), AllocError>
+        ensures ok { OnOk result (self.new.children.items ≡ self.old.children.items ++ script ∷ []) }
+        ensures err { OnErr result (self.new.children.items ≡ self.old.children.items) }
+        ensures journal { self.new.journal ≡ self.old.journal }
+    {
         self.children.push_back(script)?;
         Ok(())
     }
 
     /// The same by a list of answers to polls, for a child that obeys.
-    pub fn polls(&mut self, answers: &[PollAnswer]) -> Result<(), AllocError> {
+    pub fn polls(&mut self, answers: &[PollAnswer]) -> Result<(), AllocError>
+        ensures err { OnErr result (self.new.children.items ≡ self.old.children.items) }
+        ensures journal { self.new.journal ≡ self.old.journal }
+    {
         let alloc = self.journal.allocator();
         let mut script = ChildScript::running(alloc);
         script.polls = Answers::of(Vec::from_slice(alloc, answers)?);
@@ -117,30 +138,48 @@ impl Script {
     }
 
     /// Sets what the next feed says for which nothing is set yet. A feed for which nothing is set says `Done`.
-    pub fn feed(&mut self, script: FeedScript) -> Result<(), AllocError> {
+    pub fn feed(&mut self, script: FeedScript) -> Result<(), AllocError>
+        ensures ok { OnOk result (self.new.feeds.items ≡ self.old.feeds.items ++ script ∷ []) }
+        ensures err { OnErr result (self.new.feeds.items ≡ self.old.feeds.items) }
+        ensures journal { self.new.journal ≡ self.old.journal }
+    {
         self.feeds.push_back(script)?;
         Ok(())
     }
 
     /// Sets what the next drain says for which nothing is set yet. A drain for which nothing is set says `Done` with no bytes.
-    pub fn drain(&mut self, script: DrainScript) -> Result<(), AllocError> {
+    pub fn drain(&mut self, script: DrainScript) -> Result<(), AllocError>
+        ensures ok { OnOk result (self.new.drains.items ≡ self.old.drains.items ++ script ∷ []) }
+        ensures err { OnErr result (self.new.drains.items ≡ self.old.drains.items) }
+        ensures journal { self.new.journal ≡ self.old.journal }
+    {
         self.drains.push_back(script)?;
         Ok(())
     }
 
     /// Sets what the next reader gives for which nothing is set yet. A reader for which nothing is set gives no bytes.
-    pub fn bytes(&mut self, script: ReaderScript) -> Result<(), AllocError> {
+    pub fn bytes(&mut self, script: ReaderScript) -> Result<(), AllocError>
+        ensures ok { OnOk result (self.new.readers.items ≡ self.old.readers.items ++ script ∷ []) }
+        ensures err { OnErr result (self.new.readers.items ≡ self.old.readers.items) }
+        ensures journal { self.new.journal ≡ self.old.journal }
+    {
         self.readers.push_back(script)?;
         Ok(())
     }
 
     /// Sets the log in which each request is noted, and each poll and order of the children of later spawns.
-    pub fn note_in(&mut self, calls: Arc<CallLog>) {
+    pub fn note_in(&mut self, calls: Arc<CallLog>)
+        ensures calls { self.new.calls ≡ Some calls }
+        ensures journal { self.new.journal ≡ self.old.journal }
+    {
         self.calls = Some(calls);
     }
 
     /// Says whether the system finds no memory from now on. A request that is given an end needs none.
-    pub fn starve(&mut self, starved: bool) {
+    pub fn starve(&mut self, starved: bool)
+        ensures starved { self.new.starved ≡ starved }
+        ensures journal { self.new.journal ≡ self.old.journal }
+    {
         self.starved = starved;
     }
 
@@ -166,14 +205,24 @@ impl Script {
         }
     }
 
+    /// How many entries can be added without memory.
+    pub fn room(&self) -> usize
+        ensures { result ≡ self.now.journal.room }
+    {
+        self.journal.room()
+    }
+
     /// How many requests there were, since the system was made.
-    pub fn requests(&self) -> u64 {
+    pub fn requests(&self) -> u64
+        ensures { result ≡ self.now.requests.asked }
+    {
         self.requests.asked()
     }
 
     /// Counts a request, notes it, and answers the fault that is set for it.
     fn ask(&mut self, sort: Sort) -> Option<Fault>
-        ensures { self.new.journal ≡ self.old.journal }
+        ensures journal { self.new.journal ≡ self.old.journal }
+        ensures asked { self.new.requests.asked ≡ one_more self.old.requests.asked }
     {
         if let Some(calls) = &self.calls {
             calls.write(Call::Request(sort));
@@ -186,6 +235,7 @@ impl Script {
         ensures ok { OnOk result (self.new.journal ≡ record self.old.journal { room = self.old.journal.room + ends + 1 }) }
         ensures err { IfErr result (λ fault. fault.kind ≡ OutOfMemory) }
         ensures unchanged { OnErr result (self.new.journal ≡ self.old.journal) }
+        ensures requests { self.new.requests ≡ self.old.requests }
     {
         if self.starved {
             return Err(Fault::new(Kind::OutOfMemory));
@@ -193,15 +243,28 @@ impl Script {
         self.journal.prepare(ends)
     }
 
-    /// Counts a request, and takes this many numbers in a row for its answer.
-    fn answer(&mut self, sort: Sort, count: u64) -> Result<u64, Fault>
+    /// Makes room for the entry of a request and for the ends that it would get, and only then counts the request and
+    /// answers the fault that is set for it. Where there is no memory nothing is counted.
+    fn begin(&mut self, sort: Sort, ends: usize) -> Result<Option<Fault>, Fault>
+        ensures room { OnOk result (self.new.journal ≡ record self.old.journal { room = self.old.journal.room + ends + 1 }) }
+        ensures asked { OnOk result (self.new.requests.asked ≡ one_more self.old.requests.asked) }
+        ensures err { IfErr result (λ fault. fault.kind ≡ OutOfMemory) }
+        ensures unchanged { OnErr result (self.new.journal ≡ self.old.journal) }
+        ensures unasked { OnErr result (self.new.requests ≡ self.old.requests) }
+    {
+        self.prepare(ends)?;
+        Ok(self.ask(sort))
+    }
+
+    /// Takes this many numbers in a row for the answer of a request for which this fault is set, if one is.
+    fn answer(&mut self, fault: Option<Fault>, count: u64) -> Result<u64, Fault>
         ensures ok { IfOk result (λ first. (first ≡ self.old.journal.next) × (self.new.journal.next ≡ first + count)) }
         ensures fits { OnOk result (self.new.journal.next < 2 ^ 64) }
         ensures err { OnErr result (self.new.journal.next ≡ self.old.journal.next) }
         ensures log { self.new.journal.log ≡ self.old.journal.log }
         ensures room { self.new.journal.room ≡ self.old.journal.room }
     {
-        if let Some(fault) = self.ask(sort) {
+        if let Some(fault) = fault {
             return Err(fault);
         }
         match self.journal.take_numbers(count) {
@@ -390,8 +453,7 @@ impl System for Script {
         let alloc = self.journal.allocator();
         let kept = copies_of(alloc, self.variables.as_slice())?;
         let answer = copies_of(alloc, self.variables.as_slice())?;
-        self.prepare(0)?;
-        if let Some(fault) = self.ask(Sort::Environment) {
+        if let Some(fault) = self.begin(Sort::Environment, 0)? {
             self.journal.add(Entry::Environment(Err(fault)));
             return Err(fault);
         }
@@ -400,8 +462,8 @@ impl System for Script {
     }
 
     fn pipe(&mut self) -> Result<(ScriptEnd, ScriptEnd), Fault> {
-        self.prepare(2)?;
-        match self.answer(Sort::Pipe, 2) {
+        let fault = self.begin(Sort::Pipe, 2)?;
+        match self.answer(fault, 2) {
             Ok(first) => {
                 let second = first + 1;
                 self.journal.add(Entry::Pipe(Ok((first, second))));
@@ -417,30 +479,30 @@ impl System for Script {
 
     fn open_read(&mut self, path: &str) -> Result<ScriptEnd, Fault> {
         let kept = copy_of(self.journal.allocator(), path)?;
-        self.prepare(1)?;
-        let got = self.answer(Sort::OpenRead, 1);
+        let fault = self.begin(Sort::OpenRead, 1)?;
+        let got = self.answer(fault, 1);
         self.journal.add(Entry::OpenRead(kept, got));
         self.got(got)
     }
 
     fn create(&mut self, path: &str) -> Result<ScriptEnd, Fault> {
         let kept = copy_of(self.journal.allocator(), path)?;
-        self.prepare(1)?;
-        let got = self.answer(Sort::Create, 1);
+        let fault = self.begin(Sort::Create, 1)?;
+        let got = self.answer(fault, 1);
         self.journal.add(Entry::Create(kept, got));
         self.got(got)
     }
 
     fn duplicate(&mut self, end: &ScriptEnd) -> Result<ScriptEnd, Fault> {
-        self.prepare(1)?;
-        let got = self.answer(Sort::Duplicate, 1);
+        let fault = self.begin(Sort::Duplicate, 1)?;
+        let got = self.answer(fault, 1);
         self.journal.add(Entry::Duplicate(end.number, got));
         self.got(got)
     }
 
     fn parent(&mut self, side: Side) -> Result<ScriptEnd, Fault> {
-        self.prepare(1)?;
-        let got = self.answer(Sort::Parent, 1);
+        let fault = self.begin(Sort::Parent, 1)?;
+        let got = self.answer(fault, 1);
         self.journal.add(Entry::Parent(side, got));
         self.got(got)
     }
@@ -450,8 +512,7 @@ impl System for Script {
         let asked = copy_of(alloc, path)?;
         let kept = copy_of(alloc, self.canonical_text(path))?;
         let answer = copy_of(alloc, kept.as_str())?;
-        self.prepare(0)?;
-        if let Some(fault) = self.ask(Sort::Canonicalize) {
+        if let Some(fault) = self.begin(Sort::Canonicalize, 0)? {
             self.journal.add(Entry::Canonicalize(asked, Err(fault)));
             return Err(fault);
         }
@@ -470,10 +531,12 @@ impl System for Script {
         ensures room { self.old.journal.room ≤ self.new.journal.room + length (ends_of io) }
     {
         let (streams, ends) = numbered_streams(io);
-        if ends == 0 {
-            self.prepare(0)?;
-        }
-        let answer = self.answer(Sort::Spawn, 1);
+        let fault = if ends == 0 {
+            self.begin(Sort::Spawn, 0)?
+        } else {
+            self.ask(Sort::Spawn)
+        };
+        let answer = self.answer(fault, 1);
         self.journal.add(Entry::Spawn(spec, streams, answer));
         self.spent(ends);
         match answer {

@@ -2,8 +2,12 @@
 #![tactic(auto)]
 
 #[cfg(test)]
+mod checker;
+#[cfg(test)]
 mod command;
 #[cfg(test)]
 mod expression;
+#[cfg(test)]
+mod script;
 #[cfg(test)]
 mod status;

@@ -1,0 +1,34 @@
+//! Readers and writers that stand still at a gate.
+
+use crate::gate::Gate;
+use std::io;
+use std::io::{Read, Write};
+
+/// A reader or a writer each of whose reads and writes passes a gate first.
+#[derive(Drop)]
+pub struct Gated<T> {
+    pub gate: Gate,
+    pub inner: T,
+}
+
+impl<R: Read> Read for Gated<R> {
+    ghost remaining = { λ g. R.remaining g.inner };
+
+    fn read(&mut self, buf: &mut [u8]) -> io::Result<usize> {
+        let _ = self.gate.pass();
+        self.inner.read(buf)
+    }
+}
+
+impl<W: Write> Write for Gated<W> {
+    ghost contents = { λ g. W.contents g.inner };
+
+    fn write(&mut self, buf: &[u8]) -> io::Result<usize> {
+        let _ = self.gate.pass();
+        self.inner.write(buf)
+    }
+
+    fn flush(&mut self) -> io::Result<()> {
+        self.inner.flush()
+    }
+}

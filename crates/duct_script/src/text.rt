@@ -1,0 +1,111 @@
+//! Journals in words, so that a test can compare a whole one with a text.
+
+use duct_base::system::{Entry, Fault, Stdio};
+use std::alloc::{AllocError, Global};
+use std::fmt;
+
+/// An entry in words: the request, then its answer, which is `ok` with what was answered, or the kind of the fault.
+#[derive(Drop)]
+pub struct Words<'a>(pub &'a Entry);
+
+impl fmt::Display for Words<'_> {
+    fn fmt<W: fmt::Write>(&self, f: &mut fmt::Formatter<W>) -> fmt::Result {
+        match self.0 {
+            Entry::Environment(Ok(pairs)) => {
+                write!(f, "environment ok")?;
+                for (name, value) in pairs.iter() {
+                    write!(f, " {name}={value}")?;
+                }
+                Ok(())
+            }
+            Entry::Environment(Err(fault)) => write!(f, "environment {}", Kind(*fault)),
+            Entry::Pipe(Ok((reader, writer))) => write!(f, "pipe ok {reader} {writer}"),
+            Entry::Pipe(Err(fault)) => write!(f, "pipe {}", Kind(*fault)),
+            Entry::OpenRead(path, answer) => write!(f, "open_read {path} {}", Number(*answer)),
+            Entry::Create(path, answer) => write!(f, "create {path} {}", Number(*answer)),
+            Entry::Duplicate(lent, answer) => write!(f, "duplicate {lent} {}", Number(*answer)),
+            Entry::Parent(side, answer) => write!(f, "parent {side:?} {}", Number(*answer)),
+            Entry::Canonicalize(path, Ok(text)) => write!(f, "canonicalize {path} ok {text}"),
+            Entry::Canonicalize(path, Err(fault)) => {
+                write!(f, "canonicalize {path} {}", Kind(*fault))
+            }
+            Entry::Spawn(spec, io, answer) => {
+                write!(f, "spawn")?;
+                for word in spec.words() {
+                    write!(f, " {word}")?;
+                }
+                for stream in io {
+                    write!(f, " {}", Stream(*stream))?;
+                }
+                write!(f, " {}", Number(*answer))
+            }
+            Entry::Feed(number, bytes, answer) => {
+                let length = bytes.len();
+                write!(f, "feed {number} of {length} {}", Done(*answer))
+            }
+            Entry::Drain(number, answer) => write!(f, "drain {number} {}", Done(*answer)),
+            Entry::Reader(number) => write!(f, "reader {number}"),
+            Entry::Close(number) => write!(f, "close {number}"),
+        }
+    }
+}
+
+/// The kind of a fault.
+#[derive(Drop)]
+struct Kind(Fault);
+
+impl fmt::Display for Kind {
+    fn fmt<W: fmt::Write>(&self, f: &mut fmt::Formatter<W>) -> fmt::Result {
+        let kind = self.0.kind;
+        write!(f, "{kind:?}")
+    }
+}
+
+/// An answer with a number.
+#[derive(Drop)]
+struct Number(Result<u64, Fault>);
+
+impl fmt::Display for Number {
+    fn fmt<W: fmt::Write>(&self, f: &mut fmt::Formatter<W>) -> fmt::Result {
+        match self.0 {
+            Ok(number) => write!(f, "ok {number}"),
+            Err(fault) => write!(f, "{}", Kind(fault)),
+        }
+    }
+}
+
+/// An answer with nothing.
+#[derive(Drop)]
+struct Done(Result<(), Fault>);
+
+impl fmt::Display for Done {
+    fn fmt<W: fmt::Write>(&self, f: &mut fmt::Formatter<W>) -> fmt::Result {
+        match self.0 {
+            Ok(()) => write!(f, "ok"),
+            Err(fault) => write!(f, "{}", Kind(fault)),
+        }
+    }
+}
+
+/// A stream of a child.
+#[derive(Drop)]
+struct Stream(Stdio<u64>);
+
+impl fmt::Display for Stream {
+    fn fmt<W: fmt::Write>(&self, f: &mut fmt::Formatter<W>) -> fmt::Result {
+        match self.0 {
+            Stdio::Inherit => write!(f, "inherit"),
+            Stdio::Null => write!(f, "null"),
+            Stdio::End(number) => write!(f, "end {number}"),
+        }
+    }
+}
+
+/// The entries in words, one a line.
+pub fn journal_in_words(alloc: Global, entries: &[Entry]) -> Result<String, AllocError> {
+    let mut text = String::new(alloc);
+    for entry in entries {
+        writeln!(text, "{}", Words(entry))?;
+    }
+    Ok(text)
+}
