@@ -2,11 +2,9 @@
 ghost use Rattle.std.specs.Prelude.{◌≡◌, ◌⊎◌, ◌++◌, [], ◌∷◌, IfOk, Err};
 ghost use Rattle.duct_base.specs.Told.{Notes};
 
-use crate::fault::{fault_of, no_memory};
+use crate::fault::{ask, no_memory};
 use duct_base::system::{self, ExitStatus, Fault, Kind, Numbered, Order};
 use std::alloc::{AllocError, Global};
-use std::io;
-use std::io::ErrorKind;
 use std::os::unix::process::ExitStatusExt;
 use std::process::{self, Command, OpenProcess, Processes, Stdio};
 
@@ -52,29 +50,15 @@ impl<R: Processes> Child<R> {
 
 /// Ends a child, if it has not been seen to end.
 fn end<P: OpenProcess>(started: &mut process::Child<P>) -> Result<(), Fault> {
-    started.kill().map_err(fault_of)
+    ask(|| started.kill())
 }
 
 /// Asks the machine how a child ended, without waiting.
-fn ask<P: OpenProcess>(started: &mut process::Child<P>) -> Result<Option<ExitStatus>, Fault> {
-    match try_wait(started) {
-        Ok(None) => Ok(None),
-        Ok(Some(status)) => Ok(Some(ending_of(status)?)),
-        Err(error) => Err(fault_of(error)),
+fn ending<P: OpenProcess>(started: &mut process::Child<P>) -> Result<Option<ExitStatus>, Fault> {
+    match ask(|| started.try_wait())? {
+        Some(status) => Ok(Some(ending_of(status)?)),
+        None => Ok(None),
     }
-}
-
-/// Asks once more where a signal interrupted the question.
-fn try_wait<P: OpenProcess>(
-    started: &mut process::Child<P>,
-) -> io::Result<Option<process::ExitStatus>> {
-    for _ in 0..u64::MAX {
-        match started.try_wait() {
-            Err(error) if error.kind() == ErrorKind::Interrupted => {}
-            answer => return answer,
-        }
-    }
-    Err(io::Error::from(ErrorKind::Other))
 }
 
 /// The command that has a shell send a signal to a process.
@@ -127,7 +111,7 @@ impl<R: Processes + Drop> system::Child for Child<R> {
         self.polls = self.polls.saturating_add(1);
         let answer = match self.ending {
             Some(ending) => Ok(Some(ending)),
-            None => ask(&mut self.started),
+            None => ending(&mut self.started),
         };
         if let Ok(Some(ending)) = answer {
             self.ending = Some(ending);
@@ -181,10 +165,10 @@ impl<R: Processes> Child<R> {
         let Ok(mut shell) = kill_command(self.alloc, signal, self.id) else {
             return Err(no_memory());
         };
-        match shell.status(&self.rt) {
-            Ok(status) if status.success() => Ok(()),
-            Ok(_) => Err(Fault::new(Kind::Other)),
-            Err(error) => Err(fault_of(error)),
+        if ask(|| shell.status(&self.rt))?.success() {
+            Ok(())
+        } else {
+            Err(Fault::new(Kind::Other))
         }
     }
 }
