@@ -373,13 +373,10 @@ impl<R: Processes + Files<File = File> + Env + Parents + Clone + Drop> System fo
 fn canonical_twice<R: Files>(rt: &R, alloc: Global, path: &str) -> Result<(String, String), Fault>
     ensures { IfOk result (λ texts. string_bytes texts.1 ≡ string_bytes texts.0) }
 {
-    let name = ask(|| rt.canonicalize(alloc, path))?;
-    match (
-        name.as_str().to_string(alloc),
-        name.as_str().to_string(alloc),
-    ) {
-        (Ok(text), Ok(noted)) => Ok((text, noted)),
-        _ => Err(no_memory()),
+    let text = ask(|| rt.canonicalize(alloc, path))?.into_string();
+    match String::from_str(alloc, text.as_str()) {
+        Ok(noted) => Ok((text, noted)),
+        Err(_) => Err(no_memory()),
     }
 }
 
