@@ -8,12 +8,28 @@ use std::sync::Arc;
 use std::test::Fail;
 use std::{fs, io, process};
 
+/// The entries of an environment that are UTF-8, each ended by a NUL.
+fn readable(alloc: Global, environ: &[u8]) -> Result<String, AllocError> {
+    let mut text = String::new(alloc);
+    for entry in environ.split(|b| *b == 0) {
+        match str::from_utf8(entry) {
+            Ok(entry) if !entry.is_empty() => {
+                text.push_str(entry)?;
+                text.push('\0')?;
+            }
+            _ => {}
+        }
+    }
+    Ok(text)
+}
+
 #[test]
 fn the_environment_is_the_parents(rt: HostRuntime) -> Result<(), Fail> {
     let alloc = rt.alloc();
     let mut host = Host::new(rt.clone()?, alloc);
     let pairs = host.environment()?;
-    let expected = fs::read_to_string(&rt, "/proc/self/environ")?;
+    let environ = fs::read(&rt, "/proc/self/environ")?;
+    let expected = readable(alloc, environ.as_slice())?;
     let mut text = String::new(alloc);
     for pair in pairs.as_slice() {
         let entry = format!(in alloc; "{}={}\0", pair.0, pair.1)?;
