@@ -1,12 +1,13 @@
 //! A child process of the host.
-ghost use Rattle.std.specs.Prelude.{◌≡◌, ◌⊎◌, ◌++◌, [], ◌∷◌, IfOk, Err};
-ghost use Rattle.duct_base.specs.Told.{Notes};
+ghost use Rattle.std.specs.Prelude.{◌≡◌, ◌↔◌, [], Contains, IsTrue, IfSome, IfNone, IfErr};
+ghost use Rattle.duct_base.specs.declared.system.Kind.TheVariants.{Other};
+ghost use Rattle.std.specs.Process.{exit_code, exit_signal};
+ghost use Rattle.duct_host.specs.Endings.{ending_said};
+ghost use Rattle.duct_host.specs.Signals.{signals};
 
-use crate::fault::{fault_of, no_memory};
+use crate::fault::{ask, no_memory};
 use duct_base::system::{self, ExitStatus, Fault, Kind, Numbered, Order};
 use std::alloc::{AllocError, Global};
-use std::io;
-use std::io::ErrorKind;
 use std::os::unix::process::ExitStatusExt;
 use std::process::{self, Command, OpenProcess, Processes, Stdio};
 
@@ -52,29 +53,28 @@ impl<R: Processes> Child<R> {
 
 /// Ends a child, if it has not been seen to end.
 fn end<P: OpenProcess>(started: &mut process::Child<P>) -> Result<(), Fault> {
-    started.kill().map_err(fault_of)
+    ask(|| started.kill())
 }
 
 /// Asks the machine how a child ended, without waiting.
-fn ask<P: OpenProcess>(started: &mut process::Child<P>) -> Result<Option<ExitStatus>, Fault> {
-    match try_wait(started) {
-        Ok(None) => Ok(None),
-        Ok(Some(status)) => Ok(Some(ending_of(status)?)),
-        Err(error) => Err(fault_of(error)),
+fn ending<P: OpenProcess>(started: &mut process::Child<P>) -> Result<Option<ExitStatus>, Fault> {
+    match ask(|| started.try_wait())? {
+        Some(status) => Ok(Some(ending_of(status)?)),
+        None => Ok(None),
     }
 }
 
-/// Asks once more where a signal interrupted the question.
-fn try_wait<P: OpenProcess>(
-    started: &mut process::Child<P>,
-) -> io::Result<Option<process::ExitStatus>> {
-    for _ in 0..u64::MAX {
-        match started.try_wait() {
-            Err(error) if error.kind() == ErrorKind::Interrupted => {}
-            answer => return answer,
-        }
-    }
-    Err(io::Error::from(ErrorKind::Other))
+/// The signals that a child can be sent.
+const SIGNALS: [i32; 7] = [1, 2, 3, 6, KILL, 14, 15];
+
+/// The signal that is a kill.
+const KILL: i32 = 9;
+
+/// Whether a child can be sent this signal.
+fn is_served(signal: i32) -> bool
+    ensures { IsTrue result ↔ Contains signals signal }
+{
+    SIGNALS.contains(&signal)
 }
 
 /// The command that has a shell send a signal to a process.
@@ -89,7 +89,9 @@ fn kill_command(alloc: Global, signal: i32, id: u32) -> Result<Command, AllocErr
 }
 
 /// How a child ended, by what std says of it.
-fn ending_of(status: process::ExitStatus) -> Result<ExitStatus, Fault> {
+fn ending_of(status: process::ExitStatus) -> Result<ExitStatus, Fault>
+    ensures { result ≡ ending_said (exit_code status) (exit_signal status) }
+{
     if let Some(code) = status.code() {
         return Ok(ExitStatus::Code(code));
     }
@@ -107,11 +109,13 @@ impl<R: Processes + Drop> Numbered for Child<R> {
     }
 }
 
-/// What the machine may answer is left open.
+/// What the machine may answer is left open. A signal that isn't served is always answered `InvalidInput`.
 impl<R: Processes + Drop> system::Child for Child<R> {
+    ghost use Rattle.duct_host.specs.Signals.{ObeysIfServed};
+
     ghost may_answer = { λ _ _. Unit {0} };
 
-    ghost may_obey = { λ _ _ _. Unit {0} };
+    ghost may_obey = { λ _ order answer. ObeysIfServed order answer };
 
     ghost polls = { λ c. c.polls };
 
@@ -127,7 +131,7 @@ impl<R: Processes + Drop> system::Child for Child<R> {
         self.polls = self.polls.saturating_add(1);
         let answer = match self.ending {
             Some(ending) => Ok(Some(ending)),
-            None => ask(&mut self.started),
+            None => ending(&mut self.started),
         };
         if let Ok(Some(ending)) = answer {
             self.ending = Some(ending);
@@ -149,9 +153,12 @@ impl<R: Processes + Drop> system::Child for Child<R> {
         if self.orders.reserve(1).is_err() {
             return Err(no_memory());
         }
-        let answer = match signal {
-            9 => end(&mut self.started),
-            _ => self.send(signal),
+        let answer = if !is_served(signal) {
+            Err(Fault::new(Kind::InvalidInput))
+        } else if signal == KILL {
+            end(&mut self.started)
+        } else {
+            self.send(signal)
         };
         self.orders.push_reserved((Order::Signal(signal), answer));
         answer
@@ -163,16 +170,16 @@ impl<R: Processes + Drop> system::Child for Child<R> {
 }
 
 impl<R: Processes> Child<R> {
-    /// Sends the child a signal other than 9. A child that has been seen to end gets none, nor does one of which the
-    /// machine knows nothing: its number may be another's.
-    fn send(&self, signal: i32) -> Result<(), Fault> {
-        match signal {
-            1 | 2 | 3 | 6 | 14 | 15 => match (self.ending, self.last) {
-                (Some(_), _) => Ok(()),
-                (None, Some(Err(_))) => Err(Fault::new(Kind::Other)),
-                (None, _) => self.send_by_shell(signal),
-            },
-            _ => Err(Fault::new(Kind::InvalidInput)),
+    /// Sends the child a signal. A child that has been seen to end gets none, and the answer is `Ok` as for a kill; nor
+    /// does one of which the machine knows nothing, since its number may be another's: `Other`.
+    fn send(&self, signal: i32) -> Result<(), Fault>
+        ensures ended { IfSome self.now.ending (λ _. result ≡ Ok tt) }
+        ensures lost { IfNone self.now.ending (IfSome self.now.last (λ answer. IfErr answer (λ _. result ≡ Err (record { kind = Other })))) }
+    {
+        match (self.ending, self.last) {
+            (Some(_), _) => Ok(()),
+            (None, Some(Err(_))) => Err(Fault::new(Kind::Other)),
+            (None, _) => self.send_by_shell(signal),
         }
     }
 
@@ -181,10 +188,10 @@ impl<R: Processes> Child<R> {
         let Ok(mut shell) = kill_command(self.alloc, signal, self.id) else {
             return Err(no_memory());
         };
-        match shell.status(&self.rt) {
-            Ok(status) if status.success() => Ok(()),
-            Ok(_) => Err(Fault::new(Kind::Other)),
-            Err(error) => Err(fault_of(error)),
+        if ask(|| shell.status(&self.rt))?.success() {
+            Ok(())
+        } else {
+            Err(Fault::new(Kind::Other))
         }
     }
 }

@@ -1,5 +1,5 @@
 //! The parent's environment, read entry by entry.
-ghost use Rattle.std.specs.Prelude.{◌≡◌, [], ◌∷◌, ◌++◌, map, IfOk, OnOk};
+ghost use Rattle.std.specs.Prelude.{◌≡◌, [], ◌∷◌, ◌++◌, map, string_bytes, IfOk, IfSome, OnOk};
 ghost use Rattle.duct_base.specs.Spec.{pair_text};
 
 use std::alloc::{AllocError, Global};
@@ -50,7 +50,9 @@ fn entry_at<E: Env>(rt: &E, alloc: Global, i: usize) -> Result<Option<Vec<u8>>, 
 
 /// The name and the value of an entry. The name has at least one byte, so that an entry's first byte is the name's, also
 /// where it is a `=`.
-fn split_entry(alloc: Global, entry: &str) -> Result<Option<(String, String)>, AllocError> {
+fn split_entry(alloc: Global, entry: &str) -> Result<Option<(String, String)>, AllocError>
+    ensures { IfOk result (λ found. IfSome found (λ pair. entry.now ≡ string_bytes pair.0 ++ 61 ∷ string_bytes pair.1)) }
+{
     let (front, text) = match entry.strip_prefix('=') {
         Some(text) => ("=", text),
         None => ("", entry),

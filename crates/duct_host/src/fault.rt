@@ -1,4 +1,4 @@
-//! From an error of std to a fault.
+//! From what std answers to what a system answers: errors become faults, and what a signal interrupts is tried again.
 ghost use Rattle.std.specs.Prelude.{◌≡◌};
 ghost use Rattle.std.specs.IoError.{error_kind};
 ghost use Rattle.duct_base.specs.declared.system.Kind.TheVariants.{OutOfMemory};
@@ -23,6 +23,20 @@ pub fn fault_of(error: io::Error) -> Fault
         _ => Kind::Other,
     };
     Fault::new(kind)
+}
+
+/// Asks the machine, and again as long as a signal interrupts what is asked.
+pub(crate) fn ask<T, F: FnMut() -> io::Result<T>>(mut question: F) -> Result<T, Fault>
+    requires { F.IsAlwaysCallable question }
+{
+    for _ in 0..u64::MAX {
+        match question() {
+            Ok(answer) => return Ok(answer),
+            Err(error) if error.kind() == ErrorKind::Interrupted => {}
+            Err(error) => return Err(fault_of(error)),
+        }
+    }
+    Err(Fault::new(Kind::Other))
 }
 
 /// The fault of a growth that was refused.

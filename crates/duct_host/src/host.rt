@@ -7,7 +7,7 @@ ghost use Rattle.duct_host.specs.Steps.{OnlyCounts, OnlyRoom};
 use crate::child::Child;
 use crate::end::End;
 use crate::environment::{copy_of, variables};
-use crate::fault::{fault_of, no_memory};
+use crate::fault::{ask, no_memory};
 use crate::parents::Parents;
 use crate::reader::Reader;
 use crate::spawn::{all_wired, count_of_ends, start};
@@ -17,7 +17,7 @@ use duct_base::spec::CommandSpec;
 use duct_base::system::{Entry, Fault, Kind, Numbered, Side, Stdio, System};
 use std::alloc::{AllocError, Global};
 use std::fs::File;
-use std::io::{ErrorKind, PipeReader, PipeWriter};
+use std::io::{PipeReader, PipeWriter};
 use std::marker::Model;
 use std::os::fd::OwnedFd;
 use std::process::Processes;
@@ -128,14 +128,12 @@ impl<R> Host<R> {
     }
 
     /// An end with the next number, if one is left and the machine gave its descriptor.
-    fn numbered(&mut self, answer: io::Result<OwnedFd>) -> Result<End, Fault>
+    fn numbered(&mut self, answer: Result<OwnedFd, Fault>) -> Result<End, Fault>
         ensures kept { OnlyCounts self.old self.new }
         ensures fresh { IfOk result (λ end. (self.old.next ≤ end) × (end < self.new.next)) }
     {
-        match answer {
-            Ok(fd) => Ok(End::new(self.take_number()?, fd)),
-            Err(error) => Err(fault_of(error)),
-        }
+        let fd = answer?;
+        Ok(End::new(self.take_number()?, fd))
     }
 }
 
@@ -145,7 +143,7 @@ impl<R: Processes + Files<File = File> + Env + Parents + Clone + Drop> Host<R> {
         ensures kept { OnlyCounts self.old self.new }
         ensures fresh { IfOk result (λ ends. (self.old.next ≤ ends.0) × (ends.0 < ends.1) × (ends.1 < self.new.next)) }
     {
-        let (reader, writer) = io::pipe(&self.rt).map_err(fault_of)?;
+        let (reader, writer) = ask(|| io::pipe(&self.rt))?;
         let read = self.adopt_reader(reader)?;
         let write = self.adopt_writer(writer)?;
         Ok((read, write))
@@ -228,7 +226,7 @@ impl<R: Processes + Files<File = File> + Env + Parents + Clone + Drop> System fo
 
     fn open_read(&mut self, path: &str) -> Result<End, Fault> {
         let kept = self.prepare_named(path, 1)?;
-        let answer = open(&self.rt, path, Access::Read);
+        let answer = ask(|| File::open(&self.rt, path).map(OwnedFd::from));
         match self.numbered(answer) {
             Ok(end) => {
                 self.journal.add(Entry::OpenRead(kept, Ok(end.number())));
@@ -244,7 +242,7 @@ impl<R: Processes + Files<File = File> + Env + Parents + Clone + Drop> System fo
 
     fn create(&mut self, path: &str) -> Result<End, Fault> {
         let kept = self.prepare_named(path, 1)?;
-        let answer = open(&self.rt, path, Access::Create);
+        let answer = ask(|| File::create(&self.rt, path).map(OwnedFd::from));
         match self.numbered(answer) {
             Ok(end) => {
                 self.journal.add(Entry::Create(kept, Ok(end.number())));
@@ -261,7 +259,7 @@ impl<R: Processes + Files<File = File> + Env + Parents + Clone + Drop> System fo
     fn duplicate(&mut self, end: &End) -> Result<End, Fault> {
         self.journal.prepare(1)?;
         let lent = end.number();
-        match self.numbered(end.descriptor().try_clone()) {
+        match self.numbered(ask(|| end.descriptor().try_clone())) {
             Ok(made) => {
                 self.journal.add(Entry::Duplicate(lent, Ok(made.number())));
                 Ok(made)
@@ -277,8 +275,8 @@ impl<R: Processes + Files<File = File> + Env + Parents + Clone + Drop> System fo
     fn parent(&mut self, side: Side) -> Result<End, Fault> {
         self.journal.prepare(1)?;
         let answer = match side {
-            Side::Out => self.rt.duplicate_stdout(),
-            Side::Err => self.rt.duplicate_stderr(),
+            Side::Out => ask(|| self.rt.duplicate_stdout()),
+            Side::Err => ask(|| self.rt.duplicate_stderr()),
         };
         match self.numbered(answer) {
             Ok(made) => {
@@ -371,40 +369,14 @@ impl<R: Processes + Files<File = File> + Env + Parents + Clone + Drop> System fo
     ghost same_bytes = { λ one other same. same };
 }
 
-/// How a file is opened.
-#[derive(Clone, Copy)]
-enum Access {
-    Read,
-    Create,
-}
-
-/// The descriptor of a file that is opened. It is tried again where a signal interrupts it.
-fn open<R: Files<File = File>>(rt: &R, path: &str, access: Access) -> io::Result<OwnedFd> {
-    for _ in 0..u64::MAX {
-        let answer = match access {
-            Access::Read => File::open(rt, path),
-            Access::Create => File::create(rt, path),
-        };
-        match answer {
-            Ok(file) => return Ok(OwnedFd::from(file)),
-            Err(error) if error.kind() == ErrorKind::Interrupted => {}
-            Err(error) => return Err(error),
-        }
-    }
-    Err(io::Error::from(ErrorKind::Other))
-}
-
 /// The canonical name of a path, and a copy of it for the journal.
 fn canonical_twice<R: Files>(rt: &R, alloc: Global, path: &str) -> Result<(String, String), Fault>
     ensures { IfOk result (λ texts. string_bytes texts.1 ≡ string_bytes texts.0) }
 {
-    let name = rt.canonicalize(alloc, path).map_err(fault_of)?;
-    match (
-        name.as_str().to_string(alloc),
-        name.as_str().to_string(alloc),
-    ) {
-        (Ok(text), Ok(noted)) => Ok((text, noted)),
-        _ => Err(no_memory()),
+    let text = ask(|| rt.canonicalize(alloc, path))?.into_string();
+    match String::from_str(alloc, text.as_str()) {
+        Ok(noted) => Ok((text, noted)),
+        Err(_) => Err(no_memory()),
     }
 }
 

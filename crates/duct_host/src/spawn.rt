@@ -1,17 +1,21 @@
 //! From the spec of a command to a process.
-ghost use Rattle.std.specs.Prelude.{◌≡◌, [], ◌∷◌, length, map};
+ghost use Rattle.std.specs.Prelude.{◌≡◌, [], ◌∷◌, ◌++◌, length, map, string_bytes, IfOk, IfErr, OnOk};
+ghost use Rattle.std.specs.Process.{command_program, command_args, command_dir, SameProgramAndArgs, SameEnv, SameDir};
 ghost use Rattle.duct_base.specs.Streams.{stream_of, ends_of};
+ghost use Rattle.duct_base.specs.declared.system.Kind.TheVariants.{InvalidInput};
+ghost use Rattle.duct_host.specs.Variables.{IsWholeEnvironment, Sets};
 
 use crate::end::End;
 use crate::fault::{fault_of, no_memory};
 use duct_base::spec::CommandSpec;
 use duct_base::system::{Fault, Kind, Numbered, Stdio};
 use std::alloc::{AllocError, Global};
+use std::io::ErrorKind;
 use std::process;
 use std::process::{Command, Processes};
 
 /// Starts a process by a spec, with these streams in the order stdin, stdout, stderr. Each end among the streams is
-/// closed here, whatever is answered.
+/// closed here, whatever is answered. A start that a signal interrupts is tried again.
 pub(crate) fn start<R: Processes>(
     rt: &R,
     alloc: Global,
@@ -23,11 +27,23 @@ pub(crate) fn start<R: Processes>(
     command.stdin(input);
     command.stdout(output);
     command.stderr(error);
-    command.spawn(rt).map_err(fault_of)
+    for _ in 0..u64::MAX {
+        match command.spawn(rt) {
+            Ok(started) => return Ok(started),
+            Err(error) if error.kind() == ErrorKind::Interrupted => {}
+            Err(error) => return Err(fault_of(error)),
+        }
+    }
+    Err(Fault::new(Kind::Other))
 }
 
 /// The command of a spec, with the spec's variables for its whole environment. A spec without words is `InvalidInput`.
-fn command_of(alloc: Global, spec: &CommandSpec) -> Result<Command, Fault> {
+fn command_of(alloc: Global, spec: &CommandSpec) -> Result<Command, Fault>
+    ensures words { IfOk result (λ c. command_program c ∷ command_args c ≡ spec.now.words) }
+    ensures folder { IfOk result (λ c. command_dir c ≡ spec.now.folder) }
+    ensures vars { IfOk result (IsWholeEnvironment spec.now.vars) }
+    ensures empty { spec.now.words ≡ [] → IfErr result (λ fault. fault.kind ≡ InvalidInput) }
+{
     let Some((program, arguments)) = spec.words().split_first() else {
         return Err(Fault::new(Kind::InvalidInput));
     };
@@ -43,22 +59,77 @@ fn command_with(
     spec: &CommandSpec,
     program: &str,
     arguments: &[String],
-) -> Result<Command, AllocError> {
+) -> Result<Command, AllocError>
+    ensures words { IfOk result (λ c. command_program c ∷ command_args c ≡ program.now ∷ map string_bytes arguments.now) }
+    ensures folder { IfOk result (λ c. command_dir c ≡ spec.now.folder) }
+    ensures vars { IfOk result (IsWholeEnvironment spec.now.vars) }
+{
     let mut command = Command::new(alloc, program)?;
+    add_arguments(&mut command, arguments)?;
+    set_variables(&mut command, spec)?;
+    set_folder(&mut command, spec)?;
+    Ok(command)
+}
+
+/// Adds arguments behind those that the command has.
+fn add_arguments(command: &mut Command, arguments: &[String]) -> Result<(), AllocError>
+    ensures arguments { OnOk result (command_args command.new ≡ command_args command.old ++ map string_bytes arguments.now) }
+    ensures program { OnOk result (command_program command.new ≡ command_program command.old) }
+    ensures folder { OnOk result (SameDir command.old command.new) }
+{
     for argument in arguments {
         command.arg(argument.as_str())?;
     }
+    Ok(())
+}
+
+/// Makes the spec's variables the whole environment of the command.
+fn set_variables(command: &mut Command, spec: &CommandSpec) -> Result<(), AllocError>
+    ensures vars { OnOk result (IsWholeEnvironment spec.now.vars command.new) }
+    ensures call { OnOk result (SameProgramAndArgs command.old command.new) }
+    ensures folder { OnOk result (SameDir command.old command.new) }
+{
     command.env_clear();
     let Ok(variables) = spec.vars() else {
         return Err(AllocError);
     };
-    for (name, value) in variables {
-        command.env(name, value)?;
+    set_each(command, variables.as_slice())
+}
+
+/// Sets variables in their order, where the command has none.
+fn set_each(command: &mut Command, variables: &[(&str, &str)]) -> Result<(), AllocError>
+    requires { IsWholeEnvironment [] command.old }
+    ensures vars { OnOk result (IsWholeEnvironment (map (λ p. (p.0.now, p.1.now)) variables.now) command.new) }
+    ensures call { OnOk result (SameProgramAndArgs command.old command.new) }
+    ensures folder { OnOk result (SameDir command.old command.new) }
+{
+    for variable in variables {
+        set_variable(command, variable.0, variable.1)?;
     }
+    Ok(())
+}
+
+/// Sets a variable besides those that the command has.
+fn set_variable(command: &mut Command, name: &str, value: &str) -> Result<(), AllocError>
+    ensures vars { OnOk result (Sets name.now value.now command.old command.new) }
+    ensures call { OnOk result (SameProgramAndArgs command.old command.new) }
+    ensures folder { OnOk result (SameDir command.old command.new) }
+{
+    command.env(name, value)?;
+    Ok(())
+}
+
+/// Has the command start in the spec's folder, if it has one.
+fn set_folder(command: &mut Command, spec: &CommandSpec) -> Result<(), AllocError>
+    requires { command_dir command.old ≡ None }
+    ensures folder { OnOk result (command_dir command.new ≡ spec.now.folder) }
+    ensures call { OnOk result (SameProgramAndArgs command.old command.new) }
+    ensures env { OnOk result (SameEnv command.old command.new) }
+{
     if let Some(folder) = spec.folder() {
         command.current_dir(folder)?;
     }
-    Ok(command)
+    Ok(())
 }
 
 /// Three streams as the journal has them, and as std takes them.

@@ -1,0 +1,16 @@
+-- The signals that a child of a host can be sent.
+use Rattle.std.specs.Prelude.{◌≡◌, ℤ, pos, List, [], ◌∷◌, Contains, Err}
+use Rattle.std.specs.declared.result.Result.{Result}
+use Rattle.duct_base.specs.declared.system.Fault.{Fault}
+use Rattle.duct_base.specs.declared.system.Kind.TheVariants.{InvalidInput}
+use Rattle.duct_base.specs.declared.system.Order.{Order}
+use Rattle.duct_base.specs.declared.system.Order.TheVariants.{Kill, Signal}
+
+-- the numbers of the signals
+abbrev pub signals : List ℤ
+signals = pos 1 ∷ pos 2 ∷ pos 3 ∷ pos 6 ∷ pos 9 ∷ pos 14 ∷ pos 15 ∷ []
+
+-- a signal that is none of them is answered InvalidInput; nothing more is said of what the machine answers
+abbrev pub ObeysIfServed : Order → Result (Unit {0}) Fault → Type 0
+ObeysIfServed Kill answer = Unit {0}
+ObeysIfServed (Signal number) answer = (Contains signals number → ⊥) → answer ≡ Err (record { kind = InvalidInput })
