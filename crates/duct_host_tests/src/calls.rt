@@ -2,6 +2,7 @@
 use crate::support::{captured, command, ending, place, same, start, tells, text_of};
 use duct_base::system::{Child, Entry, ExitStatus, Kind, Numbered, Side, Stdio, System};
 use duct_host::host::Host;
+use std::alloc::{AllocError, Global};
 use std::fs::File;
 use std::io::Write;
 use std::sync::Arc;
