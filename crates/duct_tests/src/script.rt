@@ -5,4 +5,5 @@ mod children;
 mod gates;
 mod hooks;
 mod jobs;
+mod memory;
 mod requests;

@@ -84,7 +84,7 @@ fn each_sort_is_refused(rt: HostRuntime) -> Result<(), Fail> {
 }
 
 #[test]
-fn without_memory_only_what_is_given_ends_is_asked(rt: HostRuntime) -> Result<(), Fail> {
+fn a_starved_system_asks_only_what_is_given_ends(rt: HostRuntime) -> Result<(), Fail> {
     let mut bench = Bench::new(rt.alloc())?;
     bench.ask_all(&[Ask::Pipe, Ask::Pipe, Ask::Clear])?;
     bench.sys.starve(true);
