@@ -1,26 +1,33 @@
-//! The workers of the host. There are none yet: each start is refused, so their types have no values.
-use duct_base::system::{Job, Numbered, Said};
+//! The workers of the host. It starts none yet, and each start is refused, so no caller ever has one of these.
+use duct_base::system::{Fault, Job, Kind, Numbered, Said};
 use std::sync::Arc;
 
-/// A worker that writes to an end.
+/// A worker that writes to an end. At each poll it says that workers are `Unsupported`.
 #[derive(Drop)]
-pub enum FeedWorker {}
+pub struct FeedWorker {
+    number: u64,
+    polls: u64,
+}
 
-/// A worker that reads an end.
+/// A worker that reads an end. At each poll it says that workers are `Unsupported`.
 #[derive(Drop)]
-pub enum DrainWorker {}
+pub struct DrainWorker {
+    number: u64,
+    polls: u64,
+}
 
 impl Numbered for FeedWorker {
-    ghost number_of = { λ _. 0 };
+    ghost number_of = { λ w. w.number };
 
     fn number(&self) -> u64 {
-        match *self {}
+        self.number
     }
 }
 
 /// What a worker may say is left open.
 impl Job for FeedWorker {
-    ghost use Rattle.duct_base.specs.declared.system.Said.TheVariants.{Running};
+    ghost use Rattle.duct_base.specs.declared.system.Kind.TheVariants.{Unsupported};
+    ghost use Rattle.duct_base.specs.declared.system.Said.TheVariants as said;
 
     type Result = ();
 
@@ -28,20 +35,21 @@ impl Job for FeedWorker {
 
     ghost may_say = { λ _ _. Unit {0} };
 
-    ghost polls = { λ _. 0 };
+    ghost polls = { λ w. w.polls };
 
-    ghost kept = { λ _. Running };
+    ghost kept = { λ _. said.Fault (record { kind = Unsupported }) };
 
     fn poll(&mut self) -> Said<()> {
-        match *self {}
+        self.polls = self.polls.saturating_add(1);
+        Said::Fault(Fault::new(Kind::Unsupported))
     }
 }
 
 impl Numbered for DrainWorker {
-    ghost number_of = { λ _. 0 };
+    ghost number_of = { λ w. w.number };
 
     fn number(&self) -> u64 {
-        match *self {}
+        self.number
     }
 }
 
@@ -49,7 +57,8 @@ impl Numbered for DrainWorker {
 impl Job for DrainWorker {
     ghost use Rattle.std.specs.Prelude.{◌≡◌};
     ghost use Rattle.std.specs.Arc.{arc_value};
-    ghost use Rattle.duct_base.specs.declared.system.Said.TheVariants.{Running};
+    ghost use Rattle.duct_base.specs.declared.system.Kind.TheVariants.{Unsupported};
+    ghost use Rattle.duct_base.specs.declared.system.Said.TheVariants as said;
 
     type Result = Arc<Vec<u8>>;
 
@@ -57,11 +66,12 @@ impl Job for DrainWorker {
 
     ghost may_say = { λ _ _. Unit {0} };
 
-    ghost polls = { λ _. 0 };
+    ghost polls = { λ w. w.polls };
 
-    ghost kept = { λ _. Running };
+    ghost kept = { λ _. said.Fault (record { kind = Unsupported }) };
 
     fn poll(&mut self) -> Said<Arc<Vec<u8>>> {
-        match *self {}
+        self.polls = self.polls.saturating_add(1);
+        Said::Fault(Fault::new(Kind::Unsupported))
     }
 }
