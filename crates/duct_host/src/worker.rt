@@ -1,19 +1,15 @@
-//! The workers of the host. Both starts of one are refused today, so nobody makes a value of these types.
-ghost use Rattle.std.specs.Prelude.{◌≡◌};
-ghost use Rattle.std.specs.Arc.{arc_value};
-ghost use Rattle.duct_base.specs.declared.system.Said.TheVariants.{Running};
-
-use duct_base::system::{Job, Numbered, Said};
+//! The workers of the host. It starts none yet, and each start is refused, so no caller ever has one of these.
+use duct_base::system::{Fault, Job, Kind, Numbered, Said};
 use std::sync::Arc;
 
-/// A worker that writes to an end. It says Running.
+/// A worker that writes to an end. At each poll it says that workers are `Unsupported`.
 #[derive(Drop)]
 pub struct FeedWorker {
     number: u64,
     polls: u64,
 }
 
-/// A worker that reads an end. It says Running.
+/// A worker that reads an end. At each poll it says that workers are `Unsupported`.
 #[derive(Drop)]
 pub struct DrainWorker {
     number: u64,
@@ -30,6 +26,9 @@ impl Numbered for FeedWorker {
 
 /// What a worker may say is left open.
 impl Job for FeedWorker {
+    ghost use Rattle.duct_base.specs.declared.system.Kind.TheVariants.{Unsupported};
+    ghost use Rattle.duct_base.specs.declared.system.Said.TheVariants as said;
+
     type Result = ();
 
     ghost same = { λ _ _. Unit {0} };
@@ -38,11 +37,11 @@ impl Job for FeedWorker {
 
     ghost polls = { λ w. w.polls };
 
-    ghost kept = { λ _. Running };
+    ghost kept = { λ _. said.Fault (record { kind = Unsupported }) };
 
     fn poll(&mut self) -> Said<()> {
         self.polls = self.polls.saturating_add(1);
-        Said::Running
+        Said::Fault(Fault::new(Kind::Unsupported))
     }
 }
 
@@ -56,6 +55,11 @@ impl Numbered for DrainWorker {
 
 /// What a worker may say is left open, but that a further owner holds the same bytes.
 impl Job for DrainWorker {
+    ghost use Rattle.std.specs.Prelude.{◌≡◌};
+    ghost use Rattle.std.specs.Arc.{arc_value};
+    ghost use Rattle.duct_base.specs.declared.system.Kind.TheVariants.{Unsupported};
+    ghost use Rattle.duct_base.specs.declared.system.Said.TheVariants as said;
+
     type Result = Arc<Vec<u8>>;
 
     ghost same = { λ one other. (arc_value other).items ≡ (arc_value one).items };
@@ -64,10 +68,10 @@ impl Job for DrainWorker {
 
     ghost polls = { λ w. w.polls };
 
-    ghost kept = { λ _. Running };
+    ghost kept = { λ _. said.Fault (record { kind = Unsupported }) };
 
     fn poll(&mut self) -> Said<Arc<Vec<u8>>> {
         self.polls = self.polls.saturating_add(1);
-        Said::Running
+        Said::Fault(Fault::new(Kind::Unsupported))
     }
 }
