@@ -94,23 +94,6 @@ module _ {E H : Type 0} (allows : Allows H) (refuses : Refuses H) (number_of : E
         balanced = subst IsBalanced same even;
       }
 
-  -- no memory, before anything was asked
-  pub memory_first : (old new : List Line) → new ≡ old → IsRefused allows refuses number_of plan old new error.Memory
-  memory_first old new is = refused_with old new [] error.Memory (is ∙ sym (append-nil old)) (nothing_follows) tt (λ fault e. absurd (cc)) (balanced [] refl refl)
-
-  -- the environment was refused, or there was no memory to ask for it
-  pub environment_refused : (old new : List Line) (fault : Fault) → AddsOrNoMemory old new fault (Environment (Err fault)) →
-      IsRefused allows refuses number_of plan old new (error.System fault)
-  environment_refused old new fault (inl is) =
-      refused_with old new (Environment (Err fault) ∷ []) (error.System fault) is (environment_follows (Err fault)) (inr refl) (λ other e. ap error.System (some_is fault other e)) (balanced (Environment (Err fault) ∷ []) refl refl)
-  environment_refused old new fault (inr none) =
-      refused_with old new [] (error.System fault) (none.0 ∙ sym (append-nil old)) nothing_follows (inl none.1) (λ other e. absurd (cc)) (balanced [] refl refl)
-
-  -- no memory, after the environment was answered
-  pub memory_after : (old new : List Line) (pairs : Vars) → Adds old new (Environment (Ok pairs)) → IsRefused allows refuses number_of plan old new error.Memory
-  memory_after old new pairs is =
-      refused_with old new (Environment (Ok pairs) ∷ []) error.Memory is (environment_follows (Ok pairs)) tt (λ fault e. absurd (cc)) (balanced (Environment (Ok pairs) ∷ []) refl refl)
-
   -- the spawn was refused, or there was no memory to ask for it
   pub spawn_refused : (old mid new : List Line) (pairs : Vars) (spec : Spec) (fault : Fault) → Adds old mid (Environment (Ok pairs)) →
       AddsOrNoMemory mid new fault (Spawn spec inherited (Err fault)) → IsAsked {E = E} {H = H} pairs (program_of words) [] words spec →

@@ -1,6 +1,7 @@
 //! The children of a scripted system.
 ghost use Rattle.std.specs.Prelude.{◌≡◌, [], None};
 ghost use Rattle.duct_base.specs.Told.{Notes};
+ghost use Rattle.duct_script.specs.Obeying.{IsObeying};
 
 use crate::answers::Answers;
 use crate::calls::{Call, CallLog};
@@ -40,7 +41,9 @@ pub struct ChildScript {
 
 impl ChildScript {
     /// A child that says Running and obeys.
-    pub fn running(alloc: Global) -> ChildScript {
+    pub fn running(alloc: Global) -> ChildScript
+        ensures { IsObeying [] result }
+    {
         ChildScript {
             polls: Answers::none(alloc),
             kills: Answers::none(alloc),

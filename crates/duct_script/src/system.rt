@@ -1,8 +1,10 @@
 //! The scripted system.
-ghost use Rattle.std.specs.Prelude.{◌≡◌, ℕ, ◌+◌, ◌-◌, ◌^◌, ◌<◌, ◌≤◌, max, length, map, string_bytes, IfOk, IfErr, IfSome, OnOk, OnErr, Ok, Err, Some, None, [], ◌∷◌, ◌++◌};
+ghost use Rattle.std.specs.Prelude.{◌≡◌, ℕ, ◌+◌, ◌-◌, ◌^◌, ◌<◌, ◌≤◌, max, length, map, string_bytes, unwrap_or, IfOk, IfErr, IfSome, OnOk, OnErr, Ok, Err, Some, None, [], ◌∷◌, ◌++◌};
 ghost use Rattle.duct_base.specs.declared.system.Kind.TheVariants.{OutOfMemory, Other};
 ghost use Rattle.duct_base.specs.declared.system.Said.TheVariants.{Running};
-ghost use Rattle.duct_base.specs.Spec.{pair_text};
+ghost use Rattle.duct_base.specs.Spec.{pair_text, value_of, with_var};
+ghost use Rattle.duct_script.specs.Obeying.{IsObeying};
+ghost use Rattle.duct_script.specs.declared.child.ChildScript.{ChildScript};
 ghost use Rattle.duct_base.specs.Streams.{stream_of, end_of, ends_of};
 ghost use Rattle.duct_base.specs.Told.{one_more};
 
@@ -106,6 +108,8 @@ impl Script {
 
     /// Sets the canonical name of a path. Each other path is its own.
     pub fn canonical(&mut self, path: &str, text: &str) -> Result<(), AllocError>
+        ensures ok { OnOk result (map pair_text self.new.canonical.entries ≡ with_var path.now text.now (map pair_text self.old.canonical.entries)) }
+        ensures err { OnErr result (self.new.canonical.entries ≡ self.old.canonical.entries) }
         ensures journal { self.new.journal ≡ self.old.journal }
     {
         let alloc = self.journal.allocator();
@@ -128,13 +132,15 @@ impl Script {
 
     /// The same by a list of answers to polls, for a child that obeys.
     pub fn polls(&mut self, answers: &[PollAnswer]) -> Result<(), AllocError>
+        ensures ok { OnOk result ((script : ChildScript) × (self.new.children.items ≡ self.old.children.items ++ script ∷ []) × IsObeying answers.now script) }
         ensures err { OnErr result (self.new.children.items ≡ self.old.children.items) }
         ensures journal { self.new.journal ≡ self.old.journal }
     {
         let alloc = self.journal.allocator();
         let mut script = ChildScript::running(alloc);
         script.polls = Answers::of(Vec::from_slice(alloc, answers)?);
-        self.child(script)
+        self.child(script)?;
+        Ok(())
     }
 
     /// Sets what the next feed says for which nothing is set yet. A feed for which nothing is set says `Done`.
@@ -304,7 +310,9 @@ impl Script {
     }
 
     /// What a path is answered as its canonical name: the text that was set for it, or the path itself.
-    fn canonical_text<'a>(&'a self, path: &'a str) -> &'a str {
+    fn canonical_text<'a>(&'a self, path: &'a str) -> &'a str
+        ensures { result.now ≡ unwrap_or (value_of path.now (map pair_text self.now.canonical.entries)) path.now }
+    {
         match self.canonical.get(path) {
             Some(text) => text.as_str(),
             None => path,

@@ -1,13 +1,7 @@
-//! Tests of duct that stand over several of its crates.
+//! Tests of duct that stand over several of its crates: expressions, and the start of one command over the scripted system.
 #![tactic(auto)]
 
-#[cfg(test)]
-mod checker;
 #[cfg(test)]
 mod command;
 #[cfg(test)]
 mod expression;
-#[cfg(test)]
-mod script;
-#[cfg(test)]
-mod status;

@@ -1,6 +1,6 @@
 //! The core against the plain programs, on random trees of up to six commands and random events.
-use crate::status::build::{command, done, input, other, pipe, text_of, unchecked};
-use crate::status::dice::Dice;
+use crate::build::{command, done, input, other, pipe, text_of, unchecked};
+use crate::dice::Dice;
 use duct_base::status::plain::count::{commands_in, inputs_in};
 use duct_base::status::plain::latest::latest_of_command;
 use duct_base::status::plain::outcome::{Outcome, outcome_of_events};

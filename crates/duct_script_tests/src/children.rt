@@ -1,5 +1,5 @@
 //! The children of a scripted system, and its clock.
-use super::asks::spec_of_words;
+use crate::asks::spec_of_words;
 use duct_base::system::{Child, Clock, ExitStatus, Fault, Kind, Stdio, System};
 use duct_script::answers::Answers;
 use duct_script::child::{ChildScript, PollAnswer, ScriptChild};

@@ -1,5 +1,5 @@
 //! What comes of refused memory. The test passes with ample memory, and also where any one request for memory is refused.
-use super::asks::{Ask, Bench, spec_of_words};
+use crate::asks::{Ask, Bench, spec_of_words};
 use duct_base::system::{Child, Side, Stdio, System};
 use duct_script::checker::{got, held, is_balanced, spent, trace};
 use duct_script::child::ScriptChild;

@@ -1,5 +1,5 @@
 //! Requests: their entries, their faults, their numbers, and the room.
-use super::asks::{Ask, Bench};
+use crate::asks::{Ask, Bench};
 use duct_base::system::{Fault, Kind, Side, Stdio};
 use duct_script::requests::Sort;
 use std::test::Fail;

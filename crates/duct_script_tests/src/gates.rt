@@ -1,5 +1,5 @@
 //! The gates of the tests.
-use super::asks::spec_of_words;
+use crate::asks::spec_of_words;
 use duct_base::system::{Numbered, Stdio, System};
 use duct_script::child::{ChildScript, ScriptChild};
 use duct_script::gate::Gate;

@@ -1,6 +1,6 @@
 //! Want of memory: whatever single request of the process is refused, each test either finds the answer that it gets with
 //! ample memory, or finds that this call answered `Memory`, that nothing was lost, and the answer at the next one.
-use crate::status::build::{command, done, ended, pipe, unchecked};
+use crate::build::{command, done, ended, pipe, unchecked};
 use duct_base::error::Error;
 use duct_base::status::{Core, Drains, Event, Reply, Shape};
 use duct_base::system::{ExitStatus, Side};

@@ -1,5 +1,5 @@
 //! The checker, on journals that are written by hand.
-use crate::script::asks::spec_of_words;
+use crate::asks::spec_of_words;
 use duct_base::system::{Entry, Fault, Kind, Side, Stdio};
 use duct_script::checker::{Source, got, held, is_balanced, origin, spent, trace};
 use duct_script::text::Words;

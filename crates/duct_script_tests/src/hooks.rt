@@ -1,5 +1,5 @@
 //! The hooks of the tests, and the log that they share with a scripted system.
-use super::asks::spec_of_words;
+use crate::asks::spec_of_words;
 use duct_base::spec::{CommandSpec, Hook, Port, Stream};
 use duct_base::system::{Child, Fault, Kind, Stdio, System};
 use duct_script::calls::{Call, CallLog};

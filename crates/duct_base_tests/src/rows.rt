@@ -1,5 +1,5 @@
 //! Rows of events with the replies that they must get.
-use crate::status::build::{command, done, ended, input, other, pipe, text_of, unchecked};
+use crate::build::{command, done, ended, input, other, pipe, text_of, unchecked};
 use duct_base::status::{Core, Drains, Event, Shape, Word};
 use duct_base::system::{ExitStatus, Said, Side};
 use std::alloc::{AllocError, Global};

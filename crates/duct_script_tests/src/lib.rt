@@ -1,0 +1,19 @@
+//! Tests of the scripted system (what it answers, counts and keeps) and of the checker of journals.
+#![tactic(auto)]
+
+#[cfg(test)]
+mod asks;
+#[cfg(test)]
+mod checker;
+#[cfg(test)]
+mod children;
+#[cfg(test)]
+mod gates;
+#[cfg(test)]
+mod hooks;
+#[cfg(test)]
+mod jobs;
+#[cfg(test)]
+mod memory;
+#[cfg(test)]
+mod requests;
