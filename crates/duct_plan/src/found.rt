@@ -47,7 +47,7 @@ pub fn goes<'t, E, H>(way: &[Crumb<'t, E, H>], stream: Stream) -> Target<'t, E>
 {
     match way.split_first() {
         None => Target::Parents(stream),
-        Some((crumb, up)) => match turn(crumb, stream) {
+        Some((crumb, up)) => match turn_at(crumb, stream) {
             Turn::Ends(target) => target,
             Turn::Follows(next) => goes(up, next),
         },
@@ -55,7 +55,7 @@ pub fn goes<'t, E, H>(way: &[Crumb<'t, E, H>], stream: Stream) -> Target<'t, E>
 }
 
 /// What a node does to a stream.
-fn turn<'t, E, H>(crumb: &Crumb<'t, E, H>, stream: Stream) -> Turn<'t, E>
+fn turn_at<'t, E, H>(crumb: &Crumb<'t, E, H>, stream: Stream) -> Turn<'t, E>
     ensures { Turns (crumb_of crumb.now) stream result }
 {
     match stream {
@@ -165,7 +165,7 @@ pub fn variable<'t, E, H>(
 {
     match way.split_first() {
         None => last_value(pairs, name),
-        Some((crumb, up)) => match decision(crumb, name) {
+        Some((crumb, up)) => match decision_at(crumb, name) {
             Decision::Value(value) => Some(value),
             Decision::Gone => None,
             Decision::Further => variable(pairs, up, name),
@@ -190,7 +190,7 @@ fn last_value<'t>(pairs: &'t [(String, String)], name: &str) -> Option<&'t str>
 }
 
 /// What a node says of a variable.
-fn decision<'t, E, H>(crumb: &Crumb<'t, E, H>, name: &str) -> Decision<'t>
+fn decision_at<'t, E, H>(crumb: &Crumb<'t, E, H>, name: &str) -> Decision<'t>
     ensures { Decides (crumb_of crumb.now) name.now result }
 {
     match crumb {

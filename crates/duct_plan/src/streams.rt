@@ -11,7 +11,7 @@ ghost use Rattle.duct_plan.specs.Way.{way_of};
 ghost use Rattle.duct_script.specs.Source.{origin_of};
 
 use crate::found::{Target, goes};
-use crate::plan::Plan;
+use crate::items::Plan;
 use crate::trace::{first_end, second_end};
 use crate::way::Crumb;
 use duct::{Entry, Numbered, Port, Side, Stdio, Stream};
