@@ -62,11 +62,11 @@ gone_case name gone e es false same all rest =
 -- a name that is taken away is not found, and each other name finds what it found
 pub value_of-without : (name gone : List ℕ) (vars : Vars) → IsStrictlySortedBy (slice_cmp nat_cmp) (names vars) → value_of name (without_var gone vars) ≡ cond (same_name name gone) None (value_of name vars)
 unfolding IsStrictlySortedBy
-value_of-without name gone [] sorted = none_either (same_name name gone)
+value_of-without name gone [] sorted = either_way (same_name name gone) None
   where
-    none_either : (b : Bool) → None {A = List ℕ} ≡ cond b None None
-    none_either true = refl
-    none_either false = refl
+    either_way : (b : Bool) (o : Option (List ℕ)) → o ≡ cond b o o
+    either_way true o = refl
+    either_way false o = refl
 value_of-without name gone (e ∷ es) sorted = gone_case name gone e es (same_name gone e.0) refl sorted.0 (value_of-without name gone es sorted.1)
 
 module _ {E H Z : Type 0} (place : ℕ) (es new : List (String Z × String Z)) where

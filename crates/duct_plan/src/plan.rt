@@ -61,7 +61,7 @@ fn asks<'t, E: Drop, H: Drop>(
     item: Item<'t, E, H>,
     plan: Plan<'t, E, H>,
 ) -> Result<Plan<'t, E, H>, AllocError>
-    ensures { IfOk result (λ more. plan_view more ≡ asks (item_of item) (plan_view plan)) }
+    ensures { IfOk result (λ more. plan_view more ≡ asks (item_of item.entry) (plan_view plan.entry)) }
 {
     let Plan {
         mut items,
@@ -74,7 +74,7 @@ fn asks<'t, E: Drop, H: Drop>(
 
 /// A plan in which stdout's capture pipe is open.
 fn captures_out<'t, E: Drop, H: Drop>(plan: Plan<'t, E, H>) -> Result<Plan<'t, E, H>, AllocError>
-    ensures { IfOk result (λ more. plan_view more ≡ captures_out (plan_view plan)) }
+    ensures { IfOk result (λ more. plan_view more ≡ captures_out (plan_view plan.entry)) }
 {
     if plan.out.is_some() {
         return Ok(plan);
@@ -87,7 +87,7 @@ fn captures_out<'t, E: Drop, H: Drop>(plan: Plan<'t, E, H>) -> Result<Plan<'t, E
 
 /// A plan in which stderr's capture pipe is open.
 fn captures_err<'t, E: Drop, H: Drop>(plan: Plan<'t, E, H>) -> Result<Plan<'t, E, H>, AllocError>
-    ensures { IfOk result (λ more. plan_view more ≡ captures_err (plan_view plan)) }
+    ensures { IfOk result (λ more. plan_view more ≡ captures_err (plan_view plan.entry)) }
 {
     if plan.err.is_some() {
         return Ok(plan);
@@ -103,7 +103,7 @@ fn drains<'t, E: Drop, H: Drop>(
     pipe: Option<usize>,
     plan: Plan<'t, E, H>,
 ) -> Result<Plan<'t, E, H>, AllocError>
-    ensures { IfOk result (λ more. plan_view more ≡ drains pipe (plan_view plan)) }
+    ensures { IfOk result (λ more. plan_view more ≡ drains pipe (plan_view plan.entry)) }
 {
     match pipe {
         None => Ok(plan),
@@ -116,7 +116,7 @@ fn reads<'t, E: Drop, H: Drop>(
     pipe: Option<usize>,
     plan: Plan<'t, E, H>,
 ) -> Result<Plan<'t, E, H>, AllocError>
-    ensures { IfOk result (λ more. plan_view more ≡ reads pipe (plan_view plan)) }
+    ensures { IfOk result (λ more. plan_view more ≡ reads pipe (plan_view plan.entry)) }
 {
     match pipe {
         None => Ok(plan),
@@ -148,7 +148,7 @@ fn planned<'t, E: Drop, H: Drop>(
     node: &'t Node<E, H>,
     plan: Plan<'t, E, H>,
 ) -> Result<Plan<'t, E, H>, AllocError>
-    ensures { IfOk result (λ after. plan_view after ≡ planned (way_of way.now) (tree_of_node node.now) (plan_view plan)) }
+    ensures { IfOk result (λ after. plan_view after ≡ planned (way_of way.now) (tree_of_node node.now) (plan_view plan.entry)) }
 {
     let place = plan.items.len();
     match node {
@@ -174,7 +174,7 @@ fn command<'t, E: Drop, H: Drop>(
     words: &'t [String],
     plan: Plan<'t, E, H>,
 ) -> Result<Plan<'t, E, H>, AllocError>
-    ensures { IfOk result (λ after. plan_view after ≡ planned (way_of way.now) (command (map string_bytes words.now)) (plan_view plan)) }
+    ensures { IfOk result (λ after. plan_view after ≡ planned (way_of way.now) (command (map string_bytes words.now)) (plan_view plan.entry)) }
 {
     let spawn = Item::Spawn(copied(alloc, way)?, words);
     asks(spawn, canonical(way, words, plan)?)
@@ -186,7 +186,7 @@ fn canonical<'t, E: Drop, H: Drop>(
     words: &'t [String],
     plan: Plan<'t, E, H>,
 ) -> Result<Plan<'t, E, H>, AllocError>
-    ensures { IfOk result (λ after. plan_view after ≡ canonical (way_of way.now) (map string_bytes words.now) (plan_view plan)) }
+    ensures { IfOk result (λ after. plan_view after ≡ canonical (way_of way.now) (map string_bytes words.now) (plan_view plan.entry)) }
 {
     if is_canonical(way, words) {
         asks(Item::Canonicalize(program_of(words)), plan)
@@ -200,7 +200,7 @@ fn before<'t, E: Drop, H: Drop>(
     modifier: &'t Modifier<E, H>,
     plan: Plan<'t, E, H>,
 ) -> Result<Plan<'t, E, H>, AllocError>
-    ensures { IfOk result (λ more. plan_view more ≡ before (layer_of modifier.now) (plan_view plan)) }
+    ensures { IfOk result (λ more. plan_view more ≡ before (layer_of modifier.now) (plan_view plan.entry)) }
 {
     match modifier {
         Modifier::StdinBytes(_) => asks(Item::Pipe, plan),
@@ -220,7 +220,7 @@ fn after<'t, E: Drop, H: Drop>(
     place: usize,
     plan: Plan<'t, E, H>,
 ) -> Result<Plan<'t, E, H>, AllocError>
-    ensures { IfOk result (λ more. plan_view more ≡ after (layer_of modifier.now) place (plan_view plan)) }
+    ensures { IfOk result (λ more. plan_view more ≡ after (layer_of modifier.now) place (plan_view plan.entry)) }
 {
     match modifier {
         Modifier::StdinBytes(bytes) => asks(Item::Feed(place, bytes.as_slice()), plan),
