@@ -18,12 +18,6 @@ module _ {X Y : Type 0} (f : X → Y) (p : Y → Bool) where
   item_at (y ∷ xs) zero x passes is = ap (λ v. Some (f v)) (sym is)
   item_at (y ∷ xs) (suc place) x passes is = item_at xs place x passes is
 
-  pub passes_there : (xs : List X) (place : ℕ) (x : X) → option_map p (slice_get (map f xs) place) ≡ Some true → x ≡ get_or xs place x → p (f x) ≡ true
-  passes_there xs place x passes is = some_is (p (f x)) true (sym (ap (λ o. option_map p o) (item_at xs place x passes is)) ∙ passes)
-    where
-      some_is : (a b : Bool) → Some a ≡ Some b → a ≡ b
-      some_is a b e = cc
-
   -- a front may be cut before or after
   pub count_front : (xs : List X) (place : ℕ) → count_by p (take place (map f xs)) ≡ count_by p (map f (take place xs))
   count_front xs place = ap (λ ys. count_by p ys) (take-map f place xs)

@@ -1,12 +1,13 @@
+-- The item at the command's place is its spawn.
 use Rattle.std.proofs.Common.{map, string_bytes, ap, ◌∙◌, Some}
-use Rattle.duct_plan.proofs.Counted.{item_at, passes_there}
+use Rattle.duct_plan.proofs.Counted.{item_at}
 use Rattle.duct_plan.specs.Commands.{is_spawn}
 use Rattle.duct_plan.specs.PlanView.{item_of}
 use Rattle.duct_plan.specs.Way.{way_of}
 use Rattle.duct_plan.proofs.asked.asked.Goals as goal
 
-pub returns-in_ok-asked_at-in-Spawn-clause-some : goal.returns-in_ok-asked_at-in-Spawn-clause-some
-returns-in_ok-asked_at-in-Spawn-clause-some g c =
+pub returns-clause-some : goal.returns-clause-some
+returns-clause-some g c =
     let items = c.args.plan.now.items.items in
     let at = c.in-Some.ensures.some in
     let h = c.in_ok-asked_at-in-Spawn.ensures in (
@@ -15,8 +16,5 @@ returns-in_ok-asked_at-in-Spawn-clause-some g c =
       map string_bytes c.in-Spawn.words.now,
       at,
       item_at item_of is_spawn items c.in-Some.place c.index.result.now at.asks_child c.index.ensures ∙ ap (λ i. Some (item_of i)) c.in-Spawn.is,
-      ?,
+      rw c.as_slice.ensures.value at h,
     )
-
-pub prove-unreachable-requires : goal.prove-unreachable-requires
-prove-unreachable-requires g c = let h = c.in_default-index.not-Spawn in ?

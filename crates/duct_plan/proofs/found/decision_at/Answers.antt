@@ -1,3 +1,4 @@
+-- A modifier decides as it does at any place.
 use Rattle.duct_plan.proofs.found.decision_at.Goals as goal
 
 pub returns-in-Within : goal.returns-in-Within

@@ -1,3 +1,4 @@
+-- Names are compared as their bytes are.
 use Rattle.std.proofs.Common.{sym, ◌∙◌}
 use Rattle.std.proofs.lemmas.Map.Text.{is_eq-slice_cmp}
 use Rattle.duct_plan.proofs.found.is_same.Goals as goal

@@ -1,3 +1,4 @@
+-- What the map answers is the value among its texts.
 use Rattle.std.proofs.Common.{ap, ◌∙◌, refl}
 use Rattle.std.specs.Prelude.{Some}
 use Rattle.duct_base.proofs.Variables.{value_of-found}

@@ -1,3 +1,4 @@
+-- A modifier changes the variables as it does at any place.
 use Rattle.std.proofs.lemmas.Result.{IfOk-weaker}
 use Rattle.duct_plan.proofs.variables.changed.Goals as goal
 

@@ -1,3 +1,4 @@
+-- Variables that were put in, taken away or replaced.
 use Rattle.duct_plan.proofs.Changed.{put_in, taken_away, replaced}
 use Rattle.duct_plan.proofs.variables.changed_by.Goals as goal
 

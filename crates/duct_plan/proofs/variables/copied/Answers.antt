@@ -1,3 +1,4 @@
+-- A clone has the same texts.
 use Rattle.duct_plan.proofs.Changed.{copied_texts}
 use Rattle.duct_plan.proofs.variables.copied.Goals as goal
 

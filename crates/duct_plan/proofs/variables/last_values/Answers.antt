@@ -1,3 +1,4 @@
+-- One more pair is put in, and in the end all are.
 use Rattle.std.proofs.Common.{ap, ◌∙◌, map, reverse, take}
 use Rattle.std.proofs.lemmas.List.{take_all}
 use Rattle.duct_base.specs.Spec.{pair_text, value_of}
