@@ -2,7 +2,7 @@
 use Rattle.std.specs.Prelude.{ℕ, List, [], ◌∷◌, ◌≡◌, ◌⊎◌, length, map, slice_get, Some, None, nat_lt, if◌then◌else◌}
 use Rattle.std.specs.declared.option.Option.{Option}
 use Rattle.duct_base.specs.Origin.{Origin, Lent}
-use Rattle.duct_base.specs.Spec.{Spec}
+use Rattle.duct_base.specs.Spec.{Spec, GivesNothing}
 use Rattle.duct_base.specs.declared.error.Error.{Error}
 use Rattle.duct_base.specs.declared.error.Error.TheVariants.{Hook, HookEnd}
 use Rattle.duct_base.specs.declared.spec.Port.{Port}
@@ -66,10 +66,15 @@ settle ends made before = record {
   error = settled ends made.error before.error;
 }
 
+-- a hook makes this spec of that one: it may do so, and it gives no stream an end
+pub record Makes {H : Type 0} (allows : Allows H) (hook : H) (before made : Spec) : Type 0 where
+  pub allowed : allows hook before made
+  pub gives_nothing : GivesNothing before made
+
 -- one hook leads from one to the other
 abbrev pub Changes : {H : Type 0} → Allows H → H → List Origin → Wired → Wired → Type 0
 Changes allows hook ends before after =
-    (made : Spec) × allows hook before.spec made × (missing (length ends) made ≡ None) × (after ≡ settle ends made before)
+    (made : Spec) × Makes allows hook before.spec made × (missing (length ends) made ≡ None) × (after ≡ settle ends made before)
 
 -- the hooks lead from one to the other, each with the ends beside it
 abbrev pub Chain : {H : Type 0} → Allows H → List (H × List Origin) → Wired → Wired → Type 0
@@ -79,7 +84,7 @@ Chain allows (hook ∷ hooks) before after = (between : Wired) × Changes allows
 -- one hook stops the start with this error: by a fault of its own, or by the first place that is not there
 abbrev pub Stops : {H : Type 0} → Allows H → Refuses H → H → List Origin → Wired → Error → Type 0
 Stops allows refuses hook ends before (Hook fault) = refuses hook before.spec fault
-Stops allows refuses hook ends before (HookEnd place) = (made : Spec) × allows hook before.spec made × (missing (length ends) made ≡ Some place)
+Stops allows refuses hook ends before (HookEnd place) = (made : Spec) × Makes allows hook before.spec made × (missing (length ends) made ≡ Some place)
 Stops allows refuses hook ends before other = ⊥
 
 -- one of the hooks stops the start with this error
