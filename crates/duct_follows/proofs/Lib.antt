@@ -1,0 +1,4 @@
+pub mod Chains
+pub mod ScriptHooks
+pub mod Specs
+pub mod Variables

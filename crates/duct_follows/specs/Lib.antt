@@ -1,0 +1,2 @@
+pub mod ScriptHooks
+pub mod Wiring
