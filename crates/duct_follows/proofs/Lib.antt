@@ -1,4 +1,7 @@
 pub mod Chains
+pub mod Closes
 pub mod ScriptHooks
 pub mod Specs
+pub mod Texts
 pub mod Variables
+pub mod Wiring

@@ -1,6 +1,7 @@
--- Hooks and streams of the code as the definitions of a chain see them.
-use Rattle.std.specs.Prelude.{ℕ, List, [], ◌∷◌, map}
+-- What the code knows of a command's spec, its streams and its hooks, as the definitions of a chain see it.
+use Rattle.std.specs.Prelude.{ℕ, List, map, slice_get, Some, None}
 use Rattle.std.specs.Borrow.{Bor}
+use Rattle.std.specs.declared.option.Option.{Option}
 use Rattle.duct_base.specs.Origin.{Origin, Lent}
 use Rattle.duct_base.specs.Spec.{Spec}
 use Rattle.duct_base.specs.Streams.{stream_of}
@@ -9,17 +10,27 @@ use Rattle.duct_base.specs.declared.spec.Stream.TheVariants.{In, Out, Err}
 use Rattle.duct_base.specs.declared.system.Stdio.{Stdio}
 use Rattle.duct_base.specs.declared.system.Stdio.TheVariants.{Inherit}
 use Rattle.duct.specs.Chain.{Wired, found}
-use Rattle.duct_script.specs.declared.checker.Source.{Source}
+use Rattle.duct_plan.specs.Found.{hook_of}
+use Rattle.duct_plan.specs.declared.asked.Asked.{Asked}
 use Rattle.duct_script.specs.Source.{origin_of}
+use Rattle.duct_script.specs.declared.checker.Source.{Source}
+
+-- where a stream comes from; one that is not there is the parent's own
+abbrev pub from : Option (Stdio Source) → Stdio Origin
+from (Some stream) = stream_of origin_of stream
+from None = Inherit
 
 -- a spec with the three streams in the order stdin, stdout, stderr
-abbrev pub wired_of : Spec → List (Stdio Source) → Wired
-wired_of spec (input ∷ output ∷ error ∷ rest) = record { spec = spec; input = stream_of origin_of input; output = stream_of origin_of output; error = stream_of origin_of error }
-wired_of spec other = record { spec = spec; input = Inherit; output = Inherit; error = Inherit }
+abbrev pub wired_with : Spec → List (Stdio Source) → Wired
+wired_with spec streams = record { spec = spec; input = from (slice_get streams 0); output = from (slice_get streams 1); error = from (slice_get streams 2) }
+
+-- the spec of a command and where its streams come from
+abbrev pub wired_of : Asked → Wired
+wired_of asked = wired_with asked.spec asked.streams
 
 -- the hooks with the ends beside them
 abbrev pub hooks_of : {E H : Type 0} → List (Bor H × Bor (List E)) → List (H × List E)
-hooks_of hooks = map (λ hook. (hook.0.now, hook.1.now)) hooks
+hooks_of hooks = map hook_of hooks
 
 -- where the ends beside a hook come from: they are the caller's own
 abbrev pub lent_ends : {E : Type 0} → (E → ℕ) → List E → List Origin

@@ -2,29 +2,27 @@
 ghost use Rattle.std.specs.Prelude.{◌≡◌, length, map, OnOk, IfOk, IfErr};
 ghost use Rattle.duct_base.specs.Streams.{stream_of};
 ghost use Rattle.duct.specs.Chain.{Changes, Chain, Stops, ChainStops, lent, missing, missing_at, settle, settled};
-ghost use Rattle.duct_follows.specs.Wiring.{wired_of, hooks_of, lent_ends, with_found};
+ghost use Rattle.duct_follows.specs.Wiring.{wired_with, wired_of, hooks_of, lent_ends, with_found};
+ghost use Rattle.duct_plan.specs.AskedOf.{IsWiring};
 ghost use Rattle.duct_script.specs.Source.{origin_of};
 
 use duct_base::error::Error;
 use duct_base::spec::{CommandSpec, Hook, Port, Stream, give};
 use duct_base::system::{Numbered, Stdio};
+use duct_plan::asked::Asked;
 use duct_script::checker::Source;
 
-/// Runs the hooks of a command over its spec, the outermost first, and says where its streams come from afterwards. The places
-/// that a hook names are looked for among the ends beside it, in the order stdin, stdout, stderr. Refused by the error
-/// with which the first hook that refuses stops a start.
-pub fn wired<E: Numbered, H: Hook>(
-    spec: CommandSpec,
-    streams: [Stdio<Source>; 3],
-    hooks: &[(&H, &[E])],
-) -> Result<(CommandSpec, [Stdio<Source>; 3]), Error>
-    ensures ok { IfOk result (λ after. Chain H.allows (lent E.number_of (hooks_of hooks.now)) (wired_of spec streams.entry) (wired_of after.0 after.1)) }
-    ensures err { IfErr result (λ error. ChainStops H.allows H.refuses (lent E.number_of (hooks_of hooks.now)) (wired_of spec streams.entry) error) }
+/// Runs the hooks of a command over what the tree asks for it, the outermost first: answers its spec afterwards, and where its
+/// streams come from then. The places that a hook names are looked for among the ends beside it, in the order stdin, stdout,
+/// stderr. Refused by the error with which the first hook that refuses, or names a place that is not there, stops a start.
+pub fn wired<E: Numbered, H: Hook>(asked: Asked, hooks: &[(&H, &[E])]) -> Result<Asked, Error>
+    ensures ok { IfOk result (λ after. Chain H.allows (lent E.number_of (hooks_of hooks.now)) (wired_of asked) (wired_of after)) }
+    ensures streams { IfOk result (λ after. IsWiring (wired_of after) after) }
+    ensures err { IfErr result (λ error. ChainStops H.allows H.refuses (lent E.number_of (hooks_of hooks.now)) (wired_of asked) error) }
 {
-    let mut spec = spec;
-    let mut streams = streams;
-    run(&mut spec, &mut streams, hooks)?;
-    Ok((spec, streams))
+    let mut after = asked;
+    run(&mut after.spec, &mut after.streams, hooks)?;
+    Ok(after)
 }
 
 /// Runs the hooks over a spec and its streams.
@@ -33,8 +31,9 @@ fn run<E: Numbered, H: Hook>(
     streams: &mut [Stdio<Source>; 3],
     hooks: &[(&H, &[E])],
 ) -> Result<(), Error>
-    ensures ok { OnOk result (Chain H.allows (lent E.number_of (hooks_of hooks.now)) (wired_of spec.old streams.old) (wired_of spec.new streams.new)) }
-    ensures err { IfErr result (λ error. ChainStops H.allows H.refuses (lent E.number_of (hooks_of hooks.now)) (wired_of spec.old streams.old) error) }
+    ensures three { length streams.new ≡ 3 }
+    ensures ok { OnOk result (Chain H.allows (lent E.number_of (hooks_of hooks.now)) (wired_with spec.old streams.old) (wired_with spec.new streams.new)) }
+    ensures err { IfErr result (λ error. ChainStops H.allows H.refuses (lent E.number_of (hooks_of hooks.now)) (wired_with spec.old streams.old) error) }
 {
     match hooks.split_first() {
         None => Ok(()),
@@ -52,8 +51,8 @@ fn change<E: Numbered, H: Hook>(
     spec: &mut CommandSpec,
     streams: &mut [Stdio<Source>; 3],
 ) -> Result<(), Error>
-    ensures ok { OnOk result (Changes H.allows hook.now (lent_ends E.number_of ends.now) (wired_of spec.old streams.old) (wired_of spec.new streams.new)) }
-    ensures err { IfErr result (λ error. Stops H.allows H.refuses hook.now (lent_ends E.number_of ends.now) (wired_of spec.old streams.old) error) }
+    ensures ok { OnOk result (Changes H.allows hook.now (lent_ends E.number_of ends.now) (wired_with spec.old streams.old) (wired_with spec.new streams.new)) }
+    ensures err { IfErr result (λ error. Stops H.allows H.refuses hook.now (lent_ends E.number_of ends.now) (wired_with spec.old streams.old) error) }
 {
     if let Err(fault) = hook.change(spec) {
         return Err(Error::Hook(fault));
@@ -86,7 +85,7 @@ fn missing_at(count: usize, port: Port) -> Option<usize>
 
 /// Finds the places of a spec among the ends beside its hook.
 fn settle<E: Numbered>(ends: &[E], spec: &mut CommandSpec, streams: &mut [Stdio<Source>; 3])
-    ensures { wired_of spec.new streams.new ≡ settle (lent_ends E.number_of ends.now) spec.old (wired_of spec.old streams.old) }
+    ensures { wired_with spec.new streams.new ≡ settle (lent_ends E.number_of ends.now) spec.old (wired_with spec.old streams.old) }
 {
     let [input, output, error] = *streams;
     *streams = [

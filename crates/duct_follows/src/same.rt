@@ -3,12 +3,11 @@ ghost use Rattle.std.specs.Prelude.{◌≡◌, ◌↔◌, map, string_bytes, IfO
 ghost use Rattle.std.specs.Option.{option_copied};
 ghost use Rattle.duct_base.specs.Entry.{line_of};
 ghost use Rattle.duct_base.specs.Origin.{origin};
-ghost use Rattle.duct_base.specs.Spec.{port_of};
 ghost use Rattle.duct_base.specs.Streams.{stream_of};
-ghost use Rattle.duct_base.specs.declared.spec.Stream.{Stream};
+ghost use Rattle.duct_follows.specs.Same.{lent_pair, HaveSamePorts};
 ghost use Rattle.duct_script.specs.Source.{origin_of};
 
-use duct_base::spec::{CommandSpec, Stream};
+use duct_base::spec::{CommandSpec, Port, Stream};
 use duct_base::system::{Entry, Stdio};
 use duct_script::checker::{Source, origin};
 use std::alloc::AllocError;
@@ -27,7 +26,7 @@ pub fn same_spec(one: &CommandSpec, other: &CommandSpec) -> Result<bool, AllocEr
 
 /// The variables of a spec.
 fn vars(spec: &CommandSpec) -> Result<Vec<(&str, &str)>, AllocError>
-    ensures { IfOk result (λ vars. map (λ p. (p.0.now, p.1.now)) vars.items ≡ spec.now.vars) }
+    ensures { IfOk result (λ vars. map lent_pair vars.items ≡ spec.now.vars) }
 {
     match spec.vars() {
         Ok(vars) => Ok(vars),
@@ -44,25 +43,32 @@ fn same_texts(one: &[String], other: &[String]) -> bool
 
 /// Whether two folders are the same, if there are any.
 fn same_folder(one: Option<&str>, other: Option<&str>) -> bool
-    ensures { IsTrue result ↔ (option_copied one ≡ option_copied other) }
+    ensures { IsTrue result ↔ (option_copied one.entry ≡ option_copied other.entry) }
 {
     one == other
 }
 
 /// Whether two lists of variables are the same.
 fn same_vars(one: &[(&str, &str)], other: &[(&str, &str)]) -> bool
-    ensures { IsTrue result ↔ (map (λ p. (p.0.now, p.1.now)) one.now ≡ map (λ p. (p.0.now, p.1.now)) other.now) }
+    ensures { IsTrue result ↔ (map lent_pair one.now ≡ map lent_pair other.now) }
 {
     one == other
 }
 
 /// Whether the streams of two specs go to the same places.
 fn same_ports(one: &CommandSpec, other: &CommandSpec) -> bool
-    ensures { IsTrue result ↔ ((stream : Stream) → port_of stream one.now ≡ port_of stream other.now) }
+    ensures { IsTrue result ↔ HaveSamePorts one.now other.now }
 {
-    one.port(Stream::In) == other.port(Stream::In)
-        && one.port(Stream::Out) == other.port(Stream::Out)
-        && one.port(Stream::Err) == other.port(Stream::Err)
+    same_port(one.port(Stream::In), other.port(Stream::In))
+        && same_port(one.port(Stream::Out), other.port(Stream::Out))
+        && same_port(one.port(Stream::Err), other.port(Stream::Err))
+}
+
+/// Whether two ports are the same.
+fn same_port(one: Port, other: Port) -> bool
+    ensures { IsTrue result ↔ (one ≡ other) }
+{
+    one == other
 }
 
 /// Whether the ends of three streams come from these places, by what the entries say.
