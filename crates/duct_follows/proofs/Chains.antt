@@ -8,6 +8,7 @@ use Rattle.duct_base.specs.declared.error.Error.TheVariants.{System, Checked, No
 use Rattle.duct_base.specs.declared.system.Fault.{Fault}
 use Rattle.duct_base.specs.declared.system.Kind.TheVariants.{OutOfMemory}
 use Rattle.duct.specs.Chain.{Wired, Allows, Refuses, Changes, Chain, Stops, ChainStops, settle}
+use Rattle.duct_follows.specs.Given.{IsDecided}
 
 -- each hook makes one spec of a spec
 abbrev pub MakesOne : {H : Type 0} → Allows H → Type 0
@@ -16,11 +17,6 @@ MakesOne {H} allows = (hook : H) (before one other : Spec) → allows hook befor
 -- a hook makes nothing of a spec that it refuses, but for want of memory
 abbrev pub MakesNone : {H : Type 0} → Allows H → Refuses H → Type 0
 MakesNone {H} allows refuses = (hook : H) (before made : Spec) (fault : Fault) → refuses hook before fault → ¬ (fault.kind ≡ OutOfMemory) → ¬ (allows hook before made)
-
--- an error is not that of a hook that found no memory
-abbrev pub IsDecided : Error → Type 0
-IsDecided (Hook fault) = ¬ (fault.kind ≡ OutOfMemory)
-IsDecided _ = Unit {0}
 
 -- one hook
 pub changes_one : {H : Type 0} (allows : Allows H) → MakesOne allows → (hook : H) (ends : List Origin) (before one other : Wired) →

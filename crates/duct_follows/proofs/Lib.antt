@@ -1,5 +1,6 @@
 pub mod Chains
 pub mod Closes
+pub mod Given
 pub mod ScriptHooks
 pub mod Specs
 pub mod Texts

@@ -11,7 +11,7 @@ use Rattle.duct_base.specs.declared.system.Stdio.{Stdio}
 use Rattle.duct_base.specs.declared.system.Stdio.TheVariants.{Inherit}
 use Rattle.duct.specs.Chain.{Wired, found}
 use Rattle.duct_plan.specs.Found.{hook_of}
-use Rattle.duct_plan.specs.declared.asked.Asked.{Asked}
+use Rattle.duct_plan.specs.declared.asked.Wired as answer
 use Rattle.duct_script.specs.Source.{origin_of}
 use Rattle.duct_script.specs.declared.checker.Source.{Source}
 
@@ -25,8 +25,8 @@ abbrev pub wired_with : Spec → List (Stdio Source) → Wired
 wired_with spec streams = record { spec = spec; input = from (slice_get streams 0); output = from (slice_get streams 1); error = from (slice_get streams 2) }
 
 -- the spec of a command and where its streams come from
-abbrev pub wired_of : Asked → Wired
-wired_of asked = wired_with asked.spec asked.streams
+abbrev pub wired_of : answer.Wired → Wired
+wired_of wired = wired_with wired.spec wired.streams
 
 -- the hooks with the ends beside them
 abbrev pub hooks_of : {E H : Type 0} → List (Bor H × Bor (List E)) → List (H × List E)

@@ -3,21 +3,21 @@ ghost use Rattle.std.specs.Prelude.{◌≡◌, length, map, OnOk, IfOk, IfErr};
 ghost use Rattle.duct_base.specs.Streams.{stream_of};
 ghost use Rattle.duct.specs.Chain.{Changes, Chain, Stops, ChainStops, lent, missing, missing_at, settle, settled};
 ghost use Rattle.duct_follows.specs.Wiring.{wired_with, wired_of, hooks_of, lent_ends, with_found};
-ghost use Rattle.duct_plan.specs.AskedOf.{IsWiring};
+ghost use Rattle.duct_plan.specs.AskedOf.{IsAnswered};
 ghost use Rattle.duct_script.specs.Source.{origin_of};
 
 use duct_base::error::Error;
 use duct_base::spec::{CommandSpec, Hook, Port, Stream, give};
 use duct_base::system::{Numbered, Stdio};
-use duct_plan::asked::Asked;
+use duct_plan::asked::Wired;
 use duct_script::checker::Source;
 
 /// Runs the hooks of a command over what the tree asks for it, the outermost first: answers its spec afterwards, and where its
 /// streams come from then. The places that a hook names are looked for among the ends beside it, in the order stdin, stdout,
 /// stderr. Refused by the error with which the first hook that refuses, or names a place that is not there, stops a start.
-pub fn wired<E: Numbered, H: Hook>(asked: Asked, hooks: &[(&H, &[E])]) -> Result<Asked, Error>
+pub fn wired<E: Numbered, H: Hook>(asked: Wired, hooks: &[(&H, &[E])]) -> Result<Wired, Error>
     ensures ok { IfOk result (λ after. Chain H.allows (lent E.number_of (hooks_of hooks.now)) (wired_of asked) (wired_of after)) }
-    ensures streams { IfOk result (λ after. IsWiring (wired_of after) after) }
+    ensures streams { IfOk result (λ after. IsAnswered (wired_of after) after) }
     ensures err { IfErr result (λ error. ChainStops H.allows H.refuses (lent E.number_of (hooks_of hooks.now)) (wired_of asked) error) }
 {
     let mut after = asked;

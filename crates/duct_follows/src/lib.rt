@@ -2,5 +2,6 @@
 #![tactic(auto)]
 
 pub mod chain;
+pub mod follows;
 pub mod same;
 pub mod stops;
