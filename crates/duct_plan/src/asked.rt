@@ -54,7 +54,7 @@ pub fn asked<E: Numbered, H>(
             way.as_slice(),
             words,
         )?)),
-        _ => Ok(None),
+        _ => unreachable!(),
     }
 }
 

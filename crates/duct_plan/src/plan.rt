@@ -142,6 +142,7 @@ pub(crate) fn is_canonical<E, H>(way: &[Crumb<'_, E, H>], words: &[String]) -> b
 }
 
 /// The plan after a tree that stands below this way: each node before what it wraps, the left side before the right.
+#[tactic(auto, using(crate::proofs::Around::planned_around))]
 fn planned<'t, E: Drop, H: Drop>(
     alloc: Global,
     way: &[Crumb<'t, E, H>],
