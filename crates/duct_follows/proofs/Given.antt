@@ -55,12 +55,12 @@ module _ {E : Type 0} (lines : List Line) (plan : Plan E ScriptHook) (number_of 
       (spec : Spec) (streams : List (Stdio Origin)) → IsGivenHere spec streams ↔ AreThese given spec streams
   given_these asked given there chain own spec streams =
       let to : IsGivenHere spec streams → AreThese given spec streams = λ is.
-          let before : is.0 ≡ wired_of asked = only_the_answer asked is.0 there is.2 in
-          let also : Chain allows (lent number_of (hooks up)) (wired_of asked) is.1 = subst (λ (wired : Wired). Chain allows (lent number_of (hooks up)) wired is.1) before is.3 in
-          let after : is.1 ≡ wired_of given = chain_one allows makes_one (lent number_of (hooks up)) (wired_of asked) is.1 (wired_of given) also chain in
-          record { spec_is = is.4 ∙ ap (λ wired. wired.spec) after; streams_are = is.5 ∙ ap streams_in after ∙ own.streams_are } in
+      let before : is.0 ≡ wired_of asked = only_the_answer asked is.0 there is.2 in
+      let also : Chain allows (lent number_of (hooks up)) (wired_of asked) is.1 = subst (λ (wired : Wired). Chain allows (lent number_of (hooks up)) wired is.1) before is.3 in
+      let after : is.1 ≡ wired_of given = chain_one allows makes_one (lent number_of (hooks up)) (wired_of asked) is.1 (wired_of given) also chain in
+      record { spec_is = is.4 ∙ ap (λ wired. wired.spec) after; streams_are = is.5 ∙ ap streams_in after ∙ own.streams_are } in
       let back : AreThese given spec streams → IsGivenHere spec streams = λ these.
-          (wired_of asked, wired_of given, answer_is_asked asked there, chain, these.spec_is, these.streams_are ∙ sym own.streams_are) in
+      (wired_of asked, wired_of given, answer_is_asked asked there, chain, these.spec_is, these.streams_are ∙ sym own.streams_are) in
       (to, back)
 
   given_none : (asked : answer.Wired) (error : Error) → IsAskedThere lines plan number_of place up words asked →
@@ -68,9 +68,9 @@ module _ {E : Type 0} (lines : List Line) (plan : Plan E ScriptHook) (number_of 
       (spec : Spec) (streams : List (Stdio Origin)) → IsGivenHere spec streams ↔ ⊥
   given_none asked error there stops decided spec streams =
       let to : IsGivenHere spec streams → ⊥ = λ is.
-          let before : is.0 ≡ wired_of asked = only_the_answer asked is.0 there is.2 in
-          let also : Chain allows (lent number_of (hooks up)) (wired_of asked) is.1 = subst (λ (wired : Wired). Chain allows (lent number_of (hooks up)) wired is.1) before is.3 in
-          chain_none allows refuses makes_one makes_none (lent number_of (hooks up)) (wired_of asked) is.1 error decided stops also in
+      let before : is.0 ≡ wired_of asked = only_the_answer asked is.0 there is.2 in
+      let also : Chain allows (lent number_of (hooks up)) (wired_of asked) is.1 = subst (λ (wired : Wired). Chain allows (lent number_of (hooks up)) wired is.1) before is.3 in
+      chain_none allows refuses makes_one makes_none (lent number_of (hooks up)) (wired_of asked) is.1 error decided stops also in
       (to, λ never. absurd never)
 
   -- what the hooks made of it is to be given, or nothing where they stopped the start and that is no want of memory
@@ -82,7 +82,7 @@ module _ {E : Type 0} (lines : List Line) (plan : Plan E ScriptHook) (number_of 
       Decides made given → (spec : Spec) (streams : List (Stdio Origin)) → IsGivenHere spec streams ↔ AreAnswered given spec streams
   given_is asked found (Ok after) given are there chain own stops decides spec streams =
       subst (λ (given : Option answer.Wired). IsGivenHere spec streams ↔ AreAnswered given spec streams) (sym decides)
-          (given_these asked after there (subst (λ (found : List (ScriptHook × List E)). Chain allows (lent number_of found) (wired_of asked) (wired_of after)) are chain) own spec streams)
+      (given_these asked after there (subst (λ (found : List (ScriptHook × List E)). Chain allows (lent number_of found) (wired_of asked) (wired_of after)) are chain) own spec streams)
   given_is asked found (Err error) given are there chain own stops decides spec streams =
       subst (λ (given : Option answer.Wired). IsGivenHere spec streams ↔ AreAnswered given spec streams) (sym decides.0)
-          (given_none asked error there (subst (λ (found : List (ScriptHook × List E)). ChainStops allows refuses (lent number_of found) (wired_of asked) error) are stops) decides.1 spec streams)
+      (given_none asked error there (subst (λ (found : List (ScriptHook × List E)). ChainStops allows refuses (lent number_of found) (wired_of asked) error) are stops) decides.1 spec streams)

@@ -33,12 +33,12 @@ pub same_asked : {E H : Type 0} (pairs : Vars) (program : List ℕ) (up : Path E
     IsAsked pairs program up words one → IsAsked pairs program up words other → one ≡ other
 same_asked pairs program up words one other is also =
     same_spec one other
-        (is.words_are ∙ sym also.words_are)
-        (is.folder_is ∙ sym also.folder_is)
-        (same_vars one.vars other.vars is.vars_ordered also.vars_ordered (λ name. is.vars_are name ∙ sym (also.vars_are name)))
-        (is.ports_are In ∙ sym (also.ports_are In))
-        (is.ports_are Out ∙ sym (also.ports_are Out))
-        (is.ports_are Err ∙ sym (also.ports_are Err))
+    (is.words_are ∙ sym also.words_are)
+    (is.folder_is ∙ sym also.folder_is)
+    (same_vars one.vars other.vars is.vars_ordered also.vars_ordered (λ name. is.vars_are name ∙ sym (also.vars_are name)))
+    (is.ports_are In ∙ sym (also.ports_are In))
+    (is.ports_are Out ∙ sym (also.ports_are Out))
+    (is.ports_are Err ∙ sym (also.ports_are Err))
 
 -- specs with their streams
 pub same_wired : (one other : Wired) → one.spec ≡ other.spec → one.input ∷ one.output ∷ one.error ∷ [] ≡ other.input ∷ other.output ∷ other.error ∷ [] → one ≡ other

@@ -63,6 +63,6 @@ same_vars (x ∷ xs) (y ∷ ys) one other values =
     let name : x.0 ≡ y.0 = exact_bytes x.0 y.0 tie in
     let value : x.1 ≡ y.1 = let there = at_head x xs in let also = lookup_head (same_name x.0) y ys (ap is_eq tie) in let same = values x.0 in cc in
     let rest : xs ≡ ys =
-        same_vars xs ys (sorted_tail name_cmp x.0 (names_of xs) one) (sorted_tail name_cmp y.0 (names_of ys) other)
-            (λ other_name. tails_at other_name x y xs ys one other name (values other_name) (same_name other_name x.0) refl) in
+    same_vars xs ys (sorted_tail name_cmp x.0 (names_of xs) one) (sorted_tail name_cmp y.0 (names_of ys) other)
+    (λ other_name. tails_at other_name x y xs ys one other name (values other_name) (same_name other_name x.0) refl) in
     λ i. (name i, value i) ∷ rest i

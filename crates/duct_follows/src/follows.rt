@@ -30,8 +30,8 @@ use duct_script::hook::ScriptHook;
 use std::alloc::{AllocError, Global};
 
 /// Whether what was added follows a front of the plan: each entry of its trace answers the item of the plan at its place, and
-/// after an entry with a fault there are only closes. The hooks of the commands are run for this, over other specs. Refused
-/// for want of memory, and where a hook refuses by `OutOfMemory`.
+/// after an entry with a fault there are only closes. For this the hooks of the commands are run once more, over specs of
+/// their own. Refused for want of memory, and where a hook refuses by `OutOfMemory`.
 pub fn follows<E: Numbered>(
     alloc: Global,
     plan: &Plan<'_, E, ScriptHook>,
@@ -40,11 +40,13 @@ pub fn follows<E: Numbered>(
     ensures { IfOk result (λ yes. IsTrue yes ↔ Follows allows E.number_of (plan_view plan.now) (map line_of added.now)) }
 {
     let trace = trace(alloc, added)?;
-    Ok(stops_at_fault(added) && answers_from(alloc, added, plan, 0, plan.items.as_slice(), trace.as_slice())?)
+    let items = plan.items.as_slice();
+    let answered = answers_from(alloc, added, plan, 0, items, trace.as_slice())?;
+    Ok(answered && stops_at_fault(added))
 }
 
-/// Whether what was added follows the whole plan, without a fault. Refused for want of memory, and where a hook refuses by
-/// `OutOfMemory`.
+/// Whether what was added follows the whole plan, without a fault. For this the hooks of the commands are run once more, over
+/// specs of their own. Refused for want of memory, and where a hook refuses by `OutOfMemory`.
 pub fn follows_whole<E: Numbered>(
     alloc: Global,
     plan: &Plan<'_, E, ScriptHook>,
@@ -73,8 +75,9 @@ fn answers_from<E: Numbered>(
         (_, None) => Ok(true),
         (None, Some(_)) => Ok(false),
         (Some((item, items)), Some((entry, entries))) => {
-            Ok(answers(alloc, added, plan, place, item, entry)?
-                && answers_from(alloc, added, plan, place + 1, items, entries)?)
+            let first = answers(alloc, added, plan, place, item, entry)?;
+            let rest = answers_from(alloc, added, plan, place + 1, items, entries)?;
+            Ok(first && rest)
         }
     }
 }
@@ -96,7 +99,7 @@ fn answers<E: Numbered>(
         (Item::Pipe, Entry::Pipe(_)) => Ok(true),
         (Item::OpenRead(path), Entry::OpenRead(opened, _)) => Ok(opened.as_str() == *path),
         (Item::Create(path), Entry::Create(made, _)) => Ok(made.as_str() == *path),
-        (Item::Canonicalize(program), Entry::Canonicalize(path, _)) => Ok(path.as_str() == *program),
+        (Item::Canonicalize(name), Entry::Canonicalize(path, _)) => Ok(path.as_str() == *name),
         (Item::Spawn(way, words), Entry::Spawn(spec, io, _)) => {
             let given = given(alloc, added, plan, place, way.as_slice(), words)?;
             is_answered(added, spec, io, given)

@@ -18,10 +18,12 @@ pub fn same_spec(one: &CommandSpec, other: &CommandSpec) -> Result<bool, AllocEr
 {
     let one_vars = vars(one)?;
     let other_vars = vars(other)?;
-    Ok(same_texts(one.words(), other.words())
-        && same_folder(one.folder(), other.folder())
-        && same_ports(one, other)
-        && same_vars(one_vars.as_slice(), other_vars.as_slice()))
+    Ok(
+        same_texts(one.words(), other.words())
+            && same_folder(one.folder(), other.folder())
+            && same_ports(one, other)
+            && same_vars(one_vars.as_slice(), other_vars.as_slice()),
+    )
 }
 
 /// The variables of a spec.

@@ -65,19 +65,52 @@ fn the_end_beside_a_hook(rt: HostRuntime) -> Result<(), Fail> {
     let tree = redirected(rt.alloc(), Target::Place(0))?;
     let duplicate = Line::Duplicate(1, 4);
     let (a, drain) = (Line::Spawn(A, to(4)), Line::Drain(2));
-    is(&rt, &tree, &[ENVIRONMENT, PIPE, duplicate, Line::Close(3), a, drain], "whole")?;
-    is(&rt, &tree, &[ENVIRONMENT, PIPE, Line::Spawn(A, to(3))], "neither")?;
-    is(&rt, &tree, &[ENVIRONMENT, PIPE, Line::Spawn(A, INHERITED)], "neither")
+    is(
+        &rt,
+        &tree,
+        &[ENVIRONMENT, PIPE, duplicate, Line::Close(3), a, drain],
+        "whole",
+    )?;
+    is(
+        &rt,
+        &tree,
+        &[ENVIRONMENT, PIPE, Line::Spawn(A, to(3))],
+        "neither",
+    )?;
+    is(
+        &rt,
+        &tree,
+        &[ENVIRONMENT, PIPE, Line::Spawn(A, INHERITED)],
+        "neither",
+    )
 }
 
 #[test]
 fn an_end_that_is_not_there(rt: HostRuntime) -> Result<(), Fail> {
     let tree = redirected(rt.alloc(), Target::Place(1))?;
-    is(&rt, &tree, &[ENVIRONMENT, PIPE, Line::Close(3), Line::Close(2)], "front")?;
-    is(&rt, &tree, &[ENVIRONMENT, PIPE, Line::Spawn(A, to(3))], "neither")?;
+    is(
+        &rt,
+        &tree,
+        &[ENVIRONMENT, PIPE, Line::Close(3), Line::Close(2)],
+        "front",
+    )?;
+    is(
+        &rt,
+        &tree,
+        &[ENVIRONMENT, PIPE, Line::Spawn(A, to(3))],
+        "neither",
+    )?;
     let duplicate = Line::Duplicate(1, 4);
-    is(&rt, &tree, &[ENVIRONMENT, PIPE, duplicate, Line::Spawn(A, to(4))], "neither")?;
-    assert_eq!(rt; stop(rt.alloc(), &tree)?.as_str(), "hook end 1 is not there");
+    is(
+        &rt,
+        &tree,
+        &[ENVIRONMENT, PIPE, duplicate, Line::Spawn(A, to(4))],
+        "neither",
+    )?;
+    assert_eq!(rt;
+        stop(rt.alloc(), &tree)?.as_str(),
+        "hook end 1 is not there"
+    );
     Ok(())
 }
 
@@ -85,8 +118,18 @@ fn an_end_that_is_not_there(rt: HostRuntime) -> Result<(), Fail> {
 fn the_stream_of_the_parent_in_place_of_a_capture(rt: HostRuntime) -> Result<(), Fail> {
     let tree = redirected(rt.alloc(), Target::Inherit)?;
     let (a, drain) = (Line::Spawn(A, INHERITED), Line::Drain(2));
-    is(&rt, &tree, &[ENVIRONMENT, PIPE, Line::Close(3), a, drain], "whole")?;
-    is(&rt, &tree, &[ENVIRONMENT, PIPE, Line::Spawn(A, to(3))], "neither")
+    is(
+        &rt,
+        &tree,
+        &[ENVIRONMENT, PIPE, Line::Close(3), a, drain],
+        "whole",
+    )?;
+    is(
+        &rt,
+        &tree,
+        &[ENVIRONMENT, PIPE, Line::Spawn(A, to(3))],
+        "neither",
+    )
 }
 
 #[test]
@@ -94,9 +137,24 @@ fn the_outer_hook_is_first(rt: HostRuntime) -> Result<(), Fail> {
     let alloc = rt.alloc();
     let inner = command(alloc)?.before_spawn(adds(alloc, "y")?, none(alloc))?;
     let tree = inner.before_spawn(adds(alloc, "x")?, none(alloc))?;
-    is(&rt, &tree, &[ENVIRONMENT, Line::Spawn(&["a", "x", "y"], INHERITED)], "whole")?;
-    is(&rt, &tree, &[ENVIRONMENT, Line::Spawn(&["a", "y", "x"], INHERITED)], "neither")?;
-    is(&rt, &tree, &[ENVIRONMENT, Line::Spawn(A, INHERITED)], "neither")
+    is(
+        &rt,
+        &tree,
+        &[ENVIRONMENT, Line::Spawn(&["a", "x", "y"], INHERITED)],
+        "whole",
+    )?;
+    is(
+        &rt,
+        &tree,
+        &[ENVIRONMENT, Line::Spawn(&["a", "y", "x"], INHERITED)],
+        "neither",
+    )?;
+    is(
+        &rt,
+        &tree,
+        &[ENVIRONMENT, Line::Spawn(A, INHERITED)],
+        "neither",
+    )
 }
 
 #[test]
@@ -105,7 +163,12 @@ fn a_hook_that_refuses(rt: HostRuntime) -> Result<(), Fail> {
     let hook = refuses(alloc, Kind::PermissionDenied);
     let tree = command(alloc)?.before_spawn(hook, none(alloc))?;
     is(&rt, &tree, &[ENVIRONMENT], "front")?;
-    is(&rt, &tree, &[ENVIRONMENT, Line::Spawn(A, INHERITED)], "neither")?;
+    is(
+        &rt,
+        &tree,
+        &[ENVIRONMENT, Line::Spawn(A, INHERITED)],
+        "neither",
+    )?;
     assert_eq!(rt; stop(alloc, &tree)?.as_str(), "hook: PermissionDenied");
     Ok(())
 }
@@ -126,7 +189,8 @@ fn the_places_are_looked_for_in_order(rt: HostRuntime) -> Result<(), Fail> {
     let alloc = rt.alloc();
     let mut hook = ScriptHook::new(alloc);
     for (stream, place) in [(Stream::Err, 5), (Stream::Out, 4), (Stream::In, 0)] {
-        hook.changes.push(Change::Port(stream, Target::Place(place)))?;
+        hook.changes
+            .push(Change::Port(stream, Target::Place(place)))?;
     }
     let mut ends = Vec::new(alloc);
     ends.push(Script::new(alloc)?.adopt()?)?;

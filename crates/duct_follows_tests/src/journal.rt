@@ -40,11 +40,7 @@ pub enum Line {
     /// The words and the streams. There is no folder and no variable.
     Spawn(&'static [&'static str], Streams),
     /// The one word, the folder and the variables. The streams are the parent's.
-    SpawnIn(
-        &'static str,
-        Option<&'static str>,
-        &'static [(&'static str, &'static str)],
-    ),
+    SpawnIn(&'static str, Option<&'static str>, &'static [(&'static str, &'static str)]),
     Feed(u64, &'static [u8]),
     Drain(u64),
     Reader(u64),

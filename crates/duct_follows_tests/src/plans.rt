@@ -11,6 +11,7 @@ fn command(alloc: Global, word: &str) -> Result<Tree, Error> {
 }
 
 const A: &[&str] = &["a"];
+
 const B: &[&str] = &["b"];
 
 /// The write end of a pipe as stdout.
@@ -39,9 +40,19 @@ fn a_pipe_whose_ends_are_duplicated(rt: HostRuntime) -> Result<(), Fail> {
     let b = Line::Spawn(B, FROM_PIPE);
     let (pipe, close) = (Line::Pipe(1, 2), Line::Close(2));
     let of_writer = Line::Duplicate(2, 3);
-    is(&rt, &pair, &[ENVIRONMENT, pipe, of_writer, a, close, b], "whole")?;
+    is(
+        &rt,
+        &pair,
+        &[ENVIRONMENT, pipe, of_writer, a, close, b],
+        "whole",
+    )?;
     let of_reader = Line::Duplicate(1, 3);
-    is(&rt, &pair, &[ENVIRONMENT, pipe, of_reader, a, close, b], "neither")
+    is(
+        &rt,
+        &pair,
+        &[ENVIRONMENT, pipe, of_reader, a, close, b],
+        "neither",
+    )
 }
 
 #[test]
@@ -64,19 +75,41 @@ fn after_a_fault_there_are_only_closes(rt: HostRuntime) -> Result<(), Fail> {
     let no_b = Line::NoSpawn(B, FROM_PIPE);
     is(&rt, &pair, &[ENVIRONMENT, pipe, a, no_b], "front")?;
     let no_a = Line::NoSpawn(A, TO_PIPE);
-    is(&rt, &pair, &[ENVIRONMENT, pipe, no_a, Line::Close(1)], "front")?;
+    is(
+        &rt,
+        &pair,
+        &[ENVIRONMENT, pipe, no_a, Line::Close(1)],
+        "front",
+    )?;
     is(&rt, &pair, &[ENVIRONMENT, pipe, no_a, b], "neither")?;
-    is(&rt, &pair, &[ENVIRONMENT, Line::NoPipe, Line::Parent(Side::Out, 1)], "neither")
+    is(
+        &rt,
+        &pair,
+        &[ENVIRONMENT, Line::NoPipe, Line::Parent(Side::Out, 1)],
+        "neither",
+    )
 }
 
 #[test]
 fn a_capture_inside_another(rt: HostRuntime) -> Result<(), Fail> {
-    let tree = command(rt.alloc(), "a")?.stdout_capture()?.stdout_capture()?;
+    let tree = command(rt.alloc(), "a")?
+        .stdout_capture()?
+        .stdout_capture()?;
     let pipe = Line::Pipe(1, 2);
     let a = Line::Spawn(A, TO_PIPE);
     is(&rt, &tree, &[ENVIRONMENT, pipe, a, Line::Drain(1)], "whole")?;
-    is(&rt, &tree, &[ENVIRONMENT, pipe, Line::Pipe(3, 4), a], "neither")?;
-    is(&rt, &tree, &[ENVIRONMENT, pipe, a, Line::Drain(2)], "neither")
+    is(
+        &rt,
+        &tree,
+        &[ENVIRONMENT, pipe, Line::Pipe(3, 4), a],
+        "neither",
+    )?;
+    is(
+        &rt,
+        &tree,
+        &[ENVIRONMENT, pipe, a, Line::Drain(2)],
+        "neither",
+    )
 }
 
 #[test]
@@ -84,17 +117,39 @@ fn bytes_for_stdin(rt: HostRuntime) -> Result<(), Fail> {
     let bytes = Vec::from_slice(rt.alloc(), b"xxx")?;
     let tree = command(rt.alloc(), "a")?.stdin_bytes(bytes)?;
     let (pipe, a) = (Line::Pipe(1, 2), Line::Spawn(A, FROM_PIPE));
-    is(&rt, &tree, &[ENVIRONMENT, pipe, a, Line::Feed(2, b"xxx")], "whole")?;
-    is(&rt, &tree, &[ENVIRONMENT, pipe, a, Line::Feed(1, b"xxx")], "neither")?;
-    is(&rt, &tree, &[ENVIRONMENT, pipe, a, Line::Feed(2, b"xyx")], "neither")
+    is(
+        &rt,
+        &tree,
+        &[ENVIRONMENT, pipe, a, Line::Feed(2, b"xxx")],
+        "whole",
+    )?;
+    is(
+        &rt,
+        &tree,
+        &[ENVIRONMENT, pipe, a, Line::Feed(1, b"xxx")],
+        "neither",
+    )?;
+    is(
+        &rt,
+        &tree,
+        &[ENVIRONMENT, pipe, a, Line::Feed(2, b"xyx")],
+        "neither",
+    )
 }
 
 #[test]
 fn a_file_inside_another(rt: HostRuntime) -> Result<(), Fail> {
-    let tree = command(rt.alloc(), "a")?.stdout_path("in")?.stdout_path("out")?;
+    let tree = command(rt.alloc(), "a")?
+        .stdout_path("in")?
+        .stdout_path("out")?;
     let (out, inner) = (Line::Create("out", 1), Line::Create("in", 2));
     let a = Line::Spawn(A, TO_PIPE);
-    is(&rt, &tree, &[ENVIRONMENT, out, inner, a, Line::Close(1)], "whole")?;
+    is(
+        &rt,
+        &tree,
+        &[ENVIRONMENT, out, inner, a, Line::Close(1)],
+        "whole",
+    )?;
     let outer = Line::Spawn(A, [INHERIT, Stdio::End(1), INHERIT]);
     is(&rt, &tree, &[ENVIRONMENT, out, inner, outer], "neither")?;
     is(&rt, &tree, &[ENVIRONMENT, inner, out, a], "neither")
@@ -102,12 +157,30 @@ fn a_file_inside_another(rt: HostRuntime) -> Result<(), Fail> {
 
 #[test]
 fn the_stdout_of_the_parent(rt: HostRuntime) -> Result<(), Fail> {
-    let tree = command(rt.alloc(), "a")?.stdin_null()?.stdout_path("f")?.stderr_to_stdout()?;
+    let tree = command(rt.alloc(), "a")?
+        .stdin_null()?
+        .stdout_path("f")?
+        .stderr_to_stdout()?;
     let a = Line::Spawn(A, [Stdio::Null, Stdio::End(2), Stdio::End(1)]);
     let file = Line::Create("f", 2);
-    is(&rt, &tree, &[ENVIRONMENT, Line::Parent(Side::Out, 1), file, a], "whole")?;
-    is(&rt, &tree, &[ENVIRONMENT, Line::Parent(Side::Err, 1), file, a], "neither")?;
-    is(&rt, &tree, &[ENVIRONMENT, Line::Duplicate(2, 1), file, a], "neither")
+    is(
+        &rt,
+        &tree,
+        &[ENVIRONMENT, Line::Parent(Side::Out, 1), file, a],
+        "whole",
+    )?;
+    is(
+        &rt,
+        &tree,
+        &[ENVIRONMENT, Line::Parent(Side::Err, 1), file, a],
+        "neither",
+    )?;
+    is(
+        &rt,
+        &tree,
+        &[ENVIRONMENT, Line::Duplicate(2, 1), file, a],
+        "neither",
+    )
 }
 
 #[test]
@@ -142,7 +215,22 @@ fn a_reader(rt: HostRuntime) -> Result<(), Fail> {
     let (out, err) = (Line::Pipe(1, 2), Line::Pipe(3, 4));
     let a = Line::Spawn(A, [INHERIT, Stdio::End(2), Stdio::End(4)]);
     let (drain, reader) = (Line::Drain(3), Line::Reader(1));
-    is_of(&rt, &plan, &[ENVIRONMENT, out, err, a, drain, reader], "whole")?;
-    is_of(&rt, &plan, &[ENVIRONMENT, out, err, a, reader, drain], "neither")?;
-    is_of(&rt, &plan, &[ENVIRONMENT, out, err, a, drain, Line::Reader(3)], "neither")
+    is_of(
+        &rt,
+        &plan,
+        &[ENVIRONMENT, out, err, a, drain, reader],
+        "whole",
+    )?;
+    is_of(
+        &rt,
+        &plan,
+        &[ENVIRONMENT, out, err, a, reader, drain],
+        "neither",
+    )?;
+    is_of(
+        &rt,
+        &plan,
+        &[ENVIRONMENT, out, err, a, drain, Line::Reader(3)],
+        "neither",
+    )
 }

@@ -14,4 +14,4 @@ returns-in_ok-given-in-Spawn-Spawn g c =
     let gives = c.in_ok-given-in-Spawn-Spawn.ensures spec streams in
     let Answered : Bool → Type 0 = λ yes. IsTrue yes ↔ AreAnswered c.in_ok-given-in-Spawn-Spawn.given spec streams in
     rw (c.in-Spawn-Spawn.is-0, c.in-Spawn-Spawn.is-1, ← c.as_slice.ensures.value)
-        (IfOk-weaker c.is_answered.result Answered _ (λ yes same. (λ is. gives.1 (same.0 is), λ answers. same.1 (gives.0 answers))) c.is_answered.ensures)
+    (IfOk-weaker c.is_answered.result Answered _ (λ yes same. (λ is. gives.1 (same.0 is), λ answers. same.1 (gives.0 answers))) c.is_answered.ensures)

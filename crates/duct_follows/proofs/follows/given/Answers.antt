@@ -22,9 +22,9 @@ returns g c =
     let words = map string_bytes c.args.words.now in
     let traced : lines_of c.as_slice.result.now ≡ lines = ap lines_of c.as_slice.ensures.value ∙ c.in_ok-trace.ensures in
     let there : IsAskedThere lines plan number_of c.args.place up words c.in_ok-asked.asked =
-        subst (λ (lines : List Line). IsAskedThere lines plan number_of c.args.place up words c.in_ok-asked.asked) traced c.in_ok-asked.ensures in
+    subst (λ (lines : List Line). IsAskedThere lines plan number_of c.args.place up words c.in_ok-asked.asked) traced c.in_ok-asked.ensures in
     let found : hooks_of c.as_slice-2.result.now ≡ hooks up = ap hooks_of c.as_slice-2.ensures.value ∙ c.in_ok-hooks.ensures in
     let made = c.wired.ensures in
     IfOk-weaker c.decided.result (Decides c.wired.result) _
-        (λ given decides. given_is lines plan number_of c.args.place up words c.in_ok-asked.asked (hooks_of c.as_slice-2.result.now) c.wired.result given found there made.ok made.streams made.err decides)
-        c.decided.ensures
+    (λ given decides. given_is lines plan number_of c.args.place up words c.in_ok-asked.asked (hooks_of c.as_slice-2.result.now) c.wired.result given found there made.ok made.streams made.err decides)
+    c.decided.ensures
