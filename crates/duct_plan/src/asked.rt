@@ -58,8 +58,9 @@ pub fn asked<E: Numbered, H>(
     }
 }
 
-/// What the tree asks for the command whose item stands at this place.
-fn asked_at<E: Numbered, H>(
+/// What the tree asks for the command whose item stands at this place of the plan, with this way outwards and these words: its
+/// spec and its streams, before its hooks. Refused only for want of memory.
+pub fn asked_at<E: Numbered, H>(
     alloc: Global,
     plan: &Plan<'_, E, H>,
     trace: &[&Entry],

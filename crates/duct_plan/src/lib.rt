@@ -7,6 +7,6 @@ pub mod found;
 pub mod items;
 pub mod plan;
 mod streams;
-mod trace;
+pub mod trace;
 mod variables;
 pub mod way;

@@ -50,7 +50,7 @@ fn text_of(entry: &Entry) -> &str
 }
 
 /// The number of the first end that the entry at this place got: of a pipe the read end.
-pub(crate) fn first_end(trace: &[&Entry], place: usize) -> u64
+pub fn first_end(trace: &[&Entry], place: usize) -> u64
     ensures { result ≡ end_at (lines_of trace.now) place 0 }
 {
     match trace.get(place) {
@@ -60,7 +60,7 @@ pub(crate) fn first_end(trace: &[&Entry], place: usize) -> u64
 }
 
 /// The number of the second end that the entry at this place got: of a pipe the write end.
-pub(crate) fn second_end(trace: &[&Entry], place: usize) -> u64
+pub fn second_end(trace: &[&Entry], place: usize) -> u64
     ensures { result ≡ end_at (lines_of trace.now) place 1 }
 {
     match trace.get(place) {

@@ -1,0 +1,55 @@
+-- Hooks that make one spec of a spec and no other make one of a command's spec and streams, and where one of them stops the
+-- start they make none.
+use Rattle.std.proofs.Common.{◌≡◌, ℕ, List, [], ◌∷◌, length, sym, ◌∙◌, ap, subst, inl, inr, ◌⊎◌}
+use Rattle.duct_base.specs.Origin.{Origin}
+use Rattle.duct_base.specs.Spec.{Spec}
+use Rattle.duct_base.specs.declared.error.Error.{Error}
+use Rattle.duct_base.specs.declared.error.Error.TheVariants.{System, Checked, NotUtf8, Hook, HookEnd, Deadline, Memory}
+use Rattle.duct_base.specs.declared.system.Fault.{Fault}
+use Rattle.duct_base.specs.declared.system.Kind.TheVariants.{OutOfMemory}
+use Rattle.duct.specs.Chain.{Wired, Allows, Refuses, Changes, Chain, Stops, ChainStops, settle}
+use Rattle.duct_follows.specs.Given.{IsDecided}
+
+-- each hook makes one spec of a spec
+abbrev pub MakesOne : {H : Type 0} → Allows H → Type 0
+MakesOne {H} allows = (hook : H) (before one other : Spec) → allows hook before one → allows hook before other → one ≡ other
+
+-- a hook makes nothing of a spec that it refuses, but for want of memory
+abbrev pub MakesNone : {H : Type 0} → Allows H → Refuses H → Type 0
+MakesNone {H} allows refuses = (hook : H) (before made : Spec) (fault : Fault) → refuses hook before fault → ¬ (fault.kind ≡ OutOfMemory) → ¬ (allows hook before made)
+
+-- one hook
+pub changes_one : {H : Type 0} (allows : Allows H) → MakesOne allows → (hook : H) (ends : List Origin) (before one other : Wired) →
+    Changes allows hook ends before one → Changes allows hook ends before other → one ≡ other
+changes_one allows makes_one hook ends before one other is also =
+    is.3 ∙ ap (λ made. settle ends made before) (makes_one hook before.spec is.0 also.0 is.1 also.1) ∙ sym also.3
+
+-- all hooks
+pub chain_one : {H : Type 0} (allows : Allows H) → MakesOne allows → (hooks : List (H × List Origin)) (before one other : Wired) →
+    Chain allows hooks before one → Chain allows hooks before other → one ≡ other
+chain_one allows makes_one [] before one other is also = is ∙ sym also
+chain_one allows makes_one (hook ∷ hooks) before one other is also =
+    let same : is.0 ≡ also.0 = changes_one allows makes_one hook.0 hook.1 before is.0 also.0 is.1 also.1 in
+    chain_one allows makes_one hooks also.0 one other (subst (λ (between : Wired). Chain allows hooks between one) same is.2) also.2
+
+-- one hook that stops the start makes nothing
+stops_none : {H : Type 0} (allows : Allows H) (refuses : Refuses H) → MakesOne allows → MakesNone allows refuses →
+    (hook : H) (ends : List Origin) (before after : Wired) (error : Error) → IsDecided error → Stops allows refuses hook ends before error → ¬ (Changes allows hook ends before after)
+stops_none allows refuses makes_one makes_none hook ends before after (Hook fault) decided stops = λ is. makes_none hook before.spec is.0 fault stops decided is.1
+stops_none allows refuses makes_one makes_none hook ends before after (HookEnd place) decided stops =
+    λ is. let same = makes_one hook before.spec stops.0 is.0 stops.1 is.1 in let there = is.2 in let missing = stops.2 in cc
+stops_none allows refuses makes_one makes_none hook ends before after (System fault) decided stops = absurd stops
+stops_none allows refuses makes_one makes_none hook ends before after (Checked text) decided stops = absurd stops
+stops_none allows refuses makes_one makes_none hook ends before after NotUtf8 decided stops = absurd stops
+stops_none allows refuses makes_one makes_none hook ends before after Deadline decided stops = absurd stops
+stops_none allows refuses makes_one makes_none hook ends before after Memory decided stops = absurd stops
+
+-- hooks of which one stops the start make nothing
+pub chain_none : {H : Type 0} (allows : Allows H) (refuses : Refuses H) → MakesOne allows → MakesNone allows refuses →
+    (hooks : List (H × List Origin)) (before after : Wired) (error : Error) → IsDecided error → ChainStops allows refuses hooks before error → ¬ (Chain allows hooks before after)
+chain_none allows refuses makes_one makes_none [] before after error decided stops = absurd stops
+chain_none allows refuses makes_one makes_none (hook ∷ hooks) before after error decided (inl stops) =
+    λ is. stops_none allows refuses makes_one makes_none hook.0 hook.1 before is.0 error decided stops is.1
+chain_none allows refuses makes_one makes_none (hook ∷ hooks) before after error decided (inr stops) =
+    λ is. let same : is.0 ≡ stops.0 = changes_one allows makes_one hook.0 hook.1 before is.0 stops.0 is.1 stops.1 in
+    chain_none allows refuses makes_one makes_none hooks stops.0 after error decided stops.2 (subst (λ (between : Wired). Chain allows hooks between after) same is.2)

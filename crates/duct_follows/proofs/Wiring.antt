@@ -1,0 +1,27 @@
+-- Three streams, one by one and as a list.
+use Rattle.std.proofs.Common.{◌≡◌, refl, List, [], ◌∷◌, map, length, ap, arith}
+use Rattle.std.proofs.lemmas.List.{length-map}
+use Rattle.duct_base.specs.Origin.{Origin}
+use Rattle.duct_base.specs.Spec.{Spec}
+use Rattle.duct_base.specs.Streams.{stream_of}
+use Rattle.duct_base.specs.declared.system.Stdio.{Stdio}
+use Rattle.duct.specs.Chain.{Wired}
+use Rattle.duct_script.specs.declared.checker.Source.{Source}
+use Rattle.duct_script.specs.Source.{origin_of}
+use Rattle.duct_follows.specs.Wiring.{wired_with}
+
+-- the three streams in the order stdin, stdout, stderr
+abbrev pub streams_in : Wired → List (Stdio Origin)
+streams_in wired = wired.input ∷ wired.output ∷ wired.error ∷ []
+
+-- a list that stands for three streams has three
+pub three_streams : (input output error : Stdio Origin) (streams : List (Stdio Source)) → input ∷ output ∷ error ∷ [] ≡ map (stream_of origin_of) streams → length streams ≡ 3
+three_streams input output error streams are = omega (arith, simp length-map at (ap length are))
+
+-- three streams are the list of the three
+pub wired-streams : (spec : Spec) (streams : List (Stdio Source)) → length streams ≡ 3 → streams_in (wired_with spec streams) ≡ map (stream_of origin_of) streams
+wired-streams spec [] three = absurd (omega arith)
+wired-streams spec (input ∷ []) three = absurd (omega arith)
+wired-streams spec (input ∷ output ∷ []) three = absurd (omega arith)
+wired-streams spec (input ∷ output ∷ error ∷ []) three = refl
+wired-streams spec (input ∷ output ∷ error ∷ other ∷ rest) three = absurd (omega arith)

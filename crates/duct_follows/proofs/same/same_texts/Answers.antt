@@ -1,0 +1,7 @@
+use Rattle.std.proofs.Common.{map, string_bytes, nat_eq}
+use Rattle.std.specs.Cmp.Lexicographic.{pointwise}
+use Rattle.duct_follows.proofs.Texts.{texts_decide}
+use Rattle.duct_follows.proofs.same.same_texts.Goals as goal
+
+pub returns : goal.returns
+returns c = texts_decide string_bytes c.args.one.now c.args.other.now c.eq.result c.eq.ensures

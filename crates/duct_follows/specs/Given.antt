@@ -1,0 +1,33 @@
+-- The spec and the streams that a spawn is to be given, as the code answers them.
+use Rattle.std.specs.Prelude.{List, ◌≡◌, map, Ok, Err, Some, None}
+use Rattle.std.specs.declared.option.Option.{Option}
+use Rattle.std.specs.declared.result.Result.{Result}
+use Rattle.duct_base.specs.Origin.{Origin}
+use Rattle.duct_base.specs.Spec.{Spec}
+use Rattle.duct_base.specs.Streams.{stream_of}
+use Rattle.duct_base.specs.declared.error.Error.{Error}
+use Rattle.duct_base.specs.declared.error.Error.TheVariants.{Hook}
+use Rattle.duct_base.specs.declared.system.Kind.TheVariants.{OutOfMemory}
+use Rattle.duct_base.specs.declared.system.Stdio.{Stdio}
+use Rattle.duct_plan.specs.declared.asked.Wired.{Wired}
+use Rattle.duct_script.specs.Source.{origin_of}
+
+-- they are those of the answer
+pub record AreThese (given : Wired) (spec : Spec) (streams : List (Stdio Origin)) : Type 0 where
+  pub spec_is : spec ≡ given.spec
+  pub streams_are : streams ≡ map (stream_of origin_of) given.streams
+
+-- they are those of the answer, and without one there are none
+abbrev pub AreAnswered : Option Wired → Spec → List (Stdio Origin) → Type 0
+AreAnswered (Some given) spec streams = AreThese given spec streams
+AreAnswered None spec streams = ⊥
+
+-- an error is not that of a hook that found no memory
+abbrev pub IsDecided : Error → Type 0
+IsDecided (Hook fault) = ¬ (fault.kind ≡ OutOfMemory)
+IsDecided _ = Unit {0}
+
+-- what the hooks made is the answer, and there is none where they stopped the start for another cause than want of memory
+abbrev pub Decides : Result Wired Error → Option Wired → Type 0
+Decides (Ok after) given = given ≡ Some after
+Decides (Err error) given = (given ≡ None) × IsDecided error

@@ -1,0 +1,4 @@
+pub mod Given
+pub mod Same
+pub mod ScriptHooks
+pub mod Wiring

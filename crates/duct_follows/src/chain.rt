@@ -1,0 +1,123 @@
+//! What the hooks of a command make of its spec and its streams, or the error by which one of them stops the start.
+ghost use Rattle.std.specs.Prelude.{◌≡◌, length, map, OnOk, IfOk, IfErr};
+ghost use Rattle.duct_base.specs.Streams.{stream_of};
+ghost use Rattle.duct.specs.Chain.{Changes, Chain, Stops, ChainStops, lent, missing, missing_at, settle, settled};
+ghost use Rattle.duct_follows.specs.Wiring.{wired_with, wired_of, hooks_of, lent_ends, with_found};
+ghost use Rattle.duct_plan.specs.AskedOf.{IsAnswered};
+ghost use Rattle.duct_script.specs.Source.{origin_of};
+
+use duct_base::error::Error;
+use duct_base::spec::{CommandSpec, Hook, Port, Stream, give};
+use duct_base::system::{Numbered, Stdio};
+use duct_plan::asked::Wired;
+use duct_script::checker::Source;
+
+/// Runs the hooks of a command over what the tree asks for it, the outermost first: answers its spec afterwards, and where its
+/// streams come from then. The places that a hook names are looked for among the ends beside it, in the order stdin, stdout,
+/// stderr. Refused by the error with which the first hook that refuses, or names a place that is not there, stops a start.
+pub fn wired<E: Numbered, H: Hook>(asked: Wired, hooks: &[(&H, &[E])]) -> Result<Wired, Error>
+    ensures ok { IfOk result (λ after. Chain H.allows (lent E.number_of (hooks_of hooks.now)) (wired_of asked) (wired_of after)) }
+    ensures streams { IfOk result (λ after. IsAnswered (wired_of after) after) }
+    ensures err { IfErr result (λ error. ChainStops H.allows H.refuses (lent E.number_of (hooks_of hooks.now)) (wired_of asked) error) }
+{
+    let mut after = asked;
+    run(&mut after.spec, &mut after.streams, hooks)?;
+    Ok(after)
+}
+
+/// Runs the hooks over a spec and its streams.
+fn run<E: Numbered, H: Hook>(
+    spec: &mut CommandSpec,
+    streams: &mut [Stdio<Source>; 3],
+    hooks: &[(&H, &[E])],
+) -> Result<(), Error>
+    ensures three { length streams.new ≡ 3 }
+    ensures ok { OnOk result (Chain H.allows (lent E.number_of (hooks_of hooks.now)) (wired_with spec.old streams.old) (wired_with spec.new streams.new)) }
+    ensures err { IfErr result (λ error. ChainStops H.allows H.refuses (lent E.number_of (hooks_of hooks.now)) (wired_with spec.old streams.old) error) }
+{
+    match hooks.split_first() {
+        None => Ok(()),
+        Some(((hook, ends), hooks)) => {
+            change(*hook, ends, spec, streams)?;
+            run(spec, streams, hooks)
+        }
+    }
+}
+
+/// Runs one hook over a spec and its streams.
+fn change<E: Numbered, H: Hook>(
+    hook: &H,
+    ends: &[E],
+    spec: &mut CommandSpec,
+    streams: &mut [Stdio<Source>; 3],
+) -> Result<(), Error>
+    ensures ok { OnOk result (Changes H.allows hook.now (lent_ends E.number_of ends.now) (wired_with spec.old streams.old) (wired_with spec.new streams.new)) }
+    ensures err { IfErr result (λ error. Stops H.allows H.refuses hook.now (lent_ends E.number_of ends.now) (wired_with spec.old streams.old) error) }
+{
+    if let Err(fault) = hook.change(spec) {
+        return Err(Error::Hook(fault));
+    }
+    if let Some(place) = missing(ends.len(), spec) {
+        return Err(Error::HookEnd(place));
+    }
+    settle(ends, spec, streams);
+    Ok(())
+}
+
+/// The first place of a spec that is not there, in the order stdin, stdout, stderr.
+fn missing(count: usize, spec: &CommandSpec) -> Option<usize>
+    ensures { result ≡ missing count spec.now }
+{
+    missing_at(count, spec.port(Stream::In))
+        .or(missing_at(count, spec.port(Stream::Out)))
+        .or(missing_at(count, spec.port(Stream::Err)))
+}
+
+/// The place that a port names, if it is not there.
+fn missing_at(count: usize, port: Port) -> Option<usize>
+    ensures { result ≡ missing_at count port }
+{
+    match port {
+        Port::Place(place) if place >= count => Some(place),
+        _ => None,
+    }
+}
+
+/// Finds the places of a spec among the ends beside its hook.
+fn settle<E: Numbered>(ends: &[E], spec: &mut CommandSpec, streams: &mut [Stdio<Source>; 3])
+    ensures { wired_with spec.new streams.new ≡ settle (lent_ends E.number_of ends.now) spec.old (wired_with spec.old streams.old) }
+{
+    let [input, output, error] = *streams;
+    *streams = [
+        settled(ends, spec.port(Stream::In), input),
+        settled(ends, spec.port(Stream::Out), output),
+        settled(ends, spec.port(Stream::Err), error),
+    ];
+    find(spec, Stream::In);
+    find(spec, Stream::Out);
+    find(spec, Stream::Err);
+}
+
+/// What a port makes of a stream.
+fn settled<E: Numbered>(ends: &[E], port: Port, stream: Stdio<Source>) -> Stdio<Source>
+    ensures { stream_of origin_of result ≡ settled (lent_ends E.number_of ends.now) port (stream_of origin_of stream) }
+{
+    match port {
+        Port::Inherit => Stdio::Inherit,
+        Port::Null => Stdio::Null,
+        Port::Given => stream,
+        Port::Place(place) => match ends.get(place) {
+            Some(end) => Stdio::End(Source::Lent(end.number())),
+            None => Stdio::Inherit,
+        },
+    }
+}
+
+/// Gives a stream the end at its place, if it has one.
+fn find(spec: &mut CommandSpec, stream: Stream)
+    ensures { spec.new ≡ with_found stream spec.old }
+{
+    if let Port::Place(_) = spec.port(stream) {
+        give(spec, stream);
+    }
+}

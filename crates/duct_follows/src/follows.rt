@@ -1,0 +1,191 @@
+//! Whether what a start added to the journal follows a plan, for hooks of the scripted system.
+ghost use Rattle.std.specs.Prelude.{◌≡◌, ℕ, ◌+◌, ◌↔◌, ◌<◌, ◌^◌, length, map, string_bytes, IfOk, IsTrue, List};
+ghost use Rattle.duct_base.specs.Entry.{line_of};
+ghost use Rattle.duct_base.specs.Origin.{Origin, origin, Opened};
+ghost use Rattle.duct_base.specs.Spec.{Spec};
+ghost use Rattle.duct_base.specs.Streams.{stream_of};
+ghost use Rattle.duct_base.specs.Trace.{trace};
+ghost use Rattle.duct_base.specs.declared.system.Stdio.{Stdio};
+ghost use Rattle.duct.specs.Asked.{end_at};
+ghost use Rattle.duct.specs.Follows.{Answers, AnswersFrom, Follows, FollowsWhole, IsGiven};
+ghost use Rattle.duct_follows.specs.Given.{AreAnswered, IsDecided, Decides};
+ghost use Rattle.duct_follows.specs.ScriptHooks.{allows};
+ghost use Rattle.duct_plan.specs.Lines.{lines_of};
+ghost use Rattle.duct_plan.specs.PlanView.{item_of, plan_view};
+ghost use Rattle.duct_plan.specs.Way.{way_of};
+
+use crate::chain::wired;
+use crate::same::{same_spec, same_streams};
+use crate::stops::{is_clean, stops_at_fault};
+use duct_base::error::Error;
+use duct_base::spec::CommandSpec;
+use duct_base::system::{Entry, Kind, Numbered, Stdio};
+use duct_plan::asked::{Wired, asked_at};
+use duct_plan::found::hooks;
+use duct_plan::items::{Item, Plan};
+use duct_plan::trace::{first_end, second_end};
+use duct_plan::way::Crumb;
+use duct_script::checker::{Source, origin, trace};
+use duct_script::hook::ScriptHook;
+use std::alloc::{AllocError, Global};
+
+/// Whether what was added follows a front of the plan: each entry of its trace answers the item of the plan at its place, and
+/// after an entry with a fault there are only closes. For this the hooks of the commands are run once more, over specs of
+/// their own. Refused for want of memory, and where a hook refuses by `OutOfMemory`.
+pub fn follows<E: Numbered>(
+    alloc: Global,
+    plan: &Plan<'_, E, ScriptHook>,
+    added: &[Entry],
+) -> Result<bool, AllocError>
+    ensures { IfOk result (λ yes. IsTrue yes ↔ Follows allows E.number_of (plan_view plan.now) (map line_of added.now)) }
+{
+    let trace = trace(alloc, added)?;
+    let items = plan.items.as_slice();
+    let answered = answers_from(alloc, added, plan, 0, items, trace.as_slice())?;
+    Ok(answered && stops_at_fault(added))
+}
+
+/// Whether what was added follows the whole plan, without a fault. For this the hooks of the commands are run once more, over
+/// specs of their own. Refused for want of memory, and where a hook refuses by `OutOfMemory`.
+pub fn follows_whole<E: Numbered>(
+    alloc: Global,
+    plan: &Plan<'_, E, ScriptHook>,
+    added: &[Entry],
+) -> Result<bool, AllocError>
+    ensures { IfOk result (λ yes. IsTrue yes ↔ FollowsWhole allows E.number_of (plan_view plan.now) (map line_of added.now)) }
+{
+    let trace = trace(alloc, added)?;
+    Ok(trace.len() == plan.items.len() && is_clean(added) && follows(alloc, plan, added)?)
+}
+
+/// Whether the entries from a place of the trace on answer the items from there on, as far as they go.
+fn answers_from<E: Numbered>(
+    alloc: Global,
+    added: &[Entry],
+    plan: &Plan<'_, E, ScriptHook>,
+    place: usize,
+    items: &[Item<'_, E, ScriptHook>],
+    entries: &[&Entry],
+) -> Result<bool, AllocError>
+    requires { place + length entries.now < 2 ^ 64 }
+    ensures { IfOk result (λ yes. IsTrue yes
+        ↔ AnswersFrom allows E.number_of (map line_of added.now) (plan_view plan.now) place (map item_of items.now) (lines_of entries.now)) }
+{
+    match (items.split_first(), entries.split_first()) {
+        (_, None) => Ok(true),
+        (None, Some(_)) => Ok(false),
+        (Some((item, items)), Some((entry, entries))) => {
+            let first = answers(alloc, added, plan, place, item, entry)?;
+            let rest = answers_from(alloc, added, plan, place + 1, items, entries)?;
+            Ok(first && rest)
+        }
+    }
+}
+
+/// Whether an entry of the trace answers the item at its place.
+fn answers<E: Numbered>(
+    alloc: Global,
+    added: &[Entry],
+    plan: &Plan<'_, E, ScriptHook>,
+    place: usize,
+    item: &Item<'_, E, ScriptHook>,
+    entry: &Entry,
+) -> Result<bool, AllocError>
+    ensures { IfOk result (λ yes. IsTrue yes
+        ↔ Answers allows E.number_of (map line_of added.now) (plan_view plan.now) place (item_of item.now) (line_of entry.now)) }
+{
+    match (item, entry) {
+        (Item::Environment, Entry::Environment(_)) => Ok(true),
+        (Item::Pipe, Entry::Pipe(_)) => Ok(true),
+        (Item::OpenRead(path), Entry::OpenRead(opened, _)) => Ok(opened.as_str() == *path),
+        (Item::Create(path), Entry::Create(made, _)) => Ok(made.as_str() == *path),
+        (Item::Canonicalize(name), Entry::Canonicalize(path, _)) => Ok(path.as_str() == *name),
+        (Item::Spawn(way, words), Entry::Spawn(spec, io, _)) => {
+            let given = given(alloc, added, plan, place, way.as_slice(), words)?;
+            is_answered(added, spec, io, given)
+        }
+        (Item::Feed(pipe, bytes), Entry::Feed(end, fed, _)) => {
+            Ok(fed.as_slice() == *bytes && is_writer(alloc, added, *pipe, *end)?)
+        }
+        (Item::Drain(pipe), Entry::Drain(end, _)) => is_reader(alloc, added, *pipe, *end),
+        (Item::Reader(pipe), Entry::Reader(end)) => is_reader(alloc, added, *pipe, *end),
+        _ => Ok(false),
+    }
+}
+
+/// Whether an end comes from the read end of the pipe that the entry at this place of the trace got.
+fn is_reader(alloc: Global, added: &[Entry], pipe: usize, end: u64) -> Result<bool, AllocError>
+    ensures { IfOk result (λ yes. IsTrue yes ↔ (origin (map line_of added.now) end ≡ Opened (end_at (trace (map line_of added.now)) pipe 0))) }
+{
+    let trace = trace(alloc, added)?;
+    Ok(origin(added, end) == Source::Opened(first_end(trace.as_slice(), pipe)))
+}
+
+/// Whether an end comes from the write end of the pipe that the entry at this place of the trace got.
+fn is_writer(alloc: Global, added: &[Entry], pipe: usize, end: u64) -> Result<bool, AllocError>
+    ensures { IfOk result (λ yes. IsTrue yes ↔ (origin (map line_of added.now) end ≡ Opened (end_at (trace (map line_of added.now)) pipe 1))) }
+{
+    let trace = trace(alloc, added)?;
+    Ok(origin(added, end) == Source::Opened(second_end(trace.as_slice(), pipe)))
+}
+
+/// Whether a spawn was given the spec that it is to be given, and ends that come from where they are to come from.
+fn is_answered(
+    added: &[Entry],
+    spec: &CommandSpec,
+    io: &[Stdio<u64>; 3],
+    given: Option<Wired>,
+) -> Result<bool, AllocError>
+    ensures { IfOk result (λ yes. IsTrue yes ↔ AreAnswered given spec.now (map (stream_of (origin (map line_of added.now))) io.now)) }
+{
+    match given {
+        None => Ok(false),
+        Some(given) => Ok(same_spec(spec, &given.spec)? && same_streams(added, io, &given.streams)),
+    }
+}
+
+/// The spec that the spawn of a command is to be given, and where its streams are to come from: what its hooks make of what
+/// the tree asks for it. Nothing where one of them stops the start.
+fn given<E: Numbered>(
+    alloc: Global,
+    added: &[Entry],
+    plan: &Plan<'_, E, ScriptHook>,
+    place: usize,
+    way: &[Crumb<'_, E, ScriptHook>],
+    words: &[String],
+) -> Result<Option<Wired>, AllocError>
+    ensures { IfOk result (λ given. (spec : Spec) (streams : List (Stdio Origin)) →
+        IsGiven allows E.number_of (trace (map line_of added.now)) (plan_view plan.now) place (way_of way.now) (map string_bytes words.now) spec streams
+        ↔ AreAnswered given spec streams) }
+{
+    let trace = trace(alloc, added)?;
+    let asked = asked_at(alloc, plan, trace.as_slice(), place, way, words)?;
+    let hooks = hooks(alloc, way)?;
+    decided(wired(asked, hooks.as_slice()))
+}
+
+/// What the hooks made, or nothing where one of them stopped the start. Refused where a hook found no memory.
+fn decided(made: Result<Wired, Error>) -> Result<Option<Wired>, AllocError>
+    ensures { IfOk result (Decides made) }
+{
+    match made {
+        Ok(after) => Ok(Some(after)),
+        Err(error) => {
+            if is_decided(&error) {
+                Ok(None)
+            } else {
+                Err(AllocError)
+            }
+        }
+    }
+}
+
+/// Whether an error is not that of a hook that found no memory.
+fn is_decided(error: &Error) -> bool
+    ensures { IsTrue result ↔ IsDecided error.now }
+{
+    match error {
+        Error::Hook(fault) => fault.kind != Kind::OutOfMemory,
+        _ => true,
+    }
+}

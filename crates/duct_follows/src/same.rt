@@ -1,0 +1,97 @@
+//! Whether two specs are the same, and whether two lists of streams come from the same places.
+ghost use Rattle.std.specs.Prelude.{◌≡◌, ◌↔◌, map, string_bytes, IfOk, IsTrue};
+ghost use Rattle.std.specs.Option.{option_copied};
+ghost use Rattle.duct_base.specs.Entry.{line_of};
+ghost use Rattle.duct_base.specs.Origin.{origin};
+ghost use Rattle.duct_base.specs.Streams.{stream_of};
+ghost use Rattle.duct_follows.specs.Same.{lent_pair, HaveSamePorts};
+ghost use Rattle.duct_script.specs.Source.{origin_of};
+
+use duct_base::spec::{CommandSpec, Port, Stream};
+use duct_base::system::{Entry, Stdio};
+use duct_script::checker::{Source, origin};
+use std::alloc::AllocError;
+
+/// Whether two specs are the same. Refused only for want of memory.
+pub fn same_spec(one: &CommandSpec, other: &CommandSpec) -> Result<bool, AllocError>
+    ensures { IfOk result (λ same. IsTrue same ↔ (one.now ≡ other.now)) }
+{
+    let one_vars = vars(one)?;
+    let other_vars = vars(other)?;
+    Ok(
+        same_texts(one.words(), other.words())
+            && same_folder(one.folder(), other.folder())
+            && same_ports(one, other)
+            && same_vars(one_vars.as_slice(), other_vars.as_slice()),
+    )
+}
+
+/// The variables of a spec.
+fn vars(spec: &CommandSpec) -> Result<Vec<(&str, &str)>, AllocError>
+    ensures { IfOk result (λ vars. map lent_pair vars.items ≡ spec.now.vars) }
+{
+    match spec.vars() {
+        Ok(vars) => Ok(vars),
+        Err(_) => Err(AllocError),
+    }
+}
+
+/// Whether two lists of texts are the same.
+fn same_texts(one: &[String], other: &[String]) -> bool
+    ensures { IsTrue result ↔ (map string_bytes one.now ≡ map string_bytes other.now) }
+{
+    one == other
+}
+
+/// Whether two folders are the same, if there are any.
+fn same_folder(one: Option<&str>, other: Option<&str>) -> bool
+    ensures { IsTrue result ↔ (option_copied one.entry ≡ option_copied other.entry) }
+{
+    one == other
+}
+
+/// Whether two lists of variables are the same.
+fn same_vars(one: &[(&str, &str)], other: &[(&str, &str)]) -> bool
+    ensures { IsTrue result ↔ (map lent_pair one.now ≡ map lent_pair other.now) }
+{
+    one == other
+}
+
+/// Whether the streams of two specs go to the same places.
+fn same_ports(one: &CommandSpec, other: &CommandSpec) -> bool
+    ensures { IsTrue result ↔ HaveSamePorts one.now other.now }
+{
+    same_port(one.port(Stream::In), other.port(Stream::In))
+        && same_port(one.port(Stream::Out), other.port(Stream::Out))
+        && same_port(one.port(Stream::Err), other.port(Stream::Err))
+}
+
+/// Whether two ports are the same.
+fn same_port(one: Port, other: Port) -> bool
+    ensures { IsTrue result ↔ (one ≡ other) }
+{
+    one == other
+}
+
+/// Whether the ends of three streams come from these places, by what the entries say.
+pub fn same_streams(entries: &[Entry], io: &[Stdio<u64>; 3], streams: &[Stdio<Source>; 3]) -> bool
+    ensures { IsTrue result ↔ (map (stream_of (origin (map line_of entries.now))) io.now ≡ map (stream_of origin_of) streams.now) }
+{
+    let [input, output, error] = *io;
+    let [from_input, from_output, from_error] = *streams;
+    same_stream(entries, input, from_input)
+        && same_stream(entries, output, from_output)
+        && same_stream(entries, error, from_error)
+}
+
+/// Whether the end of a stream comes from this place.
+fn same_stream(entries: &[Entry], stream: Stdio<u64>, source: Stdio<Source>) -> bool
+    ensures { IsTrue result ↔ (stream_of (origin (map line_of entries.now)) stream ≡ stream_of origin_of source) }
+{
+    match (stream, source) {
+        (Stdio::Inherit, Stdio::Inherit) => true,
+        (Stdio::Null, Stdio::Null) => true,
+        (Stdio::End(number), Stdio::End(source)) => origin(entries, number) == source,
+        _ => false,
+    }
+}

@@ -1,0 +1,70 @@
+//! Whether entries of a journal have a fault, and whether only closes come after it.
+ghost use Rattle.std.specs.Prelude.{◌≡◌, ◌↔◌, map, IsTrue};
+ghost use Rattle.duct_base.specs.Entry.{line_of};
+ghost use Rattle.duct_base.specs.Trace.{is_close, fault_of, IsClean, OnlyCloses, StopsAtFault};
+
+use duct_base::system::{Entry, Fault};
+
+/// Whether no entry has a fault.
+pub fn is_clean(entries: &[Entry]) -> bool
+    ensures { IsTrue result ↔ IsClean (map line_of entries.now) }
+{
+    for entry in entries {
+        if fault_of(entry).is_some() {
+            return false;
+        }
+    }
+    true
+}
+
+/// Whether after an entry with a fault there are only closes.
+pub fn stops_at_fault(entries: &[Entry]) -> bool
+    ensures { IsTrue result ↔ StopsAtFault (map line_of entries.now) }
+{
+    let mut left = entries;
+    while let Some((first, rest)) = left.split_first() {
+        if fault_of(first).is_some() {
+            return only_closes(rest);
+        }
+        left = rest;
+    }
+    true
+}
+
+/// The fault that an entry answered, if it was refused.
+pub fn fault_of(entry: &Entry) -> Option<Fault>
+    ensures { result ≡ fault_of (line_of entry.now) }
+{
+    match entry {
+        Entry::Environment(Err(fault)) => Some(*fault),
+        Entry::Pipe(Err(fault)) => Some(*fault),
+        Entry::OpenRead(_, Err(fault)) => Some(*fault),
+        Entry::Create(_, Err(fault)) => Some(*fault),
+        Entry::Duplicate(_, Err(fault)) => Some(*fault),
+        Entry::Parent(_, Err(fault)) => Some(*fault),
+        Entry::Canonicalize(_, Err(fault)) => Some(*fault),
+        Entry::Spawn(_, _, Err(fault)) => Some(*fault),
+        Entry::Feed(_, _, Err(fault)) => Some(*fault),
+        Entry::Drain(_, Err(fault)) => Some(*fault),
+        _ => None,
+    }
+}
+
+/// Whether each entry is a close.
+fn only_closes(entries: &[Entry]) -> bool
+    ensures { IsTrue result ↔ OnlyCloses (map line_of entries.now) }
+{
+    for entry in entries {
+        if !is_close(entry) {
+            return false;
+        }
+    }
+    true
+}
+
+/// Whether an entry is a close.
+fn is_close(entry: &Entry) -> bool
+    ensures { result ≡ is_close (line_of entry.now) }
+{
+    matches!(entry, Entry::Close(_))
+}

@@ -1,0 +1,11 @@
+//! Tests of whether a journal follows a plan: journals that are written by hand, and one of the scripted system.
+#![tactic(auto)]
+
+#[cfg(test)]
+mod hooks;
+#[cfg(test)]
+mod journal;
+#[cfg(test)]
+mod plans;
+#[cfg(test)]
+mod script;
