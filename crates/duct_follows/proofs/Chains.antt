@@ -22,7 +22,7 @@ MakesNone {H} allows refuses = (hook : H) (before made : Spec) (fault : Fault) �
 pub changes_one : {H : Type 0} (allows : Allows H) → MakesOne allows → (hook : H) (ends : List Origin) (before one other : Wired) →
     Changes allows hook ends before one → Changes allows hook ends before other → one ≡ other
 changes_one allows makes_one hook ends before one other is also =
-    is.3 ∙ ap (λ made. settle ends made before) (makes_one hook before.spec is.0 also.0 is.1 also.1) ∙ sym also.3
+    is.3 ∙ ap (λ made. settle ends made before) (makes_one hook before.spec is.0 also.0 is.1.allowed also.1.allowed) ∙ sym also.3
 
 -- all hooks
 pub chain_one : {H : Type 0} (allows : Allows H) → MakesOne allows → (hooks : List (H × List Origin)) (before one other : Wired) →
@@ -35,9 +35,9 @@ chain_one allows makes_one (hook ∷ hooks) before one other is also =
 -- one hook that stops the start makes nothing
 stops_none : {H : Type 0} (allows : Allows H) (refuses : Refuses H) → MakesOne allows → MakesNone allows refuses →
     (hook : H) (ends : List Origin) (before after : Wired) (error : Error) → IsDecided error → Stops allows refuses hook ends before error → ¬ (Changes allows hook ends before after)
-stops_none allows refuses makes_one makes_none hook ends before after (Hook fault) decided stops = λ is. makes_none hook before.spec is.0 fault stops decided is.1
+stops_none allows refuses makes_one makes_none hook ends before after (Hook fault) decided stops = λ is. makes_none hook before.spec is.0 fault stops decided is.1.allowed
 stops_none allows refuses makes_one makes_none hook ends before after (HookEnd place) decided stops =
-    λ is. let same = makes_one hook before.spec stops.0 is.0 stops.1 is.1 in let there = is.2 in let missing = stops.2 in cc
+    λ is. let same = makes_one hook before.spec stops.0 is.0 stops.1.allowed is.1.allowed in let there = is.2 in let missing = stops.2 in cc
 stops_none allows refuses makes_one makes_none hook ends before after (System fault) decided stops = absurd stops
 stops_none allows refuses makes_one makes_none hook ends before after (Checked text) decided stops = absurd stops
 stops_none allows refuses makes_one makes_none hook ends before after NotUtf8 decided stops = absurd stops
