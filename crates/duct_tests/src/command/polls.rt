@@ -77,6 +77,18 @@ fn names_the_signal_that_ended_it(rt: HostRuntime) -> Result<(), Fail> {
 }
 
 #[test]
+fn prints_quotes_and_backslashes_of_the_words(rt: HostRuntime) -> Result<(), Fail> {
+    let mut sys = Script::new(rt.alloc())?;
+    sys.polls(&[PollAnswer::Ended(ExitStatus::Code(1))])?;
+    let mut pool = Pool::new(rt.alloc());
+    let mut running = words(rt.alloc(), "a\\b", &["c\"d"])?.launch(&mut sys, &mut pool)?;
+    let text = "command [\"a\\\\b\", \"c\\\"d\"] exited with code 1";
+    refused(&rt, running.poll(), text);
+    polled(&rt, running, 1);
+    Ok(())
+}
+
+#[test]
 fn answers_a_fault_until_the_next_word(rt: HostRuntime) -> Result<(), Fail> {
     let mut running = status(
         rt.alloc(),
