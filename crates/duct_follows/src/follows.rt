@@ -8,7 +8,7 @@ ghost use Rattle.duct_base.specs.Trace.{trace};
 ghost use Rattle.duct_base.specs.declared.system.Stdio.{Stdio};
 ghost use Rattle.duct.specs.Asked.{end_at};
 ghost use Rattle.duct.specs.Follows.{Answers, AnswersFrom, Follows, FollowsWhole, IsGiven};
-ghost use Rattle.duct_follows.specs.Given.{AreAnswered, IsDecided, Decides};
+ghost use Rattle.duct_follows.specs.Given.{AreAnswered, FoundNoMemory, Decides};
 ghost use Rattle.duct_follows.specs.ScriptHooks.{allows};
 ghost use Rattle.duct_plan.specs.Lines.{lines_of};
 ghost use Rattle.duct_plan.specs.PlanView.{item_of, plan_view};
@@ -171,21 +171,21 @@ fn decided(made: Result<Wired, Error>) -> Result<Option<Wired>, AllocError>
     match made {
         Ok(after) => Ok(Some(after)),
         Err(error) => {
-            if is_decided(&error) {
-                Ok(None)
-            } else {
+            if found_no_memory(&error) {
                 Err(AllocError)
+            } else {
+                Ok(None)
             }
         }
     }
 }
 
-/// Whether an error is not that of a hook that found no memory.
-fn is_decided(error: &Error) -> bool
-    ensures { IsTrue result ↔ IsDecided error.now }
+/// Whether an error is that of a hook which found no memory.
+pub(crate) fn found_no_memory(error: &Error) -> bool
+    ensures { IsTrue result ↔ FoundNoMemory error.now }
 {
     match error {
-        Error::Hook(fault) => fault.kind != Kind::OutOfMemory,
-        _ => true,
+        Error::Hook(fault) => fault.kind == Kind::OutOfMemory,
+        _ => false,
     }
 }
