@@ -1,6 +1,6 @@
 -- Hooks that make one spec of a spec and no other make one of a command's spec and streams, and where one of them stops the
 -- start they make none.
-use Rattle.std.proofs.Common.{◌≡◌, ℕ, List, [], ◌∷◌, length, sym, ◌∙◌, ap, subst, inl, inr, ◌⊎◌}
+use Rattle.std.proofs.Common.{◌≡◌, List, [], ◌∷◌, sym, ◌∙◌, ap, subst, inl, inr}
 use Rattle.duct_base.specs.Origin.{Origin}
 use Rattle.duct_base.specs.Spec.{Spec}
 use Rattle.duct_base.specs.declared.error.Error.{Error}

@@ -1,5 +1,5 @@
 -- The fault of the last entry that is no close, once an entry is added.
-use Rattle.std.proofs.Common.{◌≡◌, refl, sym, ◌∙◌, ap, ◌-◌, List, [], ◌∷◌, ◌++◌, length, filter, not, false, Some, slice_get, arith, length-append}
+use Rattle.std.proofs.Common.{◌≡◌, refl, sym, ◌∙◌, ap, ◌-◌, List, [], ◌∷◌, ◌++◌, length, not, false, Some, slice_get, arith, length-append}
 use Rattle.std.specs.Option.{option_and_then}
 use Rattle.std.proofs.Math.Seq.{get_or-append_seam}
 use Rattle.std.proofs.lemmas.List.Elements.{filter-append}

@@ -1,12 +1,12 @@
 -- Hooks stop a start with one error, want of memory aside.
-use Rattle.std.proofs.Common.{◌≡◌, ℕ, List, [], ◌∷◌, subst, sym, inl, inr, ap, refl}
+use Rattle.std.proofs.Common.{◌≡◌, List, [], ◌∷◌, subst, inl, inr, ap}
 use Rattle.duct_base.specs.Origin.{Origin}
 use Rattle.duct_base.specs.Spec.{Spec}
 use Rattle.duct_base.specs.declared.error.Error.{Error}
 use Rattle.duct_base.specs.declared.error.Error.TheVariants.{System, Checked, NotUtf8, Hook, HookEnd, Deadline, Memory}
 use Rattle.duct_base.specs.declared.system.Fault.{Fault}
 use Rattle.duct_base.specs.declared.system.Kind.TheVariants.{OutOfMemory}
-use Rattle.duct.specs.Chain.{Wired, Allows, Refuses, Changes, Chain, Stops, ChainStops}
+use Rattle.duct.specs.Chain.{Wired, Allows, Refuses, Stops, ChainStops}
 use Rattle.duct_follows.specs.Cause.{IsSameStop}
 use Rattle.duct_follows.specs.Given.{FoundNoMemory}
 use Rattle.duct_follows.proofs.Chains.{MakesOne, MakesNone, changes_one, stops_none}

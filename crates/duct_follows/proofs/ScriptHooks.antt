@@ -1,7 +1,5 @@
 -- The hooks of the scripted system make one spec of a spec, and none of a spec that they refuse.
-use Rattle.std.proofs.Common.{◌≡◌, sym, ◌∙◌, inl, inr}
-use Rattle.duct_base.specs.Spec.{Spec}
-use Rattle.duct_base.specs.declared.system.Fault.{Fault}
+use Rattle.std.proofs.Common.{sym, ◌∙◌, inl, inr}
 use Rattle.duct_follows.proofs.Chains.{MakesOne, MakesNone}
 use Rattle.duct_follows.proofs.SameStop.{RefusesByOne}
 use Rattle.duct_follows.specs.ScriptHooks.{allows, refuses}

@@ -1,5 +1,5 @@
 -- Whether the hooks of a command stop the start with an error, as they are run over what the tree asks for it.
-use Rattle.std.proofs.Common.{◌≡◌, ℕ, Bool, false, List, [], ◌∷◌, sym, subst, inl, inr, refl, ◌↔◌, IsTrue, length, slice_get, Ok, Err, IfOk, IfErr}
+use Rattle.std.proofs.Common.{◌≡◌, ℕ, Bool, List, [], ◌∷◌, sym, subst, inl, inr, refl, ◌↔◌, IsTrue, length, slice_get, Ok, Err, IfOk, IfErr}
 use Rattle.std.specs.declared.option.Option.{Option}
 use Rattle.std.specs.declared.result.Result.{Result}
 use Rattle.duct_base.specs.Line.{Line}
@@ -12,7 +12,7 @@ use Rattle.duct.specs.Follows.{IsAskedAt}
 use Rattle.duct.specs.Lookup.{hooks}
 use Rattle.duct.specs.Path.{Path}
 use Rattle.duct.specs.Plan.{Plan, Item}
-use Rattle.duct_follows.specs.Cause.{IsSameStop, TellsStop, Tells}
+use Rattle.duct_follows.specs.Cause.{TellsStop, Tells}
 use Rattle.duct_follows.specs.Given.{FoundNoMemory}
 use Rattle.duct_follows.specs.ScriptHooks.{allows, refuses}
 use Rattle.duct_follows.specs.Wiring.{wired_of}

@@ -4,7 +4,7 @@ ghost use Rattle.std.specs.Option.{option_copied};
 ghost use Rattle.duct_base.specs.Entry.{line_of};
 ghost use Rattle.duct_base.specs.Trace.{trace};
 ghost use Rattle.duct_base.specs.declared.system.Kind.TheVariants.{OutOfMemory};
-ghost use Rattle.duct.specs.Causes.{last_fault, StoppedBy, StoppedNext, HasCause};
+ghost use Rattle.duct.specs.Causes.{last_fault, AnswersLastFault, StoppedBy, StoppedNext, HasCause};
 ghost use Rattle.duct.specs.Plan.{AskSpawn};
 ghost use Rattle.duct_follows.specs.Cause.{IsSameStop, Tells};
 ghost use Rattle.duct_follows.specs.ScriptHooks.{allows, refuses};
@@ -65,6 +65,26 @@ pub fn last_fault(added: &[Entry]) -> Option<Fault>
                 fault_of(last)
             }
         }
+    }
+}
+
+/// Whether the error is that fault of the last entry which is no close, where that entry was refused.
+pub fn answers_last_fault(added: &[Entry], error: &Error) -> bool
+    ensures { IsTrue result ↔ AnswersLastFault (map line_of added.now) error.now }
+{
+    match last_fault(added) {
+        None => true,
+        Some(fault) => is_fault(error, fault),
+    }
+}
+
+/// Whether an error is this fault of the system.
+fn is_fault(error: &Error, fault: Fault) -> bool
+    ensures { IsTrue result ↔ (error.now ≡ Error.System fault) }
+{
+    match error {
+        Error::System(other) => *other == fault,
+        _ => false,
     }
 }
 

@@ -2,7 +2,7 @@
 use crate::hooks::{A, PIPE, command, none, redirected, refuses};
 use crate::journal::{ENVIRONMENT, INHERIT, INHERITED, Line, REFUSED, Streams, Tree, journal};
 use duct::{Error, Fault, Kind, Stdio};
-use duct_follows::causes::has_cause;
+use duct_follows::causes::{answers_last_fault, has_cause};
 use duct_plan::plan::plan;
 use duct_script::hook::Target;
 use std::process::Abort;
@@ -75,4 +75,17 @@ fn a_hook_that_refuses(rt: HostRuntime) -> Result<(), Fail> {
     has(&rt, &tree, &[ENVIRONMENT], Error::Hook(memory), true)?;
     let lines = [ENVIRONMENT, Line::Spawn(A, INHERITED)];
     has(&rt, &tree, &lines, Error::Hook(denied), false)
+}
+
+#[test]
+fn a_fault_is_the_answer(rt: HostRuntime) -> Result<(), Fail> {
+    let alloc = rt.alloc();
+    let refused = journal(alloc, &[ENVIRONMENT, Line::NoPipe, Line::Close(1)])?;
+    let other = Fault::new(Kind::NotFound);
+    assert!(rt; answers_last_fault(refused.as_slice(), &Error::System(REFUSED)));
+    assert!(rt; !answers_last_fault(refused.as_slice(), &Error::System(other)));
+    assert!(rt; !answers_last_fault(refused.as_slice(), &Error::Memory));
+    let clean = journal(alloc, &[ENVIRONMENT, Line::Pipe(1, 2), Line::Close(1)])?;
+    assert!(rt; answers_last_fault(clean.as_slice(), &Error::Memory));
+    Ok(())
 }
