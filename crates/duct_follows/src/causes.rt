@@ -16,6 +16,7 @@ use crate::chain::wired;
 use crate::follows::found_no_memory;
 use crate::stops::{fault_of, is_close};
 use duct_base::error::Error;
+use duct_base::spec::Hook;
 use duct_base::system::{Entry, Fault, Kind, Numbered};
 use duct_plan::asked::{Wired, asked_at};
 use duct_plan::found::hooks;
@@ -34,7 +35,7 @@ pub fn has_cause<E: Numbered>(
     added: &[Entry],
     error: &Error,
 ) -> Result<bool, AllocError>
-    ensures { IfOk result (λ yes. IsTrue yes ↔ HasCause allows refuses E.number_of (plan_view plan.now) (map line_of added.now) error.now) }
+    ensures { IfOk result (λ yes. IsTrue yes ↔ HasCause ⟦<ScriptHook as Hook>⟧.allows ⟦<ScriptHook as Hook>⟧.refuses E.number_of (plan_view plan.now) (map line_of added.now) error.now) }
 {
     match error {
         Error::System(fault) => Ok(is_last_fault(added, *fault)),

@@ -18,7 +18,7 @@ use crate::chain::wired;
 use crate::same::{same_spec, same_streams};
 use crate::stops::{is_clean, stops_at_fault};
 use duct_base::error::Error;
-use duct_base::spec::CommandSpec;
+use duct_base::spec::{CommandSpec, Hook};
 use duct_base::system::{Entry, Kind, Numbered, Stdio};
 use duct_plan::asked::{Wired, asked_at};
 use duct_plan::found::hooks;
@@ -37,7 +37,7 @@ pub fn follows<E: Numbered>(
     plan: &Plan<'_, E, ScriptHook>,
     added: &[Entry],
 ) -> Result<bool, AllocError>
-    ensures { IfOk result (λ yes. IsTrue yes ↔ Follows allows E.number_of (plan_view plan.now) (map line_of added.now)) }
+    ensures { IfOk result (λ yes. IsTrue yes ↔ Follows ⟦<ScriptHook as Hook>⟧.allows E.number_of (plan_view plan.now) (map line_of added.now)) }
 {
     let trace = trace(alloc, added)?;
     let items = plan.items.as_slice();
@@ -52,7 +52,7 @@ pub fn follows_whole<E: Numbered>(
     plan: &Plan<'_, E, ScriptHook>,
     added: &[Entry],
 ) -> Result<bool, AllocError>
-    ensures { IfOk result (λ yes. IsTrue yes ↔ FollowsWhole allows E.number_of (plan_view plan.now) (map line_of added.now)) }
+    ensures { IfOk result (λ yes. IsTrue yes ↔ FollowsWhole ⟦<ScriptHook as Hook>⟧.allows E.number_of (plan_view plan.now) (map line_of added.now)) }
 {
     let trace = trace(alloc, added)?;
     Ok(trace.len() == plan.items.len() && is_clean(added) && follows(alloc, plan, added)?)
