@@ -1,6 +1,6 @@
 -- Hooks that make one spec of a spec and no other make one of a command's spec and streams, and where one of them stops the
 -- start they make none.
-use Rattle.std.proofs.Common.{◌≡◌, ℕ, List, [], ◌∷◌, length, sym, ◌∙◌, ap, subst, inl, inr, ◌⊎◌}
+use Rattle.std.proofs.Common.{◌≡◌, List, [], ◌∷◌, sym, ◌∙◌, ap, subst, inl, inr}
 use Rattle.duct_base.specs.Origin.{Origin}
 use Rattle.duct_base.specs.Spec.{Spec}
 use Rattle.duct_base.specs.declared.error.Error.{Error}
@@ -8,7 +8,7 @@ use Rattle.duct_base.specs.declared.error.Error.TheVariants.{System, Checked, No
 use Rattle.duct_base.specs.declared.system.Fault.{Fault}
 use Rattle.duct_base.specs.declared.system.Kind.TheVariants.{OutOfMemory}
 use Rattle.duct.specs.Chain.{Wired, Allows, Refuses, Changes, Chain, Stops, ChainStops, settle}
-use Rattle.duct_follows.specs.Given.{IsDecided}
+use Rattle.duct_follows.specs.Given.{FoundNoMemory}
 
 -- each hook makes one spec of a spec
 abbrev pub MakesOne : {H : Type 0} → Allows H → Type 0
@@ -33,8 +33,8 @@ chain_one allows makes_one (hook ∷ hooks) before one other is also =
     chain_one allows makes_one hooks also.0 one other (subst (λ (between : Wired). Chain allows hooks between one) same is.2) also.2
 
 -- one hook that stops the start makes nothing
-stops_none : {H : Type 0} (allows : Allows H) (refuses : Refuses H) → MakesOne allows → MakesNone allows refuses →
-    (hook : H) (ends : List Origin) (before after : Wired) (error : Error) → IsDecided error → Stops allows refuses hook ends before error → ¬ (Changes allows hook ends before after)
+pub stops_none : {H : Type 0} (allows : Allows H) (refuses : Refuses H) → MakesOne allows → MakesNone allows refuses →
+    (hook : H) (ends : List Origin) (before after : Wired) (error : Error) → ¬ (FoundNoMemory error) → Stops allows refuses hook ends before error → ¬ (Changes allows hook ends before after)
 stops_none allows refuses makes_one makes_none hook ends before after (Hook fault) decided stops = λ is. makes_none hook before.spec is.0 fault stops decided is.1.allowed
 stops_none allows refuses makes_one makes_none hook ends before after (HookEnd place) decided stops =
     λ is. let same = makes_one hook before.spec stops.0 is.0 stops.1.allowed is.1.allowed in let there = is.2 in let missing = stops.2 in cc
@@ -46,7 +46,7 @@ stops_none allows refuses makes_one makes_none hook ends before after Memory dec
 
 -- hooks of which one stops the start make nothing
 pub chain_none : {H : Type 0} (allows : Allows H) (refuses : Refuses H) → MakesOne allows → MakesNone allows refuses →
-    (hooks : List (H × List Origin)) (before after : Wired) (error : Error) → IsDecided error → ChainStops allows refuses hooks before error → ¬ (Chain allows hooks before after)
+    (hooks : List (H × List Origin)) (before after : Wired) (error : Error) → ¬ (FoundNoMemory error) → ChainStops allows refuses hooks before error → ¬ (Chain allows hooks before after)
 chain_none allows refuses makes_one makes_none [] before after error decided stops = absurd stops
 chain_none allows refuses makes_one makes_none (hook ∷ hooks) before after error decided (inl stops) =
     λ is. stops_none allows refuses makes_one makes_none hook.0 hook.1 before is.0 error decided stops is.1

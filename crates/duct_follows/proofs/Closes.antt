@@ -1,7 +1,7 @@
 -- Closes have no fault.
-use Rattle.std.proofs.Common.{List, [], ◌∷◌, true}
+use Rattle.std.proofs.Common.{List, [], ◌∷◌}
 use Rattle.duct_base.specs.Line.{Line, Environment, Pipe, OpenRead, Create, Duplicate, Parent, Canonicalize, Spawn, Feed, Drain, Reader, Close}
-use Rattle.duct_base.specs.Trace.{is_close, OnlyCloses, StopsAtFault}
+use Rattle.duct_base.specs.Trace.{OnlyCloses, StopsAtFault}
 
 pub closes_stop : (lines : List Line) → OnlyCloses lines → StopsAtFault lines
 closes_stop [] only = tt

@@ -12,7 +12,7 @@ use Rattle.duct.specs.Follows.{IsGiven, IsAskedAt}
 use Rattle.duct.specs.Lookup.{hooks}
 use Rattle.duct.specs.Path.{Path}
 use Rattle.duct.specs.Plan.{Plan}
-use Rattle.duct_follows.specs.Given.{AreThese, AreAnswered, IsDecided, Decides}
+use Rattle.duct_follows.specs.Given.{AreThese, AreAnswered, FoundNoMemory, Decides}
 use Rattle.duct_follows.specs.ScriptHooks.{allows, refuses}
 use Rattle.duct_follows.specs.Wiring.{wired_of}
 use Rattle.duct_follows.proofs.Chains.{chain_one, chain_none}
@@ -35,7 +35,7 @@ answered_is wired asked is =
 
 module _ {E : Type 0} (lines : List Line) (plan : Plan E ScriptHook) (number_of : E → ℕ) (place : ℕ) (up : Path E ScriptHook) (words : List (List ℕ)) where
   -- a command's spec and streams are asked for by the tree
-  abbrev IsAskedHere : Wired → Type 0
+  abbrev pub IsAskedHere : Wired → Type 0
   IsAskedHere wired = IsAskedAt lines plan number_of place up words wired
 
   -- a spec and streams are to be given
@@ -43,11 +43,11 @@ module _ {E : Type 0} (lines : List Line) (plan : Plan E ScriptHook) (number_of 
   IsGivenHere spec streams = IsGiven allows number_of lines plan place up words spec streams
 
   -- what the answer stands for is asked for
-  answer_is_asked : (asked : answer.Wired) → IsAskedThere lines plan number_of place up words asked → IsAskedHere (wired_of asked)
+  pub answer_is_asked : (asked : answer.Wired) → IsAskedThere lines plan number_of place up words asked → IsAskedHere (wired_of asked)
   answer_is_asked asked there = subst IsAskedHere (answered_is there.0 asked there.2) there.1
 
   -- and nothing else
-  only_the_answer : (asked : answer.Wired) (wired : Wired) → IsAskedThere lines plan number_of place up words asked → IsAskedHere wired → wired ≡ wired_of asked
+  pub only_the_answer : (asked : answer.Wired) (wired : Wired) → IsAskedThere lines plan number_of place up words asked → IsAskedHere wired → wired ≡ wired_of asked
   only_the_answer asked wired there is = same_asked_at lines plan number_of place up words wired (wired_of asked) is (answer_is_asked asked there)
 
   given_these : (asked given : answer.Wired) → IsAskedThere lines plan number_of place up words asked →
@@ -64,7 +64,7 @@ module _ {E : Type 0} (lines : List Line) (plan : Plan E ScriptHook) (number_of 
       (to, back)
 
   given_none : (asked : answer.Wired) (error : Error) → IsAskedThere lines plan number_of place up words asked →
-      ChainStops allows refuses (lent number_of (hooks up)) (wired_of asked) error → IsDecided error →
+      ChainStops allows refuses (lent number_of (hooks up)) (wired_of asked) error → ¬ (FoundNoMemory error) →
       (spec : Spec) (streams : List (Stdio Origin)) → IsGivenHere spec streams ↔ ⊥
   given_none asked error there stops decided spec streams =
       let to : IsGivenHere spec streams → ⊥ = λ is.

@@ -1,8 +1,11 @@
 pub mod Chains
 pub mod Closes
 pub mod Given
+pub mod LastFault
+pub mod SameStop
 pub mod ScriptHooks
 pub mod Specs
+pub mod Stopped
 pub mod Texts
 pub mod Variables
 pub mod Wiring

@@ -22,12 +22,12 @@ abbrev pub AreAnswered : Option Wired → Spec → List (Stdio Origin) → Type 
 AreAnswered (Some given) spec streams = AreThese given spec streams
 AreAnswered None spec streams = ⊥
 
--- an error is not that of a hook that found no memory
-abbrev pub IsDecided : Error → Type 0
-IsDecided (Hook fault) = ¬ (fault.kind ≡ OutOfMemory)
-IsDecided _ = Unit {0}
+-- an error is that of a hook which found no memory
+abbrev pub FoundNoMemory : Error → Type 0
+FoundNoMemory (Hook fault) = fault.kind ≡ OutOfMemory
+FoundNoMemory _ = ⊥
 
 -- what the hooks made is the answer, and there is none where they stopped the start for another cause than want of memory
 abbrev pub Decides : Result Wired Error → Option Wired → Type 0
 Decides (Ok after) given = given ≡ Some after
-Decides (Err error) given = (given ≡ None) × IsDecided error
+Decides (Err error) given = (given ≡ None) × ¬ (FoundNoMemory error)

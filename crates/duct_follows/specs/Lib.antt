@@ -1,3 +1,4 @@
+pub mod Cause
 pub mod Given
 pub mod Same
 pub mod ScriptHooks

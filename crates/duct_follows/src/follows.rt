@@ -8,7 +8,7 @@ ghost use Rattle.duct_base.specs.Trace.{trace};
 ghost use Rattle.duct_base.specs.declared.system.Stdio.{Stdio};
 ghost use Rattle.duct.specs.Asked.{end_at};
 ghost use Rattle.duct.specs.Follows.{Answers, AnswersFrom, Follows, FollowsWhole, IsGiven};
-ghost use Rattle.duct_follows.specs.Given.{AreAnswered, IsDecided, Decides};
+ghost use Rattle.duct_follows.specs.Given.{AreAnswered, FoundNoMemory, Decides};
 ghost use Rattle.duct_follows.specs.ScriptHooks.{allows};
 ghost use Rattle.duct_plan.specs.Lines.{lines_of};
 ghost use Rattle.duct_plan.specs.PlanView.{item_of, plan_view};
@@ -18,7 +18,7 @@ use crate::chain::wired;
 use crate::same::{same_spec, same_streams};
 use crate::stops::{is_clean, stops_at_fault};
 use duct_base::error::Error;
-use duct_base::spec::CommandSpec;
+use duct_base::spec::{CommandSpec, Hook};
 use duct_base::system::{Entry, Kind, Numbered, Stdio};
 use duct_plan::asked::{Wired, asked_at};
 use duct_plan::found::hooks;
@@ -37,7 +37,7 @@ pub fn follows<E: Numbered>(
     plan: &Plan<'_, E, ScriptHook>,
     added: &[Entry],
 ) -> Result<bool, AllocError>
-    ensures { IfOk result (λ yes. IsTrue yes ↔ Follows allows E.number_of (plan_view plan.now) (map line_of added.now)) }
+    ensures { IfOk result (λ yes. IsTrue yes ↔ Follows ⟦<ScriptHook as Hook>⟧.allows E.number_of (plan_view plan.now) (map line_of added.now)) }
 {
     let trace = trace(alloc, added)?;
     let items = plan.items.as_slice();
@@ -52,7 +52,7 @@ pub fn follows_whole<E: Numbered>(
     plan: &Plan<'_, E, ScriptHook>,
     added: &[Entry],
 ) -> Result<bool, AllocError>
-    ensures { IfOk result (λ yes. IsTrue yes ↔ FollowsWhole allows E.number_of (plan_view plan.now) (map line_of added.now)) }
+    ensures { IfOk result (λ yes. IsTrue yes ↔ FollowsWhole ⟦<ScriptHook as Hook>⟧.allows E.number_of (plan_view plan.now) (map line_of added.now)) }
 {
     let trace = trace(alloc, added)?;
     Ok(trace.len() == plan.items.len() && is_clean(added) && follows(alloc, plan, added)?)
@@ -171,21 +171,21 @@ fn decided(made: Result<Wired, Error>) -> Result<Option<Wired>, AllocError>
     match made {
         Ok(after) => Ok(Some(after)),
         Err(error) => {
-            if is_decided(&error) {
-                Ok(None)
-            } else {
+            if found_no_memory(&error) {
                 Err(AllocError)
+            } else {
+                Ok(None)
             }
         }
     }
 }
 
-/// Whether an error is not that of a hook that found no memory.
-fn is_decided(error: &Error) -> bool
-    ensures { IsTrue result ↔ IsDecided error.now }
+/// Whether an error is that of a hook which found no memory.
+pub(crate) fn found_no_memory(error: &Error) -> bool
+    ensures { IsTrue result ↔ FoundNoMemory error.now }
 {
     match error {
-        Error::Hook(fault) => fault.kind != Kind::OutOfMemory,
-        _ => true,
+        Error::Hook(fault) => fault.kind == Kind::OutOfMemory,
+        _ => false,
     }
 }

@@ -63,7 +63,7 @@ fn only_closes(entries: &[Entry]) -> bool
 }
 
 /// Whether an entry is a close.
-fn is_close(entry: &Entry) -> bool
+pub(crate) fn is_close(entry: &Entry) -> bool
     ensures { result ≡ is_close (line_of entry.now) }
 {
     matches!(entry, Entry::Close(_))

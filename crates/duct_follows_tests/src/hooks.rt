@@ -14,7 +14,8 @@ use duct_script::system::{Script, ScriptEnd};
 use std::alloc::{AllocError, Global};
 use std::test::Fail;
 
-const A: &[&str] = &["a"];
+/// The words of the command `a`.
+pub const A: &[&str] = &["a"];
 
 /// A hook that makes this change.
 fn hook(alloc: Global, change: Change) -> Result<ScriptHook, AllocError> {
@@ -29,24 +30,24 @@ fn adds(alloc: Global, word: &str) -> Result<ScriptHook, AllocError> {
 }
 
 /// A hook that refuses each spec by this kind.
-fn refuses(alloc: Global, kind: Kind) -> ScriptHook {
+pub fn refuses(alloc: Global, kind: Kind) -> ScriptHook {
     let mut hook = ScriptHook::new(alloc);
     hook.answer = HookAnswer::Refuse(Fault::new(kind));
     hook
 }
 
 /// No ends.
-fn none(alloc: Global) -> Vec<ScriptEnd> {
+pub fn none(alloc: Global) -> Vec<ScriptEnd> {
     Vec::new(alloc)
 }
 
 /// The command `a`.
-fn command(alloc: Global) -> Result<Tree, Error> {
+pub fn command(alloc: Global) -> Result<Tree, Error> {
     cmd(alloc, "a", &[])
 }
 
 /// The command `a` with stdout captured, inside that a hook that lets stdout go to a target and has the end 1 beside it.
-fn redirected(alloc: Global, target: Target) -> Result<Tree, Fail> {
+pub fn redirected(alloc: Global, target: Target) -> Result<Tree, Fail> {
     let mut ends = Vec::new(alloc);
     ends.push(Script::new(alloc)?.adopt()?)?;
     let hook = hook(alloc, Change::Port(Stream::Out, target))?;
@@ -58,7 +59,8 @@ fn to(end: u64) -> Streams {
     [INHERIT, Stdio::End(end), INHERIT]
 }
 
-const PIPE: Line = Line::Pipe(2, 3);
+/// The capture pipe.
+pub const PIPE: Line = Line::Pipe(2, 3);
 
 #[test]
 fn the_end_beside_a_hook(rt: HostRuntime) -> Result<(), Fail> {

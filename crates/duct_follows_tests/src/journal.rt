@@ -51,7 +51,8 @@ pub enum Line {
     NoSpawn(&'static [&'static str], Streams),
 }
 
-const REFUSED: Fault = Fault { kind: Kind::Other };
+/// The fault of the requests that were refused.
+pub const REFUSED: Fault = Fault { kind: Kind::Other };
 
 fn text(alloc: Global, text: &str) -> Result<String, AllocError> {
     String::from_str(alloc, text)

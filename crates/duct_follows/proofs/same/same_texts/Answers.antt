@@ -1,5 +1,4 @@
-use Rattle.std.proofs.Common.{map, string_bytes, nat_eq}
-use Rattle.std.specs.Cmp.Lexicographic.{pointwise}
+use Rattle.std.proofs.Common.{string_bytes}
 use Rattle.duct_follows.proofs.Texts.{texts_decide}
 use Rattle.duct_follows.proofs.same.same_texts.Goals as goal
 

@@ -1,0 +1,197 @@
+//! Whether the error of a refused start has a cause, for hooks of the scripted system.
+ghost use Rattle.std.specs.Prelude.{◌≡◌, ◌↔◌, ◌⊎◌, [], map, string_bytes, slice_get, IfOk, IsTrue, Some};
+ghost use Rattle.std.specs.Option.{option_copied};
+ghost use Rattle.duct_base.specs.Entry.{line_of};
+ghost use Rattle.duct_base.specs.Trace.{trace};
+ghost use Rattle.duct_base.specs.declared.system.Kind.TheVariants.{OutOfMemory};
+ghost use Rattle.duct.specs.Causes.{last_fault, AnswersLastFault, StoppedBy, StoppedNext, HasCause};
+ghost use Rattle.duct.specs.Plan.{AskSpawn};
+ghost use Rattle.duct_follows.specs.Cause.{IsSameStop, Tells};
+ghost use Rattle.duct_follows.specs.ScriptHooks.{allows, refuses};
+ghost use Rattle.duct_follows.specs.Wiring.{hooks_of};
+ghost use Rattle.duct_plan.specs.PlanView.{item_of, plan_view};
+ghost use Rattle.duct_plan.specs.Way.{way_of};
+
+use crate::chain::wired;
+use crate::follows::found_no_memory;
+use crate::stops::{fault_of, is_close};
+use duct_base::error::Error;
+use duct_base::spec::Hook;
+use duct_base::system::{Entry, Fault, Kind, Numbered};
+use duct_plan::asked::{Wired, asked_at};
+use duct_plan::found::hooks;
+use duct_plan::items::{Item, Plan};
+use duct_plan::way::Crumb;
+use duct_script::checker::trace;
+use duct_script::hook::ScriptHook;
+use std::alloc::{AllocError, Global};
+
+/// Whether the error by which a start was refused has a cause in what was added: a system's fault but want of memory is that of
+/// the last entry which is no close, and a hook's error is that of the hooks of the next command. For this those hooks are run
+/// once more, over a spec of their own. Refused for want of memory, and where one of them refuses by `OutOfMemory`.
+pub fn has_cause<E: Numbered>(
+    alloc: Global,
+    plan: &Plan<'_, E, ScriptHook>,
+    added: &[Entry],
+    error: &Error,
+) -> Result<bool, AllocError>
+    ensures { IfOk result (λ yes. IsTrue yes ↔ HasCause ⟦<ScriptHook as Hook>⟧.allows ⟦<ScriptHook as Hook>⟧.refuses E.number_of (plan_view plan.now) (map line_of added.now) error.now) }
+{
+    match error {
+        Error::System(fault) => Ok(is_last_fault(added, *fault)),
+        Error::Hook(_) => is_stopped_next(alloc, plan, added, error),
+        Error::HookEnd(_) => is_stopped_next(alloc, plan, added, error),
+        Error::Memory => Ok(true),
+        _ => Ok(false),
+    }
+}
+
+/// Whether a fault is want of memory, or that of the last entry which is no close.
+fn is_last_fault(added: &[Entry], fault: Fault) -> bool
+    ensures { IsTrue result ↔ ((fault.kind ≡ OutOfMemory) ⊎ (last_fault (map line_of added.now) ≡ Some fault)) }
+{
+    fault.kind == Kind::OutOfMemory || last_fault(added) == Some(fault)
+}
+
+/// The fault of the last entry that is no close, if it was refused.
+pub fn last_fault(added: &[Entry]) -> Option<Fault>
+    ensures { result ≡ last_fault (map line_of added.now) }
+{
+    match added.split_last() {
+        None => None,
+        Some((last, earlier)) => {
+            if is_close(last) {
+                last_fault(earlier)
+            } else {
+                fault_of(last)
+            }
+        }
+    }
+}
+
+/// Whether the error is that fault of the last entry which is no close, where that entry was refused.
+pub fn answers_last_fault(added: &[Entry], error: &Error) -> bool
+    ensures { IsTrue result ↔ AnswersLastFault (map line_of added.now) error.now }
+{
+    match last_fault(added) {
+        None => true,
+        Some(fault) => is_fault(error, fault),
+    }
+}
+
+/// Whether an error is this fault of the system.
+fn is_fault(error: &Error, fault: Fault) -> bool
+    ensures { IsTrue result ↔ (error.now ≡ Error.System fault) }
+{
+    match error {
+        Error::System(other) => *other == fault,
+        _ => false,
+    }
+}
+
+/// Whether the next item of the plan is the spawn of a command whose hooks stop the start with this error.
+fn is_stopped_next<E: Numbered>(
+    alloc: Global,
+    plan: &Plan<'_, E, ScriptHook>,
+    added: &[Entry],
+    error: &Error,
+) -> Result<bool, AllocError>
+    ensures { IfOk result (λ yes. IsTrue yes ↔ StoppedNext allows refuses E.number_of (plan_view plan.now) (map line_of added.now) error.now) }
+{
+    let place = trace(alloc, added)?.len();
+    match item_at(plan.items.as_slice(), place) {
+        Some(item) => is_stopped_by(alloc, plan, added, place, item, error),
+        None => Ok(false),
+    }
+}
+
+/// The item at a place, if there is one.
+fn item_at<T>(items: &[T], place: usize) -> Option<&T>
+    ensures { option_copied result ≡ slice_get items.now place }
+{
+    items.get(place)
+}
+
+/// Whether the item at this place is the spawn of a command whose hooks stop the start with this error.
+fn is_stopped_by<E: Numbered>(
+    alloc: Global,
+    plan: &Plan<'_, E, ScriptHook>,
+    added: &[Entry],
+    place: usize,
+    item: &Item<'_, E, ScriptHook>,
+    error: &Error,
+) -> Result<bool, AllocError>
+    ensures { IfOk result (λ yes. IsTrue yes
+        ↔ StoppedBy allows refuses E.number_of (trace (map line_of added.now)) (plan_view plan.now) place (Some (item_of item.now)) error.now) }
+{
+    match item {
+        Item::Spawn(way, words) => {
+            is_stopped(alloc, plan, added, place, way.as_slice(), words, error)
+        }
+        _ => Ok(false),
+    }
+}
+
+/// Whether the hooks of the command whose item stands at this place stop the start with this error.
+fn is_stopped<E: Numbered>(
+    alloc: Global,
+    plan: &Plan<'_, E, ScriptHook>,
+    added: &[Entry],
+    place: usize,
+    way: &[Crumb<'_, E, ScriptHook>],
+    words: &[String],
+    error: &Error,
+) -> Result<bool, AllocError>
+    ensures { IfOk result (λ yes. IsTrue yes
+        ↔ StoppedBy allows refuses E.number_of (trace (map line_of added.now)) (plan_view plan.now) place (Some (AskSpawn (way_of way.now) (map string_bytes words.now))) error.now) }
+{
+    let trace = trace(alloc, added)?;
+    let asked = asked_at(alloc, plan, trace.as_slice(), place, way, words)?;
+    let hooks = hooks(alloc, way)?;
+    let found = hooks.as_slice();
+    stops_with(wired(asked, found), is_some_hook(found), error)
+}
+
+/// Whether there is a hook.
+fn is_some_hook<E, H>(hooks: &[(&H, &[E])]) -> bool
+    ensures { IsTrue result ↔ ¬ (hooks_of hooks.now ≡ []) }
+{
+    match hooks.split_first() {
+        None => false,
+        Some(_) => true,
+    }
+}
+
+/// Whether the hooks, if there are any, stopped the start with this error. Refused where a hook found no memory.
+fn stops_with(
+    made: Result<Wired, Error>,
+    some_hook: bool,
+    error: &Error,
+) -> Result<bool, AllocError>
+    ensures { IfOk result (Tells made some_hook error.now) }
+{
+    if found_no_memory(error) {
+        return Ok(some_hook);
+    }
+    match made {
+        Ok(_) => Ok(false),
+        Err(stop) => {
+            if found_no_memory(&stop) {
+                Err(AllocError)
+            } else {
+                Ok(is_same_stop(&stop, error))
+            }
+        }
+    }
+}
+
+/// Whether two errors of hooks are the same.
+fn is_same_stop(one: &Error, other: &Error) -> bool
+    ensures { IsTrue result ↔ IsSameStop one.now other.now }
+{
+    match (one, other) {
+        (Error::Hook(one), Error::Hook(other)) => one == other,
+        (Error::HookEnd(one), Error::HookEnd(other)) => one == other,
+        _ => false,
+    }
+}
