@@ -15,9 +15,9 @@ use std::alloc::{AllocError, Global};
 use std::collections::BTreeMap;
 use std::sync::Arc;
 
-// What a node asks of the one expression that it stands round.
+/// What a node asks of the one expression that it stands round. `Expression` has a call of the same name for each.
 #[derive(Drop)]
-pub(crate) enum Modifier<E, H> {
+pub enum Modifier<E, H> {
     StdinBytes(Arc<Vec<u8>>),
     StdinPath(String),
     StdinFile(E),
@@ -41,8 +41,9 @@ pub(crate) enum Modifier<E, H> {
     BeforeSpawn(H, Vec<E>),
 }
 
-// The words of a command are shared with the shape that a start answers.
-pub(crate) enum Node<E, H> {
+/// A node of a tree: a command with its words, the program first; a pipe from its left side to its right side; or a modifier
+/// round one expression. The words of a command are shared with the shape that a start answers.
+pub enum Node<E, H> {
     Cmd(Arc<Vec<String>>),
     Pipe(Arc<Node<E, H>>, Arc<Node<E, H>>),
     Io(Modifier<E, H>, Arc<Node<E, H>>),
@@ -114,8 +115,8 @@ fn words(alloc: Global, program: String, args: &[&str]) -> Result<Vec<String>, E
 }
 
 impl<E, H> Expression<E, H> {
-    // The outermost node.
-    pub(crate) fn root(&self) -> &Node<E, H>
+    /// The outermost node of the tree.
+    pub fn root(&self) -> &Node<E, H>
         ensures { result.now ≡ arc_value self.now.root }
     {
         &self.root

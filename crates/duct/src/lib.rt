@@ -5,6 +5,11 @@ mod expression;
 mod handle;
 mod start;
 
+/// The tree of an expression, for crates that read it.
+pub mod tree {
+    pub use crate::expression::{Modifier, Node};
+}
+
 pub use duct_base::error::Error;
 pub use duct_base::exe::{IntoExecutablePath, asks_canonical};
 pub use duct_base::pool::{Place, Pool};

@@ -1,0 +1,146 @@
+//! The spec and the streams that a tree asks for a command, before its hooks.
+ghost use Rattle.std.specs.Prelude.{◌≡◌, ◌≤◌, ◌↔◌, IsNone, IfOk, IfSome, map, string_bytes, count_by, ◌∷◌};
+ghost use Rattle.std.specs.Option.{option_map};
+ghost use Rattle.duct_base.specs.Spec.{pair_text};
+ghost use Rattle.duct.specs.Asked.{with_program, IsAsked};
+ghost use Rattle.duct.specs.Follows.{program_at};
+ghost use Rattle.duct.specs.Lookup.{folder};
+ghost use Rattle.duct_plan.specs.AskedOf.{IsAskedThere, IsAskedOf};
+ghost use Rattle.duct_plan.specs.Commands.{is_spawn};
+ghost use Rattle.duct_plan.specs.Lines.{lines_of};
+ghost use Rattle.duct_plan.specs.PlanView.{plan_view};
+ghost use Rattle.duct_plan.specs.Way.{way_of};
+
+use crate::found::{folder, goes};
+use crate::plan::{Item, Plan, is_canonical, program_of};
+use crate::streams::{port_to, streams_to};
+use crate::trace::{pairs_in, text_at};
+use crate::variables::variables;
+use crate::way::Crumb;
+use duct::{CommandSpec, Entry, Numbered, Stdio, Stream};
+use duct_base::spec::spec_of;
+use duct_script::checker::Source;
+use std::alloc::{AllocError, Global};
+
+/// The spec of a command, and where its three streams come from, in the order stdin, stdout, stderr.
+#[derive(Debug, Drop)]
+pub struct Asked {
+    pub spec: CommandSpec,
+    pub streams: [Stdio<Source>; 3],
+}
+
+/// What the tree asks for a command of the plan, before its hooks, where a start made this trace: its spec and its streams.
+/// Nothing where the plan has no such command. The commands are counted from 0, in the order of their items. Refused only for
+/// want of memory.
+pub fn asked<E: Numbered, H>(
+    alloc: Global,
+    plan: &Plan<'_, E, H>,
+    trace: &[&Entry],
+    i: usize,
+) -> Result<Option<Asked>, AllocError>
+    ensures none { IfOk result (λ asked. IsNone asked ↔ (count_by is_spawn (plan_view plan.now).items ≤ i)) }
+    ensures some { IfOk result (λ asked. IfSome asked (IsAskedOf (lines_of trace.now) (plan_view plan.now) E.number_of i)) }
+{
+    let Some(place) = plan.command(i) else {
+        return Ok(None);
+    };
+    match &plan.items[place] {
+        Item::Spawn(way, words) => Ok(Some(asked_at(
+            alloc,
+            plan,
+            trace,
+            place,
+            way.as_slice(),
+            words,
+        )?)),
+        _ => Ok(None),
+    }
+}
+
+/// What the tree asks for the command whose item stands at this place.
+fn asked_at<E: Numbered, H>(
+    alloc: Global,
+    plan: &Plan<'_, E, H>,
+    trace: &[&Entry],
+    place: usize,
+    way: &[Crumb<'_, E, H>],
+    words: &[String],
+) -> Result<Asked, AllocError>
+    ensures { IfOk result (IsAskedThere (lines_of trace.now) (plan_view plan.now) E.number_of place (way_of way.now) (map string_bytes words.now)) }
+{
+    let program = program_at(trace, place, way, words);
+    let spec = spec(alloc, pairs_in(trace), program, way, words)?;
+    let streams = streams_to(trace, plan, way);
+    Ok(Asked { spec, streams })
+}
+
+/// The program of the command whose item stands at this place: as the entry before made it canonical, or as it stands.
+fn program_at<'t, E, H>(
+    trace: &[&'t Entry],
+    place: usize,
+    way: &[Crumb<'_, E, H>],
+    words: &'t [String],
+) -> &'t str
+    ensures { result.now ≡ program_at (lines_of trace.now) place (way_of way.now) (map string_bytes words.now) }
+{
+    if is_canonical(way, words) {
+        text_at(trace, place.saturating_sub(1))
+    } else {
+        program_of(words)
+    }
+}
+
+/// The spec of a command.
+fn spec<E, H>(
+    alloc: Global,
+    pairs: &[(String, String)],
+    program: &str,
+    way: &[Crumb<'_, E, H>],
+    words: &[String],
+) -> Result<CommandSpec, AllocError>
+    ensures { IfOk result (IsAsked (map pair_text pairs.now) program.now (way_of way.now) (map string_bytes words.now)) }
+{
+    let words = with_program(alloc, program, words)?;
+    let folder = copied_folder(alloc, way)?;
+    let vars = variables(alloc, pairs, way)?;
+    let stdin = port_to(Stream::In, goes(way, Stream::In));
+    let stdout = port_to(Stream::Out, goes(way, Stream::Out));
+    let stderr = port_to(Stream::Err, goes(way, Stream::Err));
+    Ok(spec_of(words, folder, vars, stdin, stdout, stderr))
+}
+
+/// A copy of the words with this program in place of the first.
+fn with_program(alloc: Global, program: &str, words: &[String]) -> Result<Vec<String>, AllocError>
+    ensures { IfOk result (λ copy. map string_bytes copy.items ≡ with_program program.now (map string_bytes words.now)) }
+{
+    match words.split_first() {
+        None => Ok(Vec::new(alloc)),
+        Some((_, arguments)) => with_arguments(alloc, program, arguments),
+    }
+}
+
+/// A program and then a copy of its arguments.
+fn with_arguments(
+    alloc: Global,
+    program: &str,
+    arguments: &[String],
+) -> Result<Vec<String>, AllocError>
+    ensures { IfOk result (λ copy. map string_bytes copy.items ≡ program.now ∷ map string_bytes arguments.now) }
+{
+    let mut words = Vec::new(alloc);
+    words.push(String::from_str(alloc, program)?)?;
+    for argument in arguments {
+        words.push(argument.clone()?)?;
+    }
+    Ok(words)
+}
+
+/// A copy of the folder of a command, if it has one.
+fn copied_folder<E, H>(alloc: Global, way: &[Crumb<'_, E, H>]) -> Result<Option<String>, AllocError>
+    ensures { IfOk result (λ copy. option_map string_bytes copy ≡ folder (way_of way.now)) }
+{
+    match folder(way) {
+        Some(path) => Ok(Some(String::from_str(alloc, path)?)),
+        None => Ok(None),
+    }
+}

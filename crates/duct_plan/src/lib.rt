@@ -1,0 +1,11 @@
+//! What a start of an expression asks of the system, computed by plain, slow programs from the tree alone: the plan, what a
+//! command finds on its way outwards, and the spec and the streams that the tree asks for it.
+#![tactic(auto)]
+
+pub mod asked;
+pub mod found;
+pub mod plan;
+mod streams;
+mod trace;
+mod variables;
+pub mod way;
