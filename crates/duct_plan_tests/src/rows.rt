@@ -27,70 +27,66 @@ pub fn plans<R: Abort + AllocGlobal>(rt: &R, rows: &[PlanRow]) -> Result<(), Fai
     Ok(())
 }
 
-/// An expression, its plan, where the streams of each command go, and the ends that they are given when it starts.
+/// An expression, its plan, what each command finds on its way outwards, and what it is asked for when a start without a
+/// fault comes to it.
 #[derive(Clone, Copy)]
-pub struct StreamRow<'a> {
-    pub tree: &'a [Step<'a>],
-    pub plan: &'a str,
-    pub goes: &'a str,
-    pub given: &'a str,
-}
-
-/// Compares plans and streams.
-pub fn streams<R: Abort + AllocGlobal>(rt: &R, rows: &[StreamRow]) -> Result<(), Fail> {
-    for row in rows {
-        let tree = build(rt.alloc(), row.tree)?;
-        check_streams(rt, &plan(rt.alloc(), &tree)?, row)?;
-    }
-    Ok(())
-}
-
-/// Compares plans and streams of the start of a reader.
-pub fn readers<R: Abort + AllocGlobal>(rt: &R, rows: &[StreamRow]) -> Result<(), Fail> {
-    for row in rows {
-        let tree = build(rt.alloc(), row.tree)?;
-        check_streams(rt, &plan_of_reader(rt.alloc(), &tree)?, row)?;
-    }
-    Ok(())
-}
-
-fn check_streams<R: Abort + AllocGlobal>(
-    rt: &R,
-    plan: &TestPlan,
-    row: &StreamRow,
-) -> Result<(), Fail> {
-    let alloc = rt.alloc();
-    let text = plan_text(alloc, plan)?;
-    assert_eq!(rt; text.as_str(), row.plan);
-    let goes = found_text(alloc, plan, Find::Streams)?;
-    assert_eq!(rt; goes.as_str(), row.goes);
-    let given = given_text(alloc, plan, &[], Look::Streams)?;
-    assert_eq!(rt; given.as_str(), row.given);
-    Ok(())
-}
-
-/// An expression, its plan, and the folder of each command, under the program that it is started with.
-#[derive(Clone, Copy)]
-pub struct FolderRow<'a> {
+pub struct Row<'a> {
     pub tree: &'a [Step<'a>],
     pub plan: &'a str,
     pub finds: &'a str,
     pub given: &'a str,
 }
 
+/// Compares plans and streams.
+pub fn streams<R: Abort + AllocGlobal>(rt: &R, rows: &[Row]) -> Result<(), Fail> {
+    all(rt, rows, Find::Streams, Look::Streams)
+}
+
 /// Compares plans and folders.
-pub fn folders<R: Abort + AllocGlobal>(rt: &R, rows: &[FolderRow]) -> Result<(), Fail> {
-    let alloc = rt.alloc();
+pub fn folders<R: Abort + AllocGlobal>(rt: &R, rows: &[Row]) -> Result<(), Fail> {
+    all(rt, rows, Find::Folder, Look::Folder)
+}
+
+/// Compares plans, hooks with the ends beside them, and the streams before them.
+pub fn hooks<R: Abort + AllocGlobal>(rt: &R, rows: &[Row]) -> Result<(), Fail> {
+    all(rt, rows, Find::Hooks, Look::Streams)
+}
+
+fn all<R: Abort + AllocGlobal>(rt: &R, rows: &[Row], find: Find, look: Look) -> Result<(), Fail> {
     for row in rows {
-        let tree = build(alloc, row.tree)?;
-        let plan = plan(alloc, &tree)?;
-        let text = plan_text(alloc, &plan)?;
-        assert_eq!(rt; text.as_str(), row.plan);
-        let finds = found_text(alloc, &plan, Find::Folder)?;
-        assert_eq!(rt; finds.as_str(), row.finds);
-        let given = given_text(alloc, &plan, &[], Look::Folder)?;
-        assert_eq!(rt; given.as_str(), row.given);
+        let tree = build(rt.alloc(), row.tree)?;
+        compare(rt, &plan(rt.alloc(), &tree)?, row, find, look)?;
     }
+    Ok(())
+}
+
+/// Compares plans of readers, and what is looked at of their commands.
+pub fn readers<R: Abort + AllocGlobal>(
+    rt: &R,
+    rows: &[Row],
+    find: Find,
+    look: Look,
+) -> Result<(), Fail> {
+    for row in rows {
+        let tree = build(rt.alloc(), row.tree)?;
+        compare(rt, &plan_of_reader(rt.alloc(), &tree)?, row, find, look)?;
+    }
+    Ok(())
+}
+
+fn compare<R: Abort + AllocGlobal>(
+    rt: &R,
+    plan: &TestPlan,
+    row: &Row,
+    find: Find,
+    look: Look,
+) -> Result<(), Fail> {
+    let text = plan_text(rt.alloc(), plan)?;
+    assert_eq!(rt; text.as_str(), row.plan);
+    let finds = found_text(rt.alloc(), plan, find)?;
+    assert_eq!(rt; finds.as_str(), row.finds);
+    let given = given_text(rt.alloc(), plan, &[], look)?;
+    assert_eq!(rt; given.as_str(), row.given);
     Ok(())
 }
 
@@ -118,54 +114,29 @@ pub fn variables<R: Abort + AllocGlobal>(rt: &R, rows: &[VariableRow]) -> Result
     Ok(())
 }
 
-/// An expression, its plan, the hooks of each command with the ends beside them, and the streams before them.
-#[derive(Clone, Copy)]
-pub struct HookRow<'a> {
-    pub tree: &'a [Step<'a>],
-    pub plan: &'a str,
-    pub hooks: &'a str,
-    pub given: &'a str,
-}
-
-/// Compares plans, hooks and streams.
-pub fn hooks<R: Abort + AllocGlobal>(rt: &R, rows: &[HookRow]) -> Result<(), Fail> {
-    let alloc = rt.alloc();
-    for row in rows {
-        let tree = build(alloc, row.tree)?;
-        let plan = plan(alloc, &tree)?;
-        let text = plan_text(alloc, &plan)?;
-        assert_eq!(rt; text.as_str(), row.plan);
-        let hooks = found_text(alloc, &plan, Find::Hooks)?;
-        assert_eq!(rt; hooks.as_str(), row.hooks);
-        let given = given_text(alloc, &plan, &[], Look::Streams)?;
-        assert_eq!(rt; given.as_str(), row.given);
-    }
-    Ok(())
-}
-
-/// What each command is asked for by the trace of a start without a fault, in which the environment is answered with these
+/// What each command is asked for when a start without a fault comes to it, where the environment is answered with these
 /// variables.
-pub fn given_text(
+fn given_text(
     alloc: Global,
     plan: &TestPlan,
     parent: &[(&str, &str)],
     look: Look,
 ) -> Result<String, Fail> {
     let entries = entries(alloc, plan, parent)?;
-    let traced = trace(alloc, entries.as_slice())?;
-    asked_text(alloc, plan, traced.as_slice(), look)
+    asked_after(alloc, plan, entries.as_slice(), look)
 }
 
-/// What each command is asked for by a trace.
-pub fn asked_text(
+/// What each command is asked for, where a start made these entries.
+pub fn asked_after(
     alloc: Global,
     plan: &TestPlan,
-    traced: &[&Entry],
+    entries: &[Entry],
     look: Look,
 ) -> Result<String, Fail> {
     let mut text = String::new(alloc);
+    let traced = trace(alloc, entries)?;
     for i in 0..plan.items.len() {
-        match asked(alloc, plan, traced, i)? {
+        match asked(alloc, plan, traced.as_slice(), i)? {
             Some(asked) => push_asked(&mut text, &asked, look)?,
             None => return Ok(text),
         }
