@@ -1,0 +1,4 @@
+pub mod Around
+pub mod AskedThere
+pub mod Changed
+pub mod Counted

@@ -2,9 +2,9 @@
 use Rattle.std.specs.Prelude.{map, string_bytes}
 use Rattle.duct.specs.Plan as plan
 use Rattle.duct_plan.specs.Way.{way_of}
-use Rattle.duct_plan.specs.declared.plan.Item.{Item}
-use Rattle.duct_plan.specs.declared.plan.Item.TheVariants.{Environment, Pipe, OpenRead, Create, Canonicalize, Spawn, Feed, Drain, Reader}
-use Rattle.duct_plan.specs.declared.plan.Plan.{Plan}
+use Rattle.duct_plan.specs.declared.items.Item.{Item}
+use Rattle.duct_plan.specs.declared.items.Item.TheVariants.{Environment, Pipe, OpenRead, Create, Canonicalize, Spawn, Feed, Drain, Reader}
+use Rattle.duct_plan.specs.declared.items.Plan.{Plan}
 
 -- one request
 abbrev pub item_of : {E H : Type 0} → Item E H → plan.Item E H

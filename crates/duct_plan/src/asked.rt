@@ -12,7 +12,8 @@ ghost use Rattle.duct_plan.specs.PlanView.{plan_view};
 ghost use Rattle.duct_plan.specs.Way.{way_of};
 
 use crate::found::{folder, goes};
-use crate::plan::{Item, Plan, is_canonical, program_of};
+use crate::items::{Item, Plan};
+use crate::plan::{is_canonical, program_of};
 use crate::streams::{port_to, streams_to};
 use crate::trace::{pairs_in, text_at};
 use crate::variables::variables;
@@ -24,7 +25,7 @@ use std::alloc::{AllocError, Global};
 
 /// The spec of a command, and where its three streams come from, in the order stdin, stdout, stderr.
 #[derive(Debug, Drop)]
-pub struct Asked {
+pub struct Wired {
     pub spec: CommandSpec,
     pub streams: [Stdio<Source>; 3],
 }
@@ -37,7 +38,7 @@ pub fn asked<E: Numbered, H>(
     plan: &Plan<'_, E, H>,
     trace: &[&Entry],
     i: usize,
-) -> Result<Option<Asked>, AllocError>
+) -> Result<Option<Wired>, AllocError>
     ensures none { IfOk result (λ asked. IsNone asked ↔ (count_by is_spawn (plan_view plan.now).items ≤ i)) }
     ensures some { IfOk result (λ asked. IfSome asked (IsAskedOf (lines_of trace.now) (plan_view plan.now) E.number_of i)) }
 {
@@ -53,7 +54,7 @@ pub fn asked<E: Numbered, H>(
             way.as_slice(),
             words,
         )?)),
-        _ => Ok(None),
+        _ => unreachable!(),
     }
 }
 
@@ -65,13 +66,13 @@ fn asked_at<E: Numbered, H>(
     place: usize,
     way: &[Crumb<'_, E, H>],
     words: &[String],
-) -> Result<Asked, AllocError>
+) -> Result<Wired, AllocError>
     ensures { IfOk result (IsAskedThere (lines_of trace.now) (plan_view plan.now) E.number_of place (way_of way.now) (map string_bytes words.now)) }
 {
     let program = program_at(trace, place, way, words);
     let spec = spec(alloc, pairs_in(trace), program, way, words)?;
     let streams = streams_to(trace, plan, way);
-    Ok(Asked { spec, streams })
+    Ok(Wired { spec, streams })
 }
 
 /// The program of the command whose item stands at this place: as the entry before made it canonical, or as it stands.

@@ -1,7 +1,7 @@
 //! What a command finds on its way outwards: where its streams go, its folder, its variables and its hooks.
 ghost use Rattle.std.specs.Prelude.{ℕ, ◌≡◌, map, IfOk, reverse};
 ghost use Rattle.std.specs.Option.{option_copied, option_map};
-ghost use Rattle.duct_base.specs.Spec.{pair_text, value_of};
+ghost use Rattle.duct_base.specs.Spec.{pair_text, same_name, value_of};
 ghost use Rattle.duct.specs.Lookup.{goes, folder, variable, hooks};
 ghost use Rattle.duct.specs.Path.{within};
 ghost use Rattle.duct.specs.TreeOf.{layer_of};
@@ -12,6 +12,7 @@ use crate::way::Crumb;
 use duct::Stream;
 use duct::tree::Modifier;
 use std::alloc::{AllocError, Global};
+use std::collections::BTreeMap;
 
 /// Where a stream of a command goes.
 #[derive_where(Clone, Copy)]
@@ -47,7 +48,7 @@ pub fn goes<'t, E, H>(way: &[Crumb<'t, E, H>], stream: Stream) -> Target<'t, E>
 {
     match way.split_first() {
         None => Target::Parents(stream),
-        Some((crumb, up)) => match turn(crumb, stream) {
+        Some((crumb, up)) => match turn_at(crumb, stream) {
             Turn::Ends(target) => target,
             Turn::Follows(next) => goes(up, next),
         },
@@ -55,7 +56,7 @@ pub fn goes<'t, E, H>(way: &[Crumb<'t, E, H>], stream: Stream) -> Target<'t, E>
 }
 
 /// What a node does to a stream.
-fn turn<'t, E, H>(crumb: &Crumb<'t, E, H>, stream: Stream) -> Turn<'t, E>
+fn turn_at<'t, E, H>(crumb: &Crumb<'t, E, H>, stream: Stream) -> Turn<'t, E>
     ensures { Turns (crumb_of crumb.now) stream result }
 {
     match stream {
@@ -165,7 +166,7 @@ pub fn variable<'t, E, H>(
 {
     match way.split_first() {
         None => last_value(pairs, name),
-        Some((crumb, up)) => match decision(crumb, name) {
+        Some((crumb, up)) => match decision_at(crumb, name) {
             Decision::Value(value) => Some(value),
             Decision::Gone => None,
             Decision::Further => variable(pairs, up, name),
@@ -180,7 +181,7 @@ fn last_value<'t>(pairs: &'t [(String, String)], name: &str) -> Option<&'t str>
     match pairs.split_last() {
         None => None,
         Some((last, earlier)) => {
-            if last.0.as_str() == name {
+            if is_same(name, last.0.as_str()) {
                 Some(last.1.as_str())
             } else {
                 last_value(earlier, name)
@@ -190,7 +191,7 @@ fn last_value<'t>(pairs: &'t [(String, String)], name: &str) -> Option<&'t str>
 }
 
 /// What a node says of a variable.
-fn decision<'t, E, H>(crumb: &Crumb<'t, E, H>, name: &str) -> Decision<'t>
+fn decision_at<'t, E, H>(crumb: &Crumb<'t, E, H>, name: &str) -> Decision<'t>
     ensures { Decides (crumb_of crumb.now) name.now result }
 {
     match crumb {
@@ -204,13 +205,42 @@ fn decision_of<'t, E, H>(modifier: &'t Modifier<E, H>, name: &str) -> Decision<'
     ensures { (place : ℕ) → Decides (within place (layer_of modifier.now)) name.now result }
 {
     match modifier {
-        Modifier::Env(other, value) if name == other.as_str() => Decision::Value(value.as_str()),
-        Modifier::EnvRemove(other) if name == other.as_str() => Decision::Gone,
-        Modifier::FullEnv(vars) => match vars.get(name) {
-            Some(value) => Decision::Value(value.as_str()),
+        Modifier::Env(other, value) => {
+            if is_same(name, other.as_str()) {
+                Decision::Value(value.as_str())
+            } else {
+                Decision::Further
+            }
+        }
+        Modifier::EnvRemove(other) => {
+            if is_same(name, other.as_str()) {
+                Decision::Gone
+            } else {
+                Decision::Further
+            }
+        }
+        Modifier::FullEnv(vars) => match value_in(vars, name) {
+            Some(value) => Decision::Value(value),
             None => Decision::Gone,
         },
         _ => Decision::Further,
+    }
+}
+
+/// Whether two names are the same variable's.
+fn is_same(name: &str, other: &str) -> bool
+    ensures { result ≡ same_name name.now other.now }
+{
+    name == other
+}
+
+/// The value of a name in a map.
+fn value_in<'t>(vars: &'t BTreeMap<String, String>, name: &str) -> Option<&'t str>
+    ensures { option_copied result ≡ value_of name.now (map pair_text vars.now.entries) }
+{
+    match vars.get(name) {
+        Some(value) => Some(value.as_str()),
+        None => None,
     }
 }
 

@@ -4,6 +4,7 @@
 
 pub mod asked;
 pub mod found;
+pub mod items;
 pub mod plan;
 mod streams;
 mod trace;

@@ -1,62 +1,18 @@
 //! What a start asks of the system, made from the tree alone.
-ghost use Rattle.std.specs.Prelude.{◌≡◌, ◌≤◌, ◌↔◌, IsNone, IfSome, IfOk, map, string_bytes, count_by};
+ghost use Rattle.std.specs.Prelude.{◌≡◌, IfOk, map, string_bytes};
 ghost use Rattle.duct.specs.Plan.{asks, captures_out, captures_err, program_of, is_canonical, planned, begun, drains, reads, plan_of, plan_of_reader};
 ghost use Rattle.duct.specs.Tree.{command};
 ghost use Rattle.duct.specs.TreeOf.{layer_of, tree_of_node, tree_of};
-ghost use Rattle.duct_plan.specs.Commands.{is_spawn, IsCommandAt};
 ghost use Rattle.duct_plan.specs.Layers.{before, after, canonical};
 ghost use Rattle.duct_plan.specs.PlanView.{item_of, plan_view};
 ghost use Rattle.duct_plan.specs.Way.{way_of};
 
 use crate::found::folder;
+use crate::items::{Item, Plan};
 use crate::way::{Crumb, below, copied};
 use duct::tree::{Modifier, Node};
 use duct::{Expression, asks_canonical};
 use std::alloc::{AllocError, Global};
-use std::fmt;
-
-/// One request of a start. A place is that of another item of the same plan, from 0.
-#[derive(Drop)]
-pub enum Item<'t, E, H> {
-    Environment,
-    Pipe,
-    OpenRead(&'t str),
-    Create(&'t str),
-    Canonicalize(&'t str),
-    /// The child of a command: the way outwards from the command, and its words.
-    Spawn(Vec<Crumb<'t, E, H>>, &'t [String]),
-    /// A worker that writes these bytes to the pipe which the item at this place got.
-    Feed(usize, &'t [u8]),
-    /// A worker that reads the pipe which the item at this place got.
-    Drain(usize),
-    /// A reader of the pipe which the item at this place got.
-    Reader(usize),
-}
-
-/// The requests of a start in order, and the places of the capture pipes of stdout and of stderr, where they are open.
-#[derive(Drop)]
-pub struct Plan<'t, E, H> {
-    pub items: Vec<Item<'t, E, H>>,
-    pub out: Option<usize>,
-    pub err: Option<usize>,
-}
-
-impl<E, H> fmt::Debug for Item<'_, E, H> {
-    /// `Pipe`, `Create("f")`, `Feed(1, [120])`. A way is not shown: `Spawn(["a", "b"])`.
-    fn fmt<W: fmt::Write>(&self, f: &mut fmt::Formatter<W>) -> fmt::Result {
-        match self {
-            Item::Environment => write!(f, "Environment"),
-            Item::Pipe => write!(f, "Pipe"),
-            Item::OpenRead(path) => write!(f, "OpenRead({path:?})"),
-            Item::Create(path) => write!(f, "Create({path:?})"),
-            Item::Canonicalize(program) => write!(f, "Canonicalize({program:?})"),
-            Item::Spawn(_, words) => write!(f, "Spawn({words:?})"),
-            Item::Feed(place, bytes) => write!(f, "Feed({place:?}, {bytes:?})"),
-            Item::Drain(place) => write!(f, "Drain({place:?})"),
-            Item::Reader(place) => write!(f, "Reader({place:?})"),
-        }
-    }
-}
 
 /// The plan of a start: after all commands the workers of stdout's capture pipe, then of stderr's. Refused only for want of
 /// memory.
@@ -87,26 +43,6 @@ pub fn plan_of_reader<'t, E: Drop, H: Drop>(
     reads(out, drains(err, plan)?)
 }
 
-impl<E, H> Plan<'_, E, H> {
-    /// The place of the item that asks for the child of a command, if the plan has such a command. The commands are counted
-    /// from 0, in the order of their items.
-    pub fn command(&self, i: usize) -> Option<usize>
-        ensures some { IfSome result (IsCommandAt i (plan_view self.now).items) }
-        ensures none { IsNone result ↔ (count_by is_spawn (plan_view self.now).items ≤ i) }
-    {
-        let mut earlier = 0;
-        for place in 0..self.items.len() {
-            if let Item::Spawn(_, _) = self.items[place] {
-                if earlier == i {
-                    return Some(place);
-                }
-                earlier += 1;
-            }
-        }
-        None
-    }
-}
-
 /// A plan before its tree: the environment is asked first.
 fn begun<'t, E: Drop, H: Drop>(alloc: Global) -> Result<Plan<'t, E, H>, AllocError>
     ensures { IfOk result (λ plan. plan_view plan ≡ begun) }
@@ -125,7 +61,7 @@ fn asks<'t, E: Drop, H: Drop>(
     item: Item<'t, E, H>,
     plan: Plan<'t, E, H>,
 ) -> Result<Plan<'t, E, H>, AllocError>
-    ensures { IfOk result (λ more. plan_view more ≡ asks (item_of item) (plan_view plan)) }
+    ensures { IfOk result (λ more. plan_view more ≡ asks (item_of item.entry) (plan_view plan.entry)) }
 {
     let Plan {
         mut items,
@@ -138,7 +74,7 @@ fn asks<'t, E: Drop, H: Drop>(
 
 /// A plan in which stdout's capture pipe is open.
 fn captures_out<'t, E: Drop, H: Drop>(plan: Plan<'t, E, H>) -> Result<Plan<'t, E, H>, AllocError>
-    ensures { IfOk result (λ more. plan_view more ≡ captures_out (plan_view plan)) }
+    ensures { IfOk result (λ more. plan_view more ≡ captures_out (plan_view plan.entry)) }
 {
     if plan.out.is_some() {
         return Ok(plan);
@@ -151,7 +87,7 @@ fn captures_out<'t, E: Drop, H: Drop>(plan: Plan<'t, E, H>) -> Result<Plan<'t, E
 
 /// A plan in which stderr's capture pipe is open.
 fn captures_err<'t, E: Drop, H: Drop>(plan: Plan<'t, E, H>) -> Result<Plan<'t, E, H>, AllocError>
-    ensures { IfOk result (λ more. plan_view more ≡ captures_err (plan_view plan)) }
+    ensures { IfOk result (λ more. plan_view more ≡ captures_err (plan_view plan.entry)) }
 {
     if plan.err.is_some() {
         return Ok(plan);
@@ -167,7 +103,7 @@ fn drains<'t, E: Drop, H: Drop>(
     pipe: Option<usize>,
     plan: Plan<'t, E, H>,
 ) -> Result<Plan<'t, E, H>, AllocError>
-    ensures { IfOk result (λ more. plan_view more ≡ drains pipe (plan_view plan)) }
+    ensures { IfOk result (λ more. plan_view more ≡ drains pipe (plan_view plan.entry)) }
 {
     match pipe {
         None => Ok(plan),
@@ -180,7 +116,7 @@ fn reads<'t, E: Drop, H: Drop>(
     pipe: Option<usize>,
     plan: Plan<'t, E, H>,
 ) -> Result<Plan<'t, E, H>, AllocError>
-    ensures { IfOk result (λ more. plan_view more ≡ reads pipe (plan_view plan)) }
+    ensures { IfOk result (λ more. plan_view more ≡ reads pipe (plan_view plan.entry)) }
 {
     match pipe {
         None => Ok(plan),
@@ -206,13 +142,14 @@ pub(crate) fn is_canonical<E, H>(way: &[Crumb<'_, E, H>], words: &[String]) -> b
 }
 
 /// The plan after a tree that stands below this way: each node before what it wraps, the left side before the right.
+#[tactic(auto, using(crate::proofs::Around::planned_around))]
 fn planned<'t, E: Drop, H: Drop>(
     alloc: Global,
     way: &[Crumb<'t, E, H>],
     node: &'t Node<E, H>,
     plan: Plan<'t, E, H>,
 ) -> Result<Plan<'t, E, H>, AllocError>
-    ensures { IfOk result (λ after. plan_view after ≡ planned (way_of way.now) (tree_of_node node.now) (plan_view plan)) }
+    ensures { IfOk result (λ after. plan_view after ≡ planned (way_of way.now) (tree_of_node node.now) (plan_view plan.entry)) }
 {
     let place = plan.items.len();
     match node {
@@ -238,7 +175,7 @@ fn command<'t, E: Drop, H: Drop>(
     words: &'t [String],
     plan: Plan<'t, E, H>,
 ) -> Result<Plan<'t, E, H>, AllocError>
-    ensures { IfOk result (λ after. plan_view after ≡ planned (way_of way.now) (command (map string_bytes words.now)) (plan_view plan)) }
+    ensures { IfOk result (λ after. plan_view after ≡ planned (way_of way.now) (command (map string_bytes words.now)) (plan_view plan.entry)) }
 {
     let spawn = Item::Spawn(copied(alloc, way)?, words);
     asks(spawn, canonical(way, words, plan)?)
@@ -250,7 +187,7 @@ fn canonical<'t, E: Drop, H: Drop>(
     words: &'t [String],
     plan: Plan<'t, E, H>,
 ) -> Result<Plan<'t, E, H>, AllocError>
-    ensures { IfOk result (λ after. plan_view after ≡ canonical (way_of way.now) (map string_bytes words.now) (plan_view plan)) }
+    ensures { IfOk result (λ after. plan_view after ≡ canonical (way_of way.now) (map string_bytes words.now) (plan_view plan.entry)) }
 {
     if is_canonical(way, words) {
         asks(Item::Canonicalize(program_of(words)), plan)
@@ -264,7 +201,7 @@ fn before<'t, E: Drop, H: Drop>(
     modifier: &'t Modifier<E, H>,
     plan: Plan<'t, E, H>,
 ) -> Result<Plan<'t, E, H>, AllocError>
-    ensures { IfOk result (λ more. plan_view more ≡ before (layer_of modifier.now) (plan_view plan)) }
+    ensures { IfOk result (λ more. plan_view more ≡ before (layer_of modifier.now) (plan_view plan.entry)) }
 {
     match modifier {
         Modifier::StdinBytes(_) => asks(Item::Pipe, plan),
@@ -284,7 +221,7 @@ fn after<'t, E: Drop, H: Drop>(
     place: usize,
     plan: Plan<'t, E, H>,
 ) -> Result<Plan<'t, E, H>, AllocError>
-    ensures { IfOk result (λ more. plan_view more ≡ after (layer_of modifier.now) place (plan_view plan)) }
+    ensures { IfOk result (λ more. plan_view more ≡ after (layer_of modifier.now) place (plan_view plan.entry)) }
 {
     match modifier {
         Modifier::StdinBytes(bytes) => asks(Item::Feed(place, bytes.as_slice()), plan),

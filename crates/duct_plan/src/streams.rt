@@ -11,7 +11,7 @@ ghost use Rattle.duct_plan.specs.Way.{way_of};
 ghost use Rattle.duct_script.specs.Source.{origin_of};
 
 use crate::found::{Target, goes};
-use crate::plan::Plan;
+use crate::items::Plan;
 use crate::trace::{first_end, second_end};
 use crate::way::Crumb;
 use duct::{Entry, Numbered, Port, Side, Stdio, Stream};
@@ -19,7 +19,7 @@ use duct_script::checker::Source;
 
 /// The port of a stream that goes there: the parent's own stream at its own place is inherited.
 pub(crate) fn port_to<E>(stream: Stream, target: Target<'_, E>) -> Port
-    ensures { result ≡ port_to stream (target_of target) }
+    ensures { result ≡ port_to stream (target_of target.entry) }
 {
     match target {
         Target::Parents(parents) => {
@@ -45,7 +45,7 @@ fn stream_to<E: Numbered, H>(
     stream: Stream,
     target: Target<'_, E>,
 ) -> Stdio<Source>
-    ensures { stream_of origin_of result ≡ stream_to (lines_of trace.now) (plan_view plan.now) E.number_of stream (target_of target) }
+    ensures { stream_of origin_of result ≡ stream_to (lines_of trace.now) (plan_view plan.now) E.number_of stream (target_of target.entry) }
 {
     match target {
         Target::Parents(parents) => match (stream, parents) {

@@ -1,8 +1,10 @@
 //! The variables that a command is to have.
 ghost use Rattle.std.specs.Prelude.{ℕ, ◌≡◌, List, map, IfOk, reverse};
+ghost use Rattle.std.specs.BTreeMap.{IsOrdered};
 ghost use Rattle.std.specs.Cmp.Lexicographic.{slice_cmp};
 ghost use Rattle.std.specs.List.Sorted.{IsStrictlySortedBy};
 ghost use Rattle.std.specs.Ordering.{nat_cmp};
+ghost use Rattle.std.specs.String.{string_cmp};
 ghost use Rattle.duct_base.specs.Spec.{pair_text, value_of};
 ghost use Rattle.duct.specs.Path.{within};
 ghost use Rattle.duct.specs.TreeOf.{layer_of};
@@ -73,7 +75,21 @@ fn changed_by<E, H>(
             let _ = vars.remove(name.as_str());
             Ok(vars)
         }
-        Modifier::FullEnv(whole) => whole.clone(),
+        Modifier::FullEnv(whole) => {
+            let vars = copied(whole)?;
+            Ok(vars)
+        }
         _ => Ok(vars),
     }
+}
+
+/// A copy of some variables.
+fn copied(vars: &BTreeMap<String, String>) -> Result<BTreeMap<String, String>, AllocError>
+    ensures values { IfOk result (λ copy. map pair_text copy.entries ≡ map pair_text vars.now.entries) }
+    ensures ordered { IfOk result (λ copy. IsOrdered string_cmp copy) }
+{
+    let copy = vars.clone()?;
+    // A map that answers how long it is ensures that its names ascend.
+    let _ = copy.len();
+    Ok(copy)
 }

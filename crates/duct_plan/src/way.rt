@@ -24,7 +24,7 @@ pub(crate) fn below<'t, E, H>(
     crumb: Crumb<'t, E, H>,
     up: &[Crumb<'t, E, H>],
 ) -> Result<Vec<Crumb<'t, E, H>>, AllocError>
-    ensures { IfOk result (λ way. way.items ≡ crumb ∷ up.now) }
+    ensures { IfOk result (λ way. way.items ≡ crumb.entry ∷ up.now) }
 {
     let mut way = Vec::new(alloc);
     way.push(crumb)?;

@@ -1,0 +1,38 @@
+-- What the tree asks for a command, put together of its spec and its streams.
+use Rattle.std.specs.Prelude.{ℕ, List, map, true, Some, slice_get}
+use Rattle.std.specs.Option.{option_map}
+use Rattle.std.proofs.Common.{◌≡◌, refl, sym, subst}
+use Rattle.duct_base.specs.Line.{Line}
+use Rattle.duct_base.specs.Spec.{Vars}
+use Rattle.duct_base.specs.Streams.{stream_of}
+use Rattle.duct_base.specs.declared.spec.Stream.TheVariants.{In, Out, Err}
+use Rattle.duct.specs.Asked.{IsAsked, stream_to, streams_to}
+use Rattle.duct.specs.Follows.{pairs_in, program_at}
+use Rattle.duct.specs.Lookup.{goes}
+use Rattle.duct.specs.Path.{Path}
+use Rattle.duct.specs.Plan.{Plan}
+use Rattle.duct_plan.specs.AskedOf.{IsAskedThere}
+use Rattle.duct_plan.specs.Commands.{is_spawn}
+use Rattle.duct_plan.specs.PlanView.{item_of}
+use Rattle.duct_plan.specs.declared.asked.Wired.{Wired}
+use Rattle.duct_plan.specs.declared.items.Item.{Item}
+use Rattle.duct_plan.specs.declared.items.Item.TheVariants.{Environment, Pipe, OpenRead, Create, Canonicalize, Spawn, Feed, Drain, Reader}
+use Rattle.duct_script.specs.Source.{origin_of}
+
+pub asked_there : {E H : Type 0} (lines : List Line) (plan : Plan E H) (number_of : E → ℕ) (place : ℕ) (up : Path E H) (words : List (List ℕ)) (pairs : Vars) (program : List ℕ) (answer : Wired) →
+    pairs ≡ pairs_in lines → program ≡ program_at lines place up words → IsAsked pairs program up words answer.spec →
+    map (stream_of origin_of) answer.streams ≡ streams_to lines plan number_of up → IsAskedThere lines plan number_of place up words answer
+asked_there lines plan number_of place up words pairs program answer pairs_are program_is spec_is streams_are = (
+  record {
+    spec = answer.spec;
+    input = stream_to lines plan number_of In (goes up In);
+    output = stream_to lines plan number_of Out (goes up Out);
+    error = stream_to lines plan number_of Err (goes up Err);
+  },
+  record {
+    spec_is = subst (λ (ps : Vars). IsAsked ps (program_at lines place up words) up words answer.spec) pairs_are
+        (subst (λ (p : List ℕ). IsAsked pairs p up words answer.spec) program_is spec_is);
+    streams_are = refl;
+  },
+  record { spec_is = refl; streams_are = sym streams_are },
+)
