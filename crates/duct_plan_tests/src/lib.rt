@@ -2,6 +2,10 @@
 #![tactic(auto)]
 
 #[cfg(test)]
+mod asked;
+#[cfg(test)]
+mod expressions;
+#[cfg(test)]
 mod folders;
 #[cfg(test)]
 mod hooks;
@@ -17,7 +21,5 @@ mod streams;
 mod texts;
 #[cfg(test)]
 mod traces;
-#[cfg(test)]
-mod trees;
 #[cfg(test)]
 mod variables;

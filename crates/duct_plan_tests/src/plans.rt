@@ -1,224 +1,178 @@
 //! What a start asks, in order.
-use crate::rows::{PlanRow, plans};
+use crate::expressions::{Written, written};
+use crate::rows::rows;
 use crate::texts::plan_text;
-use crate::trees::{A, B, C, Label, LentEnd, Step, Tree, build};
 use duct::cmd;
 use duct_plan::plan::plan;
-use std::alloc::Global;
 use std::path::{Path, PathBuf};
 use std::process::Abort;
 use std::test::Fail;
 
-// A row of a tree and its plan.
-fn row<'a>(tree: &'a [Step<'a>], plan: &'a str) -> PlanRow<'a> {
-    PlanRow { tree, plan }
-}
-
 #[test]
 fn a_command_is_spawned_once_the_environment_is_known(rt: HostRuntime) -> Result<(), Fail> {
-    plans(
+    rows(
         &rt,
-        &[
-            row(&[A], "Environment, Spawn a"),
-            row(&[Step::Cmd(&["echo", "hi"])], "Environment, Spawn echo hi"),
-            row(&[A, Step::Unchecked], "Environment, Spawn a"),
-        ],
+        "
+        expression: a
+        plan: Environment, Spawn a
+
+        expression: echo,hi
+        plan: Environment, Spawn echo hi
+
+        expression: a unchecked
+        plan: Environment, Spawn a
+        ",
     )
 }
 
 #[test]
 fn a_pipe_is_opened_before_its_sides(rt: HostRuntime) -> Result<(), Fail> {
-    let foo = Step::Cmd(&["foo", "bar", "baz"]);
-    let bing = Step::Cmd(&["bing", "bong"]);
-    plans(
+    rows(
         &rt,
-        &[
-            row(&[A, B, Step::Pipe], "Environment, Pipe, Spawn a, Spawn b"),
-            row(
-                &[foo, bing, Step::Pipe],
-                "Environment, Pipe, Spawn foo bar baz, Spawn bing bong",
-            ),
-            row(
-                &[A, B, Step::Pipe, C, Step::Pipe],
-                "Environment, Pipe, Pipe, Spawn a, Spawn b, Spawn c",
-            ),
-            row(
-                &[A, B, C, Step::Pipe, Step::Pipe],
-                "Environment, Pipe, Spawn a, Pipe, Spawn b, Spawn c",
-            ),
-        ],
+        "
+        expression: a b pipe
+        plan: Environment, Pipe, Spawn a, Spawn b
+
+        expression: foo,bar,baz bing,bong pipe
+        plan: Environment, Pipe, Spawn foo bar baz, Spawn bing bong
+
+        expression: a b pipe c pipe
+        plan: Environment, Pipe, Pipe, Spawn a, Spawn b, Spawn c
+
+        expression: a b c pipe pipe
+        plan: Environment, Pipe, Spawn a, Pipe, Spawn b, Spawn c
+        ",
     )
 }
 
 #[test]
 fn the_outer_file_is_opened_first(rt: HostRuntime) -> Result<(), Fail> {
-    use Step::{StderrPath, StdinPath, StdoutNull, StdoutPath};
-    plans(
+    rows(
         &rt,
-        &[
-            row(
-                &[A, StdoutNull, StdoutPath("f")],
-                "Environment, Create f, Spawn a",
-            ),
-            row(
-                &[A, StdoutPath("in"), StdoutPath("out")],
-                "Environment, Create out, Create in, Spawn a",
-            ),
-            row(
-                &[A, StdinPath("i"), StdoutPath("o"), StderrPath("e")],
-                "Environment, Create e, Create o, OpenRead i, Spawn a",
-            ),
-            row(
-                &[A, StdinPath("i"), StdoutPath("y"), StdoutPath("x")],
-                "Environment, Create x, Create y, OpenRead i, Spawn a",
-            ),
-        ],
+        "
+        expression: a stdout_null stdout_path=f
+        plan: Environment, Create f, Spawn a
+
+        expression: a stdout_path=in stdout_path=out
+        plan: Environment, Create out, Create in, Spawn a
+
+        expression: a stdin_path=i stdout_path=o stderr_path=e
+        plan: Environment, Create e, Create o, OpenRead i, Spawn a
+
+        expression: a stdin_path=i stdout_path=y stdout_path=x
+        plan: Environment, Create x, Create y, OpenRead i, Spawn a
+        ",
     )
 }
 
 #[test]
 fn files_of_the_sides_of_a_pipe(rt: HostRuntime) -> Result<(), Fail> {
-    use Step::{Pipe, StderrPath, StdinPath};
-    plans(
+    rows(
         &rt,
-        &[
-            row(
-                &[A, StdinPath("i"), B, StderrPath("e"), Pipe],
-                "Environment, Pipe, OpenRead i, Spawn a, Create e, Spawn b",
-            ),
-            row(
-                &[A, B, Pipe, StderrPath("e")],
-                "Environment, Create e, Pipe, Spawn a, Spawn b",
-            ),
-        ],
+        "
+        expression: a stdin_path=i b stderr_path=e pipe
+        plan: Environment, Pipe, OpenRead i, Spawn a, Create e, Spawn b
+
+        expression: a b pipe stderr_path=e
+        plan: Environment, Create e, Pipe, Spawn a, Spawn b
+        ",
     )
 }
 
 #[test]
 fn a_captured_stream_has_one_pipe_and_one_worker(rt: HostRuntime) -> Result<(), Fail> {
-    use Step::{StdoutCapture, StdoutNull};
-    plans(
+    rows(
         &rt,
-        &[
-            row(
-                &[A, StdoutCapture],
-                "Environment, Pipe, Spawn a, Drain 1; stdout's capture at 1",
-            ),
-            row(
-                &[A, StdoutCapture, StdoutCapture],
-                "Environment, Pipe, Spawn a, Drain 1; stdout's capture at 1",
-            ),
-            row(
-                &[A, StdoutNull, StdoutCapture],
-                "Environment, Pipe, Spawn a, Drain 1; stdout's capture at 1",
-            ),
-        ],
+        "
+        expression: a stdout_capture
+        plan: Environment, Pipe, Spawn a, Drain 1; stdout's capture at 1
+
+        expression: a stdout_capture stdout_capture
+        plan: Environment, Pipe, Spawn a, Drain 1; stdout's capture at 1
+
+        expression: a stdout_null stdout_capture
+        plan: Environment, Pipe, Spawn a, Drain 1; stdout's capture at 1
+
+        expression: a stderr_capture stderr_capture
+        plan: Environment, Pipe, Spawn a, Drain 1; stderr's capture at 1
+        ",
     )
 }
 
 #[test]
 fn the_worker_of_stdout_comes_before_that_of_stderr(rt: HostRuntime) -> Result<(), Fail> {
-    use Step::{StderrCapture, StdoutCapture, Swap};
-    plans(
+    rows(
         &rt,
-        &[
-            row(
-                &[A, Swap, StdoutCapture, StderrCapture],
-                "Environment, Pipe, Pipe, Spawn a, Drain 2, Drain 1; stdout's capture at 2; stderr's capture at 1",
-            ),
-            row(
-                &[A, StderrCapture, StdoutCapture],
-                "Environment, Pipe, Pipe, Spawn a, Drain 1, Drain 2; stdout's capture at 1; stderr's capture at 2",
-            ),
-        ],
+        "
+        expression: a stdout_stderr_swap stdout_capture stderr_capture
+        plan: Environment, Pipe, Pipe, Spawn a, Drain 2, Drain 1; stdout's capture at 2; stderr's capture at 1
+
+        expression: a stderr_capture stdout_capture
+        plan: Environment, Pipe, Pipe, Spawn a, Drain 1, Drain 2; stdout's capture at 1; stderr's capture at 2
+        ",
     )
 }
 
 #[test]
 fn captures_below_pipes_are_opened_where_they_are_met(rt: HostRuntime) -> Result<(), Fail> {
-    use Step::{Pipe, StderrCapture, StdoutCapture};
-    plans(
+    rows(
         &rt,
-        &[
-            row(
-                &[A, StderrCapture, B, StderrCapture, Pipe],
-                "Environment, Pipe, Pipe, Spawn a, Spawn b, Drain 2; stderr's capture at 2",
-            ),
-            row(
-                &[A, B, StdoutCapture, Pipe],
-                "Environment, Pipe, Spawn a, Pipe, Spawn b, Drain 3; stdout's capture at 3",
-            ),
-            row(
-                &[A, B, StdoutCapture, Pipe, StdoutCapture],
-                "Environment, Pipe, Pipe, Spawn a, Spawn b, Drain 1; stdout's capture at 1",
-            ),
-        ],
+        "
+        expression: a stderr_capture b stderr_capture pipe
+        plan: Environment, Pipe, Pipe, Spawn a, Spawn b, Drain 2; stderr's capture at 2
+
+        expression: a b stdout_capture pipe
+        plan: Environment, Pipe, Spawn a, Pipe, Spawn b, Drain 3; stdout's capture at 3
+
+        expression: a b stdout_capture pipe stdout_capture
+        plan: Environment, Pipe, Pipe, Spawn a, Spawn b, Drain 1; stdout's capture at 1
+        ",
     )
 }
 
 #[test]
 fn bytes_are_fed_once_what_reads_them_runs(rt: HostRuntime) -> Result<(), Fail> {
-    use Step::{Pipe, StdinBytes, StdoutCapture};
-    plans(
+    rows(
         &rt,
-        &[
-            row(
-                &[A, StdinBytes("xxx")],
-                "Environment, Pipe, Spawn a, Feed 1 [120, 120, 120]",
-            ),
-            row(
-                &[A, StdinBytes("p"), StdinBytes("q")],
-                "Environment, Pipe, Pipe, Spawn a, Feed 2 [112], Feed 1 [113]",
-            ),
-            row(
-                &[A, StdinBytes("")],
-                "Environment, Pipe, Spawn a, Feed 1 []",
-            ),
-            row(
-                &[A, StdinBytes("xyz"), B, Pipe, StdoutCapture],
-                "Environment, Pipe, Pipe, Pipe, Spawn a, Feed 3 [120, 121, 122], Spawn b, Drain 1; stdout's capture at 1",
-            ),
-        ],
+        "
+        expression: a stdin_bytes=xxx
+        plan: Environment, Pipe, Spawn a, Feed 1 [120, 120, 120]
+
+        expression: a stdin_bytes=p stdin_bytes=q
+        plan: Environment, Pipe, Pipe, Spawn a, Feed 2 [112], Feed 1 [113]
+
+        expression: a stdin_bytes=
+        plan: Environment, Pipe, Spawn a, Feed 1 []
+
+        expression: a stdin_bytes=xyz b pipe stdout_capture
+        plan: Environment, Pipe, Pipe, Pipe, Spawn a, Feed 3 [120, 121, 122], Spawn b, Drain 1; stdout's capture at 1
+        ",
     )
 }
 
 #[test]
-fn lent_ends_ask_nothing(rt: HostRuntime) -> Result<(), Fail> {
-    use Step::{BeforeSpawn, Env, Pipe, StderrFile, StdinFile, StdoutFile};
-    plans(
+fn lent_ends_and_redirections_ask_nothing(rt: HostRuntime) -> Result<(), Fail> {
+    rows(
         &rt,
-        &[
-            row(
-                &[A, StdinFile(1), StdoutFile(2), StderrFile(3)],
-                "Environment, Spawn a",
-            ),
-            row(&[A, BeforeSpawn("hook", &[1, 2])], "Environment, Spawn a"),
-            row(
-                &[A, StdinFile(1), B, StdoutFile(2), Pipe, Env("A", "1")],
-                "Environment, Pipe, Spawn a, Spawn b",
-            ),
-        ],
-    )
-}
+        "
+        expression: a stdin_file=1 stdout_file=2 stderr_file=3
+        plan: Environment, Spawn a
 
-#[test]
-fn redirections_of_one_stream_to_the_other_ask_nothing(rt: HostRuntime) -> Result<(), Fail> {
-    use Step::{Pipe, StderrToStdout, StdoutToStderr, Swap, Unchecked};
-    plans(
-        &rt,
-        &[
-            row(
-                &[A, StdoutToStderr, B, StderrToStdout, Pipe, Unchecked],
-                "Environment, Pipe, Spawn a, Spawn b",
-            ),
-            row(&[A, Swap, Swap], "Environment, Spawn a"),
-        ],
+        expression: a before_spawn=hook,1,2
+        plan: Environment, Spawn a
+
+        expression: a stdout_to_stderr b stderr_to_stdout pipe unchecked
+        plan: Environment, Pipe, Spawn a, Spawn b
+
+        expression: a stdout_stderr_swap stdout_stderr_swap
+        plan: Environment, Spawn a
+        ",
     )
 }
 
 // Asserts the plan of an expression.
-fn is<R: Abort + AllocGlobal>(rt: &R, tree: &Tree, text: &str) -> Result<(), Fail> {
-    let shown = plan_text(rt.alloc(), &plan(rt.alloc(), tree)?)?;
+fn is<R: Abort + AllocGlobal>(rt: &R, expression: &Written, text: &str) -> Result<(), Fail> {
+    let shown = plan_text(rt.alloc(), &plan(rt.alloc(), expression)?)?;
     assert_eq!(rt; shown.as_str(), text);
     Ok(())
 }
@@ -255,47 +209,29 @@ fn a_program_given_as_a_path_gets_a_dot(rt: HostRuntime) -> Result<(), Fail> {
 
 #[test]
 fn a_hundred_unchecked_nodes_ask_nothing(rt: HostRuntime) -> Result<(), Fail> {
-    let mut tree = build(rt.alloc(), &[A, Step::StdinPath("i")])?;
+    let mut expression = written(rt.alloc(), "a stdin_path=i")?;
     for _ in 0..100 {
-        tree = tree.unchecked()?;
+        expression = expression.unchecked()?;
     }
-    is(&rt, &tree, "Environment, OpenRead i, Spawn a")
-}
-
-// The plan of some steps, each item by its debug text.
-fn debug_text(alloc: Global, steps: &[Step]) -> Result<String, Fail> {
-    let tree = build(alloc, steps)?;
-    let mut text = String::new(alloc);
-    for item in plan(alloc, &tree)?.items.iter() {
-        writeln!(text, "{item:?}")?;
-    }
-    Ok(text)
+    is(&rt, &expression, "Environment, OpenRead i, Spawn a")
 }
 
 #[test]
 fn items_print_what_they_ask(rt: HostRuntime) -> Result<(), Fail> {
-    use Step::{Cmd, Dir, StdinBytes, StdinPath, StdoutCapture, StdoutPath};
-    let text = debug_text(
-        rt.alloc(),
-        &[
-            Cmd(&["./a", "b"]),
-            Dir("d"),
-            StdinPath("i"),
-            StdoutPath("o"),
-            StdinBytes("x"),
-            StdoutCapture,
-        ],
-    )?;
+    let steps = "./a,b dir=d stdin_path=i stdout_path=o stdin_bytes=x stdout_capture";
+    let expression = written(rt.alloc(), steps)?;
+    let items = plan(rt.alloc(), &expression)?.items;
+    let text = format!(in rt.alloc(); "{items:?}")?;
     let wanted =
-        "Environment\nPipe\nPipe\nCreate(\"o\")\nOpenRead(\"i\")\nCanonicalize(\"./a\")\nSpawn([\"./a\", \"b\"])\nFeed(2, [120])\nDrain(1)\n";
+        "[Environment, Pipe, Pipe, Create(\"o\"), OpenRead(\"i\"), Canonicalize(\"./a\"), Spawn([\"./a\", \"b\"]), Feed(2, [120]), Drain(1)]";
     assert_eq!(rt; text.as_str(), wanted);
     Ok(())
 }
 
 #[test]
 fn commands_by_their_places(rt: HostRuntime) -> Result<(), Fail> {
-    let tree = build(rt.alloc(), &[A, B, C, Step::Pipe, Step::Pipe])?;
-    let plan = plan(rt.alloc(), &tree)?;
+    let expression = written(rt.alloc(), "a b c pipe pipe")?;
+    let plan = plan(rt.alloc(), &expression)?;
     for (command, place) in [(0, Some(2)), (1, Some(4)), (2, Some(5)), (3, None)] {
         assert_eq!(rt; plan.command(command), place);
     }

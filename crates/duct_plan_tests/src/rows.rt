@@ -1,7 +1,11 @@
-//! Rows of expressions with what has to come of them.
+//! Tables of what has to come of expressions. Each line has a key and a text. `expression` and `reader` begin a row, with the
+//! expression that is started, or started by a reader; `parent` has the parent's variables, `A:1,B:2`. Each other key names
+//! what is compared: `plan`; what each command finds on its way outwards: where its streams go (`goes`), `folders`, `variables`
+//! (of the names `A` to `D`, which are also those of its spec) and `hooks`; and what it is asked for when a start without a
+//! fault comes to it: the streams that it is `given`, and the words and the folder with which it `starts`.
+use crate::expressions::{pairs, written};
 use crate::texts::{Find, Look, TestPlan, found_text, plan_text, push_asked};
 use crate::traces::{entries, owned};
-use crate::trees::{Step, build};
 use duct_base::system::Entry;
 use duct_plan::asked::asked;
 use duct_plan::plan::{plan, plan_of_reader};
@@ -10,119 +14,105 @@ use std::alloc::Global;
 use std::process::Abort;
 use std::test::Fail;
 
-/// An expression and its plan.
+/// What the lines of a row speak of.
 #[derive(Clone, Copy)]
-pub struct PlanRow<'a> {
-    pub tree: &'a [Step<'a>],
-    pub plan: &'a str,
+struct Subject {
+    expression: &'static str,
+    reader: bool,
+    parent: &'static str,
 }
 
-/// Compares the plans.
-pub fn plans<R: Abort + AllocGlobal>(rt: &R, rows: &[PlanRow]) -> Result<(), Fail> {
-    for row in rows {
-        let tree = build(rt.alloc(), row.tree)?;
-        let text = plan_text(rt.alloc(), &plan(rt.alloc(), &tree)?)?;
-        assert_eq!(rt; text.as_str(), row.plan);
+/// Compares all rows of a table.
+pub fn rows<R: Abort + AllocGlobal>(rt: &R, table: &'static str) -> Result<(), Fail> {
+    let mut subject = None;
+    let mut compared = false;
+    for line in table.lines() {
+        if let Some((key, text)) = line.split_once(':') {
+            match next(subject, key.trim(), text.trim()) {
+                Some(begun) => subject = Some(begun),
+                None => {
+                    let there = subject.ok_or("no expression")?;
+                    compare(rt, there, key.trim(), text.trim())?;
+                    compared = true;
+                }
+            }
+        }
     }
+    assert!(rt; compared);
     Ok(())
 }
 
-/// An expression, its plan, what each command finds on its way outwards, and what it is asked for when a start without a
-/// fault comes to it.
-#[derive(Clone, Copy)]
-pub struct Row<'a> {
-    pub tree: &'a [Step<'a>],
-    pub plan: &'a str,
-    pub finds: &'a str,
-    pub given: &'a str,
-}
-
-/// Compares plans and streams.
-pub fn streams<R: Abort + AllocGlobal>(rt: &R, rows: &[Row]) -> Result<(), Fail> {
-    all(rt, rows, Find::Streams, Look::Streams)
-}
-
-/// Compares plans and folders.
-pub fn folders<R: Abort + AllocGlobal>(rt: &R, rows: &[Row]) -> Result<(), Fail> {
-    all(rt, rows, Find::Folder, Look::Folder)
-}
-
-/// Compares plans, hooks with the ends beside them, and the streams before them.
-pub fn hooks<R: Abort + AllocGlobal>(rt: &R, rows: &[Row]) -> Result<(), Fail> {
-    all(rt, rows, Find::Hooks, Look::Streams)
-}
-
-fn all<R: Abort + AllocGlobal>(rt: &R, rows: &[Row], find: Find, look: Look) -> Result<(), Fail> {
-    for row in rows {
-        let tree = build(rt.alloc(), row.tree)?;
-        compare(rt, &plan(rt.alloc(), &tree)?, row, find, look)?;
+/// The row after a line that begins it or says more of it.
+fn next(subject: Option<Subject>, key: &str, text: &'static str) -> Option<Subject> {
+    match key {
+        "expression" | "reader" => Some(Subject {
+            expression: text,
+            reader: key == "reader",
+            parent: "",
+        }),
+        "parent" => {
+            let Subject {
+                expression,
+                reader,
+                ..
+            } = subject?;
+            Some(Subject {
+                expression,
+                reader,
+                parent: text,
+            })
+        }
+        _ => None,
     }
-    Ok(())
-}
-
-/// Compares plans of readers, and what is looked at of their commands.
-pub fn readers<R: Abort + AllocGlobal>(
-    rt: &R,
-    rows: &[Row],
-    find: Find,
-    look: Look,
-) -> Result<(), Fail> {
-    for row in rows {
-        let tree = build(rt.alloc(), row.tree)?;
-        compare(rt, &plan_of_reader(rt.alloc(), &tree)?, row, find, look)?;
-    }
-    Ok(())
 }
 
 fn compare<R: Abort + AllocGlobal>(
     rt: &R,
-    plan: &TestPlan,
-    row: &Row,
-    find: Find,
-    look: Look,
+    subject: Subject,
+    key: &str,
+    wanted: &str,
 ) -> Result<(), Fail> {
-    let text = plan_text(rt.alloc(), plan)?;
-    assert_eq!(rt; text.as_str(), row.plan);
-    let finds = found_text(rt.alloc(), plan, find)?;
-    assert_eq!(rt; finds.as_str(), row.finds);
-    let given = given_text(rt.alloc(), plan, &[], look)?;
-    assert_eq!(rt; given.as_str(), row.given);
+    let shown = shown(rt.alloc(), subject, key)?;
+    let Subject { expression, .. } = subject;
+    assert_eq!(rt; shown.as_str(), wanted, "{key} of {expression}");
     Ok(())
 }
 
-/// An expression, the parent's variables, and the variables of each command, which are all of `A`, `B`, `C` and `D`.
-#[derive(Clone, Copy)]
-pub struct VariableRow<'a> {
-    pub tree: &'a [Step<'a>],
-    pub parent: &'a [(&'a str, &'a str)],
-    pub given: &'a str,
-}
-
-/// Compares variables, those of the look-up by name and those of the spec.
-pub fn variables<R: Abort + AllocGlobal>(rt: &R, rows: &[VariableRow]) -> Result<(), Fail> {
-    let alloc = rt.alloc();
-    for row in rows {
-        let tree = build(alloc, row.tree)?;
-        let plan = plan(alloc, &tree)?;
-        let parent = owned(alloc, row.parent)?;
-        let find = Find::Variables(&["A", "B", "C", "D"], parent.as_slice());
-        let finds = found_text(alloc, &plan, find)?;
-        assert_eq!(rt; finds.as_str(), row.given);
-        let given = given_text(alloc, &plan, row.parent, Look::Variables)?;
-        assert_eq!(rt; given.as_str(), row.given);
+/// What is compared, as it is.
+fn shown(alloc: Global, subject: Subject, key: &str) -> Result<String, Fail> {
+    let expression = written(alloc, subject.expression)?;
+    let plan = if subject.reader {
+        plan_of_reader(alloc, &expression)?
+    } else {
+        plan(alloc, &expression)?
+    };
+    match key {
+        "plan" => Ok(plan_text(alloc, &plan)?),
+        "goes" => Ok(found_text(alloc, &plan, Find::Streams)?),
+        "folders" => Ok(found_text(alloc, &plan, Find::Folder)?),
+        "hooks" => Ok(found_text(alloc, &plan, Find::Hooks)?),
+        "given" => given(alloc, &plan, "", Look::Streams),
+        "starts" => given(alloc, &plan, "", Look::Folder),
+        "variables" => variables(alloc, &plan, subject.parent),
+        _ => Err(Fail::from("no such line")),
     }
-    Ok(())
 }
 
-/// What each command is asked for when a start without a fault comes to it, where the environment is answered with these
-/// variables.
-fn given_text(
-    alloc: Global,
-    plan: &TestPlan,
-    parent: &[(&str, &str)],
-    look: Look,
-) -> Result<String, Fail> {
-    let entries = entries(alloc, plan, parent)?;
+/// The variables that each command finds by their names, where they are those of its spec.
+fn variables(alloc: Global, plan: &TestPlan, parent: &str) -> Result<String, Fail> {
+    let pairs = owned(alloc, pairs(alloc, parent)?.as_slice())?;
+    let find = Find::Variables(&["A", "B", "C", "D"], pairs.as_slice());
+    let found = found_text(alloc, plan, find)?;
+    let given = given(alloc, plan, parent, Look::Variables)?;
+    if found.as_str() == given.as_str() {
+        return Ok(found);
+    }
+    Ok(format!(in alloc; "found {found}, given {given}")?)
+}
+
+/// What each command is asked for when a start without a fault comes to it.
+fn given(alloc: Global, plan: &TestPlan, parent: &str, look: Look) -> Result<String, Fail> {
+    let entries = entries(alloc, plan, pairs(alloc, parent)?.as_slice())?;
     asked_after(alloc, plan, entries.as_slice(), look)
 }
 

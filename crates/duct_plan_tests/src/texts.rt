@@ -1,9 +1,9 @@
 //! Plans, and what a command finds and is given, in words.
-use crate::trees::{Label, LentEnd};
+use crate::expressions::{Label, LentEnd};
 use duct::{CommandSpec, Numbered, Port, Stdio, Stream};
-use duct_plan::asked::Asked;
+use duct_plan::asked::Wired;
 use duct_plan::found::{Target, folder, goes, hooks, variable};
-use duct_plan::plan::{Item, Plan};
+use duct_plan::items::{Item, Plan};
 use duct_plan::way::Crumb;
 use duct_script::checker::Source;
 use std::alloc::{AllocError, Global};
@@ -158,7 +158,7 @@ pub enum Look {
 }
 
 /// What a command is asked for.
-pub fn push_asked(text: &mut String, asked: &Asked, look: Look) -> Result<(), Fail> {
+pub fn push_asked(text: &mut String, asked: &Wired, look: Look) -> Result<(), Fail> {
     begin(text, asked.spec.words())?;
     match look {
         Look::Streams => {

@@ -1,9 +1,9 @@
 //! The trace of a start that meets no fault. Ends and children take the numbers from 1 in the order of the requests, of a
 //! pipe the read end before the write end.
-use crate::trees::{Label, LentEnd};
+use crate::expressions::{Label, LentEnd};
 use duct_base::spec::{CommandSpec, Port, spec_of};
 use duct_base::system::{Entry, Stdio};
-use duct_plan::plan::{Item, Plan};
+use duct_plan::items::{Item, Plan};
 use std::alloc::{AllocError, Global};
 use std::collections::BTreeMap;
 use std::sync::Arc;
