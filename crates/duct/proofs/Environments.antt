@@ -41,10 +41,10 @@ value_of-append name (x ∷ xs) ys =
     [ true ↦ refl | false ↦ value_of-append name xs ys ]
 
 -- two names that are the same are the same bytes
-same_name-is : (name other : List ℕ) → same_name name other ≡ true → name ≡ other
+pub same_name-is : (name other : List ℕ) → same_name name other ≡ true → name ≡ other
 same_name-is name other same = (bytes_eq-Decides name other).0 (sym (is_eq-slice_cmp name other) ∙ same)
 
-same_name-refl : (name other : List ℕ) → name ≡ other → same_name name other ≡ true
+pub same_name-refl : (name other : List ℕ) → name ≡ other → same_name name other ≡ true
 same_name-refl name other is = is_eq-slice_cmp name other ∙ (bytes_eq-Decides name other).1 is
 
 equal_case : (b c : Bool) (v x : List ℕ) (rest : Option (List ℕ)) → b ≡ c → cond c (Some v) rest ≡ cond b (Some v) (cond c (Some x) rest)

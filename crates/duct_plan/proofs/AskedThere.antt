@@ -1,6 +1,5 @@
 -- What the tree asks for a command, put together of its spec and its streams.
-use Rattle.std.specs.Prelude.{ℕ, List, map, true, Some, slice_get}
-use Rattle.std.specs.Option.{option_map}
+use Rattle.std.specs.Prelude.{ℕ, List, map}
 use Rattle.std.proofs.Common.{◌≡◌, refl, sym, subst}
 use Rattle.duct_base.specs.Line.{Line}
 use Rattle.duct_base.specs.Spec.{Vars}
@@ -12,11 +11,7 @@ use Rattle.duct.specs.Lookup.{goes}
 use Rattle.duct.specs.Path.{Path}
 use Rattle.duct.specs.Plan.{Plan}
 use Rattle.duct_plan.specs.AskedOf.{IsAskedThere}
-use Rattle.duct_plan.specs.Commands.{is_spawn}
-use Rattle.duct_plan.specs.PlanView.{item_of}
 use Rattle.duct_plan.specs.declared.asked.Wired.{Wired}
-use Rattle.duct_plan.specs.declared.items.Item.{Item}
-use Rattle.duct_plan.specs.declared.items.Item.TheVariants.{Environment, Pipe, OpenRead, Create, Canonicalize, Spawn, Feed, Drain, Reader}
 use Rattle.duct_script.specs.Source.{origin_of}
 
 pub asked_there : {E H : Type 0} (lines : List Line) (plan : Plan E H) (number_of : E → ℕ) (place : ℕ) (up : Path E H) (words : List (List ℕ)) (pairs : Vars) (program : List ℕ) (answer : Wired) →

@@ -12,23 +12,13 @@ use Rattle.std.specs.Ordering.{nat_cmp, is_eq}
 use Rattle.std.specs.String.{string_cmp}
 use Rattle.std.proofs.Common.{◌≡◌, ◌+◌, ◌<◌, ◌++◌, length, take, get_or, refl, ap, sym, ◌∙◌, subst}
 use Rattle.std.proofs.lemmas.List.{map-append, take_more}
-use Rattle.std.proofs.lemmas.List.Sums.{fold-append}
-use Rattle.std.proofs.lemmas.Map.Text.{is_eq-slice_cmp}
-use Rattle.std.proofs.lemmas.Slice.Eq.{bytes_eq-Decides}
 use Rattle.duct_base.proofs.Entries.{insert_texts, remove_texts}
 use Rattle.duct_base.specs.Spec.{Vars, pair_text, same_name, value_of, without_var}
-use Rattle.duct.proofs.Environments.{value_of-insert, names_ascend}
+use Rattle.duct.proofs.Environments.{same_name-is, same_name-refl, value_of-insert, names_ascend, last_values-more}
 use Rattle.duct.specs.LastValues.{last_values}
-use Rattle.duct.specs.Path.{Path, within}
+use Rattle.duct.specs.Path.{within}
 use Rattle.duct.specs.Tree.{env, env_remove, full_env}
-use Rattle.duct_plan.specs.Variables.{AreFound, Changes}
-
--- two names that are the same are the same bytes
-same_name-is : (name other : List ℕ) → same_name name other ≡ true → name ≡ other
-same_name-is name other same = (bytes_eq-Decides name other).0 (sym (is_eq-slice_cmp name other) ∙ same)
-
-same_name-refl : (name other : List ℕ) → name ≡ other → same_name name other ≡ true
-same_name-refl name other is = is_eq-slice_cmp name other ∙ (bytes_eq-Decides name other).1 is
+use Rattle.duct_plan.specs.Variables.{Changes}
 
 -- the names of some variables
 abbrev names : Vars → List (List ℕ)
@@ -89,11 +79,10 @@ pub last_more : {Z : Type 0} (es new pairs : List (String Z × String Z)) (i : �
 last_more es new pairs i item name value low is same_name same_value so_far put =
     let front : take (i + 1) pairs ≡ take i pairs ++ item ∷ [] = take_more pairs i item low ∙ ap (λ p. take i pairs ++ p ∷ []) (sym is) in
     let text : (string_bytes name, string_bytes value) ≡ pair_text item = cc in
-    ap (λ xs. map pair_text xs) put ∙ insert_texts es name value
-    ∙ ap (λ (vars : Vars). insert_entry (slice_cmp nat_cmp) vars (string_bytes name) (string_bytes value)) so_far
-    ∙ ap (λ (p : List ℕ × List ℕ). insert_entry (slice_cmp nat_cmp) (last_values (map pair_text (take i pairs))) p.0 p.1) text
-    ∙ sym (ap (λ xs. last_values (map pair_text xs)) front ∙ ap last_values (map-append pair_text (take i pairs) (item ∷ []))
-    ∙ fold-append (λ vars pair. insert_entry (slice_cmp nat_cmp) vars pair.0 pair.1) [] (map pair_text (take i pairs)) (pair_text item ∷ []))
+    last_values-more es new (take i pairs) name value so_far put
+    ∙ ap last_values
+    (map-append pair_text (take i pairs) ((name, value) ∷ []) ∙ ap (λ (p : List ℕ × List ℕ). map pair_text (take i pairs) ++ p ∷ []) text
+    ∙ sym (ap (λ xs. map pair_text xs) front ∙ map-append pair_text (take i pairs) (item ∷ [])))
 
 module _ {E H Z : Type 0} (place : ℕ) (es new : List (String Z × String Z)) where
   -- a pair that was put in

@@ -1,5 +1,5 @@
 -- A layer by its steps.
-use Rattle.std.proofs.Common.{ap, ◌∙◌, ◌≡◌, length, map, arith}
+use Rattle.std.proofs.Common.{ap, ◌≡◌, length, map, arith}
 use Rattle.std.proofs.lemmas.List.{length-map}
 use Rattle.std.proofs.lemmas.Result.{IfOk-weaker}
 use Rattle.std.specs.Arc.{arc_value}

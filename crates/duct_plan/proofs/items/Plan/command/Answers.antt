@@ -1,5 +1,5 @@
 -- The item at the place asks for a child, and as many before it do as are counted.
-use Rattle.std.proofs.Common.{sym, ◌∙◌, ap, arith, ◌≡◌, ◌<◌, ◌≤◌, length, map, take, true}
+use Rattle.std.proofs.Common.{sym, ◌∙◌, ap, arith, ◌<◌, map, take}
 use Rattle.std.specs.Prelude.{count_by}
 use Rattle.duct_plan.proofs.Counted.{passes_at, count_front, more_than_before}
 use Rattle.duct_plan.specs.Commands.{is_spawn}
