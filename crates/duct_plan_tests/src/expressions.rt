@@ -1,6 +1,7 @@
 //! Expressions that are written as texts, so that a test can be a table: `a stdin_null b pipe` is `a.stdin_null().pipe(&b)`.
-//! A call that has arguments is followed by `=`, its texts are parted by commas: `a env=A,2 dir=/in`. A word that is no call is a command:
-//! `echo,hi` has two words. `before_spawn=x,7,8` is a hook of the name `x` with the ends of the numbers 7 and 8 beside it.
+//! The arguments of a call stand behind a `=` and are parted by commas: `a env=A,2 dir=/in`, and pairs by colons:
+//! `full_env=A:1,B:2`. A word that is no call is a command: `echo,hi` has two words. `before_spawn=x,7,8` is a hook of the name
+//! `x`, with the ends of the numbers 7 and 8 beside it.
 use duct::{Expression, Numbered};
 use std::alloc::{AllocError, Global};
 use std::test::Fail;
@@ -19,13 +20,13 @@ impl Numbered for LentEnd {
     }
 }
 
-/// What stands for a hook: a name to know it by.
-pub type Label = &'static str;
+/// What stands for a hook: the name that it is known by.
+pub type HookName = String;
 
-pub type Written = Expression<LentEnd, Label>;
+pub type Written = Expression<LentEnd, HookName>;
 
 /// The expression of a text.
-pub fn written(alloc: Global, text: &'static str) -> Result<Written, Fail> {
+pub fn written(alloc: Global, text: &str) -> Result<Written, Fail> {
     let mut built = Vec::new(alloc);
     for step in text.split_whitespace() {
         let made = match step.split_once('=') {
@@ -84,12 +85,7 @@ fn redirected(inner: &Written, call: &str) -> Result<Written, Fail> {
 }
 
 /// A call with arguments.
-fn with_values(
-    alloc: Global,
-    inner: &Written,
-    call: &str,
-    values: &'static str,
-) -> Result<Written, Fail> {
+fn with_values(alloc: Global, inner: &Written, call: &str, values: &str) -> Result<Written, Fail> {
     Ok(match call {
         "stdin_bytes" => inner.stdin_bytes(Vec::from_slice(alloc, values.as_bytes())?)?,
         "stdin_path" => inner.stdin_path(values)?,
@@ -103,21 +99,20 @@ fn with_values(
 }
 
 /// A call with arguments that is on no stream.
-fn surrounded(
-    alloc: Global,
-    inner: &Written,
-    call: &str,
-    values: &'static str,
-) -> Result<Written, Fail> {
+fn surrounded(alloc: Global, inner: &Written, call: &str, values: &str) -> Result<Written, Fail> {
     let (first, rest) = values.split_once(',').unwrap_or((values, ""));
     Ok(match call {
         "dir" => inner.dir(values)?,
         "env" => inner.env(first, rest)?,
         "env_remove" => inner.env_remove(values)?,
         "full_env" => inner.full_env(pairs(alloc, values)?.as_slice())?,
-        "before_spawn" => inner.before_spawn(first, ends(alloc, rest)?)?,
+        "before_spawn" => inner.before_spawn(hook_name(alloc, first)?, ends(alloc, rest)?)?,
         _ => return Err(Fail::from("no such call")),
     })
+}
+
+fn hook_name(alloc: Global, name: &str) -> Result<HookName, AllocError> {
+    String::from_str(alloc, name)
 }
 
 /// The texts that commas part. There is none in an empty text.

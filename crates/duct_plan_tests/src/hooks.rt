@@ -39,6 +39,11 @@ fn hooks_with_and_without_ends(rt: HostRuntime) -> Result<(), Fail> {
         plan: Environment, Spawn a
         hooks: a -> two lent-7 lent-8
         given: a -> inherit inherit inherit
+
+        expression: a before_spawn=hook
+        folders: a -> the parent's
+        starts: a -> the parent's
+        variables: a ->
         ",
     )
 }

@@ -190,6 +190,47 @@ fn redirections_on_the_sides_of_a_pipe(rt: HostRuntime) -> Result<(), Fail> {
 }
 
 #[test]
+fn redirections_round_a_pipe(rt: HostRuntime) -> Result<(), Fail> {
+    rows(
+        &rt,
+        "
+        expression: a b pipe stderr_to_stdout
+        plan: Environment, Pipe, Spawn a, Spawn b
+        goes: a -> stdin writer-1 stdout; b -> reader-1 stdout stdout
+        given: a -> inherit 2 parent-Out; b -> 1 inherit parent-Out
+
+        expression: a b pipe stdout_to_stderr
+        plan: Environment, Pipe, Spawn a, Spawn b
+        goes: a -> stdin writer-1 stderr; b -> reader-1 stderr stderr
+        given: a -> inherit 2 inherit; b -> 1 parent-Err inherit
+        ",
+    )
+}
+
+#[test]
+fn redirections_into_captures(rt: HostRuntime) -> Result<(), Fail> {
+    rows(
+        &rt,
+        "
+        expression: a stdout_to_stderr stderr_capture
+        plan: Environment, Pipe, Spawn a, Drain 1; stderr's capture at 1
+        goes: a -> stdin capture-Err capture-Err
+        given: a -> inherit 2 2
+
+        expression: a stderr_capture stdout_to_stderr
+        plan: Environment, Pipe, Spawn a, Drain 1; stderr's capture at 1
+        goes: a -> stdin stderr capture-Err
+        given: a -> inherit parent-Err 2
+
+        expression: a stderr_to_stdout stdout_capture
+        plan: Environment, Pipe, Spawn a, Drain 1; stdout's capture at 1
+        goes: a -> stdin capture-Out capture-Out
+        given: a -> inherit 2 2
+        ",
+    )
+}
+
+#[test]
 fn a_swap_exchanges_what_stands_outside(rt: HostRuntime) -> Result<(), Fail> {
     rows(
         &rt,
@@ -285,6 +326,19 @@ fn pipes_in_pipes(rt: HostRuntime) -> Result<(), Fail> {
         plan: Environment, Pipe, Spawn a, Pipe, Spawn b, Spawn c
         goes: a -> stdin writer-1 stderr; b -> reader-1 writer-3 stderr; c -> reader-3 stdout stderr
         given: a -> inherit 2 inherit; b -> 1 5 inherit; c -> 4 inherit inherit
+        ",
+    )
+}
+
+#[test]
+fn files_round_a_pipe(rt: HostRuntime) -> Result<(), Fail> {
+    rows(
+        &rt,
+        "
+        expression: a b pipe stdin_path=i stdout_path=o stderr_path=e
+        plan: Environment, Create e, Create o, OpenRead i, Pipe, Spawn a, Spawn b
+        goes: a -> file-3 writer-4 file-1; b -> reader-4 file-2 file-1
+        given: a -> 3 5 1; b -> 4 2 1
         ",
     )
 }

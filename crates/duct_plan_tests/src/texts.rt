@@ -1,5 +1,5 @@
 //! Plans, and what a command finds and is given, in words.
-use crate::expressions::{Label, LentEnd};
+use crate::expressions::{HookName, LentEnd};
 use duct::{CommandSpec, Numbered, Port, Stdio, Stream};
 use duct_plan::asked::Wired;
 use duct_plan::found::{Target, folder, goes, hooks, variable};
@@ -9,9 +9,9 @@ use duct_script::checker::Source;
 use std::alloc::{AllocError, Global};
 use std::test::Fail;
 
-pub type TestPlan<'t> = Plan<'t, LentEnd, Label>;
+pub type TestPlan<'t> = Plan<'t, LentEnd, HookName>;
 
-pub type TestCrumb<'t> = Crumb<'t, LentEnd, Label>;
+pub type TestCrumb<'t> = Crumb<'t, LentEnd, HookName>;
 
 /// The items of a plan, and then the places of its capture pipes.
 pub fn plan_text(alloc: Global, plan: &TestPlan) -> Result<String, AllocError> {
@@ -31,7 +31,7 @@ pub fn plan_text(alloc: Global, plan: &TestPlan) -> Result<String, AllocError> {
     Ok(text)
 }
 
-fn push_item(text: &mut String, item: &Item<LentEnd, Label>) -> Result<(), AllocError> {
+fn push_item(text: &mut String, item: &Item<LentEnd, HookName>) -> Result<(), AllocError> {
     match item {
         Item::Environment => text.push_str("Environment"),
         Item::Pipe => text.push_str("Pipe"),
@@ -62,7 +62,7 @@ pub enum Find<'a> {
     Hooks,
 }
 
-/// What each command finds, from left to right: `a: .., b: ..`.
+/// What each command finds, from left to right: `a -> ..; b -> ..`.
 pub fn found_text(alloc: Global, plan: &TestPlan, find: Find) -> Result<String, AllocError> {
     let mut text = String::new(alloc);
     for item in plan.items.iter() {
@@ -108,8 +108,8 @@ fn push_found(
             Ok(())
         }
         Find::Hooks => {
-            for (label, ends) in hooks(alloc, way)?.iter() {
-                push_hook(text, label, ends)?;
+            for (name, ends) in hooks(alloc, way)?.iter() {
+                push_hook(text, name.as_str(), ends)?;
             }
             Ok(())
         }
@@ -123,8 +123,8 @@ fn push_folder(text: &mut String, folder: Option<&str>) -> Result<(), AllocError
     }
 }
 
-fn push_hook(text: &mut String, label: &Label, ends: &[LentEnd]) -> Result<(), AllocError> {
-    write!(text, " {label}")?;
+fn push_hook(text: &mut String, name: &str, ends: &[LentEnd]) -> Result<(), AllocError> {
+    write!(text, " {name}")?;
     for end in ends.iter() {
         let number = end.number();
         write!(text, " lent-{number}")?;

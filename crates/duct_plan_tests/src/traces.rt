@@ -1,6 +1,6 @@
 //! The trace of a start that meets no fault. Ends and children take the numbers from 1 in the order of the requests, of a
 //! pipe the read end before the write end.
-use crate::expressions::{Label, LentEnd};
+use crate::expressions::{HookName, LentEnd};
 use duct_base::spec::{CommandSpec, Port, spec_of};
 use duct_base::system::{Entry, Stdio};
 use duct_plan::items::{Item, Plan};
@@ -25,7 +25,7 @@ pub fn owned(alloc: Global, pairs: &[(&str, &str)]) -> Result<Vec<(String, Strin
 /// canonical name stands below `/real/`.
 pub fn entries(
     alloc: Global,
-    plan: &Plan<LentEnd, Label>,
+    plan: &Plan<LentEnd, HookName>,
     parent: &[(&str, &str)],
 ) -> Result<Vec<Entry>, AllocError> {
     let mut entries = Vec::new(alloc);
@@ -57,7 +57,7 @@ fn pipe_at(entries: &[Entry], place: usize) -> (u64, u64) {
 /// The entry of a request that is given no end.
 fn numbered(
     alloc: Global,
-    item: &Item<LentEnd, Label>,
+    item: &Item<LentEnd, HookName>,
     next: &mut u64,
 ) -> Result<Entry, AllocError> {
     Ok(match item {
