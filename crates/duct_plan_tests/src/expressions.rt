@@ -2,7 +2,7 @@
 //! The arguments of a call stand behind a `=` and are parted by commas: `a env=A,2 dir=/in`, and pairs by colons:
 //! `full_env=A:1,B:2`. A word that is no call is a command: `echo,hi` has two words. `before_spawn=x,7,8` is a hook of the name
 //! `x`, with the ends of the numbers 7 and 8 beside it.
-use duct::{Expression, Numbered};
+use duct::{Error, Expression, Numbered};
 use std::alloc::{AllocError, Global};
 use std::test::Fail;
 
@@ -71,48 +71,58 @@ fn command(alloc: Global, words: &str) -> Result<Written, Fail> {
 
 /// A call on a stream that has no arguments.
 fn redirected(inner: &Written, call: &str) -> Result<Written, Fail> {
-    Ok(match call {
-        "stdin_null" => inner.stdin_null()?,
-        "stdout_null" => inner.stdout_null()?,
-        "stderr_null" => inner.stderr_null()?,
-        "stdout_capture" => inner.stdout_capture()?,
-        "stderr_capture" => inner.stderr_capture()?,
-        "stdout_to_stderr" => inner.stdout_to_stderr()?,
-        "stderr_to_stdout" => inner.stderr_to_stdout()?,
-        "stdout_stderr_swap" => inner.stdout_stderr_swap()?,
+    let made = match call {
+        "stdin_null" => inner.stdin_null(),
+        "stdout_null" => inner.stdout_null(),
+        "stderr_null" => inner.stderr_null(),
+        "stdout_capture" => inner.stdout_capture(),
+        "stderr_capture" => inner.stderr_capture(),
+        "stdout_to_stderr" => inner.stdout_to_stderr(),
+        "stderr_to_stdout" => inner.stderr_to_stdout(),
+        "stdout_stderr_swap" => inner.stdout_stderr_swap(),
         _ => return Err(Fail::from("no such call")),
-    })
+    };
+    Ok(made?)
 }
 
 /// A call with arguments.
 fn with_values(alloc: Global, inner: &Written, call: &str, values: &str) -> Result<Written, Fail> {
-    Ok(match call {
-        "stdin_bytes" => inner.stdin_bytes(Vec::from_slice(alloc, values.as_bytes())?)?,
-        "stdin_path" => inner.stdin_path(values)?,
-        "stdout_path" => inner.stdout_path(values)?,
-        "stderr_path" => inner.stderr_path(values)?,
-        "stdin_file" => inner.stdin_file(lent(values)?)?,
-        "stdout_file" => inner.stdout_file(lent(values)?)?,
-        "stderr_file" => inner.stderr_file(lent(values)?)?,
-        other => surrounded(alloc, inner, other, values)?,
-    })
+    let made = match call {
+        "stdin_bytes" => with_bytes(alloc, inner, values),
+        "stdin_path" => inner.stdin_path(values),
+        "stdout_path" => inner.stdout_path(values),
+        "stderr_path" => inner.stderr_path(values),
+        "stdin_file" => inner.stdin_file(lent(values)?),
+        "stdout_file" => inner.stdout_file(lent(values)?),
+        "stderr_file" => inner.stderr_file(lent(values)?),
+        other => return surrounded(alloc, inner, other, values),
+    };
+    Ok(made?)
+}
+
+fn with_bytes(alloc: Global, inner: &Written, text: &str) -> Result<Written, Error> {
+    inner.stdin_bytes(Vec::from_slice(alloc, text.as_bytes())?)
 }
 
 /// A call with arguments that is on no stream.
 fn surrounded(alloc: Global, inner: &Written, call: &str, values: &str) -> Result<Written, Fail> {
     let (first, rest) = values.split_once(',').unwrap_or((values, ""));
-    Ok(match call {
-        "dir" => inner.dir(values)?,
-        "env" => inner.env(first, rest)?,
-        "env_remove" => inner.env_remove(values)?,
-        "full_env" => inner.full_env(pairs(alloc, values)?.as_slice())?,
-        "before_spawn" => inner.before_spawn(hook_name(alloc, first)?, ends(alloc, rest)?)?,
+    let made = match call {
+        "dir" => inner.dir(values),
+        "env" => inner.env(first, rest),
+        "env_remove" => inner.env_remove(values),
+        "full_env" => inner.full_env(pairs(alloc, values)?.as_slice()),
+        "before_spawn" => return hooked(alloc, inner, first, rest),
         _ => return Err(Fail::from("no such call")),
-    })
+    };
+    Ok(made?)
 }
 
-fn hook_name(alloc: Global, name: &str) -> Result<HookName, AllocError> {
-    String::from_str(alloc, name)
+/// A hook of this name, with the ends of these numbers.
+fn hooked(alloc: Global, inner: &Written, name: &str, numbers: &str) -> Result<Written, Fail> {
+    let name = String::from_str(alloc, name)?;
+    let ends = ends(alloc, numbers)?;
+    Ok(inner.before_spawn(name, ends)?)
 }
 
 /// The texts that commas part. There is none in an empty text.

@@ -86,14 +86,22 @@ fn shown(alloc: Global, subject: Subject, key: &str) -> Result<String, Fail> {
     } else {
         plan(alloc, &expression)?
     };
+    let text = match key {
+        "plan" => plan_text(alloc, &plan),
+        "goes" => found_text(alloc, &plan, Find::Streams),
+        "folders" => found_text(alloc, &plan, Find::Folder),
+        "hooks" => found_text(alloc, &plan, Find::Hooks),
+        _ => return asked_text(alloc, &plan, subject.parent, key),
+    };
+    Ok(text?)
+}
+
+/// What is compared of what each command is asked for.
+fn asked_text(alloc: Global, plan: &TestPlan, parent: &str, key: &str) -> Result<String, Fail> {
     match key {
-        "plan" => Ok(plan_text(alloc, &plan)?),
-        "goes" => Ok(found_text(alloc, &plan, Find::Streams)?),
-        "folders" => Ok(found_text(alloc, &plan, Find::Folder)?),
-        "hooks" => Ok(found_text(alloc, &plan, Find::Hooks)?),
-        "given" => given(alloc, &plan, "", Look::Streams),
-        "starts" => given(alloc, &plan, "", Look::Folder),
-        "variables" => variables(alloc, &plan, subject.parent),
+        "given" => given(alloc, plan, parent, Look::Streams),
+        "starts" => given(alloc, plan, parent, Look::Folder),
+        "variables" => variables(alloc, plan, parent),
         _ => Err(Fail::from("no such line")),
     }
 }

@@ -60,23 +60,38 @@ fn numbered(
     item: &Item<LentEnd, HookName>,
     next: &mut u64,
 ) -> Result<Entry, AllocError> {
-    Ok(match item {
-        Item::OpenRead(path) => Entry::OpenRead(String::from_str(alloc, path)?, Ok(take(next))),
-        Item::Create(path) => Entry::Create(String::from_str(alloc, path)?, Ok(take(next))),
-        Item::Canonicalize(path) => {
-            let name = format!(in alloc; "/real/{path}")?;
-            Entry::Canonicalize(String::from_str(alloc, path)?, Ok(name))
-        }
-        Item::Spawn(_, words) => {
-            let streams = [Stdio::Inherit, Stdio::Inherit, Stdio::Inherit];
-            Entry::Spawn(spec(alloc, words)?, streams, Ok(take(next)))
-        }
+    match item {
+        Item::OpenRead(path) => opened(alloc, path, take(next)),
+        Item::Create(path) => created(alloc, path, take(next)),
+        Item::Canonicalize(path) => named(alloc, path),
+        Item::Spawn(_, words) => spawned(alloc, words, take(next)),
         _ => {
             let reader = take(next);
             let writer = take(next);
-            Entry::Pipe(Ok((reader, writer)))
+            Ok(Entry::Pipe(Ok((reader, writer))))
         }
-    })
+    }
+}
+
+fn opened(alloc: Global, path: &str, number: u64) -> Result<Entry, AllocError> {
+    let path = String::from_str(alloc, path)?;
+    Ok(Entry::OpenRead(path, Ok(number)))
+}
+
+fn created(alloc: Global, path: &str, number: u64) -> Result<Entry, AllocError> {
+    let path = String::from_str(alloc, path)?;
+    Ok(Entry::Create(path, Ok(number)))
+}
+
+fn named(alloc: Global, path: &str) -> Result<Entry, AllocError> {
+    let name = format!(in alloc; "/real/{path}")?;
+    let path = String::from_str(alloc, path)?;
+    Ok(Entry::Canonicalize(path, Ok(name)))
+}
+
+fn spawned(alloc: Global, words: &[String], number: u64) -> Result<Entry, AllocError> {
+    let streams = [Stdio::Inherit, Stdio::Inherit, Stdio::Inherit];
+    Ok(Entry::Spawn(spec(alloc, words)?, streams, Ok(number)))
 }
 
 /// The next number.
