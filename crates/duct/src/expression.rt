@@ -1,9 +1,8 @@
 //! An expression: a shared tree of commands, pipes between them, and what is asked of them.
 ghost use Rattle.std.specs.Prelude.{◌≡◌, ◌∷◌, map, string_bytes, IfOk, IsOkUnless};
-ghost use Rattle.std.specs.Arc.{arc_value};
 ghost use Rattle.duct_base.specs.Spec.{texts_of};
 ghost use Rattle.duct.specs.Tree.{command};
-ghost use Rattle.duct.specs.TreeOf.{tree_of};
+ghost use Rattle.duct.specs.TreeOf.{tree_of, tree_of_node};
 
 mod builders;
 mod debug;
@@ -117,7 +116,7 @@ fn words(alloc: Global, program: String, args: &[&str]) -> Result<Vec<String>, E
 impl<E, H> Expression<E, H> {
     /// The outermost node of the tree.
     pub fn root(&self) -> &Node<E, H>
-        ensures { result.now ≡ arc_value self.now.root }
+        ensures { tree_of_node result.now ≡ tree_of self.now }
     {
         &self.root
     }
