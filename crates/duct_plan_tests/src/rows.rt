@@ -27,14 +27,16 @@ pub fn rows<R: Abort + AllocGlobal>(rt: &R, table: &'static str) -> Result<(), F
     let mut subject = None;
     let mut compared = false;
     for line in table.lines() {
-        if let Some((key, text)) = line.split_once(':') {
-            match next(subject, key.trim(), text.trim()) {
-                Some(begun) => subject = Some(begun),
-                None => {
-                    let there = subject.ok_or("no expression")?;
-                    compare(rt, there, key.trim(), text.trim())?;
-                    compared = true;
-                }
+        if line.trim().is_empty() {
+            continue;
+        }
+        let (key, text) = line.split_once(':').ok_or("no key")?;
+        match next(subject, key.trim(), text.trim()) {
+            Some(begun) => subject = Some(begun),
+            None => {
+                let there = subject.ok_or("no expression")?;
+                compare(rt, there, key.trim(), text.trim())?;
+                compared = true;
             }
         }
     }

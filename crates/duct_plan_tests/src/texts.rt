@@ -92,38 +92,28 @@ fn push_found(
     find: Find,
 ) -> Result<(), AllocError> {
     match find {
-        Find::Streams => push_targets(text, way),
+        Find::Streams => {
+            for stream in [Stream::In, Stream::Out, Stream::Err] {
+                push_target(text, goes(way, stream))?;
+            }
+            Ok(())
+        }
         Find::Folder => push_folder(text, folder(way)),
-        Find::Variables(names, parent) => push_variables(text, way, names, parent),
-        Find::Hooks => push_hooks(alloc, text, way),
-    }
-}
-
-fn push_targets(text: &mut String, way: &[TestCrumb]) -> Result<(), AllocError> {
-    push_target(text, goes(way, Stream::In))?;
-    push_target(text, goes(way, Stream::Out))?;
-    push_target(text, goes(way, Stream::Err))
-}
-
-fn push_variables(
-    text: &mut String,
-    way: &[TestCrumb],
-    names: &[&str],
-    parent: &[(String, String)],
-) -> Result<(), AllocError> {
-    for name in names {
-        if let Some(value) = variable(parent, way, name) {
-            write!(text, " {name}={value}")?;
+        Find::Variables(names, parent) => {
+            for name in names.iter() {
+                if let Some(value) = variable(parent, way, name) {
+                    write!(text, " {name}={value}")?;
+                }
+            }
+            Ok(())
+        }
+        Find::Hooks => {
+            for (name, ends) in hooks(alloc, way)?.iter() {
+                push_hook(text, name.as_str(), ends)?;
+            }
+            Ok(())
         }
     }
-    Ok(())
-}
-
-fn push_hooks(alloc: Global, text: &mut String, way: &[TestCrumb]) -> Result<(), AllocError> {
-    for (name, ends) in hooks(alloc, way)?.iter() {
-        push_hook(text, name.as_str(), ends)?;
-    }
-    Ok(())
 }
 
 fn push_folder(text: &mut String, folder: Option<&str>) -> Result<(), AllocError> {
