@@ -1,0 +1,25 @@
+//! Tests of the plans of expressions, and of what each command of an expression finds on its way outwards.
+#![tactic(auto)]
+
+#[cfg(test)]
+mod asked;
+#[cfg(test)]
+mod expressions;
+#[cfg(test)]
+mod folders;
+#[cfg(test)]
+mod hooks;
+#[cfg(test)]
+mod plans;
+#[cfg(test)]
+mod readers;
+#[cfg(test)]
+mod rows;
+#[cfg(test)]
+mod streams;
+#[cfg(test)]
+mod texts;
+#[cfg(test)]
+mod traces;
+#[cfg(test)]
+mod variables;
