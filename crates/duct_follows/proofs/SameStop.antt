@@ -43,10 +43,10 @@ module _ {H : Type 0} (allows : Allows H) (refuses : Refuses H) (makes_one : Mak
   stops_same : (hook : H) (ends : List Origin) (before : Wired) (one other : Error) → ¬ (FoundNoMemory one) → ¬ (FoundNoMemory other) →
       Stops allows refuses hook ends before one → Stops allows refuses hook ends before other → IsSameStop one other
   stops_same hook ends before (Hook one) (Hook other) decided also stops again = refuses_one hook before.spec one other stops again decided also
-  stops_same hook ends before (Hook one) (HookEnd other) decided also stops again = absurd (makes_none hook before.spec again.0 one stops decided again.1)
-  stops_same hook ends before (HookEnd one) (Hook other) decided also stops again = absurd (makes_none hook before.spec stops.0 other again also stops.1)
+  stops_same hook ends before (Hook one) (HookEnd other) decided also stops again = absurd (makes_none hook before.spec again.0 one stops decided again.1.allowed)
+  stops_same hook ends before (HookEnd one) (Hook other) decided also stops again = absurd (makes_none hook before.spec stops.0 other again also stops.1.allowed)
   stops_same hook ends before (HookEnd one) (HookEnd other) decided also stops again =
-      let same = makes_one hook before.spec stops.0 again.0 stops.1 again.1 in let first = stops.2 in let second = again.2 in cc
+      let same = makes_one hook before.spec stops.0 again.0 stops.1.allowed again.1.allowed in let first = stops.2 in let second = again.2 in cc
   stops_same hook ends before (Hook one) (System fault) decided also stops again = absurd again
   stops_same hook ends before (Hook one) (Checked text) decided also stops again = absurd again
   stops_same hook ends before (Hook one) NotUtf8 decided also stops again = absurd again
