@@ -25,7 +25,7 @@ fn hook(alloc: Global, change: Change) -> Result<ScriptHook, AllocError> {
 }
 
 /// A hook that adds a word.
-fn adds(alloc: Global, word: &str) -> Result<ScriptHook, AllocError> {
+pub fn adds(alloc: Global, word: &str) -> Result<ScriptHook, AllocError> {
     hook(alloc, Change::Word(String::from_str(alloc, word)?))
 }
 

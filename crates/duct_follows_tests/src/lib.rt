@@ -8,6 +8,8 @@ mod hooks;
 #[cfg(test)]
 mod journal;
 #[cfg(test)]
+mod messages;
+#[cfg(test)]
 mod plans;
 #[cfg(test)]
 mod script;
