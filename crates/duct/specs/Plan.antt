@@ -2,22 +2,11 @@
 use Rattle.std.specs.Prelude.{ℕ, Bool, List, [], ◌∷◌, ◌++◌, length, Some, None, is_some, if◌then◌else◌, slice_get, unwrap_or}
 use Rattle.std.specs.declared.option.Option.{Option}
 use Rattle.duct_base.specs.Executable.{asks_canonical}
-use Rattle.duct.specs.Lookup.{folder}
+use Rattle.duct.specs.Found.{Found}
+use Rattle.duct.specs.Lookup.{found_on}
 use Rattle.duct.specs.Path.{Path, left_of, right_of, within}
-use Rattle.duct.specs.Tree.{Tree, command, pipe, around, stdin_bytes, stdin_path, stdout_path, stdout_capture, stderr_path, stderr_capture}
-
--- one request: a canonical name is asked for a program, a spawn for a command with its way outwards and its words; a worker
--- and the reader get an end of the pipe that the item at this place got
-pub data Item (E H : Type 0) : Type 0 where
-  AskEnvironment : Item E H
-  AskPipe : Item E H
-  AskOpenRead : List ℕ → Item E H
-  AskCreate : List ℕ → Item E H
-  AskCanonicalize : List ℕ → Item E H
-  AskSpawn : Path E H → List (List ℕ) → Item E H
-  AskFeed : ℕ → List ℕ → Item E H
-  AskDrain : ℕ → Item E H
-  AskReader : ℕ → Item E H
+use Rattle.duct.specs.Step.{Item, AskEnvironment, AskPipe, AskCanonicalize, AskSpawn, AskDrain, AskReader, Opening, OpensNothing, Opens, CapturesOut, CapturesErr, step}
+use Rattle.duct.specs.Tree.{Tree, command, pipe, around, stdout_capture}
 
 -- the items so far, and the places of the capture pipes of stdout and stderr once they are open
 pub record Plan (E H : Type 0) : Type 0 where
@@ -37,30 +26,46 @@ captures_out plan = if is_some plan.out then plan else record (asks AskPipe plan
 abbrev pub captures_err : {E H : Type 0} → Plan E H → Plan E H
 captures_err plan = if is_some plan.err then plan else record (asks AskPipe plan) { err = Some (length plan.items) }
 
+-- the plan once a node has asked what it asks before what it wraps
+abbrev pub opened : {E H : Type 0} → Opening E H → Plan E H → Plan E H
+opened OpensNothing plan = plan
+opened (Opens item) plan = asks item plan
+opened CapturesOut plan = captures_out plan
+opened CapturesErr plan = captures_err plan
+
+-- the place of a node that comes next: that of the item that it asks or, of a capture, of its stream's one pipe
+abbrev pub place_for : {E H : Type 0} → Opening E H → Plan E H → ℕ
+place_for OpensNothing plan = length plan.items
+place_for (Opens item) plan = length plan.items
+place_for CapturesOut plan = unwrap_or plan.out (length plan.items)
+place_for CapturesErr plan = unwrap_or plan.err (length plan.items)
+
+-- the plan once a node has asked what it asks after what it wraps
+abbrev pub closed : {E H : Type 0} → List (Item E H) → Plan E H → Plan E H
+closed items plan = record plan { items = plan.items ++ items }
+
 -- the program of some words
 abbrev pub program_of : List (List ℕ) → List ℕ
 program_of words = unwrap_or (slice_get words 0) []
 
 -- whether a command's program is made canonical before its spawn
-abbrev pub is_canonical : {E H : Type 0} → Path E H → List (List ℕ) → Bool
-is_canonical up words = asks_canonical (program_of words) (is_some (folder up))
+abbrev pub is_canonical : {E H : Type 0} → Found E H → List (List ℕ) → Bool
+is_canonical found words = asks_canonical (program_of words) (is_some found.folder)
+
+-- the plan with a command that finds this outwards
+abbrev pub commanded : {E H : Type 0} → Found E H → List (List ℕ) → Plan E H → Plan E H
+commanded found words plan =
+    asks (AskSpawn found words) (if is_canonical found words then asks (AskCanonicalize (program_of words)) plan else plan)
 
 -- the plan after a tree that stands below this way outwards: each node before what it wraps, the left side before the right
 abbrev pub planned : {E H : Type 0} → Path E H → Tree E H → Plan E H → Plan E H
-planned up (command words) plan =
-    asks (AskSpawn up words) (if is_canonical up words then asks (AskCanonicalize (program_of words)) plan else plan)
+planned up (command words) plan = commanded (found_on up) words plan
 planned up (pipe left right) plan =
     let place = length plan.items in
     planned (right_of place ∷ up) right (planned (left_of place ∷ up) left (asks AskPipe plan))
-planned up (around (stdin_bytes bytes) inner) plan =
-    let place = length plan.items in
-    asks (AskFeed place bytes) (planned (within place (stdin_bytes bytes) ∷ up) inner (asks AskPipe plan))
-planned up (around (stdin_path path) inner) plan = planned (within (length plan.items) (stdin_path path) ∷ up) inner (asks (AskOpenRead path) plan)
-planned up (around (stdout_path path) inner) plan = planned (within (length plan.items) (stdout_path path) ∷ up) inner (asks (AskCreate path) plan)
-planned up (around (stderr_path path) inner) plan = planned (within (length plan.items) (stderr_path path) ∷ up) inner (asks (AskCreate path) plan)
-planned up (around stdout_capture inner) plan = planned (within (length plan.items) stdout_capture ∷ up) inner (captures_out plan)
-planned up (around stderr_capture inner) plan = planned (within (length plan.items) stderr_capture ∷ up) inner (captures_err plan)
-planned up (around layer inner) plan = planned (within (length plan.items) layer ∷ up) inner plan
+planned up (around layer inner) plan =
+    let place = place_for (step layer).opening plan in
+    closed ((step layer).closing place) (planned (within place layer ∷ up) inner (opened (step layer).opening plan))
 
 -- a plan before its tree: the environment is asked first
 abbrev pub begun : {E H : Type 0} → Plan E H

@@ -1,7 +1,7 @@
 -- What children store of what they were asked, as the words of commands.
 use Rattle.std.specs.Prelude.{List, [], map, Ok, Err, Some, None}
 use Rattle.std.specs.declared.option.Option.{Option}
-use Rattle.duct_base.specs.Told.{Answer}
+use Rattle.duct_base.specs.Child.{Answer}
 use Rattle.duct_base.specs.Words.{Words}
 use Rattle.duct_base.specs.declared.status.Word.{Word}
 use Rattle.duct_base.specs.declared.status.Word.TheVariants as word

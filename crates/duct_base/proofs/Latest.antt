@@ -15,7 +15,7 @@ use Rattle.duct_base.specs.declared.status.Word.TheVariants as word
 use Rattle.duct_base.specs.Latest.{words_of_command, words_of_input, words_of_drain, is_same_side, first_ending, last_or, ended_or, latest_of_command, first_result, latest_of_input, latest_of_drain}
 use Rattle.duct_base.specs.Notice.{Notice, from_command, from_input, from_drain, conclude}
 use Rattle.duct_base.specs.Outline.{Outline, command_count, input_count}
-use Rattle.duct_base.specs.Told.{kept_after}
+use Rattle.duct_base.specs.Job.{kept_after}
 use Rattle.duct_base.specs.Words.{Words, words_told, word_after, change_at, words_after}
 
 cond_append : {T : Type 0} (b : Bool) (x : T) (xs ys zs : List T) → zs ≡ xs ++ ys → cond b (x ∷ zs) zs ≡ cond b (x ∷ xs) xs ++ ys

@@ -12,6 +12,7 @@ pub mod Quotes
 pub mod Ran
 pub mod Settled
 pub mod Shown
+pub mod Sieving
 pub mod Stays
 pub mod TreeOrders
 pub mod Variables

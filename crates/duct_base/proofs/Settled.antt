@@ -18,7 +18,7 @@ use Rattle.duct_base.specs.declared.status.Word.TheVariants as word
 use Rattle.duct_base.specs.Kept.{FitsAnswer, FitsMessage, is_finished}
 use Rattle.duct_base.specs.Notice.{Notice, from_command, from_input, from_drain, conclude}
 use Rattle.duct_base.specs.Outline.{Outline, command, pipe, input, unchecked, command_count, input_count}
-use Rattle.duct_base.specs.Told.{kept_after}
+use Rattle.duct_base.specs.Job.{kept_after}
 use Rattle.duct_base.specs.Verdict.{Verdict, command_said, input_said, in_tree_order, first_fault, some_runs, finished, captured, with_bytes, ended, verdict}
 use Rattle.duct_base.specs.Words.{Words, word_after, change_at, words_after}
 use Rattle.duct_base.proofs.Changes.{changed_past}

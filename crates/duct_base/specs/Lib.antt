@@ -1,10 +1,11 @@
-pub mod Abandoned
 pub mod Bytes
+pub mod Child
 pub mod Choice
 pub mod Conclusion
 pub mod Endings
 pub mod Entry
 pub mod Executable
+pub mod Job
 pub mod Journal
 pub mod Kept
 pub mod Latest
@@ -16,6 +17,7 @@ pub mod Name
 pub mod Notice
 pub mod Origin
 pub mod Outline
+pub mod Pool
 pub mod Quoted
 pub mod Response
 pub mod Shapes
@@ -25,7 +27,6 @@ pub mod Started
 pub mod State
 pub mod Status
 pub mod Streams
-pub mod Told
 pub mod Trace
 pub mod TreeOrder
 pub mod Verdict

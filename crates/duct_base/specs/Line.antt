@@ -1,10 +1,9 @@
 -- An entry of the journal as contracts see it: texts as lists of bytes, ends and children by their numbers, a spec as
 -- the record of its parts.
-use Rattle.std.specs.Prelude.{ℕ, List, [], ◌∷◌, ◌++◌, ◌≡◌, ◌⊎◌}
+use Rattle.std.specs.Prelude.{ℕ, List}
 use Rattle.std.specs.declared.result.Result.{Result}
 use Rattle.duct_base.specs.Spec.{Spec, Vars}
 use Rattle.duct_base.specs.declared.system.Fault.{Fault}
-use Rattle.duct_base.specs.declared.system.Kind.TheVariants.{OutOfMemory}
 use Rattle.duct_base.specs.declared.system.Side.{Side}
 use Rattle.duct_base.specs.declared.system.Stdio.{Stdio}
 
@@ -22,11 +21,3 @@ pub data Line : Type 0 where
   Drain : ℕ → Result (Unit {0}) Fault → Line
   Reader : ℕ → Line
   Close : ℕ → Line
-
--- the journal has gained this line at its end, and nothing else has changed
-abbrev pub Adds : List Line → List Line → Line → Type 0
-Adds old new line = new ≡ old ++ line ∷ []
-
--- the journal has gained this line, or nothing was asked since there was no memory for it
-abbrev pub AddsOrNoMemory : List Line → List Line → Fault → Line → Type 0
-AddsOrNoMemory old new fault line = Adds old new line ⊎ ((new ≡ old) × (fault.kind ≡ OutOfMemory))

@@ -11,7 +11,7 @@ use Rattle.duct_base.specs.declared.status.Word.TheVariants as word
 use Rattle.duct_base.specs.Latest.{latest_of_command, latest_of_input, latest_of_drain}
 use Rattle.duct_base.specs.Notice.{Notice, from_command, from_input, from_drain, conclude}
 use Rattle.duct_base.specs.Outline.{Outline, command_count, input_count}
-use Rattle.duct_base.specs.Told.{kept_after}
+use Rattle.duct_base.specs.Job.{kept_after}
 
 -- of each command and each input worker by its number, and of stdout's and stderr's capture worker, if there is one
 pub record Words : Type 0 where

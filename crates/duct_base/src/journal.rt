@@ -1,8 +1,6 @@
 //! The journal that a system keeps: its entries, the room for more of them, and the count of numbers.
-ghost use Rattle.std.specs.Prelude.{◌≡◌, ◌+◌, ◌-◌, ◌^◌, ◌<◌, ◌≤◌, [], ◌∷◌, ◌++◌, map, IfSome, IfNone, OnSome, OnOk, OnErr, IfErr, MatchOption};
+ghost use Rattle.std.specs.Prelude.{◌≡◌, ◌+◌, ◌-◌, ◌^◌, ◌<◌, ◌≤◌, [], ◌∷◌, ◌++◌, map, IfSome, IfNone, OnSome, OnOk, OnErr, IfErr};
 ghost use Rattle.duct_base.specs.Entry.{line_of};
-ghost use Rattle.duct_base.specs.Journal.{Kept};
-ghost use Rattle.duct_base.specs.Line.{Line};
 ghost use Rattle.duct_base.specs.declared.system.Kind.TheVariants.{OutOfMemory};
 
 use crate::system::{Entry, Fault, Kind};
@@ -14,37 +12,52 @@ use std::marker::Model;
 #[derive(Drop)]
 pub struct Journal {
     entries: Vec<Entry>,
-    room: usize,
+    added: u64,
     next: u64,
+    room: usize,
 }
 
 impl Model for Journal {
-    ghost use Rattle.std.specs.Prelude.{◌+◌, ◌≤◌, map, vec_len, vec_capacity};
+    ghost use Rattle.std.specs.Prelude.{◌+◌, ◌<◌, ◌≤◌, ◌^◌, map, vec_len, vec_capacity};
     ghost use Rattle.duct_base.specs.Entry.{line_of};
-    ghost use Rattle.duct_base.specs.Journal.{Kept};
+    ghost use Rattle.duct_base.specs.Journal.{JournalView};
 
-    ghost Value = { Kept };
+    ghost Value = { JournalView };
 
-    ghost view = { λ j. record { log = map line_of j.entries.items; room = j.room; next = j.next } };
+    ghost view = { λ j. record {
+      entries = map line_of j.entries.items;
+      added = j.added;
+      next = j.next;
+      room = j.room;
+    } };
 
-    ghost invariant = { λ j. vec_len j.entries + j.room ≤ vec_capacity j.entries };
+    ghost invariant = { λ j.
+        (vec_len j.entries + j.room ≤ vec_capacity j.entries) × (j.added + j.room < 2 ^ 64) };
 }
 
 impl Journal {
     /// An empty journal with no room, whose first number is 1.
     pub fn new(alloc: Global) -> Journal
-        ensures { result ≡ record { log = []; room = 0; next = 1 } }
+        ensures { result ≡ record { entries = []; added = 0; next = 1; room = 0 } }
     {
         Journal {
             entries: Vec::new(alloc),
-            room: 0,
+            added: 0,
             next: 1,
+            room: 0,
         }
     }
 
     /// The allocator of the entries.
     pub fn allocator(&self) -> Global {
         *self.entries.allocator()
+    }
+
+    /// How many entries were ever added, also those that were cleared away.
+    pub fn added(&self) -> u64
+        ensures { result ≡ self.now.added }
+    {
+        self.added
     }
 
     /// How many more entries go in without memory.
@@ -61,26 +74,35 @@ impl Journal {
         ensures err { IfErr result (λ fault. fault.kind ≡ OutOfMemory) }
         ensures unchanged { OnErr result (self.new ≡ self.old) }
     {
-        let room = self
-            .room
-            .checked_add(ends)
-            .and_then(|room| room.checked_add(1));
-        let Some(room) = room else {
-            return Err(Fault::new(Kind::OutOfMemory));
-        };
-        if self.entries.reserve(room).is_err() {
-            return Err(Fault::new(Kind::OutOfMemory));
+        match self.room_with(ends) {
+            Some(room) if self.entries.reserve(room).is_ok() => {
+                self.room = room;
+                Ok(())
+            }
+            _ => Err(Fault::new(Kind::OutOfMemory)),
         }
-        self.room = room;
-        Ok(())
+    }
+
+    // The room with that of one entry more and of this many ends, where so many entries can still be counted.
+    fn room_with(&self, ends: usize) -> Option<usize>
+        ensures { IfSome result (λ room. (room ≡ self.now.room + ends + 1) × (self.now.added + room < 2 ^ 64)) }
+    {
+        let room = self.room.checked_add(ends)?.checked_add(1)?;
+        let _ = self.added.checked_add(room as u64)?;
+        Some(room)
     }
 
     /// Adds an entry in the room that was made for it.
     pub fn add(&mut self, entry: Entry)
         requires { 0 < self.old.room }
-        ensures { self.new ≡ record self.old { log = self.old.log ++ line_of entry ∷ []; room = self.old.room - 1 } }
+        ensures { self.new ≡ record self.old {
+          entries = self.old.entries ++ line_of entry ∷ [];
+          added = self.old.added + 1;
+          room = self.old.room - 1;
+        } }
     {
         self.room -= 1;
+        self.added += 1;
         self.entries.push_reserved(entry);
     }
 
@@ -101,7 +123,8 @@ impl Journal {
 
     /// Takes this many numbers in a row and answers the first of them, or none where so many are not left.
     pub fn take_numbers(&mut self, count: u64) -> Option<u64>
-        ensures some { IfSome result (λ first. (first ≡ self.old.next) × (self.new ≡ record self.old { next = self.old.next + count })) }
+        ensures some { IfSome result (λ first.
+            (first ≡ self.old.next) × (self.new ≡ record self.old { next = self.old.next + count })) }
         ensures fits { OnSome result (self.new.next < 2 ^ 64) }
         ensures none { IfNone result ((self.new ≡ self.old) × (2 ^ 64 ≤ self.old.next + count)) }
     {
@@ -112,14 +135,14 @@ impl Journal {
 
     /// The entries so far, the oldest first.
     pub fn entries(&self) -> &[Entry]
-        ensures { map line_of result.now ≡ self.now.log }
+        ensures { map line_of result.now ≡ self.now.entries }
     {
         self.entries.as_slice()
     }
 
     /// Takes all entries away. The room and the numbers stay.
     pub fn clear(&mut self)
-        ensures { self.new ≡ record self.old { log = [] } }
+        ensures { self.new ≡ record self.old { entries = [] } }
     {
         self.entries.clear();
     }

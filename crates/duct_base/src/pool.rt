@@ -1,6 +1,7 @@
 //! Children that a start or a handle gave up while they ran, kept so that they can be asked for their endings.
-ghost use Rattle.std.specs.Prelude.{◌≡◌, [], length, IfOk, Some, None};
-ghost use Rattle.duct_base.specs.Abandoned.{Abandoned};
+ghost use Rattle.std.specs.Prelude.{◌≡◌, ◌+◌, ◌<◌, ◌^◌, ◌∷◌, ◌++◌, [], length, Some, None};
+ghost use Rattle.duct_base.specs.Child.{one_more};
+ghost use Rattle.duct_base.specs.Pool.{Sweeps, IsSwept, Takes};
 
 use crate::system::{Child, ExitStatus, Fault, Numbered};
 use std::alloc::{AllocError, Global};
@@ -11,6 +12,16 @@ use std::marker::Model;
 #[derive(Drop)]
 pub struct Seat<C> {
     seat: LinkedList<Option<C>>,
+}
+
+impl<C> Model for Seat<C> {
+    ghost use Rattle.std.specs.Prelude.{◌≡◌, ◌∷◌, [], None};
+
+    ghost Value = { Unit {0} };
+
+    ghost view = { λ s. tt };
+
+    ghost invariant = { λ s. s.seat ≡ None ∷ [] };
 }
 
 /// Makes room for a child. Refused only for want of memory.
@@ -64,15 +75,7 @@ impl<C: Child> Child for Place<C> {
 
     ghost may_obey = { C.may_obey };
 
-    ghost polls = { λ p. C.polls p };
-
-    ghost last = { λ p. C.last p };
-
-    ghost ending = { λ p. C.ending p };
-
-    ghost orders = { λ p. C.orders p };
-
-    ghost process = { λ p. C.process p };
+    ghost child_view = { λ p. C.child_view p };
 
     fn poll(&mut self) -> Result<Option<ExitStatus>, Fault> {
         self.child.poll()
@@ -89,6 +92,8 @@ impl<C: Child> Child for Place<C> {
     fn id(&self) -> u32 {
         self.child.id()
     }
+
+    ghost has_number = { λ p. C.has_number p };
 }
 
 /// Children that were given up. A pool is lent to each start, and one pool may serve many.
@@ -101,14 +106,20 @@ pub struct Pool<C> {
 }
 
 impl<C> Model for Pool<C> {
-    ghost use Rattle.std.specs.Prelude.{◌≡◌, length};
-    ghost use Rattle.duct_base.specs.Abandoned.{Abandoned, seated};
+    ghost use Rattle.std.specs.Prelude.{◌≡◌, map, Some};
+    ghost use Rattle.duct_base.specs.Pool.{PoolView, AddsUp, seated};
 
-    ghost Value = { Abandoned C };
+    ghost Value = { PoolView C };
 
-    ghost view = { λ p. record { children = seated p.seats; given = p.given; reaped = p.reaped; lost = p.lost } };
+    ghost view = { λ p. record {
+      children = seated p.seats;
+      given = p.given;
+      reaped = p.reaped;
+      lost = p.lost;
+    } };
 
-    ghost invariant = { λ p. length (seated p.seats) ≡ length p.seats };
+    ghost invariant = { λ p. (p.seats ≡ map Some (seated p.seats))
+        × AddsUp (record { children = seated p.seats; given = p.given; reaped = p.reaped; lost = p.lost }) };
 }
 
 impl<C: Drop> Pool<C> {
@@ -150,5 +161,133 @@ impl<C: Drop> Pool<C> {
         ensures { result ≡ self.now.lost }
     {
         self.lost
+    }
+
+    // Keeps a child that runs, behind the others. With 2 ^ 63 seats there is no room: the child is then let go.
+    fn keep(&mut self, child: C, seat: Seat<C>)
+        ensures { length self.old.children + 1 < 2 ^ 63 → self.new ≡ record self.old {
+          children = self.old.children ++ child ∷ [];
+          given = one_more self.old.given;
+        } }
+    {
+        let Seat { mut seat } = seat;
+        fill(&mut seat, child);
+        if self.seats.append(&mut seat).is_err() {
+            self.lost = self.lost.saturating_add(1);
+        }
+        self.given = self.given.saturating_add(1);
+    }
+
+    // Counts a child that had ended when it was given.
+    fn reap(&mut self)
+        ensures { self.new ≡ record self.old {
+          given = one_more self.old.given;
+          reaped = one_more self.old.reaped;
+        } }
+    {
+        self.given = self.given.saturating_add(1);
+        self.reaped = self.reaped.saturating_add(1);
+    }
+
+    // Counts a child that answered a fault when it was given.
+    fn lose(&mut self)
+        ensures { self.new ≡ record self.old {
+          given = one_more self.old.given;
+          lost = one_more self.old.lost;
+        } }
+    {
+        self.given = self.given.saturating_add(1);
+        self.lost = self.lost.saturating_add(1);
+    }
+}
+
+impl<C: Child> Pool<C> {
+    /// Asks every child once, in order. One that runs stays, one that ended counts as reaped, and one that answered a fault
+    /// as lost; nobody hears of the fault. It takes no memory.
+    pub fn sweep(&mut self)
+        ensures { IsSwept C.may_answer C.child_view self.old self.new }
+    {
+        let count = self.len();
+        for _done in 0..count {
+            self.sweep_first();
+        }
+    }
+
+    // Asks the first child. One that runs goes behind the others, one that ended or answered a fault is counted.
+    fn sweep_first(&mut self)
+        requires { 0 < length self.old.children }
+        ensures { Sweeps C.may_answer C.child_view 1 self.old self.new }
+    {
+        let mut rest = others(&mut self.seats);
+        let mut child = vacate(&mut self.seats);
+        match child.poll() {
+            Ok(None) => {
+                fill(&mut self.seats, child);
+                let _ = rest.append(&mut self.seats);
+                self.seats = rest;
+            }
+            Ok(Some(_)) => {
+                self.seats = rest;
+                self.reaped = self.reaped.saturating_add(1);
+            }
+            Err(_) => {
+                self.seats = rest;
+                self.lost = self.lost.saturating_add(1);
+            }
+        }
+    }
+}
+
+/// Gives a child to a pool. It is asked once: one that runs goes behind the others, one that ended counts as reaped, and one
+/// that answered a fault as lost. It takes no memory. For a start and a handle alone.
+pub fn pool_take<C: Child>(pool: &mut Pool<C>, place: Place<C>)
+    ensures { pool.old.given + 1 < 2 ^ 63 → Takes C.may_answer C.child_view (place ∷ []) pool.old pool.new }
+{
+    let _ = &pool.seats;
+    let Place { mut child, seat } = place;
+    match child.poll() {
+        Ok(None) => pool.keep(child, seat),
+        Ok(Some(_)) => pool.reap(),
+        Err(_) => pool.lose(),
+    }
+}
+
+// Puts a child into the one empty seat of this list.
+fn fill<C: Drop>(seat: &mut LinkedList<Option<C>>, child: C)
+    requires { seat.old ≡ None ∷ [] }
+    ensures { seat.new ≡ Some child ∷ [] }
+{
+    if let Some(slot) = seat.front_mut() {
+        *slot = Some(child);
+    }
+}
+
+// Takes the child out of the one seat of this list.
+fn vacate<C: Drop>(seat: &mut LinkedList<Option<C>>) -> C
+    requires { (child : C) × (seat.old ≡ Some child ∷ []) }
+    ensures was { seat.old ≡ Some result ∷ [] }
+    ensures empty { seat.new ≡ None ∷ [] }
+{
+    let child = match seat.front_mut() {
+        Some(slot) => slot.take(),
+        None => None,
+    };
+    match child {
+        Some(child) => child,
+        None => unreachable!(),
+    }
+}
+
+// Leaves the first seat, and answers the others.
+fn others<C: Drop>(seats: &mut LinkedList<Option<C>>) -> LinkedList<Option<C>>
+    requires { 0 < length seats.old }
+    ensures whole { seats.old ≡ seats.new ++ result }
+    ensures one { length seats.new ≡ 1 }
+    ensures fits { length seats.old < 2 ^ 63 }
+{
+    let _ = seats.len();
+    match seats.split_off(1) {
+        Ok(rest) => rest,
+        Err(_) => unreachable!(),
     }
 }

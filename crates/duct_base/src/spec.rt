@@ -118,7 +118,8 @@ impl CommandSpec {
 
     /// All variables of the child, in order of name. Refused, by `Error::Memory`, only for want of memory.
     pub fn vars(&self) -> Result<Vec<(&str, &str)>, Error>
-        ensures { IfOk result (λ pairs. map (λ p. (p.0.now, p.1.now)) pairs.items ≡ self.now.vars) }
+        ensures vars { IfOk result (λ pairs. map (λ p. (p.0.now, p.1.now)) pairs.items ≡ self.now.vars) }
+        ensures memory { IsOkUnless result Error.Memory }
     {
         let mut pairs = Vec::new(*self.words.allocator());
         for (name, value) in self.vars.iter() {

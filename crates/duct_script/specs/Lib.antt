@@ -6,3 +6,4 @@ pub mod Refusals
 pub mod Said
 pub mod Shows
 pub mod Source
+pub mod Views

@@ -1,6 +1,6 @@
 //! The children of a scripted system.
-ghost use Rattle.std.specs.Prelude.{◌≡◌, [], None};
-ghost use Rattle.duct_base.specs.Told.{Notes};
+ghost use Rattle.std.specs.Prelude.{◌≡◌, []};
+ghost use Rattle.duct_base.specs.Child.{OrdersChild, IsUnasked};
 ghost use Rattle.duct_script.specs.Obeying.{IsObeying};
 
 use crate::answers::Answers;
@@ -66,6 +66,8 @@ pub struct ScriptChild {
 }
 
 impl ScriptChild {
+    ghost use Rattle.duct_script.specs.Views.{child_view};
+
     /// The child of this number, as it is before anybody asks it. It notes its calls in this log.
     pub fn new(
         alloc: Global,
@@ -74,10 +76,7 @@ impl ScriptChild {
         calls: Option<Arc<CallLog>>,
     ) -> ScriptChild
         ensures number { result.number ≡ number }
-        ensures polls { result.polls ≡ 0 }
-        ensures last { result.last ≡ None }
-        ensures ending { result.ending ≡ None }
-        ensures orders { result.orders.items ≡ [] }
+        ensures unasked { IsUnasked (child_view result) }
     {
         ScriptChild {
             number,
@@ -99,11 +98,7 @@ impl ScriptChild {
 
     /// Notes an order with the answer that a list has for it, where there is memory.
     fn order(&mut self, order: Order) -> Result<(), Fault>
-        ensures noted { Notes (λ _ _. Unit {0}) self.old.orders.items self.new.orders.items order result }
-        ensures ending { self.new.ending ≡ self.old.ending }
-        ensures last { self.new.last ≡ self.old.last }
-        ensures polls { self.new.polls ≡ self.old.polls }
-        ensures number { self.new.number ≡ self.old.number }
+        ensures { OrdersChild (λ _ _ _. Unit {0}) order (child_view self.old) result (child_view self.new) }
     {
         if self.orders.reserve(1).is_err() {
             return Err(Fault::new(Kind::OutOfMemory));
@@ -144,21 +139,14 @@ impl Numbered for ScriptChild {
 }
 
 impl Child for ScriptChild {
-    ghost use Rattle.std.specs.Prelude.{◌+◌, ◌-◌, ◌^◌, min};
+    ghost use Rattle.std.proofs.Common.{refl};
+    ghost use Rattle.duct_script.specs.Views.{child_view};
 
     ghost may_answer = { λ _ _. Unit {0} };
 
     ghost may_obey = { λ _ _ _. Unit {0} };
 
-    ghost polls = { λ c. c.polls };
-
-    ghost last = { λ c. c.last };
-
-    ghost ending = { λ c. c.ending };
-
-    ghost orders = { λ c. c.orders.items };
-
-    ghost process = { λ c. min (c.number + 1000) (2 ^ 32 - 1) };
+    ghost child_view = { child_view };
 
     fn poll(&mut self) -> Result<Option<ExitStatus>, Fault> {
         self.note(Call::Poll(self.number));
@@ -186,4 +174,6 @@ impl Child for ScriptChild {
         let id = self.number.saturating_add(1000).min(u64::from(u32::MAX));
         id as u32
     }
+
+    ghost has_number = { λ c. refl };
 }

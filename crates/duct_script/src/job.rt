@@ -1,5 +1,6 @@
 //! The feeds and drains of a scripted system.
 ghost use Rattle.std.specs.Prelude.{◌≡◌, ℕ, List, IfSome, IfNone, IsTrue, ◌↔◌};
+ghost use Rattle.duct_base.specs.Job.{unpolled_job};
 ghost use Rattle.duct_base.specs.declared.system.Said.TheVariants.{Running, Done};
 ghost use Rattle.duct_script.specs.Said.{word_of, SameBytes};
 
@@ -26,11 +27,11 @@ pub struct ScriptFeed {
 }
 
 impl ScriptFeed {
+    ghost use Rattle.duct_script.specs.Views.{feed_view};
+
     /// The feed of the end of this number, before anybody asks it.
     pub fn new(number: u64, script: FeedScript) -> ScriptFeed
-        ensures number { result.number ≡ number }
-        ensures polls { result.polls ≡ 0 }
-        ensures kept { result.kept ≡ Running }
+        ensures { feed_view result ≡ unpolled_job number }
     {
         ScriptFeed {
             number,
@@ -57,15 +58,20 @@ impl Numbered for ScriptFeed {
 }
 
 impl Job for ScriptFeed {
+    ghost use Rattle.std.proofs.Common.{refl};
+    ghost use Rattle.duct_script.specs.Views.{feed_view};
+
     type Result = ();
 
     ghost same = { λ _ _. Unit {0} };
 
+    ghost refusable = { ⊥ };
+
     ghost may_say = { λ _ _. Unit {0} };
 
-    ghost polls = { λ f. f.polls };
+    ghost job_view = { feed_view };
 
-    ghost kept = { λ f. f.kept };
+    ghost has_number = { λ f. refl };
 
     fn poll(&mut self) -> Said<()> {
         self.polls = self.polls.saturating_add(1);
@@ -89,12 +95,12 @@ pub struct ScriptDrain {
 }
 
 impl ScriptDrain {
+    ghost use Rattle.duct_script.specs.Views.{drain_view};
+
     /// The drain of the end of this number, before anybody asks it. It shares these bytes, which are none, where its list
     /// is empty.
     pub fn new(number: u64, script: DrainScript, empty: Arc<Vec<u8>>) -> ScriptDrain
-        ensures number { result.number ≡ number }
-        ensures polls { result.polls ≡ 0 }
-        ensures kept { result.kept.value ≡ Running }
+        ensures { drain_view result ≡ unpolled_job number }
     {
         let said = Said::Running;
         let kept = Snapshot::of(&said);
@@ -125,15 +131,20 @@ impl Numbered for ScriptDrain {
 }
 
 impl Job for ScriptDrain {
+    ghost use Rattle.std.proofs.Common.{refl};
+    ghost use Rattle.duct_script.specs.Views.{drain_view};
+
     type Result = Arc<Vec<u8>>;
 
     ghost same = { SameBytes };
 
+    ghost refusable = { Unit {0} };
+
     ghost may_say = { λ _ _. Unit {0} };
 
-    ghost polls = { λ d. d.polls };
+    ghost job_view = { drain_view };
 
-    ghost kept = { λ d. d.kept.value };
+    ghost has_number = { λ d. refl };
 
     fn poll(&mut self) -> Said<Arc<Vec<u8>>> {
         self.polls = self.polls.saturating_add(1);

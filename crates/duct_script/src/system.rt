@@ -1,12 +1,11 @@
 //! The scripted system.
 ghost use Rattle.std.specs.Prelude.{◌≡◌, ℕ, ◌+◌, ◌-◌, ◌^◌, ◌<◌, ◌≤◌, max, length, map, string_bytes, unwrap_or, IfOk, IfErr, IfSome, OnOk, OnErr, Ok, Err, Some, None, [], ◌∷◌, ◌++◌};
 ghost use Rattle.duct_base.specs.declared.system.Kind.TheVariants.{OutOfMemory, Other};
-ghost use Rattle.duct_base.specs.declared.system.Said.TheVariants.{Running};
 ghost use Rattle.duct_base.specs.Spec.{pair_text, value_of, with_var};
 ghost use Rattle.duct_script.specs.Obeying.{IsObeying};
 ghost use Rattle.duct_script.specs.declared.child.ChildScript.{ChildScript};
 ghost use Rattle.duct_base.specs.Streams.{stream_of, end_of, ends_of};
-ghost use Rattle.duct_base.specs.Told.{one_more};
+ghost use Rattle.duct_base.specs.Child.{one_more};
 
 use crate::answers::Answers;
 use crate::calls::{Call, CallLog};
@@ -52,9 +51,13 @@ pub struct Script {
 }
 
 impl Script {
+    ghost use Rattle.duct_base.specs.Child.{IsUnasked};
+    ghost use Rattle.duct_base.specs.Job.{unpolled_job};
+    ghost use Rattle.duct_script.specs.Views.{child_view, feed_view, drain_view};
+
     /// A system with no variables, whose requests are all answered Ok, and whose next number is 1.
     pub fn new(alloc: Global) -> Result<Script, AllocError>
-        ensures journal { IfOk result (λ sys. sys.journal ≡ record { log = []; room = 0; next = 1 }) }
+        ensures journal { IfOk result (λ sys. sys.journal ≡ record { entries = []; added = 0; next = 1; room = 0 }) }
         ensures asked { IfOk result (λ sys. sys.requests.asked ≡ 0) }
         ensures refusals { IfOk result (λ sys. sys.requests.refusals.items ≡ []) }
     {
@@ -191,9 +194,7 @@ impl Script {
 
     /// Passes over the numbers below this one.
     pub fn skip_numbers_below(&mut self, number: u64)
-        ensures log { self.new.journal.log ≡ self.old.journal.log }
-        ensures room { self.new.journal.room ≡ self.old.journal.room }
-        ensures next { self.new.journal.next ≡ max self.old.journal.next number }
+        ensures { self.new.journal ≡ record self.old.journal { next = max self.old.journal.next number } }
     {
         let next = self.journal.next();
         let _ = self.journal.take_numbers(number.saturating_sub(next));
@@ -264,11 +265,10 @@ impl Script {
 
     /// Takes this many numbers in a row for the answer of a request for which this fault is set, if one is.
     fn answer(&mut self, fault: Option<Fault>, count: u64) -> Result<u64, Fault>
-        ensures ok { IfOk result (λ first. (first ≡ self.old.journal.next) × (self.new.journal.next ≡ first + count)) }
+        ensures ok { IfOk result (λ first. (first ≡ self.old.journal.next)
+          × (self.new.journal ≡ record self.old.journal { next = self.old.journal.next + count })) }
         ensures fits { OnOk result (self.new.journal.next < 2 ^ 64) }
-        ensures err { OnErr result (self.new.journal.next ≡ self.old.journal.next) }
-        ensures log { self.new.journal.log ≡ self.old.journal.log }
-        ensures room { self.new.journal.room ≡ self.old.journal.room }
+        ensures err { OnErr result (self.new.journal ≡ self.old.journal) }
     {
         if let Some(fault) = fault {
             return Err(fault);
@@ -284,10 +284,8 @@ impl Script {
         requires { 0 < self.old.journal.room }
         ensures ok { IfOk result (λ end. answer ≡ Ok end.number) }
         ensures err { IfErr result (λ fault. answer ≡ Err fault) }
-        ensures log { self.new.journal.log ≡ self.old.journal.log }
-        ensures next { self.new.journal.next ≡ self.old.journal.next }
-        ensures made { OnOk result (self.new.journal.room ≡ self.old.journal.room) }
-        ensures given_back { OnErr result (self.new.journal.room + 1 ≡ self.old.journal.room) }
+        ensures made { OnOk result (self.new.journal ≡ self.old.journal) }
+        ensures given_back { OnErr result (self.new.journal ≡ record self.old.journal { room = self.old.journal.room - 1 }) }
     {
         match answer {
             Ok(number) => Ok(ScriptEnd { number }),
@@ -300,8 +298,7 @@ impl Script {
 
     /// Says that the room of these ends isn't wanted any more. One of them had its room used by the entry that spent them.
     fn spent(&mut self, ends: usize)
-        ensures log { self.new.journal.log ≡ self.old.journal.log }
-        ensures next { self.new.journal.next ≡ self.old.journal.next }
+        ensures journal { self.new.journal ≡ record self.old.journal { room = self.new.journal.room } }
         ensures room { self.old.journal.room ≤ self.new.journal.room + (ends - 1) }
     {
         let others = ends.saturating_sub(1);
@@ -323,10 +320,7 @@ impl Script {
     fn next_child(&mut self, number: u64) -> ScriptChild
         ensures journal { self.new.journal ≡ self.old.journal }
         ensures number { result.number ≡ number }
-        ensures polls { result.polls ≡ 0 }
-        ensures last { result.last ≡ None }
-        ensures ending { result.ending ≡ None }
-        ensures orders { result.orders.items ≡ [] }
+        ensures unasked { IsUnasked (child_view result) }
     {
         let alloc = self.journal.allocator();
         let script = match self.children.pop_front() {
@@ -345,9 +339,7 @@ impl Script {
     /// The next feed, with this number.
     fn next_feed(&mut self, number: u64) -> ScriptFeed
         ensures journal { self.new.journal ≡ self.old.journal }
-        ensures number { result.number ≡ number }
-        ensures polls { result.polls ≡ 0 }
-        ensures kept { result.kept ≡ Running }
+        ensures job { feed_view result ≡ unpolled_job number }
     {
         let script = match self.feeds.pop_front() {
             Some(script) => script,
@@ -359,9 +351,7 @@ impl Script {
     /// Counts the start of a drain, and answers the next one, with this number.
     fn next_drain(&mut self, number: u64) -> Result<ScriptDrain, Fault>
         ensures journal { self.new.journal ≡ self.old.journal }
-        ensures number { IfOk result (λ job. job.number ≡ number) }
-        ensures polls { IfOk result (λ job. job.polls ≡ 0) }
-        ensures kept { IfOk result (λ job. job.kept.value ≡ Running) }
+        ensures job { IfOk result (λ job. drain_view job ≡ unpolled_job number) }
     {
         if let Some(fault) = self.ask(Sort::Drain) {
             return Err(fault);
@@ -429,9 +419,12 @@ fn numbered_streams(io: [Stdio<ScriptEnd>; 3]) -> ([Stdio<u64>; 3], usize)
 }
 
 impl System for Script {
-    ghost use Rattle.std.specs.Prelude.{◌≡◌, ℕ, ◌+◌, ◌≤◌, ◌<◌, min, [], length, map, Ok, Err, None, IfOk, IfErr};
-    ghost use Rattle.duct_base.specs.Line.{Spawn, Adds, AddsOrNoMemory};
+    ghost use Rattle.std.specs.Prelude.{◌≤◌, min, length, map, Ok, Err, IfOk, IfErr};
+    ghost use Rattle.duct_base.specs.Child.{IsUnasked};
+    ghost use Rattle.duct_base.specs.Journal.{GivesEnds, IsNew, IsRefused};
+    ghost use Rattle.duct_base.specs.Line.{Spawn};
     ghost use Rattle.duct_base.specs.Streams.{stream_of, ends_of};
+    ghost use Rattle.duct_script.specs.Views.{child_view};
     ghost use Rattle.duct_script.specs.Said.{SameBytes};
     ghost use Rattle.std.proofs.Common.{lit<};
 
@@ -445,17 +438,15 @@ impl System for Script {
 
     type Reader = ScriptReader;
 
-    ghost log = { λ s. s.journal.log };
-
-    ghost next = { λ s. s.journal.next };
-
-    ghost room = { λ s. s.journal.room };
+    ghost journal_view = { λ s. s.journal };
 
     ghost may_read = { λ number reader. reader.number ≡ number };
 
     ghost streams_fit = { lit< tt };
 
     ghost same_bytes = { λ one other same. same };
+
+    ghost feeds_say_again = { λ refusable. refusable };
 
     fn environment(&mut self) -> Result<Vec<(String, String)>, Fault> {
         let alloc = self.journal.allocator();
@@ -530,13 +521,14 @@ impl System for Script {
 
     fn spawn(&mut self, spec: CommandSpec, io: [Stdio<ScriptEnd>; 3]) -> Result<ScriptChild, Fault>
         requires { min 1 (length (ends_of io)) ≤ self.old.journal.room }
-        ensures ok { IfOk result (λ child. Adds self.old.journal.log self.new.journal.log (Spawn spec (map (stream_of (λ e. e.number)) io) (Ok child.number))) }
-        ensures err { IfErr result (λ fault. AddsOrNoMemory self.old.journal.log self.new.journal.log fault (Spawn spec (map (stream_of (λ e. e.number)) io) (Err fault))) }
-        ensures added { 0 < length (ends_of io) → IfErr result (λ fault. Adds self.old.journal.log self.new.journal.log (Spawn spec (map (stream_of (λ e. e.number)) io) (Err fault))) }
-        ensures fresh { IfOk result (λ child. (self.old.journal.next ≤ child.number) × (child.number < self.new.journal.next)) }
-        ensures unasked { IfOk result (λ child. (child.polls ≡ 0) × (child.last ≡ None) × (child.ending ≡ None) × (child.orders.items ≡ [])) }
-        ensures next { self.old.journal.next ≤ self.new.journal.next }
-        ensures room { self.old.journal.room ≤ self.new.journal.room + length (ends_of io) }
+        ensures ok { IfOk result (λ child.
+          let entry = Spawn spec (map (stream_of (λ e. e.number)) io) (Ok child.number) in
+          GivesEnds entry (length (ends_of io)) self.old.journal self.new.journal
+          × IsNew self.old.journal self.new.journal child.number) }
+        ensures unasked { IfOk result (λ child. IsUnasked (child_view child)) }
+        ensures err { IfErr result (λ fault.
+          let entry = Spawn spec (map (stream_of (λ e. e.number)) io) (Err fault) in
+          IsRefused entry (length (ends_of io)) fault self.old.journal self.new.journal) }
     {
         let (streams, ends) = numbered_streams(io);
         let fault = if ends == 0 {

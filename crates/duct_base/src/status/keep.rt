@@ -2,7 +2,7 @@
 ghost use Rattle.std.specs.Prelude.{◌≡◌, is_some, nat_lt, vec_len};
 ghost use Rattle.std.specs.Option.{option_map};
 ghost use Rattle.duct_base.specs.Notice.{bytes_said};
-ghost use Rattle.duct_base.specs.Told.{kept_after};
+ghost use Rattle.duct_base.specs.Job.{kept_after};
 ghost use Rattle.duct_base.specs.Words.{word_after, change_at};
 
 use crate::status::Word;

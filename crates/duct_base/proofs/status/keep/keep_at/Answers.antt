@@ -1,5 +1,5 @@
 use Rattle.std.proofs.Common.{arith, sym}
-use Rattle.duct_base.specs.Told.{kept_after}
+use Rattle.duct_base.specs.Job.{kept_after}
 use Rattle.duct_base.proofs.Changes.{changed_set, changed_past}
 use Rattle.duct_base.proofs.status.keep.keep_at.Goals as goal
 

@@ -1,0 +1,46 @@
+-- What a command finds on its way outwards.
+use Rattle.std.specs.Prelude.{ℕ, List, Some, None, if◌then◌else◌, [], ◌∷◌, reverse}
+use Rattle.std.specs.declared.option.Option.{Option}
+use Rattle.duct_base.specs.Spec.{Vars, value_of, same_name}
+use Rattle.duct_base.specs.declared.spec.Stream.{Stream}
+use Rattle.duct_base.specs.declared.spec.Stream.TheVariants.{In, Out, Err}
+
+-- where a stream goes: to the parent's own stream, to nothing, to an end of the pipe or the file that the item at this
+-- place of the plan got, or to an end of the caller
+pub data Target (E : Type 0) : Type 0 where
+  Parents : Stream → Target E
+  Nothing : Target E
+  ReaderAt : ℕ → Target E
+  WriterAt : ℕ → Target E
+  FileAt : ℕ → Target E
+  Lends : E → Target E
+
+-- what a node asks of the variables: a value for a name, that a name be gone, or these variables alone
+pub data Change : Type 0 where
+  Sets : List ℕ → List ℕ → Change
+  Removes : List ℕ → Change
+  Replaces : Vars → Change
+
+-- the folder of the nearest node that sets one; the changes of variables, the nearest first; where the three streams go; and the
+-- hooks with the ends beside them, the outermost first
+pub record Found (E H : Type 0) : Type 0 where
+  pub folder : Option (List ℕ)
+  pub changes : List Change
+  pub input : Target E
+  pub output : Target E
+  pub error : Target E
+  pub hooks : List (H × List E)
+
+-- where a stream goes
+abbrev pub target_of : {E H : Type 0} → Found E H → Stream → Target E
+target_of found In = found.input
+target_of found Out = found.output
+target_of found Err = found.error
+
+-- the value of a variable: the nearest change that names it or replaces all decides, and without one the last pair of that
+-- name that the system answered
+abbrev pub variable : Vars → List Change → List ℕ → Option (List ℕ)
+variable pairs [] name = value_of name (reverse pairs)
+variable pairs (Sets other value ∷ changes) name = if same_name name other then Some value else variable pairs changes name
+variable pairs (Removes other ∷ changes) name = if same_name name other then None else variable pairs changes name
+variable pairs (Replaces vars ∷ changes) name = value_of name vars

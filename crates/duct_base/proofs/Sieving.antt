@@ -1,0 +1,225 @@
+-- Children that are asked one after the other, in a pool and as they are given to it.
+use Rattle.std.proofs.Common.{◌≡◌, ℕ, zero, suc, ◌+◌, ◌^◌, ◌<◌, ◌≤◌, List, [], ◌∷◌, ◌++◌, length, refl, ap, sym, ◌∙◌, arith, append_assoc, length-append, subst, inl, inr, take, drop, add-one, add-zero, zero-add}
+use Rattle.std.proofs.lemmas.List.{append-nil, take_all, drop_all}
+use Rattle.std.specs.Prelude.{map, Some, None, Ok, Err}
+use Rattle.std.specs.declared.option.Option.{Option}
+use Rattle.duct_base.specs.Child.{Answer, ChildView, PollsChild}
+use Rattle.duct_base.specs.Pool.{PoolView, seated, counted, greatest, AddsUp, Sieves, AsksAll, Sweeps, IsSwept, Takes}
+use Rattle.duct_base.specs.declared.system.ExitStatus.{ExitStatus}
+use Rattle.duct_base.specs.declared.system.Fault.{Fault}
+
+-- two lists of children, one behind the other
+pub sieves-append : {A B : Type 0} (may : A → Answer → Type 0) (keeps : A → B → Type 0) (xs others : List A) (ls more : List B) (r l r' l' : ℕ) →
+    Sieves may keeps xs ls r l → Sieves may keeps others more r' l' → Sieves may keeps (xs ++ others) (ls ++ more) (r + r') (l + l')
+sieves-append {A} {B} may keeps [] others ls more r l r' l' first second =
+    let at_left : Sieves may keeps others (ls ++ more) r' l' = subst (λ (z : List B). Sieves may keeps others (z ++ more) r' l') (sym first.0) second in
+    let reaped : r' ≡ r + r' = omega (arith, first.1) in
+    let lost : l' ≡ l + l' = omega (arith, first.2) in
+    subst (λ (n : ℕ). Sieves may keeps others (ls ++ more) n (l + l')) reaped (subst (λ (n : ℕ). Sieves may keeps others (ls ++ more) r' n) lost at_left)
+sieves-append {A} {B} may keeps (x ∷ xs) others ls more r l r' l' (inl s) second =
+    inl (s.0, s.1 ++ more, s.2, ap (λ (z : List B). z ++ more) s.3, sieves-append may keeps xs others s.1 more r l r' l' s.4 second)
+sieves-append {A} {B} may keeps (x ∷ xs) others ls more r l r' l' (inr (inl s)) second =
+    inr (inl (s.0, s.1 + r', s.2, omega (arith, s.3), sieves-append may keeps xs others ls more s.1 l r' l' s.4 second))
+sieves-append {A} {B} may keeps (x ∷ xs) others ls more r l r' l' (inr (inr s)) second =
+    inr (inr (s.0, s.1 + l', s.2, omega (arith, s.3), sieves-append may keeps xs others ls more r s.1 r' l' s.4 second))
+
+module _ {C : Type 0} (may : ℕ → Answer → Type 0) (view : C → ChildView) (child : C) where
+  -- one child that said Running, ended, or answered a fault
+  one_kept : (kept : C) → PollsChild may (view child) (Ok None) (view kept) → AsksAll may view (child ∷ []) (kept ∷ []) 0 0
+  one_kept kept polls = inl (kept, [], polls, refl, (refl, refl, refl))
+
+  one_reaped : (status : ExitStatus) → may (view child).number (Ok (Some status)) → AsksAll may view (child ∷ []) [] 1 0
+  one_reaped status told = inr (inl (status, 0, told, refl, (refl, refl, refl)))
+
+  one_lost : (fault : Fault) → may (view child).number (Err fault) → AsksAll may view (child ∷ []) [] 0 1
+  one_lost fault told = inr (inr (fault, 0, told, refl, (refl, refl, refl)))
+
+counted_more : (a b c : ℕ) → counted (counted a b) c ≡ counted a (b + c)
+counted_more a b zero = ap (λ n. counted a n) (sym (add-zero b))
+counted_more a zero (suc c) = ap (λ n. counted a n) (sym (zero-add (suc c)))
+counted_more a (suc b) (suc c) = omega arith ∙ ap (λ n. counted a n) (sym (suc_plus b (suc c)))
+  where
+    suc_plus : (b c : ℕ) → suc b + c ≡ suc (b + c)
+    suc_plus b c = omega arith
+
+-- one child is given to a pool
+module _ {C : Type 0} (may : ℕ → Answer → Type 0) (view : C → ChildView) (before after : PoolView C) (child : C) where
+  pub takes_kept : (kept : C) → PollsChild may (view child) (Ok None) (view kept) →
+      after ≡ record before { children = before.children ++ kept ∷ []; given = counted before.given 1 } → Takes may view (child ∷ []) before after
+  takes_kept kept polls is = record {
+    kept = kept ∷ [];
+    reaped = 0;
+    lost = 0;
+    asked = one_kept may view child kept polls;
+    children_are = ap (λ (p : PoolView C). p.children) is;
+    given_is = ap (λ (p : PoolView C). p.given) is;
+    reaped_is = ap (λ (p : PoolView C). p.reaped) is;
+    lost_is = ap (λ (p : PoolView C). p.lost) is;
+  }
+
+  pub takes_reaped : (status : ExitStatus) → may (view child).number (Ok (Some status)) →
+      after ≡ record before { given = counted before.given 1; reaped = counted before.reaped 1 } → Takes may view (child ∷ []) before after
+  takes_reaped status told is = record {
+    kept = [];
+    reaped = 1;
+    lost = 0;
+    asked = one_reaped may view child status told;
+    children_are = ap (λ (p : PoolView C). p.children) is ∙ sym (append-nil before.children);
+    given_is = ap (λ (p : PoolView C). p.given) is;
+    reaped_is = ap (λ (p : PoolView C). p.reaped) is;
+    lost_is = ap (λ (p : PoolView C). p.lost) is;
+  }
+
+  pub takes_lost : (fault : Fault) → may (view child).number (Err fault) →
+      after ≡ record before { given = counted before.given 1; lost = counted before.lost 1 } → Takes may view (child ∷ []) before after
+  takes_lost fault told is = record {
+    kept = [];
+    reaped = 0;
+    lost = 1;
+    asked = one_lost may view child fault told;
+    children_are = ap (λ (p : PoolView C). p.children) is ∙ sym (append-nil before.children);
+    given_is = ap (λ (p : PoolView C). p.given) is;
+    reaped_is = ap (λ (p : PoolView C). p.reaped) is;
+    lost_is = ap (λ (p : PoolView C). p.lost) is;
+  }
+
+seated-append : {C : Type 0} (seats : List (Option C)) (child : C) → seated (seats ++ Some child ∷ []) ≡ seated seats ++ child ∷ []
+seated-append [] child = refl
+seated-append {C} (Some other ∷ seats) child = ap (λ (l : List C). other ∷ l) (seated-append seats child)
+seated-append (None ∷ seats) child = seated-append seats child
+
+-- the first child of a pool is asked: `view` is the pool by its seats, of which the first is that child's
+module _ {C : Type 0} (may : ℕ → Answer → Type 0) (view : C → ChildView) (by_seats before after : PoolView C) (seats one rest : List (Option C)) (child : C)
+    (same : by_seats ≡ before) (children : by_seats.children ≡ seated seats) (whole : seats ≡ one ++ rest) (first : one ≡ Some child ∷ []) where
+  children_are : before.children ≡ child ∷ seated rest
+  children_are = sym (ap (λ (p : PoolView C). p.children) same) ∙ children ∙ ap (λ (l : List (Option C)). seated l) whole ∙ ap (λ (l : List (Option C)). seated (l ++ rest)) first
+
+  asked_first : take 1 before.children ≡ child ∷ []
+  asked_first = ap (λ (l : List C). take 1 l) children_are
+
+  behind : (kept : List C) → after.children ≡ seated rest ++ kept → after.children ≡ drop 1 before.children ++ kept
+  behind kept is = is ∙ ap (λ (l : List C). drop 1 l ++ kept) (sym children_are)
+
+  pub sweeps_kept : (filled : List (Option C)) (kept : C) → PollsChild may (view child) (Ok None) (view kept) → filled ≡ Some kept ∷ [] →
+      after ≡ record by_seats { children = seated (rest ++ filled) } → Sweeps may view 1 before after
+  sweeps_kept filled kept polls full is = record {
+    kept = kept ∷ [];
+    reaped = 0;
+    lost = 0;
+    asked = subst (λ (l : List C). AsksAll may view l (kept ∷ []) 0 0) (sym asked_first) (one_kept may view child kept polls);
+    children_are = behind (kept ∷ []) (ap (λ (p : PoolView C). p.children) is ∙ ap (λ (l : List (Option C)). seated (rest ++ l)) full ∙ seated-append rest kept);
+    given_is = ap (λ (p : PoolView C). p.given) is ∙ ap (λ (p : PoolView C). p.given) same;
+    reaped_is = ap (λ (p : PoolView C). p.reaped) is ∙ ap (λ (p : PoolView C). p.reaped) same;
+    lost_is = ap (λ (p : PoolView C). p.lost) is ∙ ap (λ (p : PoolView C). p.lost) same;
+  }
+
+  pub sweeps_reaped : (status : ExitStatus) → may (view child).number (Ok (Some status)) →
+      after ≡ record by_seats { children = seated rest; reaped = counted by_seats.reaped 1 } → Sweeps may view 1 before after
+  sweeps_reaped status told is = record {
+    kept = [];
+    reaped = 1;
+    lost = 0;
+    asked = subst (λ (l : List C). AsksAll may view l [] 1 0) (sym asked_first) (one_reaped may view child status told);
+    children_are = behind [] (ap (λ (p : PoolView C). p.children) is ∙ sym (append-nil (seated rest)));
+    given_is = ap (λ (p : PoolView C). p.given) is ∙ ap (λ (p : PoolView C). p.given) same;
+    reaped_is = ap (λ (p : PoolView C). p.reaped) is ∙ ap (λ (p : PoolView C). counted p.reaped 1) same;
+    lost_is = ap (λ (p : PoolView C). p.lost) is ∙ ap (λ (p : PoolView C). p.lost) same;
+  }
+
+  pub sweeps_lost : (fault : Fault) → may (view child).number (Err fault) →
+      after ≡ record by_seats { children = seated rest; lost = counted by_seats.lost 1 } → Sweeps may view 1 before after
+  sweeps_lost fault told is = record {
+    kept = [];
+    reaped = 0;
+    lost = 1;
+    asked = subst (λ (l : List C). AsksAll may view l [] 0 1) (sym asked_first) (one_lost may view child fault told);
+    children_are = behind [] (ap (λ (p : PoolView C). p.children) is ∙ sym (append-nil (seated rest)));
+    given_is = ap (λ (p : PoolView C). p.given) is ∙ ap (λ (p : PoolView C). p.given) same;
+    reaped_is = ap (λ (p : PoolView C). p.reaped) is ∙ ap (λ (p : PoolView C). p.reaped) same;
+    lost_is = ap (λ (p : PoolView C). p.lost) is ∙ ap (λ (p : PoolView C). counted p.lost 1) same;
+  }
+
+-- a sweep, from its begin by one child more to its end
+next_of : {C : Type 0} (xs : List C) (i : ℕ) → i < length xs → (x : C) × (drop i xs ≡ x ∷ drop (suc i) xs) × (take (suc i) xs ≡ take i xs ++ x ∷ [])
+next_of [] i within = absurd (omega arith)
+next_of (x ∷ xs) zero within = (x, refl, refl)
+next_of {C} (x ∷ xs) (suc i) within =
+    let less : i < length xs = omega arith in
+    let n = next_of xs i less in
+    (n.0, n.1, ap (λ (l : List C). x ∷ l) n.2)
+
+pub sweep_begins : {C : Type 0} (may : ℕ → Answer → Type 0) (view : C → ChildView) (before : PoolView C) → Sweeps may view 0 before before
+sweep_begins may view before = record {
+  kept = [];
+  reaped = 0;
+  lost = 0;
+  asked = (refl, refl, refl);
+  children_are = sym (append-nil before.children);
+  given_is = refl;
+  reaped_is = refl;
+  lost_is = refl;
+}
+
+module _ {C : Type 0} (may : ℕ → Answer → Type 0) (view : C → ChildView) (i : ℕ) (before now : PoolView C) (s : Sweeps may view i before now) (within : i < length before.children) where
+  now_is : now.children ≡ (next_of before.children i within).0 ∷ (drop (suc i) before.children ++ s.kept)
+  now_is = s.children_are ∙ ap (λ (l : List C). l ++ s.kept) (next_of before.children i within).1
+
+  pub some_left : 0 < length now.children
+  some_left = omega (arith, ap (λ (l : List C). length l) now_is)
+
+  pub sweep_goes_on : (next : PoolView C) → Sweeps may view 1 now next → Sweeps may view (i + 1) before next
+  sweep_goes_on next one =
+      let n = next_of before.children i within in
+      let first : take 1 now.children ≡ n.0 ∷ [] = ap (λ (l : List C). take 1 l) now_is in
+      let rest : drop 1 now.children ≡ drop (suc i) before.children ++ s.kept = ap (λ (l : List C). drop 1 l) now_is in
+      let taken : take (i + 1) before.children ≡ take i before.children ++ n.0 ∷ [] = ap (λ (k : ℕ). take k before.children) (add-one i) ∙ n.2 in
+      let dropped : drop (i + 1) before.children ≡ drop (suc i) before.children = ap (λ (k : ℕ). drop k before.children) (add-one i) in
+      record {
+        kept = s.kept ++ one.kept;
+        reaped = s.reaped + one.reaped;
+        lost = s.lost + one.lost;
+        asked = subst (λ (l : List C). AsksAll may view l (s.kept ++ one.kept) (s.reaped + one.reaped) (s.lost + one.lost)) (sym taken)
+            (sieves-append (λ child. may (view child).number) (λ child kept. PollsChild may (view child) (Ok None) (view kept))
+            (take i before.children) (n.0 ∷ []) s.kept one.kept s.reaped s.lost one.reaped one.lost
+            s.asked (subst (λ (l : List C). AsksAll may view l one.kept one.reaped one.lost) first one.asked));
+        children_are = one.children_are ∙ ap (λ (l : List C). l ++ one.kept) rest ∙ append_assoc (drop (suc i) before.children) s.kept one.kept
+            ∙ ap (λ (l : List C). l ++ (s.kept ++ one.kept)) (sym dropped);
+        given_is = one.given_is ∙ s.given_is;
+        reaped_is = one.reaped_is ∙ ap (λ (n : ℕ). counted n one.reaped) s.reaped_is ∙ counted_more before.reaped s.reaped one.reaped;
+        lost_is = one.lost_is ∙ ap (λ (n : ℕ). counted n one.lost) s.lost_is ∙ counted_more before.lost s.lost one.lost;
+      }
+
+pub sweep_ends : {C : Type 0} (may : ℕ → Answer → Type 0) (view : C → ChildView) (i : ℕ) (before now : PoolView C) →
+    Sweeps may view i before now → length before.children ≤ i → IsSwept may view before now
+sweep_ends {C} may view i before now s done = record {
+  reaped = s.reaped;
+  lost = s.lost;
+  asked = rw (s.children_are, drop_all i before.children done)
+      (subst (λ (l : List C). AsksAll may view l s.kept s.reaped s.lost) (take_all i before.children done) s.asked);
+  given_is = s.given_is;
+  reaped_is = s.reaped_is;
+  lost_is = s.lost_is;
+}
+
+-- seats that are all taken
+pub seated_somes : {C : Type 0} (xs : List C) → seated (map Some xs) ≡ xs
+seated_somes [] = refl
+seated_somes {C} (x ∷ xs) = ap (λ (l : List C). x ∷ l) (seated_somes xs)
+
+pub one_seat : {C : Type 0} (seats one rest : List (Option C)) → seats ≡ map Some (seated seats) → seats ≡ one ++ rest → length one ≡ 1 →
+    (child : C) × (one ≡ Some child ∷ [])
+one_seat seats [] rest full whole long = absurd (omega (arith, long))
+one_seat seats (Some child ∷ []) rest full whole long = (child, refl)
+one_seat {C} seats (None ∷ []) rest full whole long = no_none (seated seats) rest (sym whole ∙ full)
+  where
+    no_none : (xs : List C) (rest : List (Option C)) → None ∷ rest ≡ map Some xs → (child : C) × (None ∷ [] ≡ Some child ∷ [])
+    no_none [] rest is = absurd (cc)
+    no_none (x ∷ xs) rest is = absurd (cc)
+one_seat seats (o ∷ p ∷ one) rest full whole long = absurd (omega (arith, long))
+
+-- a pool keeps no more children than it was given
+pub few_by_given : {C : Type 0} (view pool : PoolView C) → view ≡ pool → AddsUp view → pool.given + 1 < 2 ^ 63 → length pool.children + 1 < 2 ^ 63
+few_by_given {C} view pool is adds fits =
+    let a : AddsUp pool = subst (λ (p : PoolView C). AddsUp p) is adds in
+    let below : pool.given < greatest = omega (arith, fits) in
+    omega (arith, fits, a below)

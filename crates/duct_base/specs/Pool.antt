@@ -1,0 +1,75 @@
+-- What contracts see of a pool of abandoned children, and what a sweep and further children make of it.
+use Rattle.std.specs.Prelude.{ℕ, zero, suc, ◌+◌, ◌-◌, ◌^◌, ◌<◌, ◌≡◌, ◌⊎◌, min, List, [], ◌∷◌, ◌++◌, flat_map, length, take, drop, Ok, Err, Some, None}
+use Rattle.std.specs.declared.option.Option.{Option}
+use Rattle.std.specs.Option.{option_to_list}
+use Rattle.duct_base.specs.Child.{Answer, ChildView, PollsChild}
+use Rattle.duct_base.specs.declared.system.ExitStatus.{ExitStatus}
+use Rattle.duct_base.specs.declared.system.Fault.{Fault}
+
+-- the children that it keeps, in order, and how many were ever given to it, found ended, and lost to a fault
+pub record PoolView (C : Type 0) : Type 0 where
+  pub children : List C
+  pub given : ℕ
+  pub reaped : ℕ
+  pub lost : ℕ
+
+-- the children in some seats
+abbrev pub seated : {C : Type 0} → List (Option C) → List C
+seated seats = flat_map option_to_list seats
+
+-- the greatest count
+abbrev pub greatest : ℕ
+greatest = 2 ^ 64 - 1
+
+-- a count after some more, or the greatest
+abbrev pub counted : ℕ → ℕ → ℕ
+counted count zero = count
+counted count (suc more) = min (count + suc more) greatest
+
+-- each child that a pool was given it keeps, or it was found ended, or lost, as long as the first can be counted
+abbrev pub AddsUp : {C : Type 0} → PoolView C → Type 0
+AddsUp pool = pool.given < greatest → pool.given ≡ length pool.children + pool.reaped + pool.lost
+
+-- of some children, asked once each, those that are left as they are kept, and how many were found ended and how many lost, each by
+-- an answer that it may give
+abbrev pub Sieves : {A B : Type 0} → (A → Answer → Type 0) → (A → B → Type 0) → List A → List B → ℕ → ℕ → Type 0
+Sieves may keeps [] left reaped lost = (left ≡ []) × (reaped ≡ 0) × (lost ≡ 0)
+Sieves {A} {B} may keeps (child ∷ children) left reaped lost =
+    ((kept : B) × (rest : List B) × keeps child kept × (left ≡ kept ∷ rest) × Sieves may keeps children rest reaped lost)
+    ⊎ ((status : ExitStatus) × (fewer : ℕ) × may child (Ok (Some status)) × (reaped ≡ fewer + 1) × Sieves may keeps children left fewer lost)
+    ⊎ ((fault : Fault) × (fewer : ℕ) × may child (Err fault) × (lost ≡ fewer + 1) × Sieves may keeps children left reaped fewer)
+
+-- some children were asked once each: those that said Running are left, with nothing else of them changed
+abbrev pub AsksAll : {C : Type 0} → (ℕ → Answer → Type 0) → (C → ChildView) → List C → List C → ℕ → ℕ → Type 0
+AsksAll may view = Sieves (λ child. may (view child).number) (λ child kept. PollsChild may (view child) (Ok None) (view kept))
+
+-- the pool after its first children were asked: those that said Running stand behind the others
+pub record Sweeps {C : Type 0} (may : ℕ → Answer → Type 0) (view : C → ChildView) (many : ℕ) (before after : PoolView C) : Type 0 where
+  pub kept : List C
+  pub reaped : ℕ
+  pub lost : ℕ
+  pub asked : AsksAll may view (take many before.children) kept reaped lost
+  pub children_are : after.children ≡ drop many before.children ++ kept
+  pub given_is : after.given ≡ before.given
+  pub reaped_is : after.reaped ≡ counted before.reaped reaped
+  pub lost_is : after.lost ≡ counted before.lost lost
+
+-- the pool after each of its children was asked: those that said Running stay, in order
+pub record IsSwept {C : Type 0} (may : ℕ → Answer → Type 0) (view : C → ChildView) (before after : PoolView C) : Type 0 where
+  pub reaped : ℕ
+  pub lost : ℕ
+  pub asked : AsksAll may view before.children after.children reaped lost
+  pub given_is : after.given ≡ before.given
+  pub reaped_is : after.reaped ≡ counted before.reaped reaped
+  pub lost_is : after.lost ≡ counted before.lost lost
+
+-- the pool after these children were given to it, and asked: those that said Running stand behind the old ones, in order
+pub record Takes {C : Type 0} (may : ℕ → Answer → Type 0) (view : C → ChildView) (taken : List C) (before after : PoolView C) : Type 0 where
+  pub kept : List C
+  pub reaped : ℕ
+  pub lost : ℕ
+  pub asked : AsksAll may view taken kept reaped lost
+  pub children_are : after.children ≡ before.children ++ kept
+  pub given_is : after.given ≡ counted before.given (length taken)
+  pub reaped_is : after.reaped ≡ counted before.reaped reaped
+  pub lost_is : after.lost ≡ counted before.lost lost
