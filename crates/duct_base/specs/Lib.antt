@@ -27,7 +27,6 @@ pub mod Status
 pub mod Streams
 pub mod Told
 pub mod Trace
-pub mod TreeOrder
 pub mod Verdict
 pub mod Winner
 pub mod Words
