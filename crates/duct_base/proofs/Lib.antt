@@ -1,12 +1,10 @@
 pub mod Begins
-pub mod ByNumber
 pub mod Changes
 pub mod Concluded
 pub mod Entries
 pub mod Latest
 pub mod Looks
 pub mod Messages
-pub mod Numbers
 pub mod Order
 pub mod Quotes
 pub mod Ran
@@ -14,5 +12,4 @@ pub mod Settled
 pub mod Shown
 pub mod Sieving
 pub mod Stays
-pub mod TreeOrders
 pub mod Variables

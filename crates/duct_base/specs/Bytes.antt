@@ -5,8 +5,6 @@ use Rattle.duct_base.specs.declared.system.Said.{Said}
 use Rattle.duct_base.specs.declared.system.Said.TheVariants as said
 use Rattle.duct_base.specs.declared.status.verdict.Verdict.{Verdict as Found}
 use Rattle.duct_base.specs.declared.status.verdict.Verdict.TheVariants as found
-use Rattle.duct_base.specs.declared.status.plain.outcome.Outcome.{Outcome}
-use Rattle.duct_base.specs.declared.status.plain.outcome.Outcome.TheVariants as outcome
 use Rattle.duct_base.specs.Verdict.{Verdict, waits, faults, finished}
 
 -- what a worker said, with the bytes that it lent
@@ -20,9 +18,3 @@ abbrev pub verdict_of : Found → Verdict
 verdict_of found.Waits = waits
 verdict_of (found.Faults fault) = faults fault
 verdict_of (found.Finished output error) = finished output.now error.now
-
--- what contracts see of an outcome
-abbrev pub outcome_of : Outcome → Verdict
-outcome_of outcome.Pending = waits
-outcome_of (outcome.Fault fault) = faults fault
-outcome_of (outcome.Finished output error) = finished output.now error.now

@@ -1,5 +1,5 @@
 -- A tree of commands that have ended, and the ways to them.
-use Rattle.std.specs.Prelude.{ℕ, ◌+◌, ◌-◌, ◌⊎◌, Bool, true, false, nat_lt, if◌then◌else◌, List, Some, None, pos, slice_get}
+use Rattle.std.specs.Prelude.{ℕ, ◌+◌, ◌⊎◌, Bool, true, false, List, Some, None, pos, slice_get}
 use Rattle.std.specs.declared.option.Option.{Option}
 use Rattle.std.proofs.Common.{inl, inr}
 use Rattle.duct_base.specs.declared.system.ExitStatus.{ExitStatus}
@@ -41,25 +41,6 @@ is_checked (ending texts status) way = true
 is_checked (pipe l r) (inl way) = is_checked l way
 is_checked (pipe l r) (inr way) = is_checked r way
 is_checked (unchecked t) way = false
-
--- how many commands there are
-abbrev pub ending_count : Endings → ℕ
-ending_count (ending texts status) = 1
-ending_count (pipe l r) = ending_count l + ending_count r
-ending_count (unchecked t) = ending_count t
-
--- the number of the command there, from left to right
-abbrev pub number_at : (t : Endings) → Way t → ℕ
-number_at (ending texts status) way = 0
-number_at (pipe l r) (inl way) = number_at l way
-number_at (pipe l r) (inr way) = ending_count l + number_at r way
-number_at (unchecked t) way = number_at t way
-
--- the way to the command of a number; past the last one it is the last one
-abbrev pub way_at : (t : Endings) → ℕ → Way t
-way_at (ending texts status) k = tt
-way_at (pipe l r) k = if nat_lt k (ending_count l) then inl (way_at l k) else inr (way_at r (k - ending_count l))
-way_at (unchecked t) k = way_at t k
 
 -- how a command ended by its word; one that has not ended counts as a success
 abbrev pub status_of : Option Word → ExitStatus

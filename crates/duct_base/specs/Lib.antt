@@ -28,7 +28,6 @@ pub mod State
 pub mod Status
 pub mod Streams
 pub mod Trace
-pub mod TreeOrder
 pub mod Verdict
 pub mod Winner
 pub mod Words

@@ -1,8 +1,8 @@
 -- Which command's status stands for the whole: the one that beats each other one.
-use Rattle.std.specs.Prelude.{◌≡◌, ◌≢◌, ℕ, ◌<◌, ◌⊎◌, Bool, MatchBool, min, if◌then◌else◌}
+use Rattle.std.specs.Prelude.{◌≡◌, ℕ, ◌<◌, ◌⊎◌, min, if◌then◌else◌}
 use Rattle.std.proofs.Common.{inl, inr}
 use Rattle.duct_base.specs.Status.{is_success}
-use Rattle.duct_base.specs.Endings.{Endings, ending, pipe, unchecked, Way, ending_count, way_at}
+use Rattle.duct_base.specs.Endings.{Endings, ending, pipe, unchecked, Way}
 
 -- 0 for a success, 1 for a failure with an unchecked of this tree round it, 2 for any other failure
 abbrev pub level : (t : Endings) → Way t → ℕ
@@ -31,11 +31,3 @@ Beats (unchecked t) one other = Beats t one other
 -- the command beats each other one
 abbrev pub IsWinner : (t : Endings) → Way t → Type 0
 IsWinner t winner = (other : Way t) → (winner ≡ other) ⊎ Beats t winner other
-
--- the command of this number beats that of each other number
-abbrev pub BeatsAll : Endings → ℕ → Type 0
-BeatsAll t i = (k : ℕ) → k < ending_count t → k ≢ i → Beats t (way_at t i) (way_at t k)
-
--- the test says whether the fact holds
-abbrev pub Tells : Bool → Type 0 → Type 0
-Tells test P = MatchBool test P (¬ P)

@@ -14,7 +14,6 @@ mod keep;
 pub mod law;
 mod look;
 mod message;
-pub mod plain;
 mod verdict;
 
 use crate::error::Error;

@@ -6,8 +6,8 @@ use Rattle.duct_base.specs.Spec.{Spec}
 use Rattle.duct_base.specs.Streams.{stream_of}
 use Rattle.duct_base.specs.declared.system.Stdio.{Stdio}
 use Rattle.duct.specs.Chain.{Wired}
-use Rattle.duct_script.specs.declared.checker.Source.{Source}
-use Rattle.duct_script.specs.Source.{origin_of}
+use Rattle.duct_plain.specs.declared.checker.Source.{Source}
+use Rattle.duct_plain.specs.Source.{origin_of}
 use Rattle.duct_follows.specs.Wiring.{wired_with}
 
 -- the three streams in the order stdin, stdout, stderr

@@ -10,7 +10,7 @@ use Rattle.duct_base.specs.declared.error.Error.TheVariants.{Hook}
 use Rattle.duct_base.specs.declared.system.Kind.TheVariants.{OutOfMemory}
 use Rattle.duct_base.specs.declared.system.Stdio.{Stdio}
 use Rattle.duct_plan.specs.declared.asked.Wired.{Wired}
-use Rattle.duct_script.specs.Source.{origin_of}
+use Rattle.duct_plain.specs.Source.{origin_of}
 
 -- they are those of the answer
 pub record AreThese (given : Wired) (spec : Spec) (streams : List (Stdio Origin)) : Type 0 where

@@ -12,8 +12,8 @@ use Rattle.duct_base.specs.declared.system.Stdio.TheVariants.{Inherit}
 use Rattle.duct.specs.Chain.{Wired, found}
 use Rattle.duct_plan.specs.Found.{hook_of}
 use Rattle.duct_plan.specs.declared.asked.Wired as answer
-use Rattle.duct_script.specs.Source.{origin_of}
-use Rattle.duct_script.specs.declared.checker.Source.{Source}
+use Rattle.duct_plain.specs.Source.{origin_of}
+use Rattle.duct_plain.specs.declared.checker.Source.{Source}
 
 -- where a stream comes from; one that is not there is the parent's own
 abbrev pub from : Option (Stdio Source) → Stdio Origin

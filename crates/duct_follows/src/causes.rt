@@ -18,11 +18,11 @@ use crate::stops::{fault_of, is_close};
 use duct_base::error::Error;
 use duct_base::spec::Hook;
 use duct_base::system::{Entry, Fault, Kind, Numbered};
+use duct_plain::checker::trace;
 use duct_plan::asked::{Wired, asked_at};
 use duct_plan::found::hooks;
 use duct_plan::items::{Item, Plan};
 use duct_plan::way::Crumb;
-use duct_script::checker::trace;
 use duct_script::hook::ScriptHook;
 use std::alloc::{AllocError, Global};
 

@@ -4,13 +4,13 @@ ghost use Rattle.duct_base.specs.Streams.{stream_of};
 ghost use Rattle.duct.specs.Chain.{Changes, Chain, Stops, ChainStops, lent, missing, missing_at, settle, settled};
 ghost use Rattle.duct_follows.specs.Wiring.{wired_with, wired_of, hooks_of, lent_ends, with_found};
 ghost use Rattle.duct_plan.specs.AskedOf.{IsAnswered};
-ghost use Rattle.duct_script.specs.Source.{origin_of};
+ghost use Rattle.duct_plain.specs.Source.{origin_of};
 
 use duct_base::error::Error;
 use duct_base::spec::{CommandSpec, Hook, Port, Stream, give};
 use duct_base::system::{Numbered, Stdio};
+use duct_plain::checker::Source;
 use duct_plan::asked::Wired;
-use duct_script::checker::Source;
 
 /// Runs the hooks of a command over what the tree asks for it, the outermost first: answers its spec afterwards, and where its
 /// streams come from then. The places that a hook names are looked for among the ends beside it, in the order stdin, stdout,

@@ -20,12 +20,12 @@ use crate::stops::{is_clean, stops_at_fault};
 use duct_base::error::Error;
 use duct_base::spec::{CommandSpec, Hook};
 use duct_base::system::{Entry, Kind, Numbered, Stdio};
+use duct_plain::checker::{Source, origin, trace};
 use duct_plan::asked::{Wired, asked_at};
 use duct_plan::found::hooks;
 use duct_plan::items::{Item, Plan};
 use duct_plan::trace::{first_end, second_end};
 use duct_plan::way::Crumb;
-use duct_script::checker::{Source, origin, trace};
 use duct_script::hook::ScriptHook;
 use std::alloc::{AllocError, Global};
 

@@ -5,11 +5,11 @@ ghost use Rattle.duct_base.specs.Entry.{line_of};
 ghost use Rattle.duct_base.specs.Origin.{origin};
 ghost use Rattle.duct_base.specs.Streams.{stream_of};
 ghost use Rattle.duct_follows.specs.Same.{lent_pair, HaveSamePorts};
-ghost use Rattle.duct_script.specs.Source.{origin_of};
+ghost use Rattle.duct_plain.specs.Source.{origin_of};
 
 use duct_base::spec::{CommandSpec, Port, Stream};
 use duct_base::system::{Entry, Stdio};
-use duct_script::checker::{Source, origin};
+use duct_plain::checker::{Source, origin};
 use std::alloc::AllocError;
 
 /// Whether two specs are the same. Refused only for want of memory.

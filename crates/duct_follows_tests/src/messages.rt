@@ -4,11 +4,11 @@ use crate::journal::{ENVIRONMENT, Line, Tree, journal};
 use duct::tree::Node;
 use duct::{Core, Drains, Event, ExitStatus, Reply, Shape, Word, cmd};
 use duct_follows::chain::wired;
+use duct_plain::checker::trace;
 use duct_plan::asked::asked;
 use duct_plan::found::hooks;
 use duct_plan::items::Item;
 use duct_plan::plan::plan;
-use duct_script::checker::trace;
 use std::alloc::Global;
 use std::test::Fail;
 

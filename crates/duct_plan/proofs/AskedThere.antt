@@ -12,7 +12,7 @@ use Rattle.duct.specs.Path.{Path}
 use Rattle.duct.specs.Plan.{Plan}
 use Rattle.duct_plan.specs.AskedOf.{IsAskedThere}
 use Rattle.duct_plan.specs.declared.asked.Wired.{Wired}
-use Rattle.duct_script.specs.Source.{origin_of}
+use Rattle.duct_plain.specs.Source.{origin_of}
 
 pub asked_there : {E H : Type 0} (lines : List Line) (plan : Plan E H) (number_of : E → ℕ) (place : ℕ) (up : Path E H) (words : List (List ℕ)) (pairs : Vars) (program : List ℕ) (answer : Wired) →
     pairs ≡ pairs_in lines → program ≡ program_at lines place up words → IsAsked pairs program up words answer.spec →

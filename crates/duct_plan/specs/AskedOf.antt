@@ -8,7 +8,7 @@ use Rattle.duct.specs.Path.{Path}
 use Rattle.duct.specs.Plan.{Plan, AskSpawn}
 use Rattle.duct_plan.specs.Commands.{IsCommandAt}
 use Rattle.duct_plan.specs.declared.asked.Wired as answer
-use Rattle.duct_script.specs.Source.{origin_of}
+use Rattle.duct_plain.specs.Source.{origin_of}
 
 -- the answer has this spec and these streams
 pub record IsAnswered (wired : Wired) (asked : answer.Wired) : Type 0 where

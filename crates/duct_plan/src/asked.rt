@@ -20,7 +20,7 @@ use crate::variables::variables;
 use crate::way::Crumb;
 use duct::{CommandSpec, Entry, Numbered, Stdio, Stream};
 use duct_base::spec::spec_of;
-use duct_script::checker::Source;
+use duct_plain::checker::Source;
 use std::alloc::{AllocError, Global};
 
 /// The spec of a command, and where its three streams come from, in the order stdin, stdout, stderr.

@@ -8,14 +8,14 @@ ghost use Rattle.duct_plan.specs.Found.{target_of};
 ghost use Rattle.duct_plan.specs.PlanView.{plan_view};
 ghost use Rattle.duct_plan.specs.Lines.{lines_of};
 ghost use Rattle.duct_plan.specs.Way.{way_of};
-ghost use Rattle.duct_script.specs.Source.{origin_of};
+ghost use Rattle.duct_plain.specs.Source.{origin_of};
 
 use crate::found::{Target, goes};
 use crate::items::Plan;
 use crate::trace::{first_end, second_end};
 use crate::way::Crumb;
 use duct::{Entry, Numbered, Port, Side, Stdio, Stream};
-use duct_script::checker::Source;
+use duct_plain::checker::Source;
 
 /// The port of a stream that goes there: the parent's own stream at its own place is inherited.
 pub(crate) fn port_to<E>(stream: Stream, target: Target<'_, E>) -> Port

@@ -4,9 +4,9 @@ use crate::rows::asked_after;
 use crate::texts::{Look, TestPlan};
 use crate::traces::entries;
 use duct_base::system::{Entry, Fault, Kind};
+use duct_plain::checker::trace;
 use duct_plan::asked::asked;
 use duct_plan::plan::plan;
-use duct_script::checker::trace;
 use std::process::Abort;
 use std::test::Fail;
 

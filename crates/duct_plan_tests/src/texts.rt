@@ -1,11 +1,11 @@
 //! Plans, and what a command finds and is given, in words.
 use crate::expressions::{HookName, LentEnd};
 use duct::{CommandSpec, Numbered, Port, Stdio, Stream};
+use duct_plain::checker::Source;
 use duct_plan::asked::Wired;
 use duct_plan::found::{Target, folder, goes, hooks, variable};
 use duct_plan::items::{Item, Plan};
 use duct_plan::way::Crumb;
-use duct_script::checker::Source;
 use std::alloc::{AllocError, Global};
 use std::test::Fail;
 

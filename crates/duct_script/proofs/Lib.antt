@@ -1,4 +1,3 @@
-pub mod Balance
 pub mod Bytes
 pub mod Changes
 pub mod Said

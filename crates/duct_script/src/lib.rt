@@ -4,7 +4,6 @@
 
 pub mod answers;
 pub mod calls;
-pub mod checker;
 pub mod child;
 pub mod clock;
 pub mod gate;

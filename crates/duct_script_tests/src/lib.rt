@@ -1,10 +1,8 @@
-//! Tests of the scripted system (what it answers, counts and keeps) and of the checker of journals.
+//! Tests of the scripted system: what it answers, counts and keeps.
 #![tactic(auto)]
 
 #[cfg(test)]
 mod asks;
-#[cfg(test)]
-mod checker;
 #[cfg(test)]
 mod children;
 #[cfg(test)]

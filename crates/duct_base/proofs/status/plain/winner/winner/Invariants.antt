@@ -1,8 +1,0 @@
-use Rattle.std.proofs.Common.{ℕ, ◌<◌}
-use Rattle.duct_base.specs.Endings.{endings_of}
-use Rattle.duct_base.specs.Shapes.{outline_of}
-use Rattle.duct_base.specs.Winner.{BeatsAll}
-use Rattle.duct_base.proofs.status.plain.winner.winner.Given as goal
-
-abbrev pub invariant-loop-one : goal.invariant-loop-one
-invariant-loop-one l = (k : ℕ) → k < l.one → ¬ (BeatsAll (endings_of (outline_of l.shape) 0 l.words) k)

@@ -1,0 +1,4 @@
+pub mod Balance
+pub mod ByNumber
+pub mod Numbers
+pub mod TreeOrders

@@ -1,0 +1,5 @@
+pub mod Balance
+pub mod Numbered
+pub mod Outcome
+pub mod Source
+pub mod TreeOrder

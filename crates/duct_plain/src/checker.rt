@@ -1,0 +1,206 @@
+//! What a journal says, read by plain functions: the numbers that were got and spent, whether they balance, the trace, and
+//! where an end comes from.
+ghost use Rattle.std.specs.Prelude.{◌≡◌, ◌++◌, ◌↔◌, ◌≤◌, map, IfOk, OnOk, IsTrue};
+ghost use Rattle.duct_base.specs.Entry.{line_of};
+ghost use Rattle.duct_base.specs.Trace.{trace, is_traced};
+ghost use Rattle.duct_base.specs.Ledger.{got, got_by, spent, spent_by, count_of, IsBalanced, held};
+ghost use Rattle.duct_base.specs.Origin.{origin};
+ghost use Rattle.duct_base.specs.Streams.{end_of, ends_of};
+ghost use Rattle.duct_plain.specs.Balance.{Balances, BalancesAt, AllBalance};
+ghost use Rattle.duct_plain.specs.Source.{origin_of, Steps};
+
+use duct_base::system::{Entry, Side, Stdio};
+use std::alloc::{AllocError, Global};
+
+/// Where an end comes from.
+#[derive(Clone, Copy, Debug, PartialEq, Eq)]
+pub enum Source {
+    /// It is, or was duplicated from, the end of this number, which a pipe or a file got.
+    Opened(u64),
+    /// It was duplicated from this stream of the parent.
+    ParentOf(Side),
+    /// It is, or was duplicated from, the end of this number, which no entry got: somebody lent it.
+    Lent(u64),
+}
+
+/// The numbers of the ends that were got, in order.
+pub fn got(alloc: Global, entries: &[Entry]) -> Result<Vec<u64>, AllocError>
+    ensures { IfOk result (λ numbers. numbers.items ≡ got (map line_of entries.now)) }
+{
+    let mut numbers = Vec::new(alloc);
+    for entry in entries {
+        push_got(&mut numbers, entry)?;
+    }
+    Ok(numbers)
+}
+
+/// The numbers of the ends that were spent, in order.
+pub fn spent(alloc: Global, entries: &[Entry]) -> Result<Vec<u64>, AllocError>
+    ensures { IfOk result (λ numbers. numbers.items ≡ spent (map line_of entries.now)) }
+{
+    let mut numbers = Vec::new(alloc);
+    for entry in entries {
+        push_spent(&mut numbers, entry)?;
+    }
+    Ok(numbers)
+}
+
+/// Whether the numbers that were spent are those that were got, in some order, each number once.
+pub fn is_balanced(alloc: Global, entries: &[Entry]) -> Result<bool, AllocError>
+    ensures { IfOk result (λ balanced. IsTrue balanced ↔ IsBalanced (map line_of entries.now)) }
+{
+    let got = got(alloc, entries)?;
+    let spent = spent(alloc, entries)?;
+    Ok(balance(got.as_slice(), spent.as_slice()))
+}
+
+/// How many ends were got and are not spent yet.
+pub fn held(alloc: Global, entries: &[Entry]) -> Result<usize, AllocError>
+    ensures { IfOk result (λ count. count ≡ held (map line_of entries.now)) }
+{
+    let got = got(alloc, entries)?.len();
+    let spent = spent(alloc, entries)?.len();
+    Ok(got.saturating_sub(spent))
+}
+
+/// The entries of which a plan speaks: all but duplicates, ends of the parent's streams, and closes.
+pub fn trace(alloc: Global, entries: &[Entry]) -> Result<Vec<&Entry>, AllocError>
+    ensures { IfOk result (λ traced. map (λ e. line_of e.now) traced.items ≡ trace (map line_of entries.now)) }
+{
+    let mut traced = Vec::new(alloc);
+    for entry in entries {
+        if in_trace(entry) {
+            traced.push(entry)?;
+        }
+    }
+    Ok(traced)
+}
+
+/// Whether a plan speaks of this entry.
+pub fn in_trace(entry: &Entry) -> bool
+    ensures { result ≡ is_traced (line_of entry.now) }
+{
+    !matches!(
+        entry,
+        Entry::Duplicate(_, _) | Entry::Parent(_, _) | Entry::Close(_)
+    )
+}
+
+/// Where the end of a number comes from.
+pub fn origin(entries: &[Entry], number: u64) -> Source
+    ensures { origin_of result ≡ origin (map line_of entries.now) number }
+{
+    let mut number = number;
+    let mut left = entries;
+    while let Some((last, earlier)) = left.split_last() {
+        match step_back(last, number) {
+            Step::Found(source) => return source,
+            Step::From(lent) => number = lent,
+        }
+        left = earlier;
+    }
+    Source::Lent(number)
+}
+
+/// What an entry says of where an end comes from.
+#[derive(Clone, Copy, Drop)]
+enum Step {
+    /// It comes from here.
+    Found(Source),
+    /// It comes from where the end of this number comes from, as the entries before this one say.
+    From(u64),
+}
+
+/// What an entry says of where the end of a number comes from.
+fn step_back(entry: &Entry, number: u64) -> Step
+    ensures { Steps (line_of entry.now) number result }
+{
+    match entry {
+        Entry::Pipe(Ok((reader, writer))) if number == *reader || number == *writer => {
+            Step::Found(Source::Opened(number))
+        }
+        Entry::OpenRead(_, Ok(end)) if number == *end => Step::Found(Source::Opened(number)),
+        Entry::Create(_, Ok(end)) if number == *end => Step::Found(Source::Opened(number)),
+        Entry::Parent(side, Ok(end)) if number == *end => Step::Found(Source::ParentOf(*side)),
+        Entry::Duplicate(lent, Ok(end)) if number == *end => Step::From(*lent),
+        _ => Step::From(number),
+    }
+}
+
+/// Whether each number stands as often in both lists, and not twice.
+fn balance(got: &[u64], spent: &[u64]) -> bool
+    ensures { IsTrue result ↔ Balances got.now spent.now }
+{
+    all_balance(got, got, spent) && all_balance(spent, got, spent)
+}
+
+/// Whether each of these numbers stands as often in both lists, and not twice.
+fn all_balance(numbers: &[u64], got: &[u64], spent: &[u64]) -> bool
+    ensures { IsTrue result ↔ AllBalance got.now spent.now numbers.now }
+{
+    for number in numbers {
+        if !balances_at(*number, got, spent) {
+            return false;
+        }
+    }
+    true
+}
+
+/// Whether this number stands as often in both lists, and not twice.
+fn balances_at(number: u64, got: &[u64], spent: &[u64]) -> bool
+    ensures { IsTrue result ↔ BalancesAt got.now spent.now number }
+{
+    let times_got = count_of(number, got);
+    times_got <= 1 && count_of(number, spent) == times_got
+}
+
+/// How often a number stands in a list.
+fn count_of(number: u64, numbers: &[u64]) -> usize
+    ensures { result ≡ count_of number numbers.now }
+{
+    numbers.iter().filter(|other| **other == number).count()
+}
+
+/// Adds the numbers of the ends that an entry answered.
+fn push_got(numbers: &mut Vec<u64>, entry: &Entry) -> Result<(), AllocError>
+    ensures { OnOk result (numbers.new.items ≡ numbers.old.items ++ got_by (line_of entry.now)) }
+{
+    match entry {
+        Entry::Pipe(Ok((reader, writer))) => {
+            numbers.push(*reader)?;
+            numbers.push(*writer)?;
+        }
+        Entry::OpenRead(_, Ok(end)) => numbers.push(*end)?,
+        Entry::Create(_, Ok(end)) => numbers.push(*end)?,
+        Entry::Duplicate(_, Ok(end)) => numbers.push(*end)?,
+        Entry::Parent(_, Ok(end)) => numbers.push(*end)?,
+        _ => {}
+    }
+    Ok(())
+}
+
+/// Adds the numbers of the ends that an entry's request was given.
+fn push_spent(numbers: &mut Vec<u64>, entry: &Entry) -> Result<(), AllocError>
+    ensures { OnOk result (numbers.new.items ≡ numbers.old.items ++ spent_by (line_of entry.now)) }
+{
+    match entry {
+        Entry::Spawn(_, io, _) => push_ends(numbers, io),
+        Entry::Feed(end, _, _) => Ok(numbers.push(*end)?),
+        Entry::Drain(end, _) => Ok(numbers.push(*end)?),
+        Entry::Reader(end) => Ok(numbers.push(*end)?),
+        Entry::Close(end) => Ok(numbers.push(*end)?),
+        _ => Ok(()),
+    }
+}
+
+/// Adds the numbers of the ends of three streams.
+fn push_ends(numbers: &mut Vec<u64>, io: &[Stdio<u64>; 3]) -> Result<(), AllocError>
+    ensures { OnOk result (numbers.new.items ≡ numbers.old.items ++ ends_of io.now) }
+{
+    for stream in io {
+        if let Stdio::End(end) = stream {
+            numbers.push(*end)?;
+        }
+    }
+    Ok(())
+}

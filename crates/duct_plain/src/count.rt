@@ -1,0 +1,58 @@
+//! How many commands and input workers a shape has.
+ghost use Rattle.std.specs.Prelude.{◌≡◌, ◌+◌, ◌^◌, ◌<◌, IfSome, IsSome};
+ghost use Rattle.duct_base.specs.Outline.{command_count, input_count};
+ghost use Rattle.duct_base.specs.Shapes.{outline_of};
+
+use duct_base::status::Shape;
+
+/// The number of commands.
+pub(crate) fn count_commands(shape: &Shape) -> usize
+    requires { command_count (outline_of shape.now) < 2 ^ 64 }
+    ensures { result ≡ command_count (outline_of shape.now) }
+{
+    match shape {
+        Shape::Command(_) => 1,
+        Shape::Pipe(left, right) => count_commands(left) + count_commands(right),
+        Shape::Input(inner) => count_commands(inner),
+        Shape::Unchecked(inner) => count_commands(inner),
+    }
+}
+
+/// The number of input workers.
+pub(crate) fn count_inputs(shape: &Shape) -> usize
+    requires { input_count (outline_of shape.now) < 2 ^ 64 }
+    ensures { result ≡ input_count (outline_of shape.now) }
+{
+    match shape {
+        Shape::Command(_) => 0,
+        Shape::Pipe(left, right) => count_inputs(left) + count_inputs(right),
+        Shape::Input(inner) => count_inputs(inner) + 1,
+        Shape::Unchecked(inner) => count_inputs(inner),
+    }
+}
+
+/// The number of commands, if it is a `usize`.
+pub fn commands_in(shape: &Shape) -> Option<usize>
+    ensures value { IfSome result (λ n. n ≡ command_count (outline_of shape.now)) }
+    ensures succeeds { command_count (outline_of shape.now) < 2 ^ 64 → IsSome result }
+{
+    match shape {
+        Shape::Command(_) => Some(1),
+        Shape::Pipe(left, right) => commands_in(left)?.checked_add(commands_in(right)?),
+        Shape::Input(inner) => commands_in(inner),
+        Shape::Unchecked(inner) => commands_in(inner),
+    }
+}
+
+/// The number of input workers, if it is a `usize`.
+pub fn inputs_in(shape: &Shape) -> Option<usize>
+    ensures value { IfSome result (λ n. n ≡ input_count (outline_of shape.now)) }
+    ensures succeeds { input_count (outline_of shape.now) < 2 ^ 64 → IsSome result }
+{
+    match shape {
+        Shape::Command(_) => Some(0),
+        Shape::Pipe(left, right) => inputs_in(left)?.checked_add(inputs_in(right)?),
+        Shape::Input(inner) => inputs_in(inner)?.checked_add(1),
+        Shape::Unchecked(inner) => inputs_in(inner),
+    }
+}
