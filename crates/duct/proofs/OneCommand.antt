@@ -1,46 +1,83 @@
 -- What the start of one command adds to the journal follows its plan.
-use Rattle.std.specs.Prelude.{ℕ, List, [], ◌∷◌, ◌++◌, map, reverse, Ok, Err, Some, None}
+use Rattle.std.specs.Prelude.{ℕ, zero, suc, List, [], ◌∷◌, ◌++◌, map, reverse, take, length, All, Ok, Err, Some, None}
 use Rattle.std.specs.declared.result.Result.{Result}
 use Rattle.std.specs.Cmp.Lexicographic.{slice_cmp}
 use Rattle.std.specs.List.Sorted.{IsStrictlySortedBy}
 use Rattle.std.specs.Ordering.{nat_cmp}
-use Rattle.std.proofs.Common.{◌≡◌, refl, ap, sym, ◌∙◌, subst, arith, inl, inr, append_assoc}
+use Rattle.std.proofs.Common.{◌≡◌, ◌+◌, ◌*◌, ◌≤◌, refl, ap, sym, ◌∙◌, subst, arith, inl, inr, append_assoc, length-append}
 use Rattle.std.proofs.lemmas.List.{append-nil}
-use Rattle.duct_base.specs.Ledger.{IsBalanced, got, spent}
-use Rattle.duct_base.specs.Line.{Line, Environment, Spawn, Adds, AddsOrNoMemory}
-use Rattle.duct_base.specs.Spec.{Spec, Vars, value_of}
-use Rattle.duct_base.specs.declared.spec.Port.TheVariants as port
-use Rattle.duct_base.specs.declared.spec.Stream.TheVariants as stream
+use Rattle.duct_base.specs.Child.{Answer, ChildView}
+use Rattle.duct_base.specs.Journal.{JournalView, Adds, AddsNothing, Asks, GivesEnds, IsRefused}
+use Rattle.duct_base.specs.Ledger.{IsBalanced, got, spent, got_by, held}
+use Rattle.duct_base.specs.Line.{Line, Environment, Spawn}
 use Rattle.duct_base.specs.Origin.{origin}
+use Rattle.duct_base.specs.Pool.{PoolView, Sieves}
+use Rattle.duct_base.specs.Spec.{Spec, Vars, value_of}
+use Rattle.duct_base.specs.Started.{StartsOne, StartsNone, children_in}
 use Rattle.duct_base.specs.Streams.{stream_of}
-use Rattle.duct_base.specs.Trace.{IsFront, segment, trace}
+use Rattle.duct_base.specs.Trace.{segment, trace}
 use Rattle.duct_base.specs.declared.error.Error.{Error}
 use Rattle.duct_base.specs.declared.error.Error.TheVariants as error
+use Rattle.duct_base.specs.declared.spec.Port.TheVariants as port
+use Rattle.duct_base.specs.declared.spec.Stream.TheVariants as stream
 use Rattle.duct_base.specs.declared.system.Fault.{Fault}
 use Rattle.duct_base.specs.declared.system.Stdio.{Stdio}
 use Rattle.duct_base.specs.declared.system.Stdio.TheVariants.{Inherit}
 use Rattle.duct.specs.Asked.{IsAsked, with_program}
+use Rattle.duct.specs.Causes.{HasCause, AnswersLastFault}
 use Rattle.duct.specs.Chain.{Allows, Refuses, Wired}
 use Rattle.duct.specs.Follows.{Follows, FollowsWhole, IsGiven}
-use Rattle.duct.specs.Causes.{HasCause, AnswersLastFault}
+use Rattle.duct.specs.Found.{plain}
+use Rattle.duct.specs.Left.{StaysInPool, Leaves, LeavesStarted, pool_view}
 use Rattle.duct.specs.Plan.{Plan, plan_of, program_of}
-use Rattle.duct.specs.Start.{Succeeds, IsRefused}
-use Rattle.duct.specs.Tree.{command}
+use Rattle.duct.specs.Start.{Grows, HoldsFew, StartSucceeds, StartRefused}
+use Rattle.duct.specs.Tree.{Tree, command}
 
 segment-added : (old xs : List Line) → segment old (old ++ xs) ≡ xs
 segment-added [] xs = refl
 segment-added (line ∷ old) xs = segment-added old xs
 
--- what was added is the segment, and the old journal is the front
-added_segment : (old new xs : List Line) → new ≡ old ++ xs → segment old new ≡ xs
-added_segment old new xs is = ap (λ l. segment old l) is ∙ segment-added old xs
+-- what was added to a journal, which forgot nothing
+record Added (xs : List Line) (old new : JournalView) : Type 0 where
+  entries_are : new.entries ≡ old.entries ++ xs
+  added_is : new.added ≡ old.added + length xs
+  next_grows : old.next ≤ new.next
+  room_grows : old.room ≤ new.room
 
-added_front : (old new xs : List Line) → new ≡ old ++ xs → IsFront old new
-added_front old new xs is = is ∙ ap (λ l. old ++ l) (sym (added_segment old new xs is))
+added_none : (old new : JournalView) → AddsNothing old new → Added [] old new
+added_none old new nothing = record {
+  entries_are = nothing.entries_are ∙ sym (append-nil old.entries);
+  added_is = omega (arith, nothing.added_is);
+  next_grows = nothing.next_grows;
+  room_grows = nothing.room_grows;
+}
 
--- two lines that were added one after the other
-two_added : (old mid new : List Line) (a b : Line) → Adds old mid a → Adds mid new b → new ≡ old ++ a ∷ b ∷ []
-two_added old mid new a b first second = second ∙ ap (λ l. l ++ b ∷ []) first ∙ append_assoc old (a ∷ []) (b ∷ [])
+added_one : (line : Line) (old new : JournalView) → Asks line old new → Added (line ∷ []) old new
+added_one line old new asks = record {
+  entries_are = asks.entries_are;
+  added_is = asks.added_is;
+  next_grows = asks.next_grows;
+  room_grows = omega (arith, asks.room_is);
+}
+
+added_more : (xs ys : List Line) (old mid new : JournalView) → Added xs old mid → Added ys mid new → Added (xs ++ ys) old new
+added_more xs ys old mid new first second = record {
+  entries_are = second.entries_are ∙ ap (λ (l : List Line). l ++ ys) first.entries_are ∙ append_assoc old.entries xs ys;
+  added_is = omega (arith, first.added_is, second.added_is, length-append xs ys);
+  next_grows = omega (arith, first.next_grows, second.next_grows);
+  room_grows = omega (arith, first.room_grows, second.room_grows);
+}
+
+segment_is : (xs : List Line) (old new : JournalView) → Added xs old new → segment old.entries new.entries ≡ xs
+segment_is xs old new added = ap (λ l. segment old.entries l) added.entries_are ∙ segment-added old.entries xs
+
+grows : (xs : List Line) (old new : JournalView) → Added xs old new → Grows old new
+grows xs old new added = let same = sym (segment_is xs old new added) in record {
+  front = added.entries_are ∙ ap (λ (l : List Line). old.entries ++ l) same;
+  counted = added.added_is ∙ ap (λ (l : List Line). old.added + length l) same;
+  next_grows = added.next_grows;
+  room_grows = added.room_grows;
+}
 
 some_is : (one other : Fault) → Some one ≡ Some other → one ≡ other
 some_is one other e = cc
@@ -53,9 +90,54 @@ inherited = Inherit ∷ Inherit ∷ Inherit ∷ []
 balanced : (added : List Line) → got added ≡ [] → spent added ≡ [] → IsBalanced added
 balanced added nothing_got nothing_spent = λ number. rw (nothing_got, nothing_spent) (refl, omega arith)
 
+no_front : (front rest : List ℕ) → front ++ rest ≡ [] → (front ≡ []) × (rest ≡ [])
+no_front [] rest e = (refl, e)
+no_front (number ∷ front) rest e = absurd (cc)
+
+got_front : (count : ℕ) (added : List Line) → got added ≡ [] → got (take count added) ≡ []
+got_front zero added none = refl
+got_front (suc count) [] none = refl
+got_front (suc count) (line ∷ added) none =
+    let parts = no_front (got_by line) (got added) none in
+    ap (λ (l : List ℕ). l ++ got (take count added)) parts.0 ∙ got_front count added parts.1
+
+-- of ends that nobody got none is held
+none_held : {E H : Type 0} (tree : Tree E H) (added : List Line) → got added ≡ [] → HoldsFew tree added
+none_held tree added none = λ count. omega (arith, ap (λ (l : List ℕ). length l) (got_front count added none))
+
+-- a pool that nobody touched, where no child was started
+sieves_all : (may : ChildView → Answer → Type 0) (children : List ChildView) → Sieves may StaysInPool children children 0 0
+sieves_all may [] = (refl, refl, refl)
+sieves_all may (child ∷ children) = inl (child, children, record { number_is = refl; process_is = refl; orders_are = refl }, refl, sieves_all may children)
+
+pub pool_untouched : {C : Type 0} (may : ℕ → Answer → Type 0) (view : C → ChildView) (added : List Line) (pool : PoolView C) → children_in added ≡ [] →
+    LeavesStarted may view added pool pool
+pool_untouched may view added pool none = (
+  [],
+  sym none,
+  tt,
+  record {
+    old = map view pool.children;
+    new = [];
+    reaped = 0;
+    lost = 0;
+    reaped_new = 0;
+    lost_new = 0;
+    children_are = sym (append-nil (map view pool.children));
+    old_are = sieves_all (λ child. may child.number) (map view pool.children);
+    new_are = (refl, refl, refl);
+    given_is = refl;
+    reaped_is = refl;
+    lost_is = refl;
+  },
+)
+
 module _ {E H : Type 0} (allows : Allows H) (refuses : Refuses H) (number_of : E → ℕ) (words : List (List ℕ)) where
-  abbrev pub plan : Plan E H
-  plan = plan_of (command words)
+  abbrev tree : Tree E H
+  tree = command words
+
+  abbrev plan : Plan E H
+  plan = plan_of tree
 
   nothing_follows : Follows allows number_of plan []
   nothing_follows = record { answers = tt; stops = tt }
@@ -64,58 +146,105 @@ module _ {E H : Type 0} (allows : Allows H) (refuses : Refuses H) (number_of : E
   environment_follows (Ok pairs) = record { answers = (tt, tt); stops = (tt, tt) }
   environment_follows (Err fault) = record { answers = (tt, tt); stops = (tt, tt) }
 
-  given : (pairs : Vars) (spec : Spec) (answer : Result ℕ Fault) → IsAsked {E = E} {H = H} pairs (program_of words) [] words spec →
+  given : (pairs : Vars) (spec : Spec) (answer : Result ℕ Fault) → IsAsked {E = E} {H = H} pairs (program_of words) plain words spec →
       let added = Environment (Ok pairs) ∷ Spawn spec inherited answer ∷ [] in
-      IsGiven allows number_of (trace added) plan 1 [] words spec (map (stream_of (origin added)) inherited)
+      IsGiven allows number_of (trace added) 1 plain words spec (map (stream_of (origin added)) inherited)
   given pairs spec answer asked =
       let wired : Wired = record { spec = spec; input = Inherit; output = Inherit; error = Inherit } in
       (wired, wired, record { spec_is = asked; streams_are = refl }, refl, refl, refl)
 
   -- the spec that the tree asks for is given, with no hook in between
-  spawn_follows : (pairs : Vars) (spec : Spec) (answer : Result ℕ Fault) → IsAsked {E = E} {H = H} pairs (program_of words) [] words spec →
+  spawn_follows : (pairs : Vars) (spec : Spec) (answer : Result ℕ Fault) → IsAsked {E = E} {H = H} pairs (program_of words) plain words spec →
       Follows allows number_of plan (Environment (Ok pairs) ∷ Spawn spec inherited answer ∷ [])
   spawn_follows pairs spec (Ok number) asked = record { answers = (tt, (given pairs spec (Ok number) asked, tt)); stops = (tt, (tt, tt)) }
   spawn_follows pairs spec (Err fault) asked = record { answers = (tt, (given pairs spec (Err fault) asked, tt)); stops = (tt, (tt, tt)) }
 
-  whole : (pairs : Vars) (spec : Spec) (number : ℕ) → IsAsked {E = E} {H = H} pairs (program_of words) [] words spec →
+  whole : (pairs : Vars) (spec : Spec) (number : ℕ) → IsAsked {E = E} {H = H} pairs (program_of words) plain words spec →
       FollowsWhole allows number_of plan (Environment (Ok pairs) ∷ Spawn spec inherited (Ok number) ∷ [])
   whole pairs spec number asked = record { follows = spawn_follows pairs spec (Ok number) asked; whole = refl; clean = (refl, (refl, tt)) }
 
   -- a refusal by what was added
-  refused_with : (old new xs : List Line) (e : Error) → new ≡ old ++ xs → Follows allows number_of plan xs →
-      HasCause allows refuses number_of plan xs e → AnswersLastFault xs e → IsBalanced xs →
-      IsRefused allows refuses number_of plan old new e
-  refused_with old new xs e is follows cause last even =
-      let same = sym (added_segment old new xs is) in record {
-        front = added_front old new xs is;
-        follows = subst (λ l. Follows allows number_of plan l) same follows;
-        cause = subst (λ l. HasCause allows refuses number_of plan l e) same cause;
+  refused_with : (old new : JournalView) (xs : List Line) (e : Error) → Added xs old new → Follows allows number_of plan xs →
+      HasCause allows refuses number_of plan xs e → AnswersLastFault xs e → got xs ≡ [] → spent xs ≡ [] → StartRefused allows refuses number_of tree plan old new e
+  refused_with old new xs e added follows cause last none_got none_spent =
+      let same = sym (segment_is xs old new added) in record {
+        grows = grows xs old new added;
+        follows = λ earlier. subst (λ l. Follows allows number_of plan l) same follows;
+        cause = λ earlier. subst (λ l. HasCause allows refuses number_of plan l e) same cause;
         last_fault = subst (λ l. AnswersLastFault l e) same last;
-        balanced = subst IsBalanced same even;
+        balanced = subst IsBalanced same (balanced xs none_got none_spent);
+        few = subst (λ l. HoldsFew tree l) same (none_held tree xs none_got);
       }
+
+  -- nothing was asked, for want of memory
+  pub nothing_asked : (old : JournalView) → StartRefused allows refuses number_of tree plan old old error.Memory
+  nothing_asked old =
+      let added : Added [] old old = record { entries_are = sym (append-nil old.entries); added_is = omega arith; next_grows = omega arith; room_grows = omega arith } in
+      refused_with old old [] error.Memory added nothing_follows tt (λ fault e. absurd (cc)) refl refl
+
+  -- the environment was refused, or there was no memory to ask for it
+  pub environment_refused : (old new : JournalView) (fault : Fault) → IsRefused (Environment (Err fault)) 0 fault old new →
+      StartRefused allows refuses number_of tree plan old new (error.System fault)
+  environment_refused old new fault (inl asks) =
+      refused_with old new (Environment (Err fault) ∷ []) (error.System fault) (added_one _ old new asks) (environment_follows (Err fault)) (inr refl) (λ other e. ap error.System (some_is fault other e)) refl refl
+  environment_refused old new fault (inr none) =
+      refused_with old new [] (error.System fault) (added_none old new none.1) nothing_follows (inl none.2) (λ other e. absurd (cc)) refl refl
+
+  -- the environment was answered, and then there was no memory
+  pub memory_refused : (old new : JournalView) (pairs : Vars) → Asks (Environment (Ok pairs)) old new →
+      StartRefused allows refuses number_of tree plan old new error.Memory
+  memory_refused old new pairs asks =
+      refused_with old new (Environment (Ok pairs) ∷ []) error.Memory (added_one _ old new asks) (environment_follows (Ok pairs)) tt (λ other e. absurd (cc)) refl refl
 
   -- the spawn was refused, or there was no memory to ask for it
-  pub spawn_refused : (old mid new : List Line) (pairs : Vars) (spec : Spec) (fault : Fault) → Adds old mid (Environment (Ok pairs)) →
-      AddsOrNoMemory mid new fault (Spawn spec inherited (Err fault)) → IsAsked {E = E} {H = H} pairs (program_of words) [] words spec →
-      IsRefused allows refuses number_of plan old new (error.System fault)
-  spawn_refused old mid new pairs spec fault first (inl is) asked =
-      refused_with old new (Environment (Ok pairs) ∷ Spawn spec inherited (Err fault) ∷ []) (error.System fault) (two_added old mid new _ _ first is)
-      (spawn_follows pairs spec (Err fault) asked) (inr refl) (λ other e. ap error.System (some_is fault other e)) (balanced (Environment (Ok pairs) ∷ Spawn spec inherited (Err fault) ∷ []) refl refl)
+  pub spawn_refused : (old mid new : JournalView) (pairs : Vars) (spec : Spec) (fault : Fault) → Asks (Environment (Ok pairs)) old mid →
+      IsRefused (Spawn spec inherited (Err fault)) 0 fault mid new → IsAsked {E = E} {H = H} pairs (program_of words) plain words spec →
+      StartRefused allows refuses number_of tree plan old new (error.System fault)
+  spawn_refused old mid new pairs spec fault first (inl asks) asked =
+      refused_with old new (Environment (Ok pairs) ∷ Spawn spec inherited (Err fault) ∷ []) (error.System fault)
+      (added_more (_ ∷ []) (_ ∷ []) old mid new (added_one _ old mid first) (added_one _ mid new asks))
+      (spawn_follows pairs spec (Err fault) asked) (inr refl) (λ other e. ap error.System (some_is fault other e)) refl refl
   spawn_refused old mid new pairs spec fault first (inr none) asked =
-      refused_with old new (Environment (Ok pairs) ∷ []) (error.System fault) (none.0 ∙ first) (environment_follows (Ok pairs)) (inl none.1) (λ other e. absurd (cc)) (balanced (Environment (Ok pairs) ∷ []) refl refl)
+      refused_with old new (Environment (Ok pairs) ∷ []) (error.System fault) (added_more (_ ∷ []) [] old mid new (added_one _ old mid first) (added_none mid new none.1))
+      (environment_follows (Ok pairs)) (inl none.2) (λ other e. absurd (cc)) refl refl
 
   -- the child was started
-  pub spawn_succeeds : (old mid new : List Line) (pairs : Vars) (spec : Spec) (number : ℕ) → Adds old mid (Environment (Ok pairs)) →
-      Adds mid new (Spawn spec inherited (Ok number)) → IsAsked {E = E} {H = H} pairs (program_of words) [] words spec →
-      Succeeds allows number_of plan old new
-  spawn_succeeds old mid new pairs spec number first is asked =
-      let added = Environment (Ok pairs) ∷ Spawn spec inherited (Ok number) ∷ [] in
-      let all : new ≡ old ++ added = two_added old mid new _ _ first is in
-      let same = sym (added_segment old new added all) in record {
-        front = added_front old new added all;
-        whole = subst (λ l. FollowsWhole allows number_of plan l) same (whole pairs spec number asked);
-        balanced = subst IsBalanced same (balanced added refl refl);
+  pub spawn_succeeds : (old mid new : JournalView) (pairs : Vars) (spec : Spec) (number : ℕ) → Asks (Environment (Ok pairs)) old mid →
+      GivesEnds (Spawn spec inherited (Ok number)) 0 mid new → IsAsked {E = E} {H = H} pairs (program_of words) plain words spec →
+      StartSucceeds allows number_of tree plan old new
+  spawn_succeeds old mid new pairs spec number first gives asked =
+      let xs = Environment (Ok pairs) ∷ Spawn spec inherited (Ok number) ∷ [] in
+      let added : Added xs old new = added_more (_ ∷ []) (_ ∷ []) old mid new (added_one _ old mid first) (added_one _ mid new gives) in
+      let same = sym (segment_is xs old new added) in record {
+        grows = grows xs old new added;
+        whole = λ earlier. subst (λ l. FollowsWhole allows number_of plan l) same (whole pairs spec number asked);
+        balanced = subst IsBalanced same (balanced xs refl refl);
+        few = subst (λ l. HoldsFew tree l) same (none_held tree xs refl);
       }
+
+-- the children and workers of these segments
+pub one_started : (old mid new : JournalView) (pairs : Vars) (spec : Spec) (number : ℕ) → Asks (Environment (Ok pairs)) old mid →
+    GivesEnds (Spawn spec inherited (Ok number)) 0 mid new → StartsOne number (segment old.entries new.entries)
+one_started old mid new pairs spec number first gives =
+    let added = added_more (_ ∷ []) (_ ∷ []) old mid new (added_one _ old mid first) (added_one _ mid new gives) in
+    subst (λ l. StartsOne number l) (sym (segment_is _ old new added)) (record { child = refl; no_feeds = refl; no_drains = refl })
+
+none_started : (xs : List Line) (old new : JournalView) → Added xs old new → StartsNone xs → StartsNone (segment old.entries new.entries)
+none_started xs old new added none = subst StartsNone (sym (segment_is xs old new added)) none
+
+pub none_by_environment : (old new : JournalView) (fault : Fault) → IsRefused (Environment (Err fault)) 0 fault old new → StartsNone (segment old.entries new.entries)
+none_by_environment old new fault (inl asks) = none_started _ old new (added_one _ old new asks) (record { no_children = refl; no_feeds = refl; no_drains = refl })
+none_by_environment old new fault (inr none) = none_started _ old new (added_none old new none.1) (record { no_children = refl; no_feeds = refl; no_drains = refl })
+
+pub none_by_memory : (old new : JournalView) (pairs : Vars) → Asks (Environment (Ok pairs)) old new → StartsNone (segment old.entries new.entries)
+none_by_memory old new pairs asks = none_started _ old new (added_one _ old new asks) (record { no_children = refl; no_feeds = refl; no_drains = refl })
+
+pub none_by_spawn : (old mid new : JournalView) (pairs : Vars) (spec : Spec) (fault : Fault) → Asks (Environment (Ok pairs)) old mid →
+    IsRefused (Spawn spec inherited (Err fault)) 0 fault mid new → StartsNone (segment old.entries new.entries)
+none_by_spawn old mid new pairs spec fault first (inl asks) =
+    none_started _ old new (added_more (_ ∷ []) (_ ∷ []) old mid new (added_one _ old mid first) (added_one _ mid new asks)) (record { no_children = refl; no_feeds = refl; no_drains = refl })
+none_by_spawn old mid new pairs spec fault first (inr none) =
+    none_started _ old new (added_more (_ ∷ []) [] old mid new (added_one _ old mid first) (added_none mid new none.1)) (record { no_children = refl; no_feeds = refl; no_drains = refl })
 
 with_own_program : (words : List (List ℕ)) → with_program (program_of words) words ≡ words
 with_own_program [] = refl
@@ -125,7 +254,7 @@ with_own_program (word ∷ words) = refl
 pub plainly_asked : {E H : Type 0} (pairs vars : Vars) (words copy : List (List ℕ)) (spec : Spec) →
     spec ≡ record { words = copy; folder = None; vars = vars; input = port.Inherit; output = port.Inherit; error = port.Inherit } → copy ≡ words →
     ((name : List ℕ) → value_of name vars ≡ value_of name (reverse pairs)) → IsStrictlySortedBy (slice_cmp nat_cmp) (map (λ pair. pair.0) vars) →
-    IsAsked {E = E} {H = H} pairs (program_of words) [] words spec
+    IsAsked {E = E} {H = H} pairs (program_of words) plain words spec
 plainly_asked {E} {H} pairs vars words copy spec is same values ordered = rw is (record {
   words_are = same ∙ sym (with_own_program words);
   folder_is = refl;

@@ -1,5 +1,5 @@
 -- The spec and the streams that a tree asks for a command, before its hooks.
-use Rattle.std.specs.Prelude.{ℕ, List, [], ◌∷◌, ◌≡◌, map, slice_index, slice_get, flat_map, unwrap_or}
+use Rattle.std.specs.Prelude.{ℕ, List, [], ◌∷◌, ◌≡◌, map, slice_index, slice_get, flat_map}
 use Rattle.std.specs.Option.{option_to_list}
 use Rattle.std.specs.List.Sorted.{IsStrictlySortedBy}
 use Rattle.std.specs.Cmp.Lexicographic.{slice_cmp}
@@ -15,9 +15,7 @@ use Rattle.duct_base.specs.declared.spec.Stream.TheVariants.{In, Out, Err}
 use Rattle.duct_base.specs.declared.system.Side.TheVariants as side
 use Rattle.duct_base.specs.declared.system.Stdio.{Stdio}
 use Rattle.duct_base.specs.declared.system.Stdio.TheVariants.{Inherit, Null, End}
-use Rattle.duct.specs.Lookup.{Target, Parents, Nothing, ReaderAt, WriterAt, FileAt, Lends, CaptureOf, goes, folder, variable}
-use Rattle.duct.specs.Path.{Path}
-use Rattle.duct.specs.Plan.{Plan}
+use Rattle.duct.specs.Found.{Found, Target, Parents, Nothing, ReaderAt, WriterAt, FileAt, Lends, target_of, variable}
 
 -- the port of a stream that goes there: the parent's own stream at its own place is inherited
 abbrev pub port_to : {E : Type 0} → Stream → Target E → Port
@@ -34,34 +32,32 @@ with_program program (word ∷ words) = program ∷ words
 
 -- the spec has these words with this program, the folder and the variables that are found outwards, each name once and in
 -- order, and for each stream the port of where it goes
-pub record IsAsked {E H : Type 0} (pairs : Vars) (program : List ℕ) (up : Path E H) (words : List (List ℕ)) (spec : Spec) : Type 0 where
+pub record IsAsked {E H : Type 0} (pairs : Vars) (program : List ℕ) (found : Found E H) (words : List (List ℕ)) (spec : Spec) : Type 0 where
   pub words_are : spec.words ≡ with_program program words
-  pub folder_is : spec.folder ≡ folder up
-  pub vars_are : (name : List ℕ) → value_of name spec.vars ≡ variable pairs up name
+  pub folder_is : spec.folder ≡ found.folder
+  pub vars_are : (name : List ℕ) → value_of name spec.vars ≡ variable pairs found.changes name
   pub vars_ordered : IsStrictlySortedBy (slice_cmp nat_cmp) (map (λ pair. pair.0) spec.vars)
-  pub ports_are : (stream : Stream) → port_of stream spec ≡ port_to stream (goes up stream)
+  pub ports_are : (stream : Stream) → port_of stream spec ≡ port_to stream (target_of found stream)
 
 -- the number of an end that the entry at a place of the trace got: of a pipe the read end is the first, the write end the second
 abbrev pub end_at : List Line → ℕ → ℕ → ℕ
 end_at lines place which = slice_index (flat_map got_by (option_to_list (slice_get lines place))) which
 
--- where a stream that goes there comes from, by the trace, the plan and the numbers of the caller's ends
-abbrev pub stream_to : {E H : Type 0} → List Line → Plan E H → (E → ℕ) → Stream → Target E → Stdio Origin
-stream_to lines plan number_of In (Parents In) = Inherit
-stream_to lines plan number_of Out (Parents Out) = Inherit
-stream_to lines plan number_of Err (Parents Err) = Inherit
-stream_to lines plan number_of stream (Parents In) = Inherit
-stream_to lines plan number_of stream (Parents Out) = End (ParentOf side.Out)
-stream_to lines plan number_of stream (Parents Err) = End (ParentOf side.Err)
-stream_to lines plan number_of stream Nothing = Null
-stream_to lines plan number_of stream (ReaderAt place) = End (Opened (end_at lines place 0))
-stream_to lines plan number_of stream (WriterAt place) = End (Opened (end_at lines place 1))
-stream_to lines plan number_of stream (FileAt place) = End (Opened (end_at lines place 0))
-stream_to lines plan number_of stream (Lends end) = End (Lent (number_of end))
-stream_to lines plan number_of stream (CaptureOf In) = Inherit
-stream_to lines plan number_of stream (CaptureOf Out) = End (Opened (end_at lines (unwrap_or plan.out 0) 1))
-stream_to lines plan number_of stream (CaptureOf Err) = End (Opened (end_at lines (unwrap_or plan.err 0) 1))
+-- where a stream that goes there comes from, by the trace and the numbers of the caller's ends
+abbrev pub stream_to : {E : Type 0} → List Line → (E → ℕ) → Stream → Target E → Stdio Origin
+stream_to lines number_of In (Parents In) = Inherit
+stream_to lines number_of Out (Parents Out) = Inherit
+stream_to lines number_of Err (Parents Err) = Inherit
+stream_to lines number_of stream (Parents In) = Inherit
+stream_to lines number_of stream (Parents Out) = End (ParentOf side.Out)
+stream_to lines number_of stream (Parents Err) = End (ParentOf side.Err)
+stream_to lines number_of stream Nothing = Null
+stream_to lines number_of stream (ReaderAt place) = End (Opened (end_at lines place 0))
+stream_to lines number_of stream (WriterAt place) = End (Opened (end_at lines place 1))
+stream_to lines number_of stream (FileAt place) = End (Opened (end_at lines place 0))
+stream_to lines number_of stream (Lends end) = End (Lent (number_of end))
 
 -- the three streams of a command, in the order stdin, stdout, stderr
-abbrev pub streams_to : {E H : Type 0} → List Line → Plan E H → (E → ℕ) → Path E H → List (Stdio Origin)
-streams_to lines plan number_of up = map (λ stream. stream_to lines plan number_of stream (goes up stream)) (In ∷ Out ∷ Err ∷ [])
+abbrev pub streams_to : {E H : Type 0} → List Line → (E → ℕ) → Found E H → List (Stdio Origin)
+streams_to lines number_of found =
+    stream_to lines number_of In found.input ∷ stream_to lines number_of Out found.output ∷ stream_to lines number_of Err found.error ∷ []

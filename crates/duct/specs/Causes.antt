@@ -10,8 +10,8 @@ use Rattle.duct_base.specs.declared.system.Fault.{Fault}
 use Rattle.duct_base.specs.declared.system.Kind.TheVariants.{OutOfMemory}
 use Rattle.duct.specs.Chain.{Wired, Allows, Refuses, ChainStops, lent}
 use Rattle.duct.specs.Follows.{IsAskedAt}
-use Rattle.duct.specs.Lookup.{hooks}
-use Rattle.duct.specs.Plan.{Plan, Item, AskSpawn}
+use Rattle.duct.specs.Plan.{Plan}
+use Rattle.duct.specs.Step.{Item, AskSpawn}
 
 -- the entries that are no closes
 abbrev pub asked_in : List Line → List Line
@@ -22,16 +22,16 @@ abbrev pub last_fault : List Line → Option Fault
 last_fault added = option_and_then fault_of (slice_get (asked_in added) (length (asked_in added) - 1))
 
 -- the item is a spawn, and the hooks of its command stop the start with this error
-abbrev pub StoppedBy : {E H : Type 0} → Allows H → Refuses H → (E → ℕ) → List Line → Plan E H → ℕ → Option (Item E H) → Error → Type 0
-StoppedBy allows refuses number_of lines plan place (Some (AskSpawn up words)) error =
-    (before : Wired) × IsAskedAt lines plan number_of place up words before × ChainStops allows refuses (lent number_of (hooks up)) before error
-StoppedBy allows refuses number_of lines plan place other error = ⊥
+abbrev pub StoppedBy : {E H : Type 0} → Allows H → Refuses H → (E → ℕ) → List Line → ℕ → Option (Item E H) → Error → Type 0
+StoppedBy allows refuses number_of lines place (Some (AskSpawn found words)) error =
+    (before : Wired) × IsAskedAt lines number_of place found words before × ChainStops allows refuses (lent number_of found.hooks) before error
+StoppedBy allows refuses number_of lines place other error = ⊥
 
 -- the hooks of the command whose spawn is the next item of the plan stop the start with this error
 abbrev pub StoppedNext : {E H : Type 0} → Allows H → Refuses H → (E → ℕ) → Plan E H → List Line → Error → Type 0
 StoppedNext allows refuses number_of plan added error =
     let place = length (trace added) in
-    StoppedBy allows refuses number_of (trace added) plan place (slice_get plan.items place) error
+    StoppedBy allows refuses number_of (trace added) place (slice_get plan.items place) error
 
 -- the error has a cause: a system's fault but want of memory is that of the last entry which is no close; a hook's is that of the
 -- next command; a start answers no other but want of memory

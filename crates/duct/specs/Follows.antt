@@ -9,9 +9,9 @@ use Rattle.duct_base.specs.Trace.{trace, IsClean, StopsAtFault}
 use Rattle.duct_base.specs.declared.system.Stdio.{Stdio}
 use Rattle.duct.specs.Asked.{IsAsked, end_at, streams_to}
 use Rattle.duct.specs.Chain.{Wired, Allows, Chain, lent}
-use Rattle.duct.specs.Lookup.{hooks}
-use Rattle.duct.specs.Path.{Path}
-use Rattle.duct.specs.Plan.{Plan, Item, AskEnvironment, AskPipe, AskOpenRead, AskCreate, AskCanonicalize, AskSpawn, AskFeed, AskDrain, AskReader, is_canonical, program_of}
+use Rattle.duct.specs.Found.{Found}
+use Rattle.duct.specs.Plan.{Plan, is_canonical, program_of}
+use Rattle.duct.specs.Step.{Item, AskEnvironment, AskPipe, AskOpenRead, AskCreate, AskCanonicalize, AskSpawn, AskFeed, AskDrain, AskReader}
 
 -- the variables that the system answered, at the front of a trace
 abbrev pub pairs_in : List Line → Vars
@@ -24,44 +24,44 @@ text_in (Some (Canonicalize path (Ok text))) = text
 text_in _ = []
 
 -- the program of the command whose spawn stands at this place: as it was made canonical by the entry before, or as it stands
-abbrev pub program_at : {E H : Type 0} → List Line → ℕ → Path E H → List (List ℕ) → List ℕ
-program_at lines place up words = if is_canonical up words then text_in (slice_get lines (place - 1)) else program_of words
+abbrev pub program_at : {E H : Type 0} → List Line → ℕ → Found E H → List (List ℕ) → List ℕ
+program_at lines place found words = if is_canonical found words then text_in (slice_get lines (place - 1)) else program_of words
 
 -- what the tree asks for the command whose spawn stands at this place
-pub record IsAskedAt {E H : Type 0} (lines : List Line) (plan : Plan E H) (number_of : E → ℕ) (place : ℕ) (up : Path E H) (words : List (List ℕ)) (wired : Wired) : Type 0 where
-  pub spec_is : IsAsked (pairs_in lines) (program_at lines place up words) up words wired.spec
-  pub streams_are : wired.input ∷ wired.output ∷ wired.error ∷ [] ≡ streams_to lines plan number_of up
+pub record IsAskedAt {E H : Type 0} (lines : List Line) (number_of : E → ℕ) (place : ℕ) (found : Found E H) (words : List (List ℕ)) (wired : Wired) : Type 0 where
+  pub spec_is : IsAsked (pairs_in lines) (program_at lines place found words) found words wired.spec
+  pub streams_are : wired.input ∷ wired.output ∷ wired.error ∷ [] ≡ streams_to lines number_of found
 
 -- a spawn is given what the hooks of the command make of what the tree asks for it
-abbrev pub IsGiven : {E H : Type 0} → Allows H → (E → ℕ) → List Line → Plan E H → ℕ → Path E H → List (List ℕ) → Spec → List (Stdio Origin) → Type 0
-IsGiven allows number_of lines plan place up words spec streams =
-    (before : Wired) × (after : Wired) × IsAskedAt lines plan number_of place up words before × Chain allows (lent number_of (hooks up)) before after
+abbrev pub IsGiven : {E H : Type 0} → Allows H → (E → ℕ) → List Line → ℕ → Found E H → List (List ℕ) → Spec → List (Stdio Origin) → Type 0
+IsGiven allows number_of lines place found words spec streams =
+    (before : Wired) × (after : Wired) × IsAskedAt lines number_of place found words before × Chain allows (lent number_of found.hooks) before after
     × (spec ≡ after.spec) × (streams ≡ after.input ∷ after.output ∷ after.error ∷ [])
 
 -- an entry of the trace answers the item at its place; a worker and the reader get an end of their own pipe
-abbrev pub Answers : {E H : Type 0} → Allows H → (E → ℕ) → List Line → Plan E H → ℕ → Item E H → Line → Type 0
-Answers allows number_of added plan place AskEnvironment (Environment answer) = Unit {0}
-Answers allows number_of added plan place AskPipe (Pipe answer) = Unit {0}
-Answers allows number_of added plan place (AskOpenRead path) (OpenRead opened answer) = opened ≡ path
-Answers allows number_of added plan place (AskCreate path) (Create made answer) = made ≡ path
-Answers allows number_of added plan place (AskCanonicalize program) (Canonicalize path answer) = path ≡ program
-Answers allows number_of added plan place (AskSpawn up words) (Spawn spec io answer) =
-    IsGiven allows number_of (trace added) plan place up words spec (map (stream_of (origin added)) io)
-Answers allows number_of added plan place (AskFeed pipe bytes) (Feed end fed answer) = (fed ≡ bytes) × (origin added end ≡ Opened (end_at (trace added) pipe 1))
-Answers allows number_of added plan place (AskDrain pipe) (Drain end answer) = origin added end ≡ Opened (end_at (trace added) pipe 0)
-Answers allows number_of added plan place (AskReader pipe) (Reader end) = origin added end ≡ Opened (end_at (trace added) pipe 0)
-Answers allows number_of added plan place item line = ⊥
+abbrev pub Answers : {E H : Type 0} → Allows H → (E → ℕ) → List Line → ℕ → Item E H → Line → Type 0
+Answers allows number_of added place AskEnvironment (Environment answer) = Unit {0}
+Answers allows number_of added place AskPipe (Pipe answer) = Unit {0}
+Answers allows number_of added place (AskOpenRead path) (OpenRead opened answer) = opened ≡ path
+Answers allows number_of added place (AskCreate path) (Create made answer) = made ≡ path
+Answers allows number_of added place (AskCanonicalize program) (Canonicalize path answer) = path ≡ program
+Answers allows number_of added place (AskSpawn found words) (Spawn spec io answer) =
+    IsGiven allows number_of (trace added) place found words spec (map (stream_of (origin added)) io)
+Answers allows number_of added place (AskFeed pipe bytes) (Feed end fed answer) = (fed ≡ bytes) × (origin added end ≡ Opened (end_at (trace added) pipe 1))
+Answers allows number_of added place (AskDrain pipe) (Drain end answer) = origin added end ≡ Opened (end_at (trace added) pipe 0)
+Answers allows number_of added place (AskReader pipe) (Reader end) = origin added end ≡ Opened (end_at (trace added) pipe 0)
+Answers allows number_of added place item line = ⊥
 
 -- the entries from this place on answer the items from there on, as far as they go
-abbrev pub AnswersFrom : {E H : Type 0} → Allows H → (E → ℕ) → List Line → Plan E H → ℕ → List (Item E H) → List Line → Type 0
-AnswersFrom allows number_of added plan place items [] = Unit {0}
-AnswersFrom allows number_of added plan place [] (line ∷ lines) = ⊥
-AnswersFrom allows number_of added plan place (item ∷ items) (line ∷ lines) =
-    Answers allows number_of added plan place item line × AnswersFrom allows number_of added plan (place + 1) items lines
+abbrev pub AnswersFrom : {E H : Type 0} → Allows H → (E → ℕ) → List Line → ℕ → List (Item E H) → List Line → Type 0
+AnswersFrom allows number_of added place items [] = Unit {0}
+AnswersFrom allows number_of added place [] (line ∷ lines) = ⊥
+AnswersFrom allows number_of added place (item ∷ items) (line ∷ lines) =
+    Answers allows number_of added place item line × AnswersFrom allows number_of added (place + 1) items lines
 
 -- what was added follows a front of the plan
 pub record Follows {E H : Type 0} (allows : Allows H) (number_of : E → ℕ) (plan : Plan E H) (added : List Line) : Type 0 where
-  pub answers : AnswersFrom allows number_of added plan 0 plan.items (trace added)
+  pub answers : AnswersFrom allows number_of added 0 plan.items (trace added)
   pub stops : StopsAtFault added
 
 -- what was added follows the whole plan, without a fault

@@ -2,9 +2,9 @@ pub mod Asked
 pub mod Causes
 pub mod Chain
 pub mod Follows
-pub mod Held
+pub mod Found
 pub mod LastValues
-pub mod Life
+pub mod Left
 pub mod Lookup
 pub mod OutlineOfTree
 pub mod Pairs
@@ -12,8 +12,10 @@ pub mod Path
 pub mod Plan
 pub mod Polled
 pub mod Printed
+pub mod Running
 pub mod Shown
 pub mod Start
+pub mod Step
 pub mod Stored
 pub mod Text
 pub mod Tree

@@ -1,10 +1,12 @@
--- What a poll of a start that runs answers, by the outcome of the words that are stored.
-use Rattle.std.specs.Prelude.{ℕ, List, ◌≡◌, string_bytes, Ok, Err, None, IsOkAnd, IsErrAnd, IsSomeAnd}
+-- What a poll of a start that runs asks, and what it answers by the outcome of the words that are stored.
+use Rattle.std.specs.Prelude.{ℕ, zero, suc, List, [], ◌∷◌, ◌≡◌, MatchOption, string_bytes, Ok, Err, None, IsOkAnd, IsErrAnd, IsSomeAnd}
 use Rattle.std.specs.declared.option.Option.{Option}
 use Rattle.std.specs.declared.result.Result.{Result}
 use Rattle.std.specs.declared.alloc.Global.{Global}
 use Rattle.std.specs.declared.sync.Arc.{Arc}
 use Rattle.std.specs.Arc.{arc_value}
+use Rattle.std.specs.List.{AllZip}
+use Rattle.duct_base.specs.Child.{Answer, ChildView, PollsChild}
 use Rattle.duct_base.specs.Conclusion.{Concludes}
 use Rattle.duct_base.specs.Outline.{Outline}
 use Rattle.duct_base.specs.Response.{Response, noted, unknown, pending, faulted, answered, failed, no_memory}
@@ -50,3 +52,20 @@ IsConclusion no_memory = Unit {0}
 -- the answer is the outcome of these words
 abbrev pub IsOutcome : Outline → Words → Polled → Type 0
 IsOutcome outline words polled = (response : Response) × Concludes outline words response × Gives response polled
+
+-- a child was polled once, or had ended and is as before
+abbrev pub AskedIfDue : (ℕ → Answer → Type 0) → ChildView → ChildView → Type 0
+AskedIfDue may before after =
+    MatchOption before.ending ((answer : Answer) × PollsChild may before answer after) (λ status. after ≡ before)
+
+-- each of them was polled once, or had ended and is as before
+abbrev pub AllAsked : (ℕ → Answer → Type 0) → List ChildView → List ChildView → Type 0
+AllAsked may = AllZip (AskedIfDue may)
+
+-- the one at this place was polled once or had ended, and the others are as before
+abbrev pub AskedAt : (ℕ → Answer → Type 0) → ℕ → List ChildView → List ChildView → Type 0
+AskedAt may at [] afters = ⊥
+AskedAt may zero (before ∷ befores) [] = ⊥
+AskedAt may zero (before ∷ befores) (after ∷ afters) = AskedIfDue may before after × (afters ≡ befores)
+AskedAt may (suc at) (before ∷ befores) [] = ⊥
+AskedAt may (suc at) (before ∷ befores) (after ∷ afters) = (after ≡ before) × AskedAt may at befores afters

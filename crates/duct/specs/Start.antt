@@ -1,46 +1,108 @@
--- What a start promises: of the journal, of the children that it holds, and of the pool that it is lent.
-use Rattle.std.specs.Prelude.{ℕ, ◌+◌, ◌^◌, ◌<◌, List, ◌≡◌, length, map}
-use Rattle.duct_base.specs.Abandoned.{Abandoned}
-use Rattle.duct_base.specs.Ledger.{IsBalanced}
+-- What a start promises of the journal.
+use Rattle.std.specs.Prelude.{ℕ, ◌+◌, ◌*◌, ◌<◌, ◌≤◌, max, List, [], ◌∷◌, ◌++◌, ◌≡◌, length, take, All}
+use Rattle.duct_base.specs.Journal.{JournalView}
+use Rattle.duct_base.specs.Ledger.{IsBalanced, held}
 use Rattle.duct_base.specs.Line.{Line}
-use Rattle.duct_base.specs.Shapes.{outline_of}
-use Rattle.duct_base.specs.Started.{children_in}
-use Rattle.duct_base.specs.Trace.{IsFront, segment}
+use Rattle.duct_base.specs.Trace.{segment}
 use Rattle.duct_base.specs.declared.error.Error.{Error}
 use Rattle.duct.specs.Causes.{HasCause, AnswersLastFault}
 use Rattle.duct.specs.Chain.{Allows, Refuses}
 use Rattle.duct.specs.Follows.{Follows, FollowsWhole}
-use Rattle.duct.specs.Held.{Held}
-use Rattle.duct.specs.OutlineOfTree.{outline_of_tree}
 use Rattle.duct.specs.Plan.{Plan}
-use Rattle.duct.specs.Tree.{Tree, command, pipe, around}
+use Rattle.duct.specs.Tree.{Layer, Tree, command, pipe, around, stdin_bytes, stdin_path, stdin_file, stdin_null, stdout_path, stdout_file, stdout_null, stdout_capture, stdout_to_stderr, stderr_path, stderr_file, stderr_null, stderr_capture, stderr_to_stdout, stdout_stderr_swap, dir, env, env_remove, full_env, unchecked, before_spawn}
 
--- a start that succeeds: the old journal is a front of the new one, what was added follows the whole plan, and each end got was spent
-pub record Succeeds {E H : Type 0} (allows : Allows H) (number_of : E → ℕ) (plan : Plan E H) (old new : List Line) : Type 0 where
-  pub front : IsFront old new
-  pub whole : FollowsWhole allows number_of plan (segment old new)
-  pub balanced : IsBalanced (segment old new)
+-- the ends of the caller that a node holds
+abbrev pub layer_ends : {E H : Type 0} → Layer E H → List E
+layer_ends (stdin_bytes bytes) = []
+layer_ends (stdin_path path) = []
+layer_ends (stdin_file end) = end ∷ []
+layer_ends stdin_null = []
+layer_ends (stdout_path path) = []
+layer_ends (stdout_file end) = end ∷ []
+layer_ends stdout_null = []
+layer_ends stdout_capture = []
+layer_ends stdout_to_stderr = []
+layer_ends (stderr_path path) = []
+layer_ends (stderr_file end) = end ∷ []
+layer_ends stderr_null = []
+layer_ends stderr_capture = []
+layer_ends stderr_to_stdout = []
+layer_ends stdout_stderr_swap = []
+layer_ends (dir path) = []
+layer_ends (env name value) = []
+layer_ends (env_remove name) = []
+layer_ends (full_env vars) = []
+layer_ends unchecked = []
+layer_ends (before_spawn hook ends) = ends
 
--- a start that is refused: the old journal is a front of the new one, what was added follows the plan up to the refusal, the error
--- has its cause there, and each end got was spent
-pub record IsRefused {E H : Type 0} (allows : Allows H) (refuses : Refuses H) (number_of : E → ℕ) (plan : Plan E H) (old new : List Line) (error : Error) : Type 0 where
-  pub front : IsFront old new
-  pub follows : Follows allows number_of plan (segment old new)
-  pub cause : HasCause allows refuses number_of plan (segment old new) error
-  pub last_fault : AnswersLastFault (segment old new) error
-  pub balanced : IsBalanced (segment old new)
+-- the ends of the caller that a tree holds
+abbrev pub ends_in : {E H : Type 0} → Tree E H → List E
+ends_in (command words) = []
+ends_in (pipe left right) = ends_in left ++ ends_in right
+ends_in (around layer inner) = layer_ends layer ++ ends_in inner
 
--- the shape and the children of what runs: those that the plan of this tree started, in order, and nobody has polled them
-pub record IsRunning {E H C : Type 0} (number_of polls : C → ℕ) (tree : Tree E H) (old new : List Line) (running : Held C) : Type 0 where
-  pub outline_is : outline_of running.shape ≡ outline_of_tree tree
-  pub children_are : map number_of running.children ≡ children_in (segment old new)
-  pub unpolled : map polls running.children ≡ map (λ child. 0) running.children
+-- the caller's ends came from this system before the start: their numbers are below the one that is given next
+abbrev pub AreEarlier : {E H : Type 0} → (E → ℕ) → JournalView → Tree E H → Type 0
+AreEarlier number_of old tree = All (λ end. number_of end < old.next) (ends_in tree)
 
--- the pool was given as many children as the start had started, and keeps those that it had
-abbrev pub GivenStarted : {C : Type 0} → Abandoned C → Abandoned C → List Line → Type 0
-GivenStarted before after added =
-    (before.given + length (children_in added) < 2 ^ 64 → after.given ≡ before.given + length (children_in added))
-    × (after.children ≡ before.children)
+-- how many ends a node may hold open while its command starts
+abbrev pub layer_depth : {E H : Type 0} → Layer E H → ℕ
+layer_depth (stdin_bytes bytes) = 1
+layer_depth (stdin_path path) = 1
+layer_depth (stdin_file end) = 1
+layer_depth stdin_null = 0
+layer_depth (stdout_path path) = 1
+layer_depth (stdout_file end) = 1
+layer_depth stdout_null = 0
+layer_depth stdout_capture = 0
+layer_depth stdout_to_stderr = 0
+layer_depth (stderr_path path) = 1
+layer_depth (stderr_file end) = 1
+layer_depth stderr_null = 0
+layer_depth stderr_capture = 0
+layer_depth stderr_to_stdout = 0
+layer_depth stdout_stderr_swap = 0
+layer_depth (dir path) = 0
+layer_depth (env name value) = 0
+layer_depth (env_remove name) = 0
+layer_depth (full_env vars) = 0
+layer_depth unchecked = 0
+layer_depth (before_spawn hook ends) = 0
+
+-- the most pipes, inputs, paths and files on one command's way
+abbrev pub depth : {E H : Type 0} → Tree E H → ℕ
+depth (command words) = 0
+depth (pipe left right) = max (depth left) (depth right) + 1
+depth (around layer inner) = layer_depth layer + depth inner
+
+-- after every entry at most twice that and 12 ends are held
+abbrev pub HoldsFew : {E H : Type 0} → Tree E H → List Line → Type 0
+HoldsFew tree added = (count : ℕ) → held (take count added) ≤ 2 * depth tree + 12
+
+-- the old journal is the front of the new one, nothing was cleared away in between, and neither numbers nor room have fallen
+pub record Grows (old new : JournalView) : Type 0 where
+  pub front : new.entries ≡ old.entries ++ segment old.entries new.entries
+  pub counted : new.added ≡ old.added + length (segment old.entries new.entries)
+  pub next_grows : old.next ≤ new.next
+  pub room_grows : old.room ≤ new.room
+
+-- a start that succeeds: the journal has grown, by what follows the whole plan; each end got was spent
+pub record StartSucceeds {E H : Type 0} (allows : Allows H) (number_of : E → ℕ) (tree : Tree E H) (plan : Plan E H) (old new : JournalView) : Type 0 where
+  pub grows : Grows old new
+  pub whole : AreEarlier number_of old tree → FollowsWhole allows number_of plan (segment old.entries new.entries)
+  pub balanced : IsBalanced (segment old.entries new.entries)
+  pub few : HoldsFew tree (segment old.entries new.entries)
+
+-- a start that is refused: the journal has grown, by what follows the plan up to the refusal, where the error has its cause; each end
+-- got was spent
+pub record StartRefused {E H : Type 0} (allows : Allows H) (refuses : Refuses H) (number_of : E → ℕ) (tree : Tree E H) (plan : Plan E H)
+    (old new : JournalView) (error : Error) : Type 0 where
+  pub grows : Grows old new
+  pub follows : AreEarlier number_of old tree → Follows allows number_of plan (segment old.entries new.entries)
+  pub cause : AreEarlier number_of old tree → HasCause allows refuses number_of plan (segment old.entries new.entries) error
+  pub last_fault : AnswersLastFault (segment old.entries new.entries) error
+  pub balanced : IsBalanced (segment old.entries new.entries)
+  pub few : HoldsFew tree (segment old.entries new.entries)
 
 -- a tree of one command
 abbrev pub IsCommand : {E H : Type 0} → Tree E H → Type 0

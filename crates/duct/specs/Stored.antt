@@ -1,7 +1,7 @@
 -- What children store of what they were asked, as the words of commands.
 use Rattle.std.specs.Prelude.{List, [], map, Ok, Err, Some, None}
 use Rattle.std.specs.declared.option.Option.{Option}
-use Rattle.duct_base.specs.Child.{Answer}
+use Rattle.duct_base.specs.Child.{Answer, ChildView}
 use Rattle.duct_base.specs.Words.{Words}
 use Rattle.duct_base.specs.declared.status.Word.{Word}
 use Rattle.duct_base.specs.declared.status.Word.TheVariants as word
@@ -21,5 +21,10 @@ stored_word None (Some (Ok found)) = word.Running
 stored_word None None = word.Running
 
 -- the words that the children of a start without workers store
-abbrev pub stored_words : {C : Type 0} → (C → Option ExitStatus) → (C → Option Answer) → List C → Words
-stored_words ending last children = record { commands = map (λ child. stored_word (ending child) (last child)) children; inputs = []; output = None; error = None }
+abbrev pub stored_words : List ChildView → Words
+stored_words children = record {
+  commands = map (λ child. stored_word child.ending child.last) children;
+  inputs = [];
+  output = None;
+  error = None;
+}

@@ -2,7 +2,7 @@
 #![tactic(auto)]
 
 mod expression;
-mod handle;
+mod running;
 mod start;
 
 /// The tree of an expression, for crates that read it.
@@ -20,7 +20,7 @@ pub use duct_base::system::{
     System,
 };
 pub use expression::{Expression, cmd};
-pub use handle::Running;
+pub use running::Running;
 
 /// A command: `cmd!(in alloc; program, arg, ..)` is `cmd(alloc, program, &[arg, ..])`. A trailing comma is allowed.
 #[macro_export]

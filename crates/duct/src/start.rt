@@ -1,22 +1,26 @@
 //! The start of an expression: what is asked of the system, and what is kept of it.
-ghost use Rattle.std.specs.Prelude.{◌≡◌, ℕ, None, List, [], ◌∷◌, map, reverse, string_bytes, IfOk, IfErr, OnOk, OnErr, IsOkUnless};
+ghost use Rattle.std.specs.Prelude.{◌≡◌, ℕ, List, map, reverse, string_bytes, IfOk, IfErr, OnOk, OnErr, IsOkUnless};
 ghost use Rattle.std.specs.Cmp.Lexicographic.{slice_cmp};
 ghost use Rattle.std.specs.List.Sorted.{IsStrictlySortedBy};
 ghost use Rattle.std.specs.Ordering.{nat_cmp};
-ghost use Rattle.duct_base.specs.Line.{Environment, Spawn, Adds, AddsOrNoMemory};
-ghost use Rattle.duct_base.specs.Spec.{Vars, pair_text, value_of};
-ghost use Rattle.duct_base.specs.Started.{children_in};
+ghost use Rattle.duct_base.specs.Child.{IsUnasked};
+ghost use Rattle.duct_base.specs.Spec.{pair_text, value_of};
+ghost use Rattle.duct_base.specs.Started.{StartsOne, StartsNone};
 ghost use Rattle.duct_base.specs.Trace.{segment};
-ghost use Rattle.duct.specs.Plan.{plan_of};
-ghost use Rattle.duct.specs.Start.{Succeeds, IsRunning, IsRefused, GivenStarted, IsCommand};
-ghost use Rattle.duct.specs.Tree.{Tree, command};
+ghost use Rattle.duct.specs.Asked.{IsAsked};
+ghost use Rattle.duct.specs.Found.{plain};
+ghost use Rattle.duct.specs.Left.{LeavesStarted};
+ghost use Rattle.duct.specs.Plan.{plan_of, program_of};
+ghost use Rattle.duct.specs.Running.{IsRunning};
+ghost use Rattle.duct.specs.Start.{StartSucceeds, StartRefused, IsCommand};
+ghost use Rattle.duct.specs.Tree.{command};
 ghost use Rattle.duct.specs.TreeOf.{tree_of};
 
 use crate::expression::{Expression, Node};
-use crate::handle::Running;
+use crate::running::Running;
 use duct_base::error::Error;
 use duct_base::pool::{Place, Pool, Seat, place_new, seat_new};
-use duct_base::spec::{Hook, Port, spec_of};
+use duct_base::spec::{CommandSpec, Hook, Port, spec_of};
 use duct_base::status::{Core, Drains, Shape};
 use duct_base::system::{Stdio, System};
 use std::alloc::Global;
@@ -24,8 +28,10 @@ use std::collections::BTreeMap;
 
 // The variables of these pairs, each name with its last value.
 fn variables(alloc: Global, pairs: Vec<(String, String)>) -> Result<BTreeMap<String, String>, Error>
-    ensures values { IfOk result (λ vars. (name : List ℕ) → value_of name (map pair_text vars.entries) ≡ value_of name (reverse (map pair_text pairs.items))) }
-    ensures ordered { IfOk result (λ vars. IsStrictlySortedBy (slice_cmp nat_cmp) (map (λ pair. pair.0) (map pair_text vars.entries))) }
+    ensures values { IfOk result (λ vars. (name : List ℕ) →
+        value_of name (map pair_text vars.entries) ≡ value_of name (reverse (map pair_text pairs.items))) }
+    ensures ordered { IfOk result (λ vars.
+        IsStrictlySortedBy (slice_cmp nat_cmp) (map (λ pair. pair.0) (map pair_text vars.entries))) }
     ensures memory { IsOkUnless result Error.Memory }
 {
     let mut vars = BTreeMap::new(alloc);
@@ -47,20 +53,17 @@ fn copied(alloc: Global, words: &[String]) -> Result<Vec<String>, Error>
     Ok(copy)
 }
 
-// Starts one command with the parent's streams, folder and environment.
-fn command<S: System, H: Hook>(
+// The spec of a command with nothing round it: these words, the parent's folder and streams, and the variables of these pairs.
+fn spec_for(
     alloc: Global,
-    sys: &mut S,
+    pairs: Vec<(String, String)>,
     words: &[String],
-    seat: Seat<S::Child>,
-) -> Result<Place<S::Child>, Error>
-    ensures ok { OnOk result (Succeeds H.allows S.End.number_of (plan_of (command (map string_bytes words.now))) (S.log sys.old) (S.log sys.new)) }
-    ensures child { IfOk result (λ place. children_in (segment (S.log sys.old) (S.log sys.new)) ≡ S.Child.number_of place ∷ []) }
-    ensures unasked { IfOk result (λ place. (S.Child.polls place ≡ 0) × (S.Child.last place ≡ None) × (S.Child.ending place ≡ None)) }
-    ensures err { IfErr result (IsRefused H.allows H.refuses S.End.number_of (plan_of (command (map string_bytes words.now))) (S.log sys.old) (S.log sys.new)) }
-    ensures no_child { OnErr result (children_in (segment (S.log sys.old) (S.log sys.new)) ≡ []) }
+) -> Result<CommandSpec, Error>
+    ensures asked { IfOk result (λ spec.
+        let texts = map string_bytes words.now in
+        IsAsked (map pair_text pairs.items) (program_of texts) plain texts spec) }
+    ensures memory { IsOkUnless result Error.Memory }
 {
-    let pairs = sys.environment()?;
     let vars = variables(alloc, pairs)?;
     let copy = copied(alloc, words)?;
     let spec = spec_of(
@@ -71,6 +74,28 @@ fn command<S: System, H: Hook>(
         Port::Inherit,
         Port::Inherit,
     );
+    Ok(spec)
+}
+
+// Starts one command with the parent's streams, folder and environment.
+fn command<S: System, H: Hook>(
+    alloc: Global,
+    sys: &mut S,
+    words: &[String],
+    seat: Seat<S::Child>,
+) -> Result<Place<S::Child>, Error>
+    ensures ok { OnOk result (let tree = command (map string_bytes words.now) in
+        StartSucceeds H.allows S.End.number_of tree (plan_of tree) (S.journal_view sys.old) (S.journal_view sys.new)) }
+    ensures child { IfOk result (λ place.
+        StartsOne (S.Child.number_of place) (segment (S.journal_view sys.old).entries (S.journal_view sys.new).entries)) }
+    ensures unasked { IfOk result (λ place. IsUnasked (S.Child.child_view place)) }
+    ensures err { IfErr result (let tree = command (map string_bytes words.now) in
+        StartRefused H.allows H.refuses S.End.number_of tree (plan_of tree) (S.journal_view sys.old) (S.journal_view sys.new)) }
+    ensures no_child { OnErr result
+        (StartsNone (segment (S.journal_view sys.old).entries (S.journal_view sys.new).entries)) }
+{
+    let pairs = sys.environment()?;
+    let spec = spec_for(alloc, pairs, words)?;
     let child = sys.spawn(spec, [Stdio::Inherit, Stdio::Inherit, Stdio::Inherit])?;
     Ok(place_new(child, seat))
 }
@@ -87,10 +112,16 @@ impl<E: Drop, H: Hook> Expression<E, H> {
         pool: &mut Pool<S::Child>,
     ) -> Result<Running<S>, Error>
         requires { IsCommand (tree_of self.now) }
-        ensures ok { OnOk result (Succeeds H.allows E.number_of (plan_of (tree_of self.now)) (S.log sys.old) (S.log sys.new)) }
-        ensures running { IfOk result (IsRunning S.Child.number_of S.Child.polls (tree_of self.now) (S.log sys.old) (S.log sys.new)) }
-        ensures err { IfErr result (IsRefused H.allows H.refuses E.number_of (plan_of (tree_of self.now)) (S.log sys.old) (S.log sys.new)) }
-        ensures pool_given { OnErr result (GivenStarted pool.old pool.new (segment (S.log sys.old) (S.log sys.new))) }
+        ensures ok { OnOk result (let tree = tree_of self.now in
+            StartSucceeds H.allows E.number_of tree (plan_of tree) (S.journal_view sys.old) (S.journal_view sys.new)) }
+        ensures running { IfOk result (let tree = tree_of self.now in
+            IsRunning S.Child.child_view S.Feed.job_view S.Drain.job_view tree (plan_of tree)
+            (segment (S.journal_view sys.old).entries (S.journal_view sys.new).entries)) }
+        ensures err { IfErr result (let tree = tree_of self.now in
+            StartRefused H.allows H.refuses E.number_of tree (plan_of tree) (S.journal_view sys.old) (S.journal_view sys.new)) }
+        ensures pool_given { OnErr result
+            (LeavesStarted S.Child.may_answer S.Child.child_view
+            (segment (S.journal_view sys.old).entries (S.journal_view sys.new).entries) pool.old pool.new) }
 
         // One command leaves nothing to a pool, whatever it answers.
         ensures pool_kept { pool.new ≡ pool.old }

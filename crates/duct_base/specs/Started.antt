@@ -1,5 +1,5 @@
 -- The children and the workers that the entries of a journal started.
-use Rattle.std.specs.Prelude.{ℕ, List, [], ◌∷◌, Ok}
+use Rattle.std.specs.Prelude.{ℕ, List, [], ◌∷◌, ◌≡◌, Ok}
 use Rattle.std.specs.List.{flat_map}
 use Rattle.duct_base.specs.Line.{Line, Spawn, Feed, Drain}
 
@@ -29,3 +29,15 @@ feeds_in lines = flat_map feed_by lines
 -- the capture workers started, in order
 abbrev pub drains_in : List Line → List ℕ
 drains_in lines = flat_map drain_by lines
+
+-- one child was started, and no worker
+pub record StartsOne (number : ℕ) (lines : List Line) : Type 0 where
+  pub child : children_in lines ≡ number ∷ []
+  pub no_feeds : feeds_in lines ≡ []
+  pub no_drains : drains_in lines ≡ []
+
+-- no child was started, and no worker
+pub record StartsNone (lines : List Line) : Type 0 where
+  pub no_children : children_in lines ≡ []
+  pub no_feeds : feeds_in lines ≡ []
+  pub no_drains : drains_in lines ≡ []

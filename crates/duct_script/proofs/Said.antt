@@ -10,7 +10,7 @@ use Rattle.duct_script.specs.Said.{Shared, SameBytes, word_of}
 -- one more owner of what is kept says it again, and where it was refused Running is said, which happens at bytes alone
 pub says_again : (kept said : Said Shared) (answer : Option (Said Shared)) →
     word_of said ≡ word_of kept → IfSome answer (λ again. word_of again ≡ word_of said) → IfNone answer ((bytes : List ℕ) × (word_of said ≡ Done bytes)) →
-    SaysAgain SameBytes kept (unwrap_or answer Running)
+    SaysAgain SameBytes (Unit {0}) kept (unwrap_or answer Running)
 says_again Running said answer is same refused = tt
 says_again (Done bytes) said None is same refused = tt
 says_again (Done bytes) said (Some Running) is same refused = cc

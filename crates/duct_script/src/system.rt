@@ -266,7 +266,7 @@ impl Script {
     /// Takes this many numbers in a row for the answer of a request for which this fault is set, if one is.
     fn answer(&mut self, fault: Option<Fault>, count: u64) -> Result<u64, Fault>
         ensures ok { IfOk result (λ first. (first ≡ self.old.journal.next)
-          × (self.new.journal ≡ record self.old.journal { next = self.old.journal.next + count })) }
+            × (self.new.journal ≡ record self.old.journal { next = self.old.journal.next + count })) }
         ensures fits { OnOk result (self.new.journal.next < 2 ^ 64) }
         ensures err { OnErr result (self.new.journal ≡ self.old.journal) }
     {
@@ -522,13 +522,13 @@ impl System for Script {
     fn spawn(&mut self, spec: CommandSpec, io: [Stdio<ScriptEnd>; 3]) -> Result<ScriptChild, Fault>
         requires { min 1 (length (ends_of io)) ≤ self.old.journal.room }
         ensures ok { IfOk result (λ child.
-          let entry = Spawn spec (map (stream_of (λ e. e.number)) io) (Ok child.number) in
-          GivesEnds entry (length (ends_of io)) self.old.journal self.new.journal
-          × IsNew self.old.journal self.new.journal child.number) }
+            let entry = Spawn spec (map (stream_of (λ e. e.number)) io) (Ok child.number) in
+            GivesEnds entry (length (ends_of io)) self.old.journal self.new.journal
+            × IsNew self.old.journal self.new.journal child.number) }
         ensures unasked { IfOk result (λ child. IsUnasked (child_view child)) }
         ensures err { IfErr result (λ fault.
-          let entry = Spawn spec (map (stream_of (λ e. e.number)) io) (Err fault) in
-          IsRefused entry (length (ends_of io)) fault self.old.journal self.new.journal) }
+            let entry = Spawn spec (map (stream_of (λ e. e.number)) io) (Err fault) in
+            IsRefused entry (length (ends_of io)) fault self.old.journal self.new.journal) }
     {
         let (streams, ends) = numbered_streams(io);
         let fault = if ends == 0 {

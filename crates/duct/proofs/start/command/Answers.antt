@@ -1,16 +1,8 @@
 use Rattle.std.proofs.Common.{map, string_bytes}
 use Rattle.std.proofs.lemmas.Result.{err_from_is_err_and}
-use Rattle.duct_base.specs.Spec.{pair_text}
-use Rattle.duct.proofs.OneCommand.{spawn_refused, spawn_succeeds, plainly_asked}
+use Rattle.duct.proofs.OneCommand.{environment_refused, memory_refused, spawn_refused, spawn_succeeds, one_started, none_by_environment, none_by_memory, none_by_spawn}
 use Rattle.duct.proofs.start.command.Goals as goal
-
-pub returns-in_err-child-clause-err : goal.returns-in_err-child-clause-err
-returns-in_err-child-clause-err g c =
-    let p = err_from_is_err_and c.from_residual-in_err-child.result c.from_residual-in_err-child.ensures.1 in
-    rw (p.1, p.2) (spawn_refused g.H.Hook.allows g.H.Hook.refuses g.S.End.Numbered.number_of (map string_bytes c.args.words.now) _ _ _ _ _ _ c.in_ok-pairs.ensures.ok c.in_err-child.ensures.err
-    (plainly_asked _ (map pair_text c.in_ok-vars.vars.entries) _ _ _ c.spec_of-spec.ensures c.in_ok-copy.ensures.words c.in_ok-vars.ensures.values c.in_ok-vars.ensures.ordered))
 
 pub returns-clause-ok : goal.returns-clause-ok
 returns-clause-ok g c =
-    spawn_succeeds g.H.Hook.allows g.H.Hook.refuses g.S.End.Numbered.number_of (map string_bytes c.args.words.now) _ _ _ _ _ _ c.in_ok-pairs.ensures.ok c.in_ok-child.ensures.ok
-    (plainly_asked _ (map pair_text c.in_ok-vars.vars.entries) _ _ _ c.spec_of-spec.ensures c.in_ok-copy.ensures.words c.in_ok-vars.ensures.values c.in_ok-vars.ensures.ordered)
+    spawn_succeeds g.H.Hook.allows g.H.Hook.refuses g.S.End.Numbered.number_of (map string_bytes c.args.words.now) _ _ _ _ _ _ c.in_ok-pairs.ensures.ok c.in_ok-child.ensures.ok.0 c.in_ok-spec.ensures.asked

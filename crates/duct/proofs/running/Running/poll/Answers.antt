@@ -1,24 +1,23 @@
 use Rattle.std.proofs.Common.{◌≤◌, sym, ◌∙◌, map, length, arith}
 use Rattle.std.proofs.lemmas.List.{length-map}
-use Rattle.duct.specs.Life.{life}
 use Rattle.duct.proofs.Polls.{asked_more, asked_all, asked_length}
-use Rattle.duct.proofs.handle.Running.poll.Goals as goal
+use Rattle.duct.proofs.running.Running.poll.Goals as goal
 
 pub loop-at-preserved : goal.loop-at-preserved
 loop-at-preserved g c =
-    let lived = life g.S.Child.Numbered.number_of g.S.Child.Child.process g.S.Child.Child.polls g.S.Child.Child.last g.S.Child.Child.ending g.S.Child.Child.orders in
+    let view = g.S.Child.Child.child_view in
     let i = c.loop-at.invariant in
     let same = asked_length g.S.Child.Child.may_answer c.loop-at.at _ _ c.ask.ensures.asked in
     record {
       outline = c.ask.ensures.outline ∙ i.outline;
       asked = asked_more g.S.Child.Child.may_answer c.loop-at.at _ _ _ i.asked c.ask.ensures.asked;
-      count = sym (length-map c.ask.new.self.children lived) ∙ same ∙ length-map c.loop-at.self.children lived ∙ i.count;
+      count = sym (length-map c.ask.new.self.children view) ∙ same ∙ length-map c.loop-at.self.children view ∙ i.count;
       kept = i.kept;
     }
 
 pub returns-clause-asked : goal.returns-clause-asked
 returns-clause-asked g c =
-    let lived = life g.S.Child.Numbered.number_of g.S.Child.Child.process g.S.Child.Child.polls g.S.Child.Child.last g.S.Child.Child.ending g.S.Child.Child.orders in
+    let view = g.S.Child.Child.child_view in
     let i = c.loop-at.invariant in
-    let all : length (map lived c.args.self.now.children) ≤ c.loop-at.at = omega (arith, length-map c.args.self.now.children lived, i.kept, c.loop-at-test.false) in
+    let all : length (map view c.args.self.now.children) ≤ c.loop-at.at = omega (arith, length-map c.args.self.now.children view, i.kept, c.loop-at-test.false) in
     rw c.conclude.ensures.children (asked_all g.S.Child.Child.may_answer c.loop-at.at _ _ all i.asked)

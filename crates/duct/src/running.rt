@@ -1,10 +1,10 @@
 //! An expression that runs: its children, and what they said so far.
-ghost use Rattle.std.specs.Prelude.{◌≡◌, ◌<◌, [], length, map};
+ghost use Rattle.std.specs.Prelude.{◌≡◌, ◌<◌, [], ◌++◌, length, map, None};
+ghost use Rattle.std.specs.Option.{option_to_list};
 ghost use Rattle.duct_base.specs.Response.{response_of};
 ghost use Rattle.duct_base.specs.State.{words_in};
 ghost use Rattle.duct_base.specs.Shapes.{outline_of};
-ghost use Rattle.duct.specs.Life.{life, AllAsked, AskedAt};
-ghost use Rattle.duct.specs.Polled.{IsConclusion, Gives, IsOutcome};
+ghost use Rattle.duct.specs.Polled.{IsConclusion, Gives, IsOutcome, AllAsked, AskedAt};
 ghost use Rattle.duct.specs.Stored.{word_of, stored_words};
 
 use duct_base::error::Error;
@@ -21,20 +21,26 @@ pub struct Running<S: System> {
 }
 
 impl<S: System> Model for Running<S> {
-    ghost use Rattle.std.specs.Prelude.{◌≡◌};
+    ghost use Rattle.std.specs.Prelude.{◌≡◌, [], map, None};
     ghost use Rattle.std.specs.Coded.{codes};
     ghost use Rattle.duct_base.specs.State.{words_in};
     ghost use Rattle.duct_base.specs.contracts.status.Shape as shape;
-    ghost use Rattle.duct.specs.Held.{Held};
+    ghost use Rattle.duct.specs.Running.{RunningView};
     ghost use Rattle.duct.specs.Stored.{stored_words};
 
-    ghost Value = { Held S.Child };
+    ghost Value = { RunningView S.Child S.Feed S.Drain };
 
     ghost coded = { Prim.hlevel (codes, shape.the_row.coded) };
 
-    ghost view = { λ r. record { shape = r.core.shape; children = r.children.items } };
+    ghost view = { λ r. record {
+      shape = r.core.shape;
+      children = r.children.items;
+      feeds = [];
+      output = None;
+      error = None;
+    } };
 
-    ghost invariant = { λ r. words_in r.core ≡ stored_words S.Child.ending S.Child.last r.children.items };
+    ghost invariant = { λ r. words_in r.core ≡ stored_words (map S.Child.child_view r.children.items) };
 }
 
 // The word of a child's answer.
@@ -51,8 +57,14 @@ fn word(answer: Result<Option<ExitStatus>, Fault>) -> Word
 impl<S: System> Running<S> {
     // One command with its child, which nobody has polled yet.
     pub(crate) fn of_command(core: Core, children: Vec<Place<S::Child>>) -> Running<S>
-        requires { words_in core ≡ stored_words S.Child.ending S.Child.last children.items }
-        ensures { result ≡ record { shape = core.shape; children = children.items } }
+        requires { words_in core ≡ stored_words (map S.Child.child_view children.items) }
+        ensures { result ≡ record {
+          shape = core.shape;
+          children = children.items;
+          feeds = [];
+          output = None;
+          error = None;
+        } }
     {
         Running { core, children }
     }
@@ -60,8 +72,8 @@ impl<S: System> Running<S> {
     /// The children from left to right, the input workers and the capture workers. Nobody polls them from then on.
     pub fn into_parts(self) -> (Vec<Place<S::Child>>, Vec<S::Feed>, Vec<S::Drain>)
         ensures children { result.0.items ≡ self.children }
-        ensures feeds { result.1.items ≡ [] }
-        ensures drains { result.2.items ≡ [] }
+        ensures feeds { result.1.items ≡ self.feeds }
+        ensures drains { result.2.items ≡ option_to_list self.output ++ option_to_list self.error }
     {
         let Running { core, children } = self;
         drop(core);
@@ -73,7 +85,7 @@ impl<S: System> Running<S> {
     fn ask(&mut self, at: usize)
         requires { at < length self.old.children }
         ensures outline { outline_of self.new.shape ≡ outline_of self.old.shape }
-        ensures asked { AskedAt S.Child.may_answer at (map (life S.Child.number_of S.Child.process S.Child.polls S.Child.last S.Child.ending S.Child.orders) self.old.children) (map (life S.Child.number_of S.Child.process S.Child.polls S.Child.last S.Child.ending S.Child.orders) self.new.children) }
+        ensures asked { AskedAt S.Child.may_answer at (map S.Child.child_view self.old.children) (map S.Child.child_view self.new.children) }
     {
         if !self.core.is_due(at) {
             return;
@@ -88,8 +100,8 @@ impl<S: System> Running<S> {
     /// tries again.
     pub fn poll(&mut self) -> Result<Option<Arc<Output>>, Error>
         ensures outline { outline_of self.new.shape ≡ outline_of self.old.shape }
-        ensures asked { AllAsked S.Child.may_answer (map (life S.Child.number_of S.Child.process S.Child.polls S.Child.last S.Child.ending S.Child.orders) self.old.children) (map (life S.Child.number_of S.Child.process S.Child.polls S.Child.last S.Child.ending S.Child.orders) self.new.children) }
-        ensures outcome { IsOutcome (outline_of self.new.shape) (stored_words S.Child.ending S.Child.last self.new.children) result }
+        ensures asked { AllAsked S.Child.may_answer (map S.Child.child_view self.old.children) (map S.Child.child_view self.new.children) }
+        ensures outcome { IsOutcome (outline_of self.new.shape) (stored_words (map S.Child.child_view self.new.children)) result }
     {
         for at in 0..self.children.len() {
             self.ask(at);
@@ -101,7 +113,7 @@ impl<S: System> Running<S> {
     fn conclude(&mut self) -> Result<Option<Arc<Output>>, Error>
         ensures outline { outline_of self.new.shape ≡ outline_of self.old.shape }
         ensures children { self.new.children ≡ self.old.children }
-        ensures outcome { IsOutcome (outline_of self.new.shape) (stored_words S.Child.ending S.Child.last self.new.children) result }
+        ensures outcome { IsOutcome (outline_of self.new.shape) (stored_words (map S.Child.child_view self.new.children)) result }
     {
         answer(self.core.step(Event::Conclude))
     }

@@ -1,0 +1,33 @@
+-- What contracts see of a start that runs, and what it holds of the journal's children and workers.
+use Rattle.std.specs.Prelude.{ℕ, List, ◌++◌, ◌≡◌, map, is_some, All}
+use Rattle.std.specs.Option.{option_map, option_to_list}
+use Rattle.std.specs.declared.option.Option.{Option}
+use Rattle.duct_base.specs.Child.{ChildView, IsUnasked}
+use Rattle.duct_base.specs.Job.{JobView, unpolled_job}
+use Rattle.duct_base.specs.Line.{Line}
+use Rattle.duct_base.specs.Shapes.{outline_of}
+use Rattle.duct_base.specs.Started.{children_in, feeds_in, drains_in}
+use Rattle.duct_base.specs.declared.status.Shape.{Shape}
+use Rattle.duct.specs.OutlineOfTree.{outline_of_tree}
+use Rattle.duct.specs.Plan.{Plan}
+use Rattle.duct.specs.Tree.{Tree}
+
+-- its shape, its children from left to right, its input workers in tree order, and the capture workers of stdout and of stderr
+pub record RunningView (C F D : Type 0) : Type 0 where
+  pub shape : Shape
+  pub children : List C
+  pub feeds : List F
+  pub output : Option D
+  pub error : Option D
+
+-- the shape of this tree, with the children and the workers that were added to the journal, each by its number in its place and
+-- nobody asked yet; stdout and stderr have a worker where the plan opened their capture pipes
+pub record IsRunning {E H C F D V W : Type 0} (child : C → ChildView) (feed : F → JobView V) (drain : D → JobView W)
+    (tree : Tree E H) (plan : Plan E H) (added : List Line) (running : RunningView C F D) : Type 0 where
+  pub shape_is : outline_of running.shape ≡ outline_of_tree tree
+  pub children_are : map (λ c. (child c).number) running.children ≡ children_in added
+  pub unasked : All (λ c. IsUnasked (child c)) running.children
+  pub feeds_are : map feed running.feeds ≡ map (λ number. unpolled_job number) (feeds_in added)
+  pub drains_are : map drain (option_to_list running.output ++ option_to_list running.error) ≡ map (λ number. unpolled_job number) (drains_in added)
+  pub output_is : is_some running.output ≡ is_some plan.out
+  pub error_is : is_some running.error ≡ is_some plan.err
