@@ -1,12 +1,13 @@
 -- What the start of one command adds to the journal follows its plan.
-use Rattle.std.specs.Prelude.{ℕ, zero, suc, List, [], ◌∷◌, ◌++◌, map, reverse, take, length, All, Ok, Err, Some, None}
+use Rattle.std.specs.Prelude.{ℕ, zero, suc, List, [], ◌∷◌, ◌++◌, map, reverse, take, length, Ok, Err, Some, None, OnErr}
 use Rattle.std.specs.declared.result.Result.{Result}
 use Rattle.std.specs.Cmp.Lexicographic.{slice_cmp}
 use Rattle.std.specs.List.Sorted.{IsStrictlySortedBy}
 use Rattle.std.specs.Ordering.{nat_cmp}
 use Rattle.std.proofs.Common.{◌≡◌, ◌+◌, ◌*◌, ◌≤◌, refl, ap, sym, ◌∙◌, subst, arith, inl, inr, append_assoc, length-append}
 use Rattle.std.proofs.lemmas.List.{append-nil}
-use Rattle.duct_base.specs.Child.{Answer, ChildView}
+use Rattle.std.proofs.lemmas.List.Elements.{All-nil}
+use Rattle.duct_base.specs.Child.{Answer, ChildView, IsUnasked}
 use Rattle.duct_base.specs.Journal.{JournalView, Adds, AddsNothing, Asks, GivesEnds, IsRefused}
 use Rattle.duct_base.specs.Ledger.{IsBalanced, got, spent, got_by, held}
 use Rattle.duct_base.specs.Line.{Line, Environment, Spawn}
@@ -36,6 +37,14 @@ use Rattle.duct.specs.Tree.{Tree, command}
 segment-added : (old xs : List Line) → segment old (old ++ xs) ≡ xs
 segment-added [] xs = refl
 segment-added (line ∷ old) xs = segment-added old xs
+
+pub segment-none : (old : List Line) → segment old old ≡ []
+segment-none [] = refl
+segment-none (line ∷ old) = segment-none old
+
+pub on_err : {T E Q : Type 0} (r : Result T E) → Q → OnErr r Q
+on_err (Ok value) q = tt
+on_err (Err error) q = q
 
 -- what was added to a journal, which forgot nothing
 record Added (xs : List Line) (old new : JournalView) : Type 0 where
@@ -262,3 +271,14 @@ plainly_asked {E} {H} pairs vars words copy spec is same values ordered = rw is 
   vars_ordered = ordered;
   ports_are = elim [ stream.In ↦ refl | stream.Out ↦ refl | stream.Err ↦ refl ];
 })
+
+-- what is asked for it names no end and no hook, so the types of these do not matter
+pub plain_everywhere : {E H F K : Type 0} (pairs : Vars) (words : List (List ℕ)) (spec : Spec) →
+    IsAsked {E = E} {H = H} pairs (program_of words) plain words spec → IsAsked {E = F} {H = K} pairs (program_of words) plain words spec
+plain_everywhere pairs words spec asked = record {
+  words_are = asked.words_are;
+  folder_is = asked.folder_is;
+  vars_are = asked.vars_are;
+  vars_ordered = asked.vars_ordered;
+  ports_are = elim [ stream.In ↦ asked.ports_are stream.In | stream.Out ↦ asked.ports_are stream.Out | stream.Err ↦ asked.ports_are stream.Err ];
+}

@@ -61,7 +61,7 @@ fn spec_for(
 ) -> Result<CommandSpec, Error>
     ensures asked { IfOk result (λ spec.
         let texts = map string_bytes words.now in
-        IsAsked (map pair_text pairs.items) (program_of texts) plain texts spec) }
+        IsAsked {E = Unit {0}} {H = Unit {0}} (map pair_text pairs.items) (program_of texts) plain texts spec) }
     ensures memory { IsOkUnless result Error.Memory }
 {
     let vars = variables(alloc, pairs)?;
