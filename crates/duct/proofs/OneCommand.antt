@@ -1,18 +1,20 @@
 -- What the start of one command adds to the journal follows its plan.
-use Rattle.std.specs.Prelude.{ℕ, zero, suc, List, [], ◌∷◌, ◌++◌, map, reverse, take, length, Ok, Err, Some, None, OnErr}
+use Rattle.std.specs.Prelude.{ℕ, zero, suc, List, [], ◌∷◌, ◌++◌, map, reverse, take, length, All, Ok, Err, Some, None, OnErr, is_some}
 use Rattle.std.specs.declared.result.Result.{Result}
 use Rattle.std.specs.Cmp.Lexicographic.{slice_cmp}
 use Rattle.std.specs.List.Sorted.{IsStrictlySortedBy}
 use Rattle.std.specs.Ordering.{nat_cmp}
 use Rattle.std.proofs.Common.{◌≡◌, ◌+◌, ◌*◌, ◌≤◌, refl, ap, sym, ◌∙◌, subst, arith, inl, inr, append_assoc, length-append}
 use Rattle.std.proofs.lemmas.List.{append-nil}
-use Rattle.std.proofs.lemmas.List.Elements.{All-nil}
+use Rattle.std.proofs.lemmas.List.Elements.{All-nil, All-cons}
 use Rattle.duct_base.specs.Child.{Answer, ChildView, IsUnasked}
 use Rattle.duct_base.specs.Journal.{JournalView, Adds, AddsNothing, Asks, GivesEnds, IsRefused}
 use Rattle.duct_base.specs.Ledger.{IsBalanced, got, spent, got_by, held}
+use Rattle.duct_base.specs.Job.{JobView, unpolled_job}
 use Rattle.duct_base.specs.Line.{Line, Environment, Spawn}
 use Rattle.duct_base.specs.Origin.{origin}
 use Rattle.duct_base.specs.Pool.{PoolView, Sieves}
+use Rattle.duct_base.specs.Shapes.{outline_of}
 use Rattle.duct_base.specs.Spec.{Spec, Vars, value_of}
 use Rattle.duct_base.specs.Started.{StartsOne, StartsNone, children_in}
 use Rattle.duct_base.specs.Streams.{stream_of}
@@ -21,6 +23,7 @@ use Rattle.duct_base.specs.declared.error.Error.{Error}
 use Rattle.duct_base.specs.declared.error.Error.TheVariants as error
 use Rattle.duct_base.specs.declared.spec.Port.TheVariants as port
 use Rattle.duct_base.specs.declared.spec.Stream.TheVariants as stream
+use Rattle.duct_base.specs.declared.status.Shape.{Shape}
 use Rattle.duct_base.specs.declared.system.Fault.{Fault}
 use Rattle.duct_base.specs.declared.system.Stdio.{Stdio}
 use Rattle.duct_base.specs.declared.system.Stdio.TheVariants.{Inherit}
@@ -30,7 +33,9 @@ use Rattle.duct.specs.Chain.{Allows, Refuses, Wired}
 use Rattle.duct.specs.Follows.{Follows, FollowsWhole, IsGiven}
 use Rattle.duct.specs.Found.{plain}
 use Rattle.duct.specs.Left.{StaysInPool, Leaves, LeavesStarted, pool_view}
+use Rattle.duct.specs.OutlineOfTree.{outline_of_tree}
 use Rattle.duct.specs.Plan.{Plan, plan_of, program_of}
+use Rattle.duct.specs.Running.{IsRunning}
 use Rattle.duct.specs.Start.{Grows, HoldsFew, StartSucceeds, StartRefused}
 use Rattle.duct.specs.Tree.{Tree, command}
 
@@ -124,7 +129,7 @@ pub pool_untouched : {C : Type 0} (may : ℕ → Answer → Type 0) (view : C �
 pool_untouched may view added pool none = (
   [],
   sym none,
-  tt,
+  All-nil IsUnasked,
   record {
     old = map view pool.children;
     new = [];
@@ -140,6 +145,24 @@ pool_untouched may view added pool none = (
     lost_is = refl;
   },
 )
+
+pub pool_of_none : {C : Type 0} (may : ℕ → Answer → Type 0) (view : C → ChildView) (entries : List Line) (pool : PoolView C) →
+    LeavesStarted may view (segment entries entries) pool pool
+pool_of_none may view entries pool = pool_untouched may view (segment entries entries) pool (ap (λ l. children_in l) (segment-none entries))
+
+-- one child that runs, and no worker
+pub alone_running : {E H C F D V W : Type 0} (child : C → ChildView) (feed : F → JobView V) (drain : D → JobView W) (tree : Tree E H) (words : List (List ℕ)) (added : List Line) (number : ℕ) (place : C)
+    (shape : Shape) (children : List C) → tree ≡ command words → outline_of shape ≡ outline_of_tree tree → children ≡ place ∷ [] → (child place).number ≡ number → IsUnasked (child place) → StartsOne number added →
+    IsRunning child feed drain tree (plan_of tree) added (record { shape = shape; children = children; feeds = []; output = None; error = None })
+alone_running child feed drain tree words added number place shape children same outlined one numbered unasked starts = record {
+  shape_is = outlined;
+  children_are = ap (λ l. map (λ c. (child c).number) l) one ∙ ap (λ n. n ∷ []) numbered ∙ sym starts.child;
+  unasked = subst (λ l. All (λ c. IsUnasked (child c)) l) (sym one) (All-cons (λ c. IsUnasked (child c)) place [] unasked (All-nil (λ c. IsUnasked (child c))));
+  feeds_are = ap (λ l. map (λ n. unpolled_job n) l) (sym starts.no_feeds);
+  drains_are = ap (λ l. map (λ n. unpolled_job n) l) (sym starts.no_drains);
+  output_is = ap (λ t. is_some (plan_of t).out) (sym same);
+  error_is = ap (λ t. is_some (plan_of t).err) (sym same);
+}
 
 module _ {E H : Type 0} (allows : Allows H) (refuses : Refuses H) (number_of : E → ℕ) (words : List (List ℕ)) where
   abbrev tree : Tree E H

@@ -1,6 +1,13 @@
 use Rattle.std.proofs.Common.{map, string_bytes}
-use Rattle.duct.proofs.OneCommand.{spawn_succeeds, one_started, plain_everywhere}
+use Rattle.std.proofs.lemmas.Result.{err_from_is_err_and}
+use Rattle.duct.proofs.OneCommand.{spawn_refused, spawn_succeeds, plain_everywhere}
 use Rattle.duct.proofs.start.command.Goals as goal
+
+pub returns-in_err-child-clause-err : goal.returns-in_err-child-clause-err
+returns-in_err-child-clause-err g c =
+    let p = err_from_is_err_and c.from_residual-in_err-child.result c.from_residual-in_err-child.ensures.1 in
+    rw (p.1, p.2) (spawn_refused g.H.Hook.allows g.H.Hook.refuses g.S.End.Numbered.number_of (map string_bytes c.args.words.now) _ _ _ _ _ _ c.in_ok-pairs.ensures.ok c.in_err-child.ensures.err
+    (plain_everywhere _ _ _ c.in_ok-spec.ensures.asked))
 
 pub returns-clause-ok : goal.returns-clause-ok
 returns-clause-ok g c =
