@@ -1,29 +1,24 @@
 //! Faults by their kinds, and what a refusal leaves.
-use crate::support::{Machine, command, place, same, tells};
-use duct_base::spec::CommandSpec;
-use duct_base::system::{Fault, Kind, Stdio, System};
-use duct_host::host::Host;
-use std::fs;
-use std::fs::Permissions;
-use std::os::unix::fs::PermissionsExt;
+use crate::asks::{Ask, tells};
+use crate::support::place;
+use duct_base::system::{Kind, Stdio};
 use std::test::Fail;
 
-/// Fails unless a request was refused by a fault of this kind.
-fn refused<T: Drop>(answer: Result<T, Fault>, kind: Kind) -> Result<(), Fail> {
-    same(answer.err(), Some(Fault::new(kind)))
-}
+/// No variables, as a host has none for a command at first.
+const PLAIN: Ask<'static> = Ask::Variables(&[]);
 
 /// Fails unless the spawn of a new host's first pipe is refused by a fault of this kind, and its entry says so.
-fn spawn_refused(rt: &HostRuntime, spec: CommandSpec, kind: Kind) -> Result<(), Fail> {
-    let alloc = rt.alloc();
-    let mut host: Machine = Host::new(rt.clone()?, alloc);
-    let (read, write) = host.pipe()?;
-    let io = [Stdio::End(read), Stdio::End(write), Stdio::Null];
-    refused(host.spawn(spec, io), kind)?;
-    let entries = format!(in alloc;
-        "Pipe Ok((1, 2)); Spawn [End(1), End(2), Null] Err(Fault {{ kind: {kind:?} }}); "
+fn refused(rt: &HostRuntime, first: Ask<'_>, words: &[&str], kind: Kind) -> Result<(), Fail> {
+    let expected = format!(in rt.alloc();
+        "(1, 2); {kind:?}; Pipe Ok((1, 2)); Spawn [End(1), End(2), Null] Err(Fault {{ kind: {kind:?} }}); "
     )?;
-    tells(&host, entries.as_str())
+    let asks = [
+        first,
+        Ask::Pipe,
+        Ask::Spawn(words, Stdio::End(1), Stdio::End(2), Stdio::Null),
+        Ask::Journal,
+    ];
+    tells(rt, &asks, expected.as_str())
 }
 
 #[test]
@@ -34,8 +29,7 @@ fn a_program_that_is_not_there(rt: HostRuntime) -> Result<(), Fail> {
         "./no/such/program",
         "",
     ] {
-        let spec = command(rt.alloc(), &[program], None, &[])?;
-        spawn_refused(&rt, spec, Kind::NotFound)?;
+        refused(&rt, PLAIN, &[program], Kind::NotFound)?;
     }
     Ok(())
 }
@@ -43,36 +37,47 @@ fn a_program_that_is_not_there(rt: HostRuntime) -> Result<(), Fail> {
 #[test]
 fn a_program_that_may_not_be_run(rt: HostRuntime) -> Result<(), Fail> {
     let path = place(&rt, rt.process(), "program")?;
-    fs::write(&rt, path.as_str(), "#!/bin/sh\n")?;
-    fs::set_permissions(&rt, path.as_str(), Permissions::from_mode(0o644))?;
-    let spec = command(rt.alloc(), &[path.as_str()], None, &[])?;
-    spawn_refused(&rt, spec, Kind::PermissionDenied)?;
-    fs::remove_file(&rt, path.as_str())?;
-    Ok(())
+    let path = path.as_str();
+    let words = [path];
+    let asks = [
+        Ask::Write(path, "#!/bin/sh\n"),
+        Ask::Mode(path, 0o644),
+        Ask::Pipe,
+        Ask::Spawn(&words, Stdio::End(1), Stdio::End(2), Stdio::Null),
+        Ask::Remove(path),
+        Ask::Journal,
+    ];
+    let expected =
+        "(1, 2); PermissionDenied; Pipe Ok((1, 2)); Spawn [End(1), End(2), Null] Err(Fault { kind: PermissionDenied }); ";
+    tells(&rt, &asks, expected)
 }
 
 #[test]
 fn specs_that_no_child_can_have(rt: HostRuntime) -> Result<(), Fail> {
-    let alloc = rt.alloc();
-    let spec = command(alloc, &[], None, &[])?;
-    spawn_refused(&rt, spec, Kind::InvalidInput)?;
-    let spec = command(alloc, &["/bin/echo", "a\0b"], None, &[])?;
-    spawn_refused(&rt, spec, Kind::InvalidInput)?;
-    let spec = command(alloc, &["/bin/true"], None, &[("A", "a\0b")])?;
-    spawn_refused(&rt, spec, Kind::InvalidInput)?;
-    let spec = command(alloc, &["/bin/true"], Some("/no-such-folder"), &[])?;
-    spawn_refused(&rt, spec, Kind::NotFound)
+    let with_nul = Ask::Variables(&[("A", "a\0b")]);
+    refused(&rt, PLAIN, &[], Kind::InvalidInput)?;
+    refused(&rt, PLAIN, &["/bin/echo", "a\0b"], Kind::InvalidInput)?;
+    refused(&rt, with_nul, &["/bin/true"], Kind::InvalidInput)?;
+    refused(
+        &rt,
+        Ask::Folder("/no-such-folder"),
+        &["/bin/true"],
+        Kind::NotFound,
+    )
 }
 
 #[test]
 fn paths_that_are_not_there(rt: HostRuntime) -> Result<(), Fail> {
-    let mut host = Host::new(rt.clone()?, rt.alloc());
-    refused(host.open_read("/no-such-file"), Kind::NotFound)?;
-    refused(host.create("/no-such-folder/file"), Kind::NotFound)?;
-    refused(host.canonicalize("/no-such-file"), Kind::NotFound)?;
     tells(
-        &host,
-        "OpenRead /no-such-file Err(Fault { kind: NotFound }); \
+        &rt,
+        &[
+            Ask::OpenRead("/no-such-file"),
+            Ask::Create("/no-such-folder/file"),
+            Ask::Canonicalize("/no-such-file"),
+            Ask::Journal,
+        ],
+        "NotFound; NotFound; NotFound; \
+         OpenRead /no-such-file Err(Fault { kind: NotFound }); \
          Create /no-such-folder/file Err(Fault { kind: NotFound }); \
          Canonicalize /no-such-file Err(Fault { kind: NotFound }); ",
     )
@@ -80,31 +85,37 @@ fn paths_that_are_not_there(rt: HostRuntime) -> Result<(), Fail> {
 
 #[test]
 fn paths_that_are_refused_for_other_reasons(rt: HostRuntime) -> Result<(), Fail> {
-    let mut host = Host::new(rt.clone()?, rt.alloc());
-    refused(host.create("/"), Kind::Other)?;
-    refused(host.open_read("a\0b"), Kind::InvalidInput)
+    tells(
+        &rt,
+        &[Ask::Create("/"), Ask::OpenRead("a\0b")],
+        "Other; InvalidInput; ",
+    )
 }
 
 #[test]
 fn a_folder_that_may_not_be_written(rt: HostRuntime) -> Result<(), Fail> {
-    let mut host = Host::new(rt.clone()?, rt.alloc());
     let folder = place(&rt, rt.process(), "folder")?;
     let inside = format!(in rt.alloc(); "{folder}/file")?;
-    fs::create_dir(&rt, folder.as_str())?;
-    fs::set_permissions(&rt, folder.as_str(), Permissions::from_mode(0o500))?;
-    let answer = host.create(inside.as_str());
-    let _ = fs::remove_file(&rt, inside.as_str());
-    fs::remove_dir(&rt, folder.as_str())?;
-    refused(answer, Kind::PermissionDenied)
+    let (folder, inside) = (folder.as_str(), inside.as_str());
+    let asks = [
+        Ask::MakeFolder(folder),
+        Ask::Mode(folder, 0o500),
+        Ask::Create(inside),
+        Ask::Clean(inside),
+        Ask::RemoveFolder(folder),
+    ];
+    tells(&rt, &asks, "PermissionDenied; ")
 }
 
 #[test]
 fn a_file_that_may_not_be_read(rt: HostRuntime) -> Result<(), Fail> {
-    let mut host = Host::new(rt.clone()?, rt.alloc());
     let path = place(&rt, rt.process(), "unreadable")?;
-    fs::write(&rt, path.as_str(), "")?;
-    fs::set_permissions(&rt, path.as_str(), Permissions::from_mode(0o200))?;
-    let answer = host.open_read(path.as_str());
-    fs::remove_file(&rt, path.as_str())?;
-    refused(answer, Kind::PermissionDenied)
+    let path = path.as_str();
+    let asks = [
+        Ask::Write(path, ""),
+        Ask::Mode(path, 0o200),
+        Ask::OpenRead(path),
+        Ask::Remove(path),
+    ];
+    tells(&rt, &asks, "PermissionDenied; ")
 }
