@@ -8,7 +8,12 @@ use std::test::Fail;
 const PLAIN: Ask<'static> = Ask::Variables(&[]);
 
 /// Fails unless the spawn of a new host's first pipe is refused by a fault of this kind, and its entry says so.
-fn refused(rt: &HostRuntime, first: Ask<'_>, words: &[&str], kind: Kind) -> Result<(), Fail> {
+fn refused<'a>(
+    rt: &HostRuntime,
+    first: Ask<'a>,
+    words: &'a [&'a str],
+    kind: Kind,
+) -> Result<(), Fail> {
     let expected = format!(in rt.alloc();
         "(1, 2); {kind:?}; Pipe Ok((1, 2)); Spawn [End(1), End(2), Null] Err(Fault {{ kind: {kind:?} }}); "
     )?;
@@ -34,22 +39,25 @@ fn a_program_that_is_not_there(rt: HostRuntime) -> Result<(), Fail> {
     Ok(())
 }
 
-#[test]
-fn a_program_that_may_not_be_run(rt: HostRuntime) -> Result<(), Fail> {
-    let path = place(&rt, rt.process(), "program")?;
-    let path = path.as_str();
-    let words = [path];
+/// Fails unless a program that may only be read and written is refused. The words of its command are its path.
+fn not_run<'a>(rt: &HostRuntime, path: &'a str, words: &'a [&'a str]) -> Result<(), Fail> {
     let asks = [
         Ask::Write(path, "#!/bin/sh\n"),
         Ask::Mode(path, 0o644),
         Ask::Pipe,
-        Ask::Spawn(&words, Stdio::End(1), Stdio::End(2), Stdio::Null),
+        Ask::Spawn(words, Stdio::End(1), Stdio::End(2), Stdio::Null),
         Ask::Remove(path),
         Ask::Journal,
     ];
     let expected =
         "(1, 2); PermissionDenied; Pipe Ok((1, 2)); Spawn [End(1), End(2), Null] Err(Fault { kind: PermissionDenied }); ";
-    tells(&rt, &asks, expected)
+    tells(rt, &asks, expected)
+}
+
+#[test]
+fn a_program_that_may_not_be_run(rt: HostRuntime) -> Result<(), Fail> {
+    let path = place(&rt, rt.process(), "program")?;
+    not_run(&rt, path.as_str(), &[path.as_str()])
 }
 
 #[test]
