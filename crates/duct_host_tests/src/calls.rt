@@ -1,7 +1,7 @@
 //! Each call of the host once, with its answer and its entry.
 use crate::asks::{Ask, tells};
 use crate::support::{Machine, place, same};
-use duct_base::system::{Entry, Fault, Side, Stdio, System};
+use duct_base::system::{Entry, Side, Stdio, System};
 use duct_host::host::Host;
 use std::alloc::{AllocError, Global};
 use std::fmt::Write;
@@ -37,8 +37,22 @@ fn entries_of(alloc: Global, pairs: &[(String, String)]) -> Result<String, Alloc
     Ok(text)
 }
 
-fn environment_of(host: &mut Machine) -> Result<Vec<(String, String)>, Fault> {
-    host.environment()
+/// The entries that this process was started with.
+fn started_with(rt: &HostRuntime) -> Result<String, Fail> {
+    let environ = fs::read(rt, "/proc/self/environ")?;
+    Ok(readable(rt.alloc(), environ.as_slice())?)
+}
+
+/// Fails unless a host has just answered these variables, and has noted them.
+fn answers(host: &Machine, pairs: &[(String, String)], expected: &str) -> Result<(), Fail> {
+    let text = entries_of(host.allocator(), pairs)?;
+    same((text.as_str(), noted(host)), (expected, Some(pairs)))
+}
+
+/// Fails unless a host answers these entries as its environment.
+fn has_environment(host: &mut Machine, expected: &str) -> Result<(), Fail> {
+    let pairs = host.environment()?;
+    answers(host, pairs.as_slice(), expected)
 }
 
 /// The variables of a journal whose only entry has some.
@@ -51,13 +65,9 @@ fn noted(host: &Machine) -> Option<&[(String, String)]> {
 
 #[test]
 fn the_environment_is_the_parents(rt: HostRuntime) -> Result<(), Fail> {
-    let environ = fs::read(&rt, "/proc/self/environ")?;
-    let expected = readable(rt.alloc(), environ.as_slice())?;
+    let expected = started_with(&rt)?;
     let mut host = Host::new(rt.clone()?, rt.alloc());
-    let pairs = environment_of(&mut host)?;
-    let text = entries_of(rt.alloc(), pairs.as_slice())?;
-    let found = (text.as_str(), noted(&host));
-    same(found, (expected.as_str(), Some(pairs.as_slice())))
+    has_environment(&mut host, expected.as_str())
 }
 
 #[test]
@@ -179,17 +189,21 @@ fn a_canonical_name_follows_links(rt: HostRuntime) -> Result<(), Fail> {
     tells(&rt, &asks, expected.as_str())
 }
 
+const VARIABLES: [(&str, &str); 3] = [("A", "1"), ("B", "x=y"), ("C", "")];
+
+const NONE: [(&str, &str); 0] = [];
+
 #[test]
 fn a_child_has_the_folder_and_the_variables_of_its_spec(rt: HostRuntime) -> Result<(), Fail> {
     tells(
         &rt,
         &[
-            Ask::Variables(&[("A", "1"), ("B", "x=y"), ("C", "")]),
+            Ask::Variables(&VARIABLES),
             Ask::Pipe,
             Ask::Spawn(&["/usr/bin/env"], NULL, Stdio::End(2), INHERIT),
             Ask::Read(1),
             Ask::Ending,
-            Ask::Variables(&[]),
+            Ask::Variables(&NONE),
             Ask::Folder("/proc"),
             Ask::Pipe,
             Ask::Spawn(&["/bin/pwd", "-P"], NULL, Stdio::End(5), INHERIT),

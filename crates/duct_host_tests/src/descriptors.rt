@@ -30,13 +30,12 @@ fn a_child_gets_no_descriptor_above_2(rt: HostRuntime) -> Result<(), Fail> {
     )
 }
 
-#[test]
-fn ends_that_are_closed_leave_nothing_open(rt: HostRuntime) -> Result<(), Fail> {
-    let path = place(&rt, rt.process(), "closed")?;
+/// Fails unless five ends, one of them of this file, leave nothing open.
+fn all_closed(rt: &HostRuntime, path: &str) -> Result<(), Fail> {
     let asks = [
         Ask::Pipe,
         Ask::Duplicate(2),
-        Ask::Create(path.as_str()),
+        Ask::Create(path),
         Ask::Parent(Side::Err),
         Ask::Opened,
         Ask::Close(1),
@@ -44,10 +43,16 @@ fn ends_that_are_closed_leave_nothing_open(rt: HostRuntime) -> Result<(), Fail> 
         Ask::Close(3),
         Ask::Close(4),
         Ask::Close(5),
-        Ask::Remove(path.as_str()),
+        Ask::Remove(path),
         Ask::Opened,
     ];
-    tells(&rt, &asks, "(1, 2); 3; 4; 5; Some(5); Some(0); ")
+    tells(rt, &asks, "(1, 2); 3; 4; 5; Some(5); Some(0); ")
+}
+
+#[test]
+fn ends_that_are_closed_leave_nothing_open(rt: HostRuntime) -> Result<(), Fail> {
+    let path = place(&rt, rt.process(), "closed")?;
+    all_closed(&rt, path.as_str())
 }
 
 #[test]

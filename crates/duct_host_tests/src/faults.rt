@@ -1,29 +1,33 @@
 //! Faults by their kinds, and what a refusal leaves.
 use crate::asks::{Ask, tells};
 use crate::support::place;
-use duct_base::system::{Kind, Stdio};
+use duct_base::system::Stdio;
 use std::test::Fail;
 
 /// No variables, as a host has none for a command at first.
 const PLAIN: Ask<'static> = Ask::Variables(&[]);
 
-/// Fails unless the spawn of a new host's first pipe is refused by a fault of this kind, and its entry says so.
+/// What is said of a spawn that is refused with the ends of a new host's first pipe, by the kind of the fault.
+const NOT_FOUND: &str =
+    "(1, 2); NotFound; Pipe Ok((1, 2)); Spawn [End(1), End(2), Null] Err(Fault { kind: NotFound }); ";
+
+const INVALID: &str =
+    "(1, 2); InvalidInput; Pipe Ok((1, 2)); Spawn [End(1), End(2), Null] Err(Fault { kind: InvalidInput }); ";
+
+/// Fails unless this is said of the spawn of a new host's first pipe, and of its entry.
 fn refused<'a>(
     rt: &HostRuntime,
     first: Ask<'a>,
     words: &'a [&'a str],
-    kind: Kind,
+    expected: &str,
 ) -> Result<(), Fail> {
-    let expected = format!(in rt.alloc();
-        "(1, 2); {kind:?}; Pipe Ok((1, 2)); Spawn [End(1), End(2), Null] Err(Fault {{ kind: {kind:?} }}); "
-    )?;
     let asks = [
         first,
         Ask::Pipe,
         Ask::Spawn(words, Stdio::End(1), Stdio::End(2), Stdio::Null),
         Ask::Journal,
     ];
-    tells(rt, &asks, expected.as_str())
+    tells(rt, &asks, expected)
 }
 
 #[test]
@@ -34,7 +38,7 @@ fn a_program_that_is_not_there(rt: HostRuntime) -> Result<(), Fail> {
         "./no/such/program",
         "",
     ] {
-        refused(&rt, PLAIN, &[program], Kind::NotFound)?;
+        refused(&rt, PLAIN, &[program], NOT_FOUND)?;
     }
     Ok(())
 }
@@ -63,14 +67,14 @@ fn a_program_that_may_not_be_run(rt: HostRuntime) -> Result<(), Fail> {
 #[test]
 fn specs_that_no_child_can_have(rt: HostRuntime) -> Result<(), Fail> {
     let with_nul = Ask::Variables(&[("A", "a\0b")]);
-    refused(&rt, PLAIN, &[], Kind::InvalidInput)?;
-    refused(&rt, PLAIN, &["/bin/echo", "a\0b"], Kind::InvalidInput)?;
-    refused(&rt, with_nul, &["/bin/true"], Kind::InvalidInput)?;
+    refused(&rt, PLAIN, &[], INVALID)?;
+    refused(&rt, PLAIN, &["/bin/echo", "a\0b"], INVALID)?;
+    refused(&rt, with_nul, &["/bin/true"], INVALID)?;
     refused(
         &rt,
         Ask::Folder("/no-such-folder"),
         &["/bin/true"],
-        Kind::NotFound,
+        NOT_FOUND,
     )
 }
 
@@ -100,11 +104,8 @@ fn paths_that_are_refused_for_other_reasons(rt: HostRuntime) -> Result<(), Fail>
     )
 }
 
-#[test]
-fn a_folder_that_may_not_be_written(rt: HostRuntime) -> Result<(), Fail> {
-    let folder = place(&rt, rt.process(), "folder")?;
-    let inside = format!(in rt.alloc(); "{folder}/file")?;
-    let (folder, inside) = (folder.as_str(), inside.as_str());
+/// Fails unless a file in a folder that may not be written is refused.
+fn not_made(rt: &HostRuntime, folder: &str, inside: &str) -> Result<(), Fail> {
     let asks = [
         Ask::MakeFolder(folder),
         Ask::Mode(folder, 0o500),
@@ -112,7 +113,14 @@ fn a_folder_that_may_not_be_written(rt: HostRuntime) -> Result<(), Fail> {
         Ask::Clean(inside),
         Ask::RemoveFolder(folder),
     ];
-    tells(&rt, &asks, "PermissionDenied; ")
+    tells(rt, &asks, "PermissionDenied; ")
+}
+
+#[test]
+fn a_folder_that_may_not_be_written(rt: HostRuntime) -> Result<(), Fail> {
+    let folder = place(&rt, rt.process(), "folder")?;
+    let inside = place(&rt, rt.process(), "folder/file")?;
+    not_made(&rt, folder.as_str(), inside.as_str())
 }
 
 #[test]

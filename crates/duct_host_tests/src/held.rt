@@ -38,10 +38,11 @@ impl Held {
     }
 
     pub fn pipe(&mut self, said: &mut String) -> Result<(), Fail> {
+        self.ends.reserve(2)?;
         let (read, write) = self.host.pipe()?;
         let numbers = (read.number(), write.number());
-        self.ends.push(read)?;
-        self.ends.push(write)?;
+        self.ends.push_reserved(read);
+        self.ends.push_reserved(write);
         say(said, &numbers)
     }
 
