@@ -2,6 +2,8 @@
 #![tactic(auto)]
 
 #[cfg(test)]
+mod asks;
+#[cfg(test)]
 mod calls;
 #[cfg(test)]
 mod children;
@@ -9,5 +11,7 @@ mod children;
 mod descriptors;
 #[cfg(test)]
 mod faults;
+#[cfg(test)]
+mod held;
 #[cfg(test)]
 mod support;

@@ -1,10 +1,6 @@
 //! What the tests share: commands, waiting, journals as texts, and the descriptors of this process.
-ghost use Rattle.std.specs.Prelude.{◌+◌, ◌≤◌, length, min};
-ghost use Rattle.duct_base.specs.Streams.{ends_of};
-
 use duct_base::spec::{CommandSpec, Port, spec_of};
-use duct_base::system::{Child, Entry, ExitStatus, Stdio, System};
-use duct_host::end::End;
+use duct_base::system::{Child, Entry, ExitStatus, Fault};
 use duct_host::host::Host;
 use std::alloc::{AllocError, Global};
 use std::collections::BTreeMap;
@@ -31,6 +27,20 @@ pub fn same<T: PartialEq + Debug + Drop>(found: T, expected: T) -> Result<(), Fa
     }
 }
 
+/// Says a value.
+pub fn say<T: Debug>(said: &mut String, value: &T) -> Result<(), Fail> {
+    write!(said, "{value:?}; ")?;
+    Ok(())
+}
+
+/// Says an answer: what was answered, or the kind of the fault.
+pub fn tell<T: Debug>(said: &mut String, answer: &Result<T, Fault>) -> Result<(), Fail> {
+    match answer {
+        Ok(value) => say(said, value),
+        Err(fault) => say(said, &fault.kind),
+    }
+}
+
 /// The spec of a command with these words, this folder and these variables.
 pub fn command(
     alloc: Global,
@@ -38,31 +48,51 @@ pub fn command(
     folder: Option<&str>,
     variables: &[(&str, &str)],
 ) -> Result<CommandSpec, AllocError> {
-    let mut texts = Vec::new(alloc);
-    for word in words {
-        texts.push(String::from_str(alloc, word)?)?;
-    }
+    let texts = texts_of(alloc, words)?;
     let folder = match folder {
         Some(folder) => Some(String::from_str(alloc, folder)?),
         None => None,
     };
-    let mut vars = BTreeMap::new(alloc);
-    for variable in variables {
-        let name = String::from_str(alloc, variable.0)?;
-        let value = String::from_str(alloc, variable.1)?;
-        vars.insert(name, value)?;
-    }
+    let vars = vars_of(alloc, variables)?;
     let inherit = Port::Inherit;
     Ok(spec_of(texts, folder, vars, inherit, inherit, inherit))
 }
 
-/// Starts a command without variables.
-pub fn start(host: &mut Machine, words: &[&str], io: [Stdio<End>; 3]) -> Result<Started, Fail>
-    requires { min 1 (length (ends_of io)) ≤ host.old.room }
-    ensures { host.old.room ≤ host.new.room + length (ends_of io) }
-{
-    let spec = command(host.allocator(), words, None, &[])?;
-    Ok(host.spawn(spec, io)?)
+fn texts_of(alloc: Global, words: &[&str]) -> Result<Vec<String>, AllocError> {
+    let mut texts = Vec::new(alloc);
+    for word in words {
+        push_text(&mut texts, word)?;
+    }
+    Ok(texts)
+}
+
+fn push_text(texts: &mut Vec<String>, word: &str) -> Result<(), AllocError> {
+    let text = String::from_str(*texts.allocator(), word)?;
+    texts.push(text)?;
+    Ok(())
+}
+
+fn vars_of(
+    alloc: Global,
+    variables: &[(&str, &str)],
+) -> Result<BTreeMap<String, String>, AllocError> {
+    let mut vars = BTreeMap::new(alloc);
+    for variable in variables {
+        set(alloc, &mut vars, variable.0, variable.1)?;
+    }
+    Ok(vars)
+}
+
+fn set(
+    alloc: Global,
+    vars: &mut BTreeMap<String, String>,
+    name: &str,
+    value: &str,
+) -> Result<(), AllocError> {
+    let name = String::from_str(alloc, name)?;
+    let value = String::from_str(alloc, value)?;
+    vars.insert(name, value)?;
+    Ok(())
 }
 
 /// Polls a child until it has ended, for half a minute at most.
@@ -86,50 +116,61 @@ where
     Ok(text)
 }
 
-/// Runs a command with no input, and answers what it wrote to its stdout and how it ended.
-pub fn captured(
-    rt: &HostRuntime,
-    host: &mut Machine,
-    spec: CommandSpec,
-) -> Result<(String, ExitStatus), Fail> {
-    let (read, write) = host.pipe()?;
-    let io = [Stdio::Null, Stdio::End(write), Stdio::Inherit];
-    let mut child = host.spawn(spec, io)?;
-    let text = text_of(rt.alloc(), host.reader(read))?;
-    Ok((text, ending(rt, &mut child)?))
-}
-
 /// A journal as text, a few words for each entry.
 pub fn story(alloc: Global, entries: &[Entry]) -> Result<String, AllocError> {
     let mut text = String::new(alloc);
     for entry in entries {
-        tell(&mut text, entry)?;
+        push_entry(&mut text, entry)?;
     }
     Ok(text)
 }
 
 /// The words for an entry.
-fn tell(text: &mut String, entry: &Entry) -> Result<(), AllocError> {
+fn push_entry(text: &mut String, entry: &Entry) -> Result<(), AllocError> {
     match entry {
-        Entry::Environment(_) => write!(text, "Environment; "),
-        Entry::Pipe(answer) => write!(text, "Pipe {answer:?}; "),
-        Entry::OpenRead(path, answer) => write!(text, "OpenRead {path} {answer:?}; "),
-        Entry::Create(path, answer) => write!(text, "Create {path} {answer:?}; "),
-        Entry::Duplicate(lent, answer) => write!(text, "Duplicate {lent} {answer:?}; "),
-        Entry::Parent(side, answer) => write!(text, "Parent {side:?} {answer:?}; "),
-        Entry::Canonicalize(path, answer) => write!(text, "Canonicalize {path} {answer:?}; "),
-        Entry::Spawn(_, io, answer) => write!(text, "Spawn {io:?} {answer:?}; "),
-        Entry::Feed(end, _, answer) => write!(text, "Feed {end} {answer:?}; "),
-        Entry::Drain(end, answer) => write!(text, "Drain {end} {answer:?}; "),
-        Entry::Reader(end) => write!(text, "Reader {end}; "),
-        Entry::Close(end) => write!(text, "Close {end}; "),
+        Entry::Environment(answer) => push_answer(text, "Environment", &answer.is_ok()),
+        Entry::Pipe(answer) => push_answer(text, "Pipe", answer),
+        Entry::OpenRead(path, answer) => push_named(text, "OpenRead", path.as_str(), answer),
+        Entry::Create(path, answer) => push_named(text, "Create", path.as_str(), answer),
+        Entry::Duplicate(lent, answer) => push_request(text, "Duplicate", lent, answer),
+        Entry::Parent(side, answer) => push_request(text, "Parent", side, answer),
+        Entry::Canonicalize(path, answer) => push_named(
+            text,
+            "Canonicalize",
+            path.as_str(),
+            answer,
+        ),
+        Entry::Spawn(_, io, answer) => push_request(text, "Spawn", io, answer),
+        Entry::Feed(end, _, answer) => push_request(text, "Feed", end, answer),
+        Entry::Drain(end, answer) => push_request(text, "Drain", end, answer),
+        Entry::Reader(end) => push_answer(text, "Reader", end),
+        Entry::Close(end) => push_answer(text, "Close", end),
     }
 }
 
-/// Fails where a journal does not read like this.
-pub fn tells(host: &Machine, expected: &str) -> Result<(), Fail> {
-    let text = story(host.allocator(), host.journal())?;
-    same(text.as_str(), expected)
+/// Adds a call and what was answered.
+fn push_answer<A: Debug>(text: &mut String, call: &str, answer: &A) -> Result<(), AllocError> {
+    write!(text, "{call} {answer:?}; ")
+}
+
+/// Adds a call with what was asked and what was answered.
+fn push_request<Q: Debug, A: Debug>(
+    text: &mut String,
+    call: &str,
+    asked: &Q,
+    answer: &A,
+) -> Result<(), AllocError> {
+    write!(text, "{call} {asked:?} {answer:?}; ")
+}
+
+/// Adds a call on a path and what was answered.
+fn push_named<A: Debug>(
+    text: &mut String,
+    call: &str,
+    path: &str,
+    answer: &A,
+) -> Result<(), AllocError> {
+    write!(text, "{call} {path} {answer:?}; ")
 }
 
 /// How many descriptors this process has open.

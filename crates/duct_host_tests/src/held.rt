@@ -1,0 +1,168 @@
+//! A host with the ends that it gave, by their numbers.
+ghost use Rattle.std.specs.Prelude.{◌≡◌, ◌+◌, ◌≤◌, [], ◌∷◌, length, vec_len, IfOk, OnOk, OnErr};
+ghost use Rattle.duct_base.specs.Streams.{ends_of};
+
+use crate::support::{Machine, Started, same, say, tell, text_of};
+use duct_base::spec::CommandSpec;
+use duct_base::system::{Fault, Numbered, Side, Stdio, System};
+use duct_host::end::End;
+use duct_host::host::Host;
+use std::io::Read;
+use std::sync::Arc;
+use std::test::Fail;
+
+/// A host, and the ends that it gave and that aren't spent. There is room for the entry of each.
+#[derive(Drop)]
+pub struct Held {
+    pub host: Machine,
+    pub ends: Vec<End>,
+    ghost roomy: { vec_len ends ≤ host.room },
+}
+
+impl Held {
+    pub fn new(rt: HostRuntime) -> Held {
+        let alloc = rt.alloc();
+        Held {
+            host: Host::new(rt, alloc),
+            ends: Vec::new(alloc),
+        }
+    }
+
+    /// Keeps an end that was just given, and says its number.
+    fn keep(&mut self, end: End, said: &mut String) -> Result<(), Fail>
+        requires { vec_len self.old.ends + 1 ≤ self.old.host.room }
+    {
+        let number = end.number();
+        self.ends.push(end)?;
+        say(said, &number)
+    }
+
+    pub fn pipe(&mut self, said: &mut String) -> Result<(), Fail> {
+        self.ends.reserve(2)?;
+        let (read, write) = self.host.pipe()?;
+        let numbers = (read.number(), write.number());
+        self.ends.push_reserved(read);
+        self.ends.push_reserved(write);
+        say(said, &numbers)
+    }
+
+    pub fn open_read(&mut self, path: &str, said: &mut String) -> Result<(), Fail> {
+        match self.host.open_read(path) {
+            Ok(end) => self.keep(end, said),
+            Err(fault) => say(said, &fault.kind),
+        }
+    }
+
+    pub fn create(&mut self, path: &str, said: &mut String) -> Result<(), Fail> {
+        match self.host.create(path) {
+            Ok(end) => self.keep(end, said),
+            Err(fault) => say(said, &fault.kind),
+        }
+    }
+
+    pub fn duplicate(&mut self, number: u64, said: &mut String) -> Result<(), Fail> {
+        let end = taken(&mut self.ends, number)?;
+        let made = self.host.duplicate(&end)?;
+        self.ends.push(end)?;
+        self.keep(made, said)
+    }
+
+    /// One more end of what another owner's end reads or writes.
+    pub fn duplicate_of(&mut self, end: &End, said: &mut String) -> Result<(), Fail> {
+        let made = self.host.duplicate(end)?;
+        self.keep(made, said)
+    }
+
+    pub fn parent(&mut self, side: Side, said: &mut String) -> Result<(), Fail> {
+        let end = self.host.parent(side)?;
+        self.keep(end, said)
+    }
+
+    pub fn canonicalize(&mut self, path: &str, said: &mut String) -> Result<(), Fail> {
+        let answer = self.host.canonicalize(path);
+        tell(said, &answer)
+    }
+
+    pub fn feed(&mut self, number: u64, said: &mut String) -> Result<(), Fail> {
+        let alloc = self.host.allocator();
+        let bytes = Arc::new(alloc, Vec::from_slice(alloc, b"xyz")?)?;
+        let end = taken(&mut self.ends, number)?;
+        let answer = self.host.start_feed(end, bytes).map(drop);
+        tell(said, &answer)
+    }
+
+    pub fn drain(&mut self, number: u64, said: &mut String) -> Result<(), Fail> {
+        let end = taken(&mut self.ends, number)?;
+        let answer = self.host.start_drain(end).map(drop);
+        tell(said, &answer)
+    }
+
+    pub fn close(&mut self, number: u64) -> Result<(), Fail> {
+        let end = taken(&mut self.ends, number)?;
+        self.host.close(end);
+        Ok(())
+    }
+
+    /// All that is read from an end.
+    pub fn read(&mut self, number: u64) -> Result<String, Fail> {
+        let end = taken(&mut self.ends, number)?;
+        let reader = self.host.reader(end);
+        text_of(self.host.allocator(), reader)
+    }
+
+    /// Waits until a child has said that it is ready.
+    pub fn ready(&mut self, number: u64) -> Result<(), Fail> {
+        let end = taken(&mut self.ends, number)?;
+        let mut line = [0u8; 6];
+        self.host.reader(end).read_exact(&mut line)?;
+        same(&line, b"ready\n")
+    }
+
+    pub fn spawn(
+        &mut self,
+        spec: CommandSpec,
+        io: [Stdio<u64>; 3],
+    ) -> Result<Result<Started, Fault>, Fail> {
+        let io = streams(&mut self.ends, io)?;
+        Ok(self.host.spawn(spec, io))
+    }
+
+    pub fn clear(&mut self) {
+        self.host.clear_journal();
+    }
+}
+
+/// Takes the end of this number out of others.
+pub fn taken(ends: &mut Vec<End>, number: u64) -> Result<End, Fail>
+    ensures taken { OnOk result (vec_len ends.old ≡ vec_len ends.new + 1) }
+    ensures left { OnErr result (vec_len ends.old ≡ vec_len ends.new) }
+{
+    match ends.iter().position(|end| end.number() == number) {
+        Some(place) if place < ends.len() => Ok(ends.swap_remove(place)),
+        _ => Err(Fail::new(format_args!("there is no end {number}"))),
+    }
+}
+
+/// A stream, whose end is taken out of others.
+fn stream(ends: &mut Vec<End>, stream: Stdio<u64>) -> Result<Stdio<End>, Fail>
+    ensures taken { IfOk result (λ made. vec_len ends.old ≡ vec_len ends.new + length (ends_of (made ∷ []))) }
+    ensures left { OnErr result (vec_len ends.old ≡ vec_len ends.new) }
+{
+    match stream {
+        Stdio::Inherit => Ok(Stdio::Inherit),
+        Stdio::Null => Ok(Stdio::Null),
+        Stdio::End(number) => Ok(Stdio::End(taken(ends, number)?)),
+    }
+}
+
+/// Three streams, whose ends are taken out of others.
+fn streams(ends: &mut Vec<End>, io: [Stdio<u64>; 3]) -> Result<[Stdio<End>; 3], Fail>
+    ensures taken { IfOk result (λ made. vec_len ends.old ≡ vec_len ends.new + length (ends_of made)) }
+    ensures left { vec_len ends.new ≤ vec_len ends.old }
+{
+    let [input, output, error] = io;
+    let input = stream(ends, input)?;
+    let output = stream(ends, output)?;
+    let error = stream(ends, error)?;
+    Ok([input, output, error])
+}
