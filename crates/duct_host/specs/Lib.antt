@@ -1,3 +1,4 @@
+pub mod ChildView
 pub mod Endings
 pub mod Kinds
 pub mod Signals

@@ -1,11 +1,11 @@
 -- Steps that change one part of what a host keeps.
 use Rattle.std.specs.Prelude.{◌≡◌, ◌≤◌}
-use Rattle.duct_base.specs.Journal.{Kept}
+use Rattle.duct_base.specs.Journal.{JournalView}
 
 -- nothing but the count of numbers has changed, and it has not fallen
-abbrev pub OnlyCounts : Kept → Kept → Type 0
+abbrev pub OnlyCounts : JournalView → JournalView → Type 0
 OnlyCounts old new = (new ≡ record old { next = new.next }) × (old.next ≤ new.next)
 
 -- nothing but the room has changed
-abbrev pub OnlyRoom : Kept → Kept → Type 0
+abbrev pub OnlyRoom : JournalView → JournalView → Type 0
 OnlyRoom old new = new ≡ record old { room = new.room }

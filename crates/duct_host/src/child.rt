@@ -1,5 +1,5 @@
 //! A child process of the host.
-ghost use Rattle.std.specs.Prelude.{◌≡◌, ◌↔◌, [], Contains, IsTrue, IfSome, IfNone, IfErr};
+ghost use Rattle.std.specs.Prelude.{◌≡◌, ◌↔◌, Contains, IsTrue, IfSome, IfNone, IfErr};
 ghost use Rattle.duct_base.specs.declared.system.Kind.TheVariants.{Other};
 ghost use Rattle.std.specs.Process.{exit_code, exit_signal};
 ghost use Rattle.duct_host.specs.Endings.{ending_said};
@@ -27,6 +27,9 @@ pub struct Child<R: Processes> {
 }
 
 impl<R: Processes> Child<R> {
+    ghost use Rattle.duct_base.specs.Child.{IsUnasked};
+    ghost use Rattle.duct_host.specs.ChildView.{child_view};
+
     /// A child that was just started and asked nothing.
     pub(crate) fn new(
         rt: R,
@@ -35,7 +38,7 @@ impl<R: Processes> Child<R> {
         started: process::Child<R::Started>,
     ) -> Child<R>
         ensures number { result.number ≡ number }
-        ensures unasked { (result.polls ≡ 0) × (result.last ≡ None) × (result.ending ≡ None) × (result.orders.items ≡ []) }
+        ensures unasked { IsUnasked (child_view result) }
     {
         Child {
             rt,
@@ -111,21 +114,15 @@ impl<R: Processes + Drop> Numbered for Child<R> {
 
 /// What the machine may answer is left open. A signal that isn't served is always answered `InvalidInput`.
 impl<R: Processes + Drop> system::Child for Child<R> {
+    ghost use Rattle.std.proofs.Common.{refl};
+    ghost use Rattle.duct_host.specs.ChildView.{child_view};
     ghost use Rattle.duct_host.specs.Signals.{ObeysIfServed};
 
     ghost may_answer = { λ _ _. Unit {0} };
 
     ghost may_obey = { λ _ order answer. ObeysIfServed order answer };
 
-    ghost polls = { λ c. c.polls };
-
-    ghost last = { λ c. c.last };
-
-    ghost ending = { λ c. c.ending };
-
-    ghost orders = { λ c. c.orders.items };
-
-    ghost process = { λ c. c.id };
+    ghost child_view = { child_view };
 
     fn poll(&mut self) -> Result<Option<ExitStatus>, Fault> {
         self.polls = self.polls.saturating_add(1);
@@ -167,6 +164,8 @@ impl<R: Processes + Drop> system::Child for Child<R> {
     fn id(&self) -> u32 {
         self.id
     }
+
+    ghost has_number = { λ c. refl };
 }
 
 impl<R: Processes> Child<R> {

@@ -1,5 +1,6 @@
 //! The host: a system over the real machine.
-ghost use Rattle.std.specs.Prelude.{◌≡◌, ◌+◌, ◌-◌, ◌^◌, ◌<◌, ◌≤◌, [], map, min, string_bytes, IfOk, IfErr, OnOk};
+ghost use Rattle.std.specs.Prelude.{◌≡◌, ◌≢◌, ◌+◌, ◌-◌, ◌^◌, ◌<◌, ◌≤◌, [], map, min, string_bytes, IfOk, IfErr, OnOk};
+ghost use Rattle.duct_base.specs.Journal.{IsNew};
 ghost use Rattle.duct_base.specs.Spec.{pair_text};
 ghost use Rattle.duct_base.specs.declared.system.Kind.TheVariants.{Other, OutOfMemory};
 ghost use Rattle.duct_host.specs.Steps.{OnlyCounts, OnlyRoom};
@@ -35,9 +36,9 @@ pub struct Host<R> {
 
 /// What contracts see of a host is its journal.
 impl<R> Model for Host<R> {
-    ghost use Rattle.duct_base.specs.Journal.{Kept};
+    ghost use Rattle.duct_base.specs.Journal.{JournalView};
 
-    ghost Value = { Kept };
+    ghost Value = { JournalView };
 
     ghost view = { λ h. h.journal };
 }
@@ -45,7 +46,7 @@ impl<R> Model for Host<R> {
 impl<R> Host<R> {
     /// A host with an empty journal, which keeps the runtime and takes its memory from this allocator.
     pub fn new(rt: R, alloc: Global) -> Host<R>
-        ensures { result ≡ record { log = []; room = 0; next = 1 } }
+        ensures { result ≡ record { entries = []; added = 0; next = 1; room = 0 } }
     {
         Host {
             rt,
@@ -130,7 +131,7 @@ impl<R> Host<R> {
     /// An end with the next number, if one is left and the machine gave its descriptor.
     fn numbered(&mut self, answer: Result<OwnedFd, Fault>) -> Result<End, Fault>
         ensures kept { OnlyCounts self.old self.new }
-        ensures fresh { IfOk result (λ end. (self.old.next ≤ end) × (end < self.new.next)) }
+        ensures fresh { IfOk result (λ end. IsNew self.old self.new end) }
     {
         let fd = answer?;
         Ok(End::new(self.take_number()?, fd))
@@ -138,10 +139,13 @@ impl<R> Host<R> {
 }
 
 impl<R: Processes + Files<File = File> + Env + Parents + Clone + Drop> Host<R> {
+    ghost use Rattle.duct_base.specs.Child.{IsUnasked};
+    ghost use Rattle.duct_host.specs.ChildView.{child_view};
+
     /// Two ends of a new pipe, with the next two numbers.
     fn new_pipe(&mut self) -> Result<(End, End), Fault>
         ensures kept { OnlyCounts self.old self.new }
-        ensures fresh { IfOk result (λ ends. (self.old.next ≤ ends.0) × (ends.0 < ends.1) × (ends.1 < self.new.next)) }
+        ensures fresh { IfOk result (λ ends. IsNew self.old self.new ends.0 × IsNew self.old self.new ends.1 × (ends.0 ≢ ends.1)) }
     {
         let (reader, writer) = ask(|| io::pipe(&self.rt))?;
         let read = self.adopt_reader(reader)?;
@@ -156,8 +160,8 @@ impl<R: Processes + Files<File = File> + Env + Parents + Clone + Drop> Host<R> {
         streams: [process::Stdio; 3],
     ) -> Result<Child<R>, Fault>
         ensures kept { OnlyCounts self.old self.new }
-        ensures fresh { IfOk result (λ child. (self.old.next ≤ child.number) × (child.number < self.new.next)) }
-        ensures unasked { IfOk result (λ child. (child.polls ≡ 0) × (child.last ≡ None) × (child.ending ≡ None) × (child.orders.items ≡ [])) }
+        ensures fresh { IfOk result (λ child. IsNew self.old self.new child.number) }
+        ensures unasked { IfOk result (λ child. IsUnasked (child_view child)) }
     {
         let number = self.take_number()?;
         let Ok(rt) = self.rt.clone() else {
@@ -170,10 +174,13 @@ impl<R: Processes + Files<File = File> + Env + Parents + Clone + Drop> Host<R> {
 
 /// What the machine may give by a reader is left open.
 impl<R: Processes + Files<File = File> + Env + Parents + Clone + Drop> System for Host<R> {
-    ghost use Rattle.std.specs.Prelude.{◌≡◌, ◌+◌, ◌<◌, ◌≤◌, [], length, map, min, IfOk, IfErr};
+    ghost use Rattle.std.specs.Prelude.{◌≤◌, length, map, min, Ok, Err, IfOk, IfErr};
     ghost use Rattle.std.proofs.Common.{lit<};
-    ghost use Rattle.duct_base.specs.Line.{Spawn, Adds, AddsOrNoMemory};
+    ghost use Rattle.duct_base.specs.Child.{IsUnasked};
+    ghost use Rattle.duct_base.specs.Journal.{GivesEnds, IsNew, IsRefused};
+    ghost use Rattle.duct_base.specs.Line.{Spawn};
     ghost use Rattle.duct_base.specs.Streams.{stream_of, ends_of};
+    ghost use Rattle.duct_host.specs.ChildView.{child_view};
 
     type End = End;
 
@@ -185,11 +192,7 @@ impl<R: Processes + Files<File = File> + Env + Parents + Clone + Drop> System fo
 
     type Reader = Reader;
 
-    ghost log = { λ h. h.log };
-
-    ghost next = { λ h. h.next };
-
-    ghost room = { λ h. h.room };
+    ghost journal_view = { λ h. h };
 
     ghost may_read = { λ _ _. Unit {0} };
 
@@ -307,13 +310,13 @@ impl<R: Processes + Files<File = File> + Env + Parents + Clone + Drop> System fo
 
     fn spawn(&mut self, spec: CommandSpec, io: [Stdio<End>; 3]) -> Result<Child<R>, Fault>
         requires { min 1 (length (ends_of io)) ≤ self.old.room }
-        ensures ok { IfOk result (λ child. Adds self.old.log self.new.log (Spawn spec (map (stream_of (λ e. e)) io) (Ok child.number))) }
-        ensures err { IfErr result (λ fault. AddsOrNoMemory self.old.log self.new.log fault (Spawn spec (map (stream_of (λ e. e)) io) (Err fault))) }
-        ensures added { 0 < length (ends_of io) → IfErr result (λ fault. Adds self.old.log self.new.log (Spawn spec (map (stream_of (λ e. e)) io) (Err fault))) }
-        ensures fresh { IfOk result (λ child. (self.old.next ≤ child.number) × (child.number < self.new.next)) }
-        ensures unasked { IfOk result (λ child. (child.polls ≡ 0) × (child.last ≡ None) × (child.ending ≡ None) × (child.orders.items ≡ [])) }
-        ensures next { self.old.next ≤ self.new.next }
-        ensures room { self.old.room ≤ self.new.room + length (ends_of io) }
+        ensures ok { IfOk result (λ child.
+            let entry = Spawn spec (map (stream_of (λ e. e)) io) (Ok child.number) in
+            GivesEnds entry (length (ends_of io)) self.old self.new × IsNew self.old self.new child.number) }
+        ensures unasked { IfOk result (λ child. IsUnasked (child_view child)) }
+        ensures err { IfErr result (λ fault.
+            let entry = Spawn spec (map (stream_of (λ e. e)) io) (Err fault) in
+            IsRefused entry (length (ends_of io)) fault self.old self.new) }
     {
         let ends = count_of_ends(&io);
         self.prepare_spawn(ends)?;
@@ -367,6 +370,8 @@ impl<R: Processes + Files<File = File> + Env + Parents + Clone + Drop> System fo
     ghost streams_fit = { lit< tt };
 
     ghost same_bytes = { λ one other same. same };
+
+    ghost feeds_say_again = { λ refusable. refusable };
 }
 
 /// The canonical name of a path, and a copy of it for the journal.

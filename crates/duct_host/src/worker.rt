@@ -26,6 +26,7 @@ impl Numbered for FeedWorker {
 
 /// What a worker may say is left open.
 impl Job for FeedWorker {
+    ghost use Rattle.std.proofs.Common.{refl};
     ghost use Rattle.duct_base.specs.declared.system.Kind.TheVariants.{Unsupported};
     ghost use Rattle.duct_base.specs.declared.system.Said.TheVariants as said;
 
@@ -33,11 +34,17 @@ impl Job for FeedWorker {
 
     ghost same = { λ _ _. Unit {0} };
 
+    ghost refusable = { ⊥ };
+
     ghost may_say = { λ _ _. Unit {0} };
 
-    ghost polls = { λ w. w.polls };
+    ghost job_view = { λ w. record {
+      number = w.number;
+      polls = w.polls;
+      kept = said.Fault (record { kind = Unsupported });
+    } };
 
-    ghost kept = { λ _. said.Fault (record { kind = Unsupported }) };
+    ghost has_number = { λ w. refl };
 
     fn poll(&mut self) -> Said<()> {
         self.polls = self.polls.saturating_add(1);
@@ -55,6 +62,7 @@ impl Numbered for DrainWorker {
 
 /// What a worker may say is left open, but that a further owner holds the same bytes.
 impl Job for DrainWorker {
+    ghost use Rattle.std.proofs.Common.{refl};
     ghost use Rattle.std.specs.Prelude.{◌≡◌};
     ghost use Rattle.std.specs.Arc.{arc_value};
     ghost use Rattle.duct_base.specs.declared.system.Kind.TheVariants.{Unsupported};
@@ -64,11 +72,17 @@ impl Job for DrainWorker {
 
     ghost same = { λ one other. (arc_value other).items ≡ (arc_value one).items };
 
+    ghost refusable = { Unit {0} };
+
     ghost may_say = { λ _ _. Unit {0} };
 
-    ghost polls = { λ w. w.polls };
+    ghost job_view = { λ w. record {
+      number = w.number;
+      polls = w.polls;
+      kept = said.Fault (record { kind = Unsupported });
+    } };
 
-    ghost kept = { λ _. said.Fault (record { kind = Unsupported }) };
+    ghost has_number = { λ w. refl };
 
     fn poll(&mut self) -> Said<Arc<Vec<u8>>> {
         self.polls = self.polls.saturating_add(1);

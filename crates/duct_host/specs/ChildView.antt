@@ -1,0 +1,14 @@
+-- What contracts see of a child of the host.
+use Rattle.duct_base.specs.Child.{ChildView}
+use Rattle.duct_host.specs.declared.child.Child.{Child}
+
+-- a child: its id is that of the process
+abbrev pub child_view : {R S T U V : Type 0} → Child R S T U V → ChildView
+child_view child = record {
+  number = child.number;
+  process = child.id;
+  polls = child.polls;
+  last = child.last;
+  ending = child.ending;
+  orders = child.orders.items;
+}
