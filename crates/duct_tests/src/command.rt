@@ -9,12 +9,14 @@ mod polls;
 mod starts;
 
 use crate::texts::pieces;
-use duct::{Error, Expression, cmd};
-use duct_script::system::ScriptEnd;
+use duct::{Error, Expression, Output, Place, Pool, Running, cmd};
+use duct_script::child::ScriptChild;
+use duct_script::system::{Script, ScriptEnd};
 use std::alloc::Global;
+use std::sync::Arc;
 
 // The command of these words, which commas part.
-pub(crate) fn command(alloc: Global, words: &str) -> Result<Expression<ScriptEnd>, Error>
+fn command(alloc: Global, words: &str) -> Result<Expression<ScriptEnd>, Error>
     ensures { IfOk result (λ made. IsCommand (tree_of made)) }
 {
     let words = pieces(alloc, words)?;
@@ -22,4 +24,25 @@ pub(crate) fn command(alloc: Global, words: &str) -> Result<Expression<ScriptEnd
         Some((program, args)) => cmd(alloc, *program, args),
         None => cmd(alloc, "", &[]),
     }
+}
+
+// Starts a command.
+pub(crate) fn launched(
+    alloc: Global,
+    sys: &mut Script,
+    pool: &mut Pool<ScriptChild>,
+    words: &str,
+) -> Result<Running<Script>, Error> {
+    command(alloc, words)?.launch(sys, pool)
+}
+
+// What a poll answers.
+pub(crate) fn poll(running: &mut Running<Script>) -> Result<Option<Arc<Output>>, Error> {
+    running.poll()
+}
+
+// Lets go what runs: its children, and how many feeds and drains there were.
+pub(crate) fn parts(running: Running<Script>) -> (Vec<Place<ScriptChild>>, usize, usize) {
+    let (children, feeds, drains) = running.into_parts();
+    (children, feeds.len(), drains.len())
 }

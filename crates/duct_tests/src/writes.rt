@@ -8,18 +8,18 @@ use std::process::Abort;
 
 /// The spec of the command `a` with variables of the value 1.
 pub fn spec(alloc: Global, names: &[&str]) -> Result<CommandSpec, Error> {
-    let words = vec![in alloc; String::from_str(alloc, "a")?]?;
-    let mut vars = BTreeMap::new(alloc);
+    let mut spec = bare(alloc)?;
     for name in names {
-        add(alloc, &mut vars, name)?;
+        spec.env(name, "1")?;
     }
-    Ok(spec_of(words, None, vars, Port::Inherit, Port::Given, Port::Null))
+    Ok(spec)
 }
 
-fn add(alloc: Global, vars: &mut BTreeMap<String, String>, name: &str) -> Result<(), AllocError> {
-    let name = String::from_str(alloc, name)?;
-    vars.insert(name, String::from_str(alloc, "1")?)?;
-    Ok(())
+/// The spec of the command `a` with no variables.
+fn bare(alloc: Global) -> Result<CommandSpec, AllocError> {
+    let words = vec![in alloc; String::from_str(alloc, "a")?]?;
+    let vars = BTreeMap::new(alloc);
+    Ok(spec_of(words, None, vars, Port::Inherit, Port::Given, Port::Null))
 }
 
 /// The words of a spec, its folder, its variables, and where its streams go.

@@ -8,7 +8,7 @@
 //!   often it was polled;
 //! - `journal -> text`, `spec -> text` and `pool -> text` say what stands in the journal, what the last child was started with,
 //!   and how many children the pool keeps and was given.
-use super::command;
+use super::{launched, parts, poll};
 use crate::writes::spec_text;
 use duct::{Entry, Error, ExitStatus, Fault, Kind, Numbered, Output, Place, Pool, Running, System};
 use duct_script::child::{PollAnswer, ScriptChild};
@@ -61,30 +61,13 @@ impl Bench {
     /// Sets what the system answers.
     fn set(&mut self, line: &str) -> Result<(), Fail> {
         let (word, values) = line.split_once(' ').unwrap_or((line, ""));
-        let (first, second) = values.split_once(',').unwrap_or((values, ""));
         match word {
-            "variable" => Ok(self.sys.variable(first, second)?),
-            "refuse_environment" => self.refuse(Sort::Environment, values),
-            "refuse_spawn" => self.refuse(Sort::Spawn, values),
-            "child" => self.child(values),
-            "clear" => {
-                self.sys.clear_journal();
-                Ok(())
-            }
-            _ => Err(Fail::from("no such line")),
+            "variable" => set_variable(&mut self.sys, values),
+            "refuse_environment" => refuse(&mut self.sys, Sort::Environment, values),
+            "refuse_spawn" => refuse(&mut self.sys, Sort::Spawn, values),
+            "child" => set_child(self.alloc, &mut self.sys, values),
+            _ => clear(&mut self.sys, word),
         }
-    }
-
-    /// Refuses the first request of a sort.
-    fn refuse(&mut self, sort: Sort, kind: &str) -> Result<(), Fail> {
-        let fault = fault(kind)?;
-        Ok(self.sys.refuse_sort(sort, 1, fault)?)
-    }
-
-    /// Sets what the next child answers.
-    fn child(&mut self, answers: &str) -> Result<(), Fail> {
-        let answers = poll_answers(self.alloc, answers)?;
-        Ok(self.sys.polls(answers.as_slice())?)
     }
 
     /// What comes of a line with a text.
@@ -108,12 +91,37 @@ impl Bench {
         let (times, words) = values.split_once(' ').ok_or("no words")?;
         let times = times.parse::<u32>()?;
         let alloc = self.alloc;
-        let text = match command(alloc, words)?.launch(&mut self.sys, &mut self.pool) {
+        let text = match launched(alloc, &mut self.sys, &mut self.pool, words) {
             Ok(running) => polled(alloc, running, times, &mut self.parts),
             Err(error) => format!(in alloc; "{error}"),
         };
         Ok(text?)
     }
+}
+
+fn set_variable(sys: &mut Script, values: &str) -> Result<(), Fail> {
+    let (name, value) = values.split_once(',').ok_or("no value")?;
+    Ok(sys.variable(name, value)?)
+}
+
+/// Refuses the first request of a sort.
+fn refuse(sys: &mut Script, sort: Sort, kind: &str) -> Result<(), Fail> {
+    let fault = fault(kind)?;
+    Ok(sys.refuse_sort(sort, 1, fault)?)
+}
+
+/// Sets what the next child answers.
+fn set_child(alloc: Global, sys: &mut Script, answers: &str) -> Result<(), Fail> {
+    let answers = poll_answers(alloc, answers)?;
+    Ok(sys.polls(answers.as_slice())?)
+}
+
+fn clear(sys: &mut Script, word: &str) -> Result<(), Fail> {
+    if word != "clear" {
+        return Err(Fail::from("no such line"));
+    }
+    sys.clear_journal();
+    Ok(())
 }
 
 fn fault(kind: &str) -> Result<Fault, Fail> {
@@ -166,13 +174,11 @@ fn polled(
     alloc: Global,
     mut running: Running<Script>,
     times: u32,
-    parts: &mut String,
+    told: &mut String,
 ) -> Result<String, AllocError> {
     let text = poll_text(alloc, &mut running, times);
-    let (children, feeds, drains) = running.into_parts();
-    let counts = (children.len(), feeds.len(), drains.len());
-    drop((feeds, drains));
-    push_parts(parts, children, counts)?;
+    let (children, feeds, drains) = parts(running);
+    push_parts(told, children, feeds, drains)?;
     text
 }
 
@@ -183,7 +189,7 @@ fn poll_text(
 ) -> Result<String, AllocError> {
     let mut text = String::from_str(alloc, "started.")?;
     for _ in 0..times {
-        push_poll(&mut text, running.poll())?;
+        push_poll(&mut text, &poll(running))?;
     }
     Ok(text)
 }
@@ -191,11 +197,11 @@ fn poll_text(
 /// What a poll answered: nothing, a status with the numbers of bytes, or the text of an error.
 fn push_poll(
     text: &mut String,
-    polled: Result<Option<Arc<Output>>, Error>,
+    polled: &Result<Option<Arc<Output>>, Error>,
 ) -> Result<(), AllocError> {
     match polled {
         Ok(None) => text.push_str(" nothing."),
-        Ok(Some(output)) => push_output(text, &output),
+        Ok(Some(output)) => push_output(text, output),
         Err(error) => write!(text, " {error}."),
     }
 }
@@ -209,8 +215,10 @@ fn push_output(text: &mut String, output: &Output) -> Result<(), AllocError> {
 fn push_parts(
     text: &mut String,
     children: Vec<Place<ScriptChild>>,
-    counts: (usize, usize, usize),
+    feeds: usize,
+    drains: usize,
 ) -> Result<(), AllocError> {
+    let counts = (children.len(), feeds, drains);
     text.clear();
     write!(text, "{counts:?}")?;
     for place in children {

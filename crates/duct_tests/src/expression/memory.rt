@@ -135,9 +135,16 @@ fn memory_of_pipes_and_commands(rt: HostRuntime) {
 
 // Asserts that this names a program of that text, or that there was no memory.
 fn named<R: Abort + AllocGlobal, P: IntoExecutablePath>(rt: &R, program: P, text: &str) {
-    match program.to_executable(rt.alloc()) {
-        Ok(program) => assert_eq!(rt; program.as_str(), text),
-        Err(error) => assert!(rt; matches!(error, Error::Memory)),
+    let named = program.to_executable(rt.alloc());
+    assert_eq!(rt; text_or(&named, text), text);
+}
+
+// The text, or this other one where there was no memory.
+fn text_or<'a>(named: &'a Result<String, Error>, other: &'a str) -> &'a str {
+    match named {
+        Ok(program) => program.as_str(),
+        Err(Error::Memory) => other,
+        Err(_) => "another error",
     }
 }
 
