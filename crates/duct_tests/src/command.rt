@@ -3,31 +3,46 @@ ghost use Rattle.std.specs.Prelude.{IfOk};
 ghost use Rattle.duct.specs.Start.{IsCommand};
 ghost use Rattle.duct.specs.TreeOf.{tree_of};
 
+mod bench;
 mod memory;
 mod polls;
 mod starts;
 
-use duct::{Error, Expression, Pool, Running, cmd};
+use crate::texts::pieces;
+use duct::{Error, Expression, Output, Place, Pool, Running, cmd};
 use duct_script::child::ScriptChild;
 use duct_script::system::{Script, ScriptEnd};
 use std::alloc::Global;
+use std::sync::Arc;
 
-// The command of a program with arguments.
-pub(crate) fn words(
-    alloc: Global,
-    program: &str,
-    args: &[&str],
-) -> Result<Expression<ScriptEnd>, Error>
+// The command of these words, which commas part.
+fn command(alloc: Global, words: &str) -> Result<Expression<ScriptEnd>, Error>
     ensures { IfOk result (λ made. IsCommand (tree_of made)) }
 {
-    cmd(alloc, program, args)
+    let words = pieces(alloc, words)?;
+    match words.split_first() {
+        Some((program, args)) => cmd(alloc, *program, args),
+        None => cmd(alloc, "", &[]),
+    }
 }
 
-// Starts `echo hi`, with a pool of its own that has to stay as it was.
-pub(crate) fn echo(
+// Starts a command.
+pub(crate) fn launched(
     alloc: Global,
     sys: &mut Script,
     pool: &mut Pool<ScriptChild>,
+    words: &str,
 ) -> Result<Running<Script>, Error> {
-    words(alloc, "echo", &["hi"])?.launch(sys, pool)
+    command(alloc, words)?.launch(sys, pool)
+}
+
+// What a poll answers.
+pub(crate) fn poll(running: &mut Running<Script>) -> Result<Option<Arc<Output>>, Error> {
+    running.poll()
+}
+
+// Lets go what runs: its children, and how many feeds and drains there were.
+pub(crate) fn parts(running: Running<Script>) -> (Vec<Place<ScriptChild>>, usize, usize) {
+    let (children, feeds, drains) = running.into_parts();
+    (children, feeds.len(), drains.len())
 }

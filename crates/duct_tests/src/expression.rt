@@ -1,12 +1,13 @@
 //! Expressions: their debug texts, the names of programs and variables, the writes of a spec, want of memory, deep trees.
 mod depth;
+mod made;
 mod memory;
 mod names;
 mod programs;
+mod shown;
 mod specs;
-mod texts;
 
-use duct::{CommandSpec, Error, Expression, Fault, Hook, HookBox, cmd};
+use duct::{CommandSpec, Error, Expression, Fault, Hook, cmd};
 use std::alloc::Global;
 use std::process::Abort;
 
@@ -45,4 +46,13 @@ pub(crate) fn shows<R: Abort + AllocGlobal>(
     let printed = format!(in rt.alloc(); "{expression:?}")?;
     assert_eq!(rt; printed.as_str(), text);
     Ok(())
+}
+
+// Asserts that an expression was made and prints this text.
+pub(crate) fn made_shows<R: Abort + AllocGlobal>(
+    rt: &R,
+    made: Result<Expression<u64>, Error>,
+    text: &str,
+) -> Result<(), Error> {
+    shows(rt, &made?, text)
 }

@@ -5,3 +5,7 @@
 mod command;
 #[cfg(test)]
 mod expression;
+#[cfg(test)]
+mod texts;
+#[cfg(test)]
+mod writes;

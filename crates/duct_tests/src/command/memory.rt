@@ -1,17 +1,22 @@
 //! Want of memory: whichever one request for memory is refused, a start and a poll answer as with ample memory, or name the
 //! refusal and lose nothing.
-use super::words;
-use duct::{Entry, Error, ExitStatus, Fault, Kind, Pool, Running, System};
-use duct_script::child::PollAnswer;
+use super::{launched, parts, poll};
+use duct::{Entry, Error, ExitStatus, Fault, Kind, Output, Pool, Running, System};
+use duct_script::child::{PollAnswer, ScriptChild};
 use duct_script::system::Script;
 use std::alloc::{AllocError, Global};
 use std::process::Abort;
+use std::sync::Arc;
 
-// A system with a variable, whose child runs at first and then fails.
+// Sets a variable, and a child that runs at first and then fails.
+fn set(sys: &mut Script) -> Result<(), AllocError> {
+    sys.variable("A", "1")?;
+    sys.polls(&[PollAnswer::Running, PollAnswer::Ended(ExitStatus::Code(1))])
+}
+
 fn system(alloc: Global) -> Result<Script, AllocError> {
     let mut sys = Script::new(alloc)?;
-    sys.variable("A", "1")?;
-    sys.polls(&[PollAnswer::Running, PollAnswer::Ended(ExitStatus::Code(1))])?;
+    set(&mut sys)?;
     Ok(sys)
 }
 
@@ -24,84 +29,89 @@ fn is_memory(error: &Error) -> bool {
     }
 }
 
-// Asserts that a journal is a front of that of a start.
-fn is_front<R: Abort>(rt: &R, journal: &[Entry]) {
-    match journal {
-        [] => {}
-        [Entry::Environment(Ok(_))] => {}
-        _ => panic!(rt; "more was asked"),
+// Whether a journal is a front of that of a start.
+fn is_front(journal: &[Entry]) -> bool {
+    matches!(journal, [] | [Entry::Environment(Ok(_))])
+}
+
+// Whether a poll answered that the child runs, or that there was no memory.
+fn is_to_poll_again(polled: &Result<Option<Arc<Output>>, Error>) -> bool {
+    matches!(polled, Ok(None) | Err(Error::Memory))
+}
+
+// The message of a checked failure.
+fn message(polled: &Result<Option<Arc<Output>>, Error>) -> &str {
+    match polled {
+        Err(Error::Checked(message)) => message.as_str(),
+        _ => "another answer",
     }
 }
 
-// Polls until the message of the failure is answered, past polls that found no memory.
+// The message of the failure, past polls that found no memory.
 fn fails<R: Abort>(rt: &R, running: &mut Running<Script>) {
     for _ in 0..4 {
-        match running.poll() {
-            Ok(None) | Err(Error::Memory) => {}
-            Ok(Some(_)) => panic!(rt; "an output"),
-            Err(error) => {
-                let Error::Checked(message) = &error else {
-                    panic!(rt; "another error");
-                };
-                assert_eq!(rt;
-                    message.as_str(),
-                    "command [\"f\", \"x\"] exited with code 1"
-                );
-                return;
-            }
+        let polled = poll(running);
+        if !is_to_poll_again(&polled) {
+            assert_eq!(rt;
+                message(&polled),
+                "command [\"f\", \"x\"] exited with code 1"
+            );
+            return;
         }
     }
     panic!(rt; "no answer");
 }
 
-// Starts the command, polls it to its end, and compares. Answers nothing where memory was refused before the start.
-fn start<R: Abort + AllocGlobal>(rt: &R) -> Option<()> {
-    let mut sys = system(rt.alloc()).ok()?;
-    let mut pool = Pool::new(rt.alloc());
-    let expression = match words(rt.alloc(), "f", &["x"]) {
-        Ok(expression) => expression,
-        Err(error) => {
-            assert!(rt; matches!(error, Error::Memory));
-            return None;
-        }
-    };
-    match expression.launch(&mut sys, &mut pool) {
-        Err(error) => {
-            assert!(rt; is_memory(&error));
-            is_front(rt, sys.journal());
-        }
-        Ok(mut running) => {
-            assert_eq!(rt; sys.journal().len(), 2);
-            fails(rt, &mut running);
-            drop(running.into_parts());
+// Polls what runs until it answers the message of the failure, and lets it go.
+fn ends<R: Abort>(rt: &R, mut running: Running<Script>) {
+    fails(rt, &mut running);
+    drop(parts(running));
+}
+
+// How many entries a journal has.
+fn entries(sys: &Script) -> usize {
+    sys.journal().len()
+}
+
+// Asserts that a start was refused for want of memory, after a front of its entries.
+fn is_refused<R: Abort>(rt: &R, error: Error, sys: &Script) {
+    assert!(rt; is_memory(&error) && is_front(sys.journal()));
+}
+
+// Starts the command, polls it to its end, and compares.
+fn start<R: Abort + AllocGlobal>(rt: &R, sys: &mut Script, pool: &mut Pool<ScriptChild>) {
+    match launched(rt.alloc(), sys, pool, "f,x") {
+        Err(error) => is_refused(rt, error, sys),
+        Ok(running) => {
+            ends(rt, running);
+            assert_eq!(rt; entries(sys), 2);
         }
     }
-    assert_eq!(rt; pool.len(), 0);
-    assert_eq!(rt; pool.given(), 0);
-    Some(())
+    assert_eq!(rt; (pool.len(), pool.given()), (0, 0));
 }
 
 #[test]
 fn memory_of_a_start_and_its_polls(rt: HostRuntime) {
-    let _ = start(&rt);
+    if let Ok(mut sys) = system(rt.alloc()) {
+        start(&rt, &mut sys, &mut Pool::new(rt.alloc()));
+    }
+}
+
+// Starts the command where the system finds no more memory.
+fn starved<R: Abort + AllocGlobal>(rt: &R, sys: &mut Script, pool: &mut Pool<ScriptChild>) {
+    sys.starve(true);
+    match launched(rt.alloc(), sys, pool, "f,x") {
+        Err(error) => assert!(rt; is_memory(&error) && entries(sys) == 0),
+        Ok(running) => {
+            drop(parts(running));
+            panic!(rt; "started");
+        }
+    }
 }
 
 #[test]
 fn memory_that_the_system_finds_no_more_of(rt: HostRuntime) {
-    let Ok(mut sys) = system(rt.alloc()) else {
-        return;
-    };
-    let Ok(expression) = words(rt.alloc(), "f", &["x"]) else {
-        return;
-    };
-    let mut pool = Pool::new(rt.alloc());
-    sys.starve(true);
-    match expression.launch(&mut sys, &mut pool) {
-        Err(error) => assert!(&rt; is_memory(&error)),
-        Ok(running) => {
-            drop(running.into_parts());
-            panic!(&rt; "started");
-        }
+    if let Ok(mut sys) = system(rt.alloc()) {
+        starved(&rt, &mut sys, &mut Pool::new(rt.alloc()));
     }
-    assert_eq!(&rt; sys.journal().len(), 0);
 }

@@ -1,7 +1,6 @@
 //! How programs are named, and when a name is made canonical.
-use super::shows;
-use duct::{Error, Expression, IntoExecutablePath, asks_canonical, cmd};
-use std::alloc::Global;
+use super::made_shows;
+use duct::{Error, IntoExecutablePath, asks_canonical, cmd};
 use std::path::{Path, PathBuf};
 use std::process::Abort;
 
@@ -16,15 +15,28 @@ fn names<R: Abort + AllocGlobal, P: IntoExecutablePath>(
     Ok(())
 }
 
+// Asserts that a text, in each of its types, stands as it is.
+fn text_names<R: Abort + AllocGlobal>(rt: &R, text: &str) -> Result<(), Error> {
+    let owned = String::from_str(rt.alloc(), text)?;
+    names(rt, text, text)?;
+    names(rt, &owned, text)?;
+    names(rt, owned, text)
+}
+
 #[test]
 fn texts_stand_as_they_are(rt: HostRuntime) -> Result<(), Error> {
     for text in ["foo", "./foo", "", "/x", "x"] {
-        let owned = String::from_str(rt.alloc(), text)?;
-        names(&rt, text, text)?;
-        names(&rt, &owned, text)?;
-        names(&rt, owned, text)?;
+        text_names(&rt, text)?;
     }
     Ok(())
+}
+
+// Asserts that a path, in each of its types, names a program of this text.
+fn path_names<R: Abort + AllocGlobal>(rt: &R, path: &str, text: &str) -> Result<(), Error> {
+    let owned = PathBuf::from_str(rt.alloc(), path)?;
+    names(rt, Path::new(path), text)?;
+    names(rt, &owned, text)?;
+    names(rt, owned, text)
 }
 
 #[test]
@@ -37,37 +49,43 @@ fn paths_get_a_dot(rt: HostRuntime) -> Result<(), Error> {
         ("x", "./x"),
     ];
     for (path, text) in rows {
-        let owned = PathBuf::from_str(rt.alloc(), path)?;
-        names(&rt, Path::new(path), text)?;
-        names(&rt, &owned, text)?;
-        names(&rt, owned, text)?;
+        path_names(&rt, path, text)?;
     }
     Ok(())
 }
 
+// Asserts what the commands of a text show.
+fn texts_of_commands<R: Abort + AllocGlobal>(rt: &R) -> Result<(), Error> {
+    let text = String::from_str(rt.alloc(), "x")?;
+    made_shows(rt, cmd!(in rt.alloc(); &text, "y"), "Cmd([\"x\", \"y\"])")?;
+    made_shows(rt, cmd!(in rt.alloc(); text), "Cmd([\"x\"])")
+}
+
+// Asserts what the commands of a path show.
+fn paths_of_commands<R: Abort + AllocGlobal>(rt: &R) -> Result<(), Error> {
+    let path = PathBuf::from_str(rt.alloc(), "x")?;
+    let first = cmd!(in rt.alloc(); Path::new("x"), "y");
+    made_shows(rt, first, "Cmd([\"./x\", \"y\"])")?;
+    made_shows(rt, cmd!(in rt.alloc(); &path), "Cmd([\"./x\"])")?;
+    made_shows(rt, cmd!(in rt.alloc(); path), "Cmd([\"./x\"])")
+}
+
 #[test]
 fn programs_of_commands(rt: HostRuntime) -> Result<(), Error> {
-    let alloc = rt.alloc();
-    let text = String::from_str(alloc, "x")?;
-    let path = PathBuf::from_str(alloc, "x")?;
-    let first: Expression<u64> = cmd!(in alloc; &text, "y")?;
-    shows(&rt, &first, "Cmd([\"x\", \"y\"])")?;
-    let second: Expression<u64> = cmd!(in alloc; text)?;
-    shows(&rt, &second, "Cmd([\"x\"])")?;
-    let third: Expression<u64> = cmd!(in alloc; Path::new("x"), "y")?;
-    shows(&rt, &third, "Cmd([\"./x\", \"y\"])")?;
-    let fourth: Expression<u64> = cmd!(in alloc; &path)?;
-    shows(&rt, &fourth, "Cmd([\"./x\"])")?;
-    let fifth: Expression<u64> = cmd!(in alloc; path)?;
-    shows(&rt, &fifth, "Cmd([\"./x\"])")
+    texts_of_commands(&rt)?;
+    paths_of_commands(&rt)
 }
 
 #[test]
 fn canonical_names(rt: HostRuntime) {
-    assert!(rt; asks_canonical("./x", true));
-    assert!(rt; asks_canonical("bin/x", true));
-    assert!(rt; !asks_canonical("./x", false));
-    assert!(rt; !asks_canonical("x", true));
-    assert!(rt; !asks_canonical("/x", true));
-    assert!(rt; !asks_canonical("", true));
+    let found = [
+        ("./x", true),
+        ("bin/x", true),
+        ("./x", false),
+        ("x", true),
+        ("/x", true),
+        ("", true),
+    ]
+    .map(|(program, folder_is_set)| asks_canonical(program, folder_is_set));
+    assert_eq!(rt; found, [true, true, false, false, false, false]);
 }
