@@ -1,10 +1,16 @@
-//! Journals that are written as texts, their entries parted by `;`: each request with its answer.
+//! Journals that are written as texts. Their entries are parted by `;`, and each is a request with its answer.
 //!
-//! `environment A:1,B:2` · `pipe 1 2`, the read end and the write end · `open_read f 3` · `create f 3` · `duplicate 3 4`, the end
-//! that was lent and the new one · `parent out 3` · `canonicalize ./x /real/x` · `feed 2 xyz` · `drain 1` · `reader 1` · `close 1` ·
-//! `spawn a b -> inherit 2 null`, the words and the three streams, an end by its number. Behind them may stand `in=/folder`,
-//! `with=A:1,B:2` and `as=7`, the child's number, without which it is 90. `refused=Other` stands for the answer of a request
-//! for a pipe, a file, an end or a child that was refused by that kind of fault.
+//! - `environment A:1,B:2`
+//! - `pipe 1 2`: the read end and the write end.
+//! - `open_read f 3`, `create f 3`, `parent out 3`.
+//! - `duplicate 3 4`: the end that was lent and the new one.
+//! - `canonicalize ./x /real/x`
+//! - `spawn a b -> inherit 2 null`: the words and the three streams, an end by its number. Behind them may stand `in=/folder`,
+//!   `with=A:1,B:2` and `as=7`, the child's number, without which it is 90.
+//! - `feed 2 xyz`, `drain 1`, `reader 1`, `close 1`.
+//!
+//! `refused=Other` stands for the answer of a request for a pipe, a file, another end or a child that was refused by that kind
+//! of fault.
 use crate::words::{fault, first_word, owned_pairs, side};
 use duct::{CommandSpec, Entry, Fault, Port, Stdio};
 use duct_base::spec::spec_of;
