@@ -1,7 +1,7 @@
 //! What commands are asked for and their children are given, and the message of a failed command, in words.
 use crate::expressions::Tree;
 use crate::streams::push_stream;
-use crate::texts::{TestPlan, begin, push_folder, push_variable};
+use crate::texts::{TestCrumb, TestPlan, begin, push_folder, push_variable};
 use duct::tree::Node;
 use duct::{
     CommandSpec, Core, Drains, Entry, Error, Event, ExitStatus, Reply, Shape, Stream, Word,
@@ -121,22 +121,32 @@ fn wired_first(
     plan: &TestPlan,
     entries: &[Entry],
 ) -> Result<Result<Wired, Error>, Fail> {
-    let traced = trace(alloc, entries)?;
-    let Some(asked) = asked(alloc, plan, traced.as_slice(), 0)? else {
-        return Err(Fail::from("no command"));
-    };
-    wired_by(alloc, plan, asked)
+    let way = first_way(plan).ok_or("no command")?;
+    let hooks = hooks(alloc, way)?;
+    match asked_first(alloc, plan, entries)? {
+        Some(asked) => Ok(wired(asked, hooks.as_slice())),
+        None => Err(Fail::from("no command")),
+    }
 }
 
-/// What the hooks of the first command make of this.
-fn wired_by(alloc: Global, plan: &TestPlan, asked: Wired) -> Result<Result<Wired, Error>, Fail> {
+/// The way outwards from the first command.
+fn first_way<'p, 't>(plan: &'p TestPlan<'t>) -> Option<&'p [TestCrumb<'t>]> {
     for item in plan.items.iter() {
         if let Item::Spawn(way, _) = item {
-            let hooks = hooks(alloc, way.as_slice())?;
-            return Ok(wired(asked, hooks.as_slice()));
+            return Some(way.as_slice());
         }
     }
-    Err(Fail::from("no command"))
+    None
+}
+
+/// What the first command is asked for.
+fn asked_first(
+    alloc: Global,
+    plan: &TestPlan,
+    entries: &[Entry],
+) -> Result<Option<Wired>, AllocError> {
+    let traced = trace(alloc, entries)?;
+    asked(alloc, plan, traced.as_slice(), 0)
 }
 
 /// The words with a space between two.

@@ -107,7 +107,7 @@ fn file(
 
 /// What a child is given beside its words, and the answer.
 #[derive(Clone, Copy)]
-struct Given<'t> {
+struct Child<'t> {
     streams: [Stdio<u64>; 3],
     folder: Option<&'t str>,
     vars: &'t str,
@@ -121,14 +121,14 @@ fn spawn(alloc: Global, text: &str) -> Result<Entry, Fail> {
     Ok(Entry::Spawn(spec, given.streams, given.answer))
 }
 
-fn given(text: &str) -> Result<Given<'_>, Fail> {
+fn given(text: &str) -> Result<Child<'_>, Fail> {
     let mut words = text.split_whitespace();
     let streams = [
         stream(words.next())?,
         stream(words.next())?,
         stream(words.next())?,
     ];
-    let mut given = Given {
+    let mut given = Child {
         streams,
         folder: None,
         vars: "",
@@ -141,7 +141,7 @@ fn given(text: &str) -> Result<Given<'_>, Fail> {
 }
 
 /// What a child is given, with one thing more.
-fn with<'t>(given: Given<'t>, word: &'t str) -> Result<Given<'t>, Fail> {
+fn with<'t>(given: Child<'t>, word: &'t str) -> Result<Child<'t>, Fail> {
     let (key, value) = word.split_once('=').ok_or("no value")?;
     let mut given = given;
     match key {
@@ -172,7 +172,7 @@ fn port(stream: Stdio<u64>) -> Port {
     }
 }
 
-fn spec(alloc: Global, words: &str, given: &Given<'_>) -> Result<CommandSpec, AllocError> {
+fn spec(alloc: Global, words: &str, given: &Child<'_>) -> Result<CommandSpec, AllocError> {
     let [input, output, error] = given.streams;
     let texts = texts(alloc, words)?;
     let folder = folder(alloc, given.folder)?;

@@ -13,7 +13,7 @@ pub type TestPlan<'t> = Plan<'t, ScriptEnd, ScriptHook>;
 
 pub type TestItem<'t> = Item<'t, ScriptEnd, ScriptHook>;
 
-type TestCrumb<'t> = Crumb<'t, ScriptEnd, ScriptHook>;
+pub type TestCrumb<'t> = Crumb<'t, ScriptEnd, ScriptHook>;
 
 /// The items of a plan, and then the places of its capture pipes.
 pub fn plan_text(alloc: Global, plan: &TestPlan) -> Result<String, AllocError> {
@@ -118,14 +118,26 @@ fn push_found(
     match find {
         Find::Streams => push_targets(text, way),
         Find::Folder => push_folder(text, folder(way)),
-        Find::Variables(names, parent) => push_variables(text, way, names, parent),
-        Find::Hooks => {
-            for (hook, ends) in hooks(alloc, way)?.iter() {
-                push_hook(text, hook, ends)?;
+        Find::Variables(names, parent) => {
+            for name in names.iter() {
+                if let Some(value) = variable(parent, way, name) {
+                    push_variable(text, name, value)?;
+                }
             }
             Ok(())
         }
+        Find::Hooks => push_hooks(text, hooks(alloc, way)?.as_slice()),
     }
+}
+
+fn push_hooks<'t>(
+    text: &mut String,
+    hooks: &[(&'t ScriptHook, &'t [ScriptEnd])],
+) -> Result<(), AllocError> {
+    for (hook, ends) in hooks.iter() {
+        push_hook(text, hook, ends)?;
+    }
+    Ok(())
 }
 
 fn push_targets(text: &mut String, way: &[TestCrumb]) -> Result<(), AllocError> {
@@ -138,20 +150,6 @@ fn push_targets(text: &mut String, way: &[TestCrumb]) -> Result<(), AllocError> 
 pub fn push_folder(text: &mut String, folder: Option<&str>) -> Result<(), AllocError> {
     text.push(' ')?;
     text.push_str(folder.unwrap_or("the parent's"))
-}
-
-fn push_variables(
-    text: &mut String,
-    way: &[TestCrumb],
-    names: &[&str],
-    parent: &[(String, String)],
-) -> Result<(), AllocError> {
-    for name in names.iter() {
-        if let Some(value) = variable(parent, way, name) {
-            push_variable(text, name, value)?;
-        }
-    }
-    Ok(())
 }
 
 /// Adds a variable.
