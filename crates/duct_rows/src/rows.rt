@@ -79,16 +79,31 @@ fn next<'t>(row: Row<'t>, key: &str, text: &'t str) -> Option<Row<'t>> {
     Some(row)
 }
 
-/// Compares a line. What is said of its text is its key.
+/// Compares a line.
 fn compare(alloc: Global, row: Row, key: &str, text: &str) -> Result<(), Fail> {
+    let shown = of_row(alloc, row, key, text)?;
+    same(row, key, shown.as_str(), wanted(key, text))
+}
+
+/// What is to be shown: the text of a line, or the key of one that has it before its text.
+fn wanted<'t>(key: &'t str, text: &'t str) -> &'t str {
+    if is_said(key) { key } else { text }
+}
+
+/// Whether a key is what is said of its text.
+fn is_said(key: &str) -> bool {
+    is_said_of_journal(key) || matches!(key, "cause" | "no cause" | "answer" | "no answer")
+}
+
+/// Whether a key is what is said of a journal.
+fn is_said_of_journal(key: &str) -> bool {
+    matches!(key, "whole" | "front" | "neither" | "no memory")
+}
+
+/// What is compared, as it is.
+fn of_row(alloc: Global, row: Row, key: &str, text: &str) -> Result<String, Fail> {
     let tree = written(alloc, row.expression)?;
-    let shown = of_tree(alloc, row, &tree, key, text)?;
-    let wanted = match key {
-        "whole" | "front" | "neither" | "no memory" => key,
-        "cause" | "no cause" | "answer" | "no answer" => key,
-        _ => text,
-    };
-    same(row, key, shown.as_str(), wanted)
+    of_tree(alloc, row, &tree, key, text)
 }
 
 fn same(row: Row, key: &str, shown: &str, wanted: &str) -> Result<(), Fail> {
@@ -99,7 +114,7 @@ fn same(row: Row, key: &str, shown: &str, wanted: &str) -> Result<(), Fail> {
     Err(Fail::new(format_args!("{key} of {expression}: {shown} where {wanted} was expected")))
 }
 
-/// What is compared, as it is.
+/// What is compared of a tree, as it is.
 fn of_tree(alloc: Global, row: Row, tree: &Tree, key: &str, text: &str) -> Result<String, Fail> {
     if key == "message" {
         return message_text(alloc, tree);
@@ -131,7 +146,7 @@ fn of_plan(
         "goes" => Ok(found_text(alloc, plan, Find::Streams)?),
         "folders" => Ok(found_text(alloc, plan, Find::Folder)?),
         "hooks" => Ok(found_text(alloc, plan, Find::Hooks)?),
-        "whole" | "front" | "neither" | "no memory" => of_journal(alloc, plan, text),
+        _ if is_said_of_journal(key) => of_journal(alloc, plan, text),
         _ => of_entries(alloc, row, plan, key, text),
     }
 }
