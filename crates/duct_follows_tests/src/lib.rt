@@ -6,8 +6,6 @@ mod causes;
 #[cfg(test)]
 mod hooks;
 #[cfg(test)]
-mod journal;
-#[cfg(test)]
 mod messages;
 #[cfg(test)]
 mod plans;

@@ -1,11 +1,11 @@
 //! The folder of each command, and when its program is made canonical.
-use crate::rows::rows;
+use duct_rows::rows::rows;
 use std::test::Fail;
 
 #[test]
 fn the_nearer_folder_counts(rt: HostRuntime) -> Result<(), Fail> {
     rows(
-        &rt,
+        rt.alloc(),
         "
         expression: a
         plan: Environment, Spawn a
@@ -30,7 +30,7 @@ fn a_relative_program_with_a_slash_is_made_canonical_in_a_folder(
     rt: HostRuntime,
 ) -> Result<(), Fail> {
     rows(
-        &rt,
+        rt.alloc(),
         "
         expression: ./x dir=/in dir=/out
         plan: Environment, Canonicalize ./x, Spawn ./x
@@ -48,7 +48,7 @@ fn a_relative_program_with_a_slash_is_made_canonical_in_a_folder(
 #[test]
 fn other_programs_stand_as_they_are(rt: HostRuntime) -> Result<(), Fail> {
     rows(
-        &rt,
+        rt.alloc(),
         "
         expression: x,d/y dir=/in dir=/out
         plan: Environment, Spawn x d/y
@@ -71,7 +71,7 @@ fn other_programs_stand_as_they_are(rt: HostRuntime) -> Result<(), Fail> {
 #[test]
 fn folders_on_the_sides_of_a_pipe(rt: HostRuntime) -> Result<(), Fail> {
     rows(
-        &rt,
+        rt.alloc(),
         "
         expression: a dir=/in b pipe
         plan: Environment, Pipe, Spawn a, Spawn b
@@ -89,7 +89,7 @@ fn folders_on_the_sides_of_a_pipe(rt: HostRuntime) -> Result<(), Fail> {
 #[test]
 fn a_folder_round_a_pipe_is_that_of_both_sides(rt: HostRuntime) -> Result<(), Fail> {
     rows(
-        &rt,
+        rt.alloc(),
         "
         expression: a b dir=/in pipe dir=/out
         plan: Environment, Pipe, Spawn a, Spawn b

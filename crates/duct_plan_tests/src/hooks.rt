@@ -1,11 +1,11 @@
 //! The hooks of each command, outermost first, with the ends beside them, and what the command is asked for before them.
-use crate::rows::rows;
+use duct_rows::rows::rows;
 use std::test::Fail;
 
 #[test]
 fn the_outermost_hook_is_the_first(rt: HostRuntime) -> Result<(), Fail> {
     rows(
-        &rt,
+        rt.alloc(),
         "
         expression: echo before_spawn=y before_spawn=x
         plan: Environment, Spawn echo
@@ -23,7 +23,7 @@ fn the_outermost_hook_is_the_first(rt: HostRuntime) -> Result<(), Fail> {
 #[test]
 fn hooks_with_and_without_ends(rt: HostRuntime) -> Result<(), Fail> {
     rows(
-        &rt,
+        rt.alloc(),
         "
         expression: a
         plan: Environment, Spawn a
@@ -51,7 +51,7 @@ fn hooks_with_and_without_ends(rt: HostRuntime) -> Result<(), Fail> {
 #[test]
 fn the_ends_beside_a_hook_are_given_by_the_hook_alone(rt: HostRuntime) -> Result<(), Fail> {
     rows(
-        &rt,
+        rt.alloc(),
         "
         expression: a before_spawn=hook,7 stdout_capture
         plan: Environment, Pipe, Spawn a, Drain 1; stdout's capture at 1
@@ -69,7 +69,7 @@ fn the_ends_beside_a_hook_are_given_by_the_hook_alone(rt: HostRuntime) -> Result
 #[test]
 fn a_hook_on_one_side_of_a_pipe(rt: HostRuntime) -> Result<(), Fail> {
     rows(
-        &rt,
+        rt.alloc(),
         "
         expression: a before_spawn=hook,7 b pipe
         plan: Environment, Pipe, Spawn a, Spawn b
@@ -87,7 +87,7 @@ fn a_hook_on_one_side_of_a_pipe(rt: HostRuntime) -> Result<(), Fail> {
 #[test]
 fn a_hook_round_a_pipe_is_that_of_both_sides(rt: HostRuntime) -> Result<(), Fail> {
     rows(
-        &rt,
+        rt.alloc(),
         "
         expression: a b before_spawn=inner pipe before_spawn=outer,9
         plan: Environment, Pipe, Spawn a, Spawn b
@@ -100,7 +100,7 @@ fn a_hook_round_a_pipe_is_that_of_both_sides(rt: HostRuntime) -> Result<(), Fail
 #[test]
 fn a_hook_beside_a_canonical_name(rt: HostRuntime) -> Result<(), Fail> {
     rows(
-        &rt,
+        rt.alloc(),
         "
         expression: ./x before_spawn=hook,7,8 dir=/in b pipe
         plan: Environment, Pipe, Canonicalize ./x, Spawn ./x, Spawn b

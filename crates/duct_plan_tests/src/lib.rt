@@ -4,22 +4,16 @@
 #[cfg(test)]
 mod asked;
 #[cfg(test)]
-mod expressions;
-#[cfg(test)]
 mod folders;
 #[cfg(test)]
 mod hooks;
 #[cfg(test)]
 mod plans;
 #[cfg(test)]
+mod programs;
+#[cfg(test)]
 mod readers;
 #[cfg(test)]
-mod rows;
-#[cfg(test)]
 mod streams;
-#[cfg(test)]
-mod texts;
-#[cfg(test)]
-mod traces;
 #[cfg(test)]
 mod variables;

@@ -1,17 +1,11 @@
 //! What a start asks, in order.
-use crate::expressions::{Written, written};
-use crate::rows::rows;
-use crate::texts::plan_text;
-use duct::cmd;
-use duct_plan::plan::plan;
-use std::path::{Path, PathBuf};
-use std::process::Abort;
+use duct_rows::rows::rows;
 use std::test::Fail;
 
 #[test]
 fn a_command_is_spawned_once_the_environment_is_known(rt: HostRuntime) -> Result<(), Fail> {
     rows(
-        &rt,
+        rt.alloc(),
         "
         expression: a
         plan: Environment, Spawn a
@@ -28,7 +22,7 @@ fn a_command_is_spawned_once_the_environment_is_known(rt: HostRuntime) -> Result
 #[test]
 fn a_pipe_is_opened_before_its_sides(rt: HostRuntime) -> Result<(), Fail> {
     rows(
-        &rt,
+        rt.alloc(),
         "
         expression: a b pipe
         plan: Environment, Pipe, Spawn a, Spawn b
@@ -48,7 +42,7 @@ fn a_pipe_is_opened_before_its_sides(rt: HostRuntime) -> Result<(), Fail> {
 #[test]
 fn the_outer_file_is_opened_first(rt: HostRuntime) -> Result<(), Fail> {
     rows(
-        &rt,
+        rt.alloc(),
         "
         expression: a stdout_null stdout_path=f
         plan: Environment, Create f, Spawn a
@@ -68,7 +62,7 @@ fn the_outer_file_is_opened_first(rt: HostRuntime) -> Result<(), Fail> {
 #[test]
 fn files_of_the_sides_of_a_pipe(rt: HostRuntime) -> Result<(), Fail> {
     rows(
-        &rt,
+        rt.alloc(),
         "
         expression: a stdin_path=i b stderr_path=e pipe
         plan: Environment, Pipe, OpenRead i, Spawn a, Create e, Spawn b
@@ -82,7 +76,7 @@ fn files_of_the_sides_of_a_pipe(rt: HostRuntime) -> Result<(), Fail> {
 #[test]
 fn a_captured_stream_has_one_pipe_and_one_worker(rt: HostRuntime) -> Result<(), Fail> {
     rows(
-        &rt,
+        rt.alloc(),
         "
         expression: a stdout_capture
         plan: Environment, Pipe, Spawn a, Drain 1; stdout's capture at 1
@@ -102,7 +96,7 @@ fn a_captured_stream_has_one_pipe_and_one_worker(rt: HostRuntime) -> Result<(), 
 #[test]
 fn the_worker_of_stdout_comes_before_that_of_stderr(rt: HostRuntime) -> Result<(), Fail> {
     rows(
-        &rt,
+        rt.alloc(),
         "
         expression: a stdout_stderr_swap stdout_capture stderr_capture
         plan: Environment, Pipe, Pipe, Spawn a, Drain 2, Drain 1; stdout's capture at 2; stderr's capture at 1
@@ -116,7 +110,7 @@ fn the_worker_of_stdout_comes_before_that_of_stderr(rt: HostRuntime) -> Result<(
 #[test]
 fn captures_below_pipes_are_opened_where_they_are_met(rt: HostRuntime) -> Result<(), Fail> {
     rows(
-        &rt,
+        rt.alloc(),
         "
         expression: a stderr_capture b stderr_capture pipe
         plan: Environment, Pipe, Pipe, Spawn a, Spawn b, Drain 2; stderr's capture at 2
@@ -133,7 +127,7 @@ fn captures_below_pipes_are_opened_where_they_are_met(rt: HostRuntime) -> Result
 #[test]
 fn bytes_are_fed_once_what_reads_them_runs(rt: HostRuntime) -> Result<(), Fail> {
     rows(
-        &rt,
+        rt.alloc(),
         "
         expression: a stdin_bytes=xxx
         plan: Environment, Pipe, Spawn a, Feed 1 [120, 120, 120]
@@ -153,7 +147,7 @@ fn bytes_are_fed_once_what_reads_them_runs(rt: HostRuntime) -> Result<(), Fail> 
 #[test]
 fn lent_ends_and_redirections_ask_nothing(rt: HostRuntime) -> Result<(), Fail> {
     rows(
-        &rt,
+        rt.alloc(),
         "
         expression: a stdin_file=1 stdout_file=2 stderr_file=3
         plan: Environment, Spawn a
@@ -170,70 +164,35 @@ fn lent_ends_and_redirections_ask_nothing(rt: HostRuntime) -> Result<(), Fail> {
     )
 }
 
-// Asserts the plan of an expression.
-fn is<R: Abort + AllocGlobal>(rt: &R, expression: &Written, text: &str) -> Result<(), Fail> {
-    let shown = plan_text(rt.alloc(), &plan(rt.alloc(), expression)?)?;
-    assert_eq!(rt; shown.as_str(), text);
-    Ok(())
-}
-
-#[test]
-fn a_program_given_as_a_text_stands_as_it_is(rt: HostRuntime) -> Result<(), Fail> {
-    let owned = String::from_str(rt.alloc(), "x")?;
-    is(
-        &rt,
-        &cmd(rt.alloc(), "x", &["y"])?,
-        "Environment, Spawn x y",
-    )?;
-    is(&rt, &cmd(rt.alloc(), &owned, &[])?, "Environment, Spawn x")?;
-    is(&rt, &cmd(rt.alloc(), owned, &[])?, "Environment, Spawn x")
-}
-
-#[test]
-fn a_program_given_as_a_path_gets_a_dot(rt: HostRuntime) -> Result<(), Fail> {
-    let rows = [
-        ("foo", "Environment, Spawn ./foo"),
-        ("./foo", "Environment, Spawn ././foo"),
-        ("", "Environment, Spawn ./"),
-        ("/x", "Environment, Spawn /x"),
-        ("x", "Environment, Spawn ./x"),
-    ];
-    for (path, text) in rows {
-        let owned = PathBuf::from_str(rt.alloc(), path)?;
-        is(&rt, &cmd(rt.alloc(), Path::new(path), &[])?, text)?;
-        is(&rt, &cmd(rt.alloc(), &owned, &[])?, text)?;
-        is(&rt, &cmd(rt.alloc(), owned, &[])?, text)?;
-    }
-    Ok(())
-}
-
 #[test]
 fn a_hundred_unchecked_nodes_ask_nothing(rt: HostRuntime) -> Result<(), Fail> {
-    let mut expression = written(rt.alloc(), "a stdin_path=i")?;
-    for _ in 0..100 {
-        expression = expression.unchecked()?;
-    }
-    is(&rt, &expression, "Environment, OpenRead i, Spawn a")
+    rows(
+        rt.alloc(),
+        "
+        expression: a stdin_path=i unchecked=100
+        plan: Environment, OpenRead i, Spawn a
+        ",
+    )
 }
 
 #[test]
 fn items_print_what_they_ask(rt: HostRuntime) -> Result<(), Fail> {
-    let steps = "./a,b dir=d stdin_path=i stdout_path=o stdin_bytes=x stdout_capture";
-    let expression = written(rt.alloc(), steps)?;
-    let items = plan(rt.alloc(), &expression)?.items;
-    let text = format!(in rt.alloc(); "{items:?}")?;
-    let wanted =
-        "[Environment, Pipe, Pipe, Create(\"o\"), OpenRead(\"i\"), Canonicalize(\"./a\"), Spawn([\"./a\", \"b\"]), Feed(2, [120]), Drain(1)]";
-    assert_eq!(rt; text.as_str(), wanted);
-    Ok(())
+    rows(
+        rt.alloc(),
+        r#"
+        expression: ./a,b dir=d stdin_path=i stdout_path=o stdin_bytes=x stdout_capture
+        items: [Environment, Pipe, Pipe, Create("o"), OpenRead("i"), Canonicalize("./a"), Spawn(["./a", "b"]), Feed(2, [120]), Drain(1)]
+        "#,
+    )
 }
 
 #[test]
 fn commands_by_their_places(rt: HostRuntime) -> Result<(), Fail> {
-    let expression = written(rt.alloc(), "a b c pipe pipe")?;
-    let plan = plan(rt.alloc(), &expression)?;
-    for (command, place) in [(0, Some(2)), (1, Some(4)), (2, Some(5)), (3, None)] {
-        assert_eq!(rt; plan.command(command), place);
-    }
-    Ok(())
+    rows(
+        rt.alloc(),
+        "
+        expression: a b c pipe pipe
+        places: [Some(2), Some(4), Some(5), None]
+        ",
+    )
 }

@@ -1,11 +1,11 @@
 //! The plan of a reader's start: that of the expression inside one capture of stdout, with the reader as its last item.
-use crate::rows::rows;
+use duct_rows::rows::rows;
 use std::test::Fail;
 
 #[test]
 fn stdout_is_read_in_place_of_drained(rt: HostRuntime) -> Result<(), Fail> {
     rows(
-        &rt,
+        rt.alloc(),
         "
         reader: a
         plan: Environment, Pipe, Spawn a, Reader 1; stdout's capture at 1
@@ -28,7 +28,7 @@ fn stdout_is_read_in_place_of_drained(rt: HostRuntime) -> Result<(), Fail> {
 #[test]
 fn stderr_is_drained_before_the_reader(rt: HostRuntime) -> Result<(), Fail> {
     rows(
-        &rt,
+        rt.alloc(),
         "
         reader: a stderr_capture
         plan: Environment, Pipe, Pipe, Spawn a, Drain 2, Reader 1; stdout's capture at 1; stderr's capture at 2
@@ -46,7 +46,7 @@ fn stderr_is_drained_before_the_reader(rt: HostRuntime) -> Result<(), Fail> {
 #[test]
 fn pipes_and_inputs_below_a_reader(rt: HostRuntime) -> Result<(), Fail> {
     rows(
-        &rt,
+        rt.alloc(),
         "
         reader: a b pipe
         plan: Environment, Pipe, Pipe, Spawn a, Spawn b, Reader 1; stdout's capture at 1
@@ -64,7 +64,7 @@ fn pipes_and_inputs_below_a_reader(rt: HostRuntime) -> Result<(), Fail> {
 #[test]
 fn folders_and_canonical_names_below_a_reader(rt: HostRuntime) -> Result<(), Fail> {
     rows(
-        &rt,
+        rt.alloc(),
         "
         reader: ./x dir=/in
         plan: Environment, Pipe, Canonicalize ./x, Spawn ./x, Reader 1; stdout's capture at 1
@@ -77,7 +77,7 @@ fn folders_and_canonical_names_below_a_reader(rt: HostRuntime) -> Result<(), Fai
 #[test]
 fn variables_below_a_reader(rt: HostRuntime) -> Result<(), Fail> {
     rows(
-        &rt,
+        rt.alloc(),
         "
         reader: a env=A,2 env=A,3 env=B,4
         plan: Environment, Pipe, Spawn a, Reader 1; stdout's capture at 1
@@ -89,7 +89,7 @@ fn variables_below_a_reader(rt: HostRuntime) -> Result<(), Fail> {
 #[test]
 fn hooks_below_a_reader(rt: HostRuntime) -> Result<(), Fail> {
     rows(
-        &rt,
+        rt.alloc(),
         "
         reader: a before_spawn=inner,7 before_spawn=outer
         plan: Environment, Pipe, Spawn a, Reader 1; stdout's capture at 1

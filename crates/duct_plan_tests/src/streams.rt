@@ -1,11 +1,11 @@
 //! Where the streams of each command go: the first node outwards that touches a stream decides.
-use crate::rows::rows;
+use duct_rows::rows::rows;
 use std::test::Fail;
 
 #[test]
 fn without_a_node_all_are_the_parents(rt: HostRuntime) -> Result<(), Fail> {
     rows(
-        &rt,
+        rt.alloc(),
         "
         expression: a
         plan: Environment, Spawn a
@@ -23,7 +23,7 @@ fn without_a_node_all_are_the_parents(rt: HostRuntime) -> Result<(), Fail> {
 #[test]
 fn a_nearer_null_hides_a_file(rt: HostRuntime) -> Result<(), Fail> {
     rows(
-        &rt,
+        rt.alloc(),
         "
         expression: a stdout_null stdout_path=f
         plan: Environment, Create f, Spawn a
@@ -46,7 +46,7 @@ fn a_nearer_null_hides_a_file(rt: HostRuntime) -> Result<(), Fail> {
 #[test]
 fn a_nearer_file_hides_a_file(rt: HostRuntime) -> Result<(), Fail> {
     rows(
-        &rt,
+        rt.alloc(),
         "
         expression: a stdout_path=in stdout_path=out
         plan: Environment, Create out, Create in, Spawn a
@@ -69,7 +69,7 @@ fn a_nearer_file_hides_a_file(rt: HostRuntime) -> Result<(), Fail> {
 #[test]
 fn lent_ends(rt: HostRuntime) -> Result<(), Fail> {
     rows(
-        &rt,
+        rt.alloc(),
         "
         expression: a stdin_file=1
         plan: Environment, Spawn a
@@ -92,7 +92,7 @@ fn lent_ends(rt: HostRuntime) -> Result<(), Fail> {
 #[test]
 fn lent_ends_at_both_ends_of_a_pipe(rt: HostRuntime) -> Result<(), Fail> {
     rows(
-        &rt,
+        rt.alloc(),
         "
         expression: a stdin_file=8 b stdout_file=9 pipe env=A,1
         plan: Environment, Pipe, Spawn a, Spawn b
@@ -105,7 +105,7 @@ fn lent_ends_at_both_ends_of_a_pipe(rt: HostRuntime) -> Result<(), Fail> {
 #[test]
 fn stdout_follows_stderr_from_outside_of_the_node(rt: HostRuntime) -> Result<(), Fail> {
     rows(
-        &rt,
+        rt.alloc(),
         "
         expression: a stderr_null stdout_to_stderr
         plan: Environment, Spawn a
@@ -128,7 +128,7 @@ fn stdout_follows_stderr_from_outside_of_the_node(rt: HostRuntime) -> Result<(),
 #[test]
 fn stderr_follows_stdout_from_outside_of_the_node(rt: HostRuntime) -> Result<(), Fail> {
     rows(
-        &rt,
+        rt.alloc(),
         "
         expression: a stderr_to_stdout stdout_null
         plan: Environment, Spawn a
@@ -156,7 +156,7 @@ fn stderr_follows_stdout_from_outside_of_the_node(rt: HostRuntime) -> Result<(),
 #[test]
 fn both_redirections_round_a_command(rt: HostRuntime) -> Result<(), Fail> {
     rows(
-        &rt,
+        rt.alloc(),
         "
         expression: a stdout_to_stderr stderr_to_stdout
         plan: Environment, Spawn a
@@ -174,7 +174,7 @@ fn both_redirections_round_a_command(rt: HostRuntime) -> Result<(), Fail> {
 #[test]
 fn redirections_on_the_sides_of_a_pipe(rt: HostRuntime) -> Result<(), Fail> {
     rows(
-        &rt,
+        rt.alloc(),
         "
         expression: a stdout_to_stderr b stderr_to_stdout pipe unchecked
         plan: Environment, Pipe, Spawn a, Spawn b
@@ -192,7 +192,7 @@ fn redirections_on_the_sides_of_a_pipe(rt: HostRuntime) -> Result<(), Fail> {
 #[test]
 fn redirections_round_a_pipe(rt: HostRuntime) -> Result<(), Fail> {
     rows(
-        &rt,
+        rt.alloc(),
         "
         expression: a b pipe stderr_to_stdout
         plan: Environment, Pipe, Spawn a, Spawn b
@@ -210,7 +210,7 @@ fn redirections_round_a_pipe(rt: HostRuntime) -> Result<(), Fail> {
 #[test]
 fn redirections_into_captures(rt: HostRuntime) -> Result<(), Fail> {
     rows(
-        &rt,
+        rt.alloc(),
         "
         expression: a stdout_to_stderr stderr_capture
         plan: Environment, Pipe, Spawn a, Drain 1; stderr's capture at 1
@@ -233,7 +233,7 @@ fn redirections_into_captures(rt: HostRuntime) -> Result<(), Fail> {
 #[test]
 fn a_swap_exchanges_what_stands_outside(rt: HostRuntime) -> Result<(), Fail> {
     rows(
-        &rt,
+        rt.alloc(),
         "
         expression: a stdout_stderr_swap
         plan: Environment, Spawn a
@@ -256,7 +256,7 @@ fn a_swap_exchanges_what_stands_outside(rt: HostRuntime) -> Result<(), Fail> {
 #[test]
 fn a_swap_inside_of_captures(rt: HostRuntime) -> Result<(), Fail> {
     rows(
-        &rt,
+        rt.alloc(),
         "
         expression: a stdout_stderr_swap stdout_capture stderr_capture
         plan: Environment, Pipe, Pipe, Spawn a, Drain 2, Drain 1; stdout's capture at 2; stderr's capture at 1
@@ -274,7 +274,7 @@ fn a_swap_inside_of_captures(rt: HostRuntime) -> Result<(), Fail> {
 #[test]
 fn swaps_and_pipes(rt: HostRuntime) -> Result<(), Fail> {
     rows(
-        &rt,
+        rt.alloc(),
         "
         expression: a stdout_stderr_swap b pipe
         plan: Environment, Pipe, Spawn a, Spawn b
@@ -292,7 +292,7 @@ fn swaps_and_pipes(rt: HostRuntime) -> Result<(), Fail> {
 #[test]
 fn a_pipe_joins_its_sides(rt: HostRuntime) -> Result<(), Fail> {
     rows(
-        &rt,
+        rt.alloc(),
         "
         expression: a b pipe
         plan: Environment, Pipe, Spawn a, Spawn b
@@ -315,7 +315,7 @@ fn a_pipe_joins_its_sides(rt: HostRuntime) -> Result<(), Fail> {
 #[test]
 fn pipes_in_pipes(rt: HostRuntime) -> Result<(), Fail> {
     rows(
-        &rt,
+        rt.alloc(),
         "
         expression: a b pipe c pipe
         plan: Environment, Pipe, Pipe, Spawn a, Spawn b, Spawn c
@@ -333,7 +333,7 @@ fn pipes_in_pipes(rt: HostRuntime) -> Result<(), Fail> {
 #[test]
 fn files_round_a_pipe(rt: HostRuntime) -> Result<(), Fail> {
     rows(
-        &rt,
+        rt.alloc(),
         "
         expression: a b pipe stdin_path=i stdout_path=o stderr_path=e
         plan: Environment, Create e, Create o, OpenRead i, Pipe, Spawn a, Spawn b
@@ -346,7 +346,7 @@ fn files_round_a_pipe(rt: HostRuntime) -> Result<(), Fail> {
 #[test]
 fn a_pipe_of_two_pipes(rt: HostRuntime) -> Result<(), Fail> {
     rows(
-        &rt,
+        rt.alloc(),
         "
         expression: a b pipe c d pipe pipe
         plan: Environment, Pipe, Pipe, Spawn a, Spawn b, Pipe, Spawn c, Spawn d
@@ -359,7 +359,7 @@ fn a_pipe_of_two_pipes(rt: HostRuntime) -> Result<(), Fail> {
 #[test]
 fn captures_met_twice_share_a_pipe(rt: HostRuntime) -> Result<(), Fail> {
     rows(
-        &rt,
+        rt.alloc(),
         "
         expression: a stdout_capture stdout_capture
         plan: Environment, Pipe, Spawn a, Drain 1; stdout's capture at 1
@@ -377,7 +377,7 @@ fn captures_met_twice_share_a_pipe(rt: HostRuntime) -> Result<(), Fail> {
 #[test]
 fn captures_on_both_sides_of_a_pipe(rt: HostRuntime) -> Result<(), Fail> {
     rows(
-        &rt,
+        rt.alloc(),
         "
         expression: a stderr_capture b stderr_capture pipe
         plan: Environment, Pipe, Pipe, Spawn a, Spawn b, Drain 2; stderr's capture at 2
@@ -395,7 +395,7 @@ fn captures_on_both_sides_of_a_pipe(rt: HostRuntime) -> Result<(), Fail> {
 #[test]
 fn captures_under_a_pipe(rt: HostRuntime) -> Result<(), Fail> {
     rows(
-        &rt,
+        rt.alloc(),
         "
         expression: a stdout_capture b pipe
         plan: Environment, Pipe, Pipe, Spawn a, Spawn b, Drain 2; stdout's capture at 2
@@ -418,7 +418,7 @@ fn captures_under_a_pipe(rt: HostRuntime) -> Result<(), Fail> {
 #[test]
 fn the_nearer_of_two_inputs_is_read(rt: HostRuntime) -> Result<(), Fail> {
     rows(
-        &rt,
+        rt.alloc(),
         "
         expression: a stdin_bytes=xxx
         plan: Environment, Pipe, Spawn a, Feed 1 [120, 120, 120]
@@ -441,7 +441,7 @@ fn the_nearer_of_two_inputs_is_read(rt: HostRuntime) -> Result<(), Fail> {
 #[test]
 fn inputs_and_pipes(rt: HostRuntime) -> Result<(), Fail> {
     rows(
-        &rt,
+        rt.alloc(),
         "
         expression: a stdin_bytes=xyz b pipe stdout_capture
         plan: Environment, Pipe, Pipe, Pipe, Spawn a, Feed 3 [120, 121, 122], Spawn b, Drain 1; stdout's capture at 1

@@ -1,11 +1,11 @@
 //! The variables of each command: the nearest node that sets the name, removes it or sets all variables decides.
-use crate::rows::rows;
+use duct_rows::rows::rows;
 use std::test::Fail;
 
 #[test]
 fn the_parents_variables(rt: HostRuntime) -> Result<(), Fail> {
     rows(
-        &rt,
+        rt.alloc(),
         "
         expression: a
         parent:
@@ -25,7 +25,7 @@ fn the_parents_variables(rt: HostRuntime) -> Result<(), Fail> {
 #[test]
 fn the_nearer_value_counts(rt: HostRuntime) -> Result<(), Fail> {
     rows(
-        &rt,
+        rt.alloc(),
         "
         expression: a env=A,2
         parent: A:1
@@ -57,7 +57,7 @@ fn the_nearer_value_counts(rt: HostRuntime) -> Result<(), Fail> {
 #[test]
 fn a_removed_variable_that_the_parent_lacks(rt: HostRuntime) -> Result<(), Fail> {
     rows(
-        &rt,
+        rt.alloc(),
         "
         expression: a env=A,1 env_remove=A
         parent:
@@ -73,7 +73,7 @@ fn a_removed_variable_that_the_parent_lacks(rt: HostRuntime) -> Result<(), Fail>
 #[test]
 fn a_full_environment_hides_what_stands_outside(rt: HostRuntime) -> Result<(), Fail> {
     rows(
-        &rt,
+        rt.alloc(),
         "
         expression: a full_env=B:x,B:y
         parent: A:1
@@ -105,7 +105,7 @@ fn a_full_environment_hides_what_stands_outside(rt: HostRuntime) -> Result<(), F
 #[test]
 fn a_full_environment_round_other_nodes(rt: HostRuntime) -> Result<(), Fail> {
     rows(
-        &rt,
+        rt.alloc(),
         "
         expression: a env=B,z full_env=B:x,C:y
         parent: A:1
@@ -125,7 +125,7 @@ fn a_full_environment_round_other_nodes(rt: HostRuntime) -> Result<(), Fail> {
 #[test]
 fn variables_on_the_sides_of_a_pipe(rt: HostRuntime) -> Result<(), Fail> {
     rows(
-        &rt,
+        rt.alloc(),
         "
         expression: a b pipe env=B,2
         parent: A:1
@@ -153,7 +153,7 @@ fn variables_on_the_sides_of_a_pipe(rt: HostRuntime) -> Result<(), Fail> {
 #[test]
 fn a_variable_round_a_pipe_of_lent_ends(rt: HostRuntime) -> Result<(), Fail> {
     rows(
-        &rt,
+        rt.alloc(),
         "
         expression: a stdin_file=8 b stdout_file=9 pipe env=A,1
         parent:

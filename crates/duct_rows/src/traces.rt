@@ -1,63 +1,34 @@
 //! The trace of a start that meets no fault. Ends and children take the numbers from 1 in the order of the requests, of a
 //! pipe the read end before the write end.
-use crate::expressions::{HookName, LentEnd};
+use crate::texts::{TestItem, TestPlan};
+use crate::words::owned_pairs;
 use duct_base::spec::{CommandSpec, Port, spec_of};
 use duct_base::system::{Entry, Stdio};
-use duct_plan::items::{Item, Plan};
+use duct_plan::items::Item;
 use std::alloc::{AllocError, Global};
 use std::collections::BTreeMap;
 use std::sync::Arc;
 
-/// Pairs of names and values, owned.
-pub fn owned(alloc: Global, pairs: &[(&str, &str)]) -> Result<Vec<(String, String)>, AllocError> {
-    let mut made = Vec::new(alloc);
-    for (name, value) in pairs {
-        let pair = (
-            String::from_str(alloc, name)?,
-            String::from_str(alloc, value)?,
-        );
-        made.push(pair)?;
-    }
-    Ok(made)
-}
-
 /// The entries that answer each item of a plan, where the environment is answered with these pairs, and each program's
 /// canonical name stands below `/real/`.
-pub fn entries(
-    alloc: Global,
-    plan: &Plan<LentEnd, HookName>,
-    parent: &[(&str, &str)],
-) -> Result<Vec<Entry>, AllocError> {
+pub fn entries(alloc: Global, plan: &TestPlan, parent: &str) -> Result<Vec<Entry>, AllocError> {
     let mut entries = Vec::new(alloc);
     let mut next = 1;
     for item in plan.items.iter() {
         let entry = match item {
-            Item::Environment => Entry::Environment(Ok(owned(alloc, parent)?)),
-            Item::Feed(place, bytes) => {
-                let bytes = Arc::new(alloc, Vec::from_slice(alloc, bytes)?)?;
-                Entry::Feed(pipe_at(entries.as_slice(), *place).1, bytes, Ok(()))
-            }
-            Item::Drain(place) => Entry::Drain(pipe_at(entries.as_slice(), *place).0, Ok(())),
-            Item::Reader(place) => Entry::Reader(pipe_at(entries.as_slice(), *place).0),
-            gets => numbered(alloc, gets, &mut next)?,
+            Item::Environment => Entry::Environment(Ok(owned_pairs(alloc, parent)?)),
+            gets => numbered(alloc, gets, entries.as_slice(), &mut next)?,
         };
         entries.push(entry)?;
     }
     Ok(entries)
 }
 
-/// The read end and the write end of the pipe that stands at this place.
-fn pipe_at(entries: &[Entry], place: usize) -> (u64, u64) {
-    match entries.get(place) {
-        Some(Entry::Pipe(Ok((reader, writer)))) => (*reader, *writer),
-        _ => (0, 0),
-    }
-}
-
-/// The entry of a request that is given no end.
+/// The entry of a request other than that for the environment.
 fn numbered(
     alloc: Global,
-    item: &Item<LentEnd, HookName>,
+    item: &TestItem,
+    earlier: &[Entry],
     next: &mut u64,
 ) -> Result<Entry, AllocError> {
     match item {
@@ -65,11 +36,22 @@ fn numbered(
         Item::Create(path) => created(alloc, path, take(next)),
         Item::Canonicalize(path) => named(alloc, path),
         Item::Spawn(_, words) => spawned(alloc, words, take(next)),
+        Item::Feed(place, bytes) => fed(alloc, pipe_at(earlier, *place).1, bytes),
+        Item::Drain(place) => Ok(Entry::Drain(pipe_at(earlier, *place).0, Ok(()))),
+        Item::Reader(place) => Ok(Entry::Reader(pipe_at(earlier, *place).0)),
         _ => {
             let reader = take(next);
             let writer = take(next);
             Ok(Entry::Pipe(Ok((reader, writer))))
         }
+    }
+}
+
+/// The read end and the write end of the pipe that stands at this place.
+fn pipe_at(entries: &[Entry], place: usize) -> (u64, u64) {
+    match entries.get(place) {
+        Some(Entry::Pipe(Ok((reader, writer)))) => (*reader, *writer),
+        _ => (0, 0),
     }
 }
 
@@ -87,6 +69,11 @@ fn named(alloc: Global, path: &str) -> Result<Entry, AllocError> {
     let name = format!(in alloc; "/real/{path}")?;
     let path = String::from_str(alloc, path)?;
     Ok(Entry::Canonicalize(path, Ok(name)))
+}
+
+fn fed(alloc: Global, end: u64, bytes: &[u8]) -> Result<Entry, AllocError> {
+    let bytes = Arc::new(alloc, Vec::from_slice(alloc, bytes)?)?;
+    Ok(Entry::Feed(end, bytes, Ok(())))
 }
 
 fn spawned(alloc: Global, words: &[String], number: u64) -> Result<Entry, AllocError> {

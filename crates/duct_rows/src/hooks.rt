@@ -1,0 +1,51 @@
+//! Hooks that are written as texts. `x` adds the word `x`; `out>0` lets stdout go to the end at the place 0 of those beside the
+//! hook, `out>inherit` to the parent's stream and `out>null` nowhere; `refuse:Other` refuses each spec by `Other`. Several are
+//! parted by `+`: `err>1+x`.
+use crate::words::{fault, stream};
+use duct_script::hook::{Change, HookAnswer, ScriptHook, Target};
+use std::alloc::{AllocError, Global};
+use std::test::Fail;
+
+/// The hook of a text.
+pub fn hook(alloc: Global, text: &str) -> Result<ScriptHook, Fail> {
+    let mut hook = ScriptHook::new(alloc);
+    for part in text.split('+') {
+        tell(alloc, &mut hook, part)?;
+    }
+    Ok(hook)
+}
+
+/// Lets a hook do one thing more.
+fn tell(alloc: Global, hook: &mut ScriptHook, part: &str) -> Result<(), Fail> {
+    match part.strip_prefix("refuse:") {
+        Some(kind) => hook.answer = HookAnswer::Refuse(fault(kind)?),
+        None => hook.changes.push(change(alloc, part)?)?,
+    }
+    Ok(())
+}
+
+fn change(alloc: Global, part: &str) -> Result<Change, Fail> {
+    match part.split_once('>') {
+        Some((name, place)) => Ok(Change::Port(stream(name)?, target(place)?)),
+        None => Ok(Change::Word(String::from_str(alloc, part)?)),
+    }
+}
+
+fn target(place: &str) -> Result<Target, Fail> {
+    match place {
+        "inherit" => Ok(Target::Inherit),
+        "null" => Ok(Target::Null),
+        place => Ok(Target::Place(place.parse::<usize>()?)),
+    }
+}
+
+/// Adds the words that a hook adds, by which rows know it.
+pub fn push_words(text: &mut String, hook: &ScriptHook) -> Result<(), AllocError> {
+    for change in hook.changes.iter() {
+        if let Change::Word(word) = change {
+            text.push(' ')?;
+            text.push_str(word.as_str())?;
+        }
+    }
+    Ok(())
+}

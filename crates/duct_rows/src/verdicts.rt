@@ -1,0 +1,75 @@
+//! What is said of a journal beside a plan, and of an error beside a journal, in words.
+use crate::expressions::written;
+use crate::texts::TestPlan;
+use crate::words::{fault, first_word};
+use duct::{Entry, Error};
+use duct_follows::causes::{answers_last_fault, has_cause};
+use duct_follows::follows::{follows, follows_whole};
+use duct_plan::plan::plan;
+use std::alloc::{AllocError, Global};
+use std::test::Fail;
+
+/// `whole` where a journal follows the whole plan, `front` where it follows a front of it, `neither`, or `no memory` where that
+/// isn't told.
+pub fn followed(
+    alloc: Global,
+    plan: &TestPlan,
+    entries: &[Entry],
+) -> Result<&'static str, AllocError> {
+    let Ok(front) = follows(alloc, plan, entries) else {
+        return Ok("no memory");
+    };
+    Ok(match (front, follows_whole(alloc, plan, entries)?) {
+        (true, true) => "whole",
+        (true, false) => "front",
+        (false, false) => "neither",
+        (false, true) => "whole but no front",
+    })
+}
+
+/// The same of an expression that is written as a text.
+pub fn followed_by(
+    alloc: Global,
+    expression: &str,
+    entries: &[Entry],
+) -> Result<&'static str, Fail> {
+    let tree = written(alloc, expression)?;
+    let plan = plan(alloc, &tree)?;
+    Ok(followed(alloc, &plan, entries)?)
+}
+
+/// `cause` where the error of this text has a cause in a journal beside the plan, or `no cause`.
+pub fn caused(
+    alloc: Global,
+    plan: &TestPlan,
+    entries: &[Entry],
+    text: &str,
+) -> Result<&'static str, Fail> {
+    if has_cause(alloc, plan, entries, &error(text)?)? {
+        Ok("cause")
+    } else {
+        Ok("no cause")
+    }
+}
+
+/// `answer` where the error of this text is what the last fault of a journal asks for, or `no answer`.
+pub fn answered(entries: &[Entry], text: &str) -> Result<&'static str, Fail> {
+    if answers_last_fault(entries, &error(text)?) {
+        Ok("answer")
+    } else {
+        Ok("no answer")
+    }
+}
+
+/// The error of a text: `system Other`, `hook Other`, `hook_end 1`, `not_utf8` or `memory`.
+fn error(text: &str) -> Result<Error, Fail> {
+    let (sort, rest) = first_word(text);
+    match sort {
+        "system" => Ok(Error::System(fault(rest)?)),
+        "hook" => Ok(Error::Hook(fault(rest)?)),
+        "hook_end" => Ok(Error::HookEnd(rest.parse::<usize>()?)),
+        "not_utf8" => Ok(Error::NotUtf8),
+        "memory" => Ok(Error::Memory),
+        _ => Err(Fail::from("no such error")),
+    }
+}
