@@ -4,34 +4,23 @@ use duct_base::system::{Fault, Kind, Said, Side};
 use std::alloc::{AllocError, Global};
 use std::sync::Arc;
 
-// A command of these words.
-pub(crate) fn command(alloc: Global, words: &[&str]) -> Result<Shape, AllocError> {
-    let mut texts = Vec::new(alloc);
-    for word in words {
-        texts.push(String::from_str(alloc, *word)?)?;
-    }
-    Ok(Shape::Command(Arc::new(alloc, texts)?))
+pub(crate) const OTHER: Fault = Fault { kind: Kind::Other };
+
+// A command of one word.
+pub(crate) fn command(alloc: Global, word: String) -> Result<Shape, AllocError> {
+    let mut words = Vec::new(alloc);
+    words.push(word)?;
+    Ok(Shape::Command(Arc::new(alloc, words)?))
 }
 
 pub(crate) fn pipe(alloc: Global, left: Shape, right: Shape) -> Result<Shape, AllocError> {
-    Ok(Shape::Pipe(Box::new(alloc, left)?, Box::new(alloc, right)?))
-}
-
-pub(crate) fn input(alloc: Global, inner: Shape) -> Result<Shape, AllocError> {
-    Ok(Shape::Input(Box::new(alloc, inner)?))
-}
-
-pub(crate) fn unchecked(alloc: Global, inner: Shape) -> Result<Shape, AllocError> {
-    Ok(Shape::Unchecked(Box::new(alloc, inner)?))
+    let left = Box::new(alloc, left)?;
+    Ok(Shape::Pipe(left, Box::new(alloc, right)?))
 }
 
 pub(crate) fn done(alloc: Global, side: Side, bytes: &[u8]) -> Result<Event, AllocError> {
     let bytes = Vec::from_slice(alloc, bytes)?;
     Ok(Event::Drain(side, Said::Done(Arc::new(alloc, bytes)?)))
-}
-
-pub(crate) fn other() -> Fault {
-    Fault::new(Kind::Other)
 }
 
 // A reply as a text: an answer with its status and the bytes of stdout and of stderr, a failure with its message.
