@@ -14,12 +14,12 @@ use std::test::Fail;
 enum Note {
     Environment,
     Pipe(Result<(u64, u64), Fault>),
-    OpenRead(&'static str, Result<u64, Fault>),
-    Create(&'static str, Result<u64, Fault>),
+    OpenRead(Result<u64, Fault>),
+    Create(Result<u64, Fault>),
     Duplicate(u64, Result<u64, Fault>),
     Parent(Side, Result<u64, Fault>),
     /// A refused one.
-    Canonicalize(&'static str, Fault),
+    Canonicalize(Fault),
     Spawn([Stdio<u64>; 3], Result<u64, Fault>),
     Feed(u64, Result<(), Fault>),
     Drain(u64),
@@ -31,7 +31,7 @@ const INHERIT: Stdio<u64> = Stdio::Inherit;
 
 const REFUSED: Fault = Fault { kind: Kind::Other };
 
-/// The spec of a command, of which the checker reads nothing.
+/// The spec of a command of no words.
 fn spec(alloc: Global) -> CommandSpec {
     let inherit = Port::Inherit;
     spec_of(
@@ -44,26 +44,29 @@ fn spec(alloc: Global) -> CommandSpec {
     )
 }
 
+/// A feed of no bytes.
+fn feed(alloc: Global, number: u64, answer: Result<(), Fault>) -> Result<Entry, AllocError> {
+    let bytes = Arc::new(alloc, Vec::new(alloc))?;
+    Ok(Entry::Feed(number, bytes, answer))
+}
+
+/// The entry that a note stands for. The checker reads no path and no spec: these are empty.
 fn entry(alloc: Global, note: Note) -> Result<Entry, AllocError> {
-    match note {
-        Note::Environment => Ok(Entry::Environment(Ok(Vec::new(alloc)))),
-        Note::Pipe(answer) => Ok(Entry::Pipe(answer)),
-        Note::OpenRead(path, answer) => Ok(Entry::OpenRead(String::from_str(alloc, path)?, answer)),
-        Note::Create(path, answer) => Ok(Entry::Create(String::from_str(alloc, path)?, answer)),
-        Note::Duplicate(lent, answer) => Ok(Entry::Duplicate(lent, answer)),
-        Note::Parent(side, answer) => Ok(Entry::Parent(side, answer)),
-        Note::Canonicalize(path, fault) => {
-            Ok(Entry::Canonicalize(String::from_str(alloc, path)?, Err(fault)))
-        }
-        Note::Spawn(io, answer) => Ok(Entry::Spawn(spec(alloc), io, answer)),
-        Note::Feed(number, answer) => {
-            let bytes = Arc::new(alloc, Vec::new(alloc))?;
-            Ok(Entry::Feed(number, bytes, answer))
-        }
-        Note::Drain(number) => Ok(Entry::Drain(number, Ok(()))),
-        Note::Reader(number) => Ok(Entry::Reader(number)),
-        Note::Close(number) => Ok(Entry::Close(number)),
-    }
+    let entry = match note {
+        Note::Environment => Entry::Environment(Ok(Vec::new(alloc))),
+        Note::Pipe(answer) => Entry::Pipe(answer),
+        Note::OpenRead(answer) => Entry::OpenRead(String::new(alloc), answer),
+        Note::Create(answer) => Entry::Create(String::new(alloc), answer),
+        Note::Duplicate(lent, answer) => Entry::Duplicate(lent, answer),
+        Note::Parent(side, answer) => Entry::Parent(side, answer),
+        Note::Canonicalize(fault) => Entry::Canonicalize(String::new(alloc), Err(fault)),
+        Note::Spawn(io, answer) => Entry::Spawn(spec(alloc), io, answer),
+        Note::Feed(number, answer) => return feed(alloc, number, answer),
+        Note::Drain(number) => Entry::Drain(number, Ok(())),
+        Note::Reader(number) => Entry::Reader(number),
+        Note::Close(number) => Entry::Close(number),
+    };
+    Ok(entry)
 }
 
 fn push(alloc: Global, entries: &mut Vec<Entry>, note: Note) -> Result<(), AllocError> {
@@ -151,7 +154,7 @@ fn a_pipe_of_two_commands(rt: HostRuntime) -> Result<(), Fail> {
 const A_FILE: [Note; 8] = [
     Note::Environment,
     Note::Parent(Side::Out, Ok(1)),
-    Note::Create("f", Ok(2)),
+    Note::Create(Ok(2)),
     Note::Duplicate(2, Ok(3)),
     Note::Duplicate(1, Ok(4)),
     Note::Spawn([Stdio::Null, Stdio::End(3), Stdio::End(4)], Ok(5)),
@@ -175,7 +178,7 @@ fn a_file_and_the_parent(rt: HostRuntime) -> Result<(), Fail> {
 fn a_number_spent_twice(rt: HostRuntime) -> Result<(), Fail> {
     says(
         &rt,
-        &[Note::OpenRead("f", Ok(1)), Note::Close(1), Note::Drain(1)],
+        &[Note::OpenRead(Ok(1)), Note::Close(1), Note::Drain(1)],
         "got [1] spent [1, 1] balanced false held 0 trace 2",
         &[],
     )
@@ -196,8 +199,8 @@ fn a_number_got_twice(rt: HostRuntime) -> Result<(), Fail> {
     says(
         &rt,
         &[
-            Note::OpenRead("f", Ok(1)),
-            Note::Create("g", Ok(1)),
+            Note::OpenRead(Ok(1)),
+            Note::Create(Ok(1)),
             Note::Reader(1),
             Note::Close(1),
         ],
@@ -261,10 +264,10 @@ fn refused_requests_get_nothing(rt: HostRuntime) -> Result<(), Fail> {
         &rt,
         &[
             Note::Pipe(Err(REFUSED)),
-            Note::OpenRead("f", Err(REFUSED)),
-            Note::Create("g", Err(REFUSED)),
+            Note::OpenRead(Err(REFUSED)),
+            Note::Create(Err(REFUSED)),
             Note::Parent(Side::Out, Err(REFUSED)),
-            Note::Canonicalize("./x", REFUSED),
+            Note::Canonicalize(REFUSED),
         ],
         "got [] spent [] balanced true held 0 trace 4",
         &[],
