@@ -1,56 +1,49 @@
 //! Want of memory: whatever single request of the process is refused, each test either finds the answer that it gets with
 //! ample memory, or finds that this call answered `Memory`, that nothing was lost, and the answer at the next one.
-use crate::build::{command, done, ended, pipe, unchecked};
+use crate::build::{BOTH, Told, ended, events_of, shape_of};
 use duct_base::error::Error;
-use duct_base::status::{Core, Drains, Event, Reply, Shape};
-use duct_base::system::{ExitStatus, Side};
-use std::alloc::{AllocError, Global};
+use duct_base::status::{Core, Event, Reply};
+use duct_base::system::{ExitStatus, Said, Side};
+use std::alloc::Global;
 use std::process::Abort;
 
-const BOTH: Drains = Drains {
-    out: true,
-    err: true,
-};
+// An unchecked failure piped into a success, and the failure alone.
+const ANSWERED: &str = "one,a unchecked zero pipe";
 
-// An unchecked failure piped into a success, or the failure alone.
-fn shape(alloc: Global, is_answer: bool) -> Result<Shape, AllocError> {
-    let one = command(alloc, &["one", "a"])?;
-    if is_answer {
-        return pipe(alloc, unchecked(alloc, one)?, command(alloc, &["zero"])?);
-    }
-    Ok(one)
-}
+const FAILED: &str = "one,a";
+
+const OUT: Told = Told::Drain(Side::Out, Said::Done(b"x"));
+
+const ERR: Told = Told::Drain(Side::Err, Said::Done(b"yz"));
 
 // The words of two commands and of both capture workers.
-fn words(alloc: Global) -> Result<Vec<Event>, AllocError> {
-    let out = done(alloc, Side::Out, b"x")?;
-    let err = done(alloc, Side::Err, b"yz")?;
-    Ok(vec![in alloc; ended(0, 1), ended(1, 0), out, err]?)
+fn words(alloc: Global) -> Option<Vec<Event>> {
+    events_of(alloc, &[ended(0, 1), ended(1, 0), OUT, ERR]).ok()
+}
+
+// The words and two questions.
+fn questions(alloc: Global) -> Option<Vec<Event>> {
+    let (ask, again) = (Told::Conclude, Told::Conclude);
+    events_of(alloc, &[ended(0, 1), ended(1, 0), OUT, ERR, ask, again]).ok()
 }
 
 // Of a call and one more, the first that is not refused.
 fn either<T: Drop>(rt: &impl Abort, first: Option<T>, second: Option<T>) -> T {
-    match (first, second) {
-        (Some(made), _) => made,
-        (None, Some(made)) => made,
-        (None, None) => panic!(rt; "two requests were refused"),
+    match first.or(second) {
+        Some(made) => made,
+        None => panic!(rt; "two requests were refused"),
     }
 }
 
-// A core of that shape, made again where it was refused: the refusal is `Memory` and nothing else.
-fn core(rt: &impl Abort, alloc: Global, is_answer: bool) -> Core {
-    for _ in 0..2 {
-        let shape = either(
-            rt,
-            shape(alloc, is_answer).ok(),
-            shape(alloc, is_answer).ok(),
-        );
-        match Core::new(alloc, shape, BOTH) {
-            Ok(core) => return core,
-            Err(error) => assert!(rt; matches!(error, Error::Memory)),
+// A core of the shape of this row, or nothing where a request was refused: the refusal is `Memory` and nothing else.
+fn core(rt: &impl Abort, alloc: Global, row: &str) -> Option<Core> {
+    match Core::new(alloc, shape_of(alloc, row)?, BOTH) {
+        Ok(core) => Some(core),
+        Err(error) => {
+            assert!(rt; matches!(error, Error::Memory));
+            None
         }
     }
-    panic!(rt; "two requests were refused")
 }
 
 // Whether the reply is the answer of the words.
@@ -81,47 +74,44 @@ fn is_wanted(reply: &Reply, wants_answer: bool) -> bool {
     }
 }
 
-// Tells the words; no reply to them needs memory.
-fn tell(rt: &impl Abort, core: &mut Core, events: Vec<Event>) {
+// Tells the words; no reply to them needs memory. Whether a reply was `Memory` all the same.
+fn tell(core: &mut Core, events: Vec<Event>) -> bool {
+    let mut refused = false;
     for event in events {
-        let reply = core.step(event);
-        assert!(rt; !matches!(reply, Reply::Memory));
+        refused = is_refusal(&core.step(event)) || refused;
     }
+    refused
+}
+
+fn is_refusal(reply: &Reply) -> bool {
+    matches!(reply, Reply::Memory)
+}
+
+// Whether the next question is answered, or, where it may be, refused.
+fn asks(core: &mut Core, wants_answer: bool, may_refuse: bool) -> bool {
+    let reply = core.step(Event::Conclude);
+    is_wanted(&reply, wants_answer) || (may_refuse && is_refusal(&reply))
 }
 
 // A first question may be refused, and the next ones give the answer.
-fn asked(rt: &impl Abort, alloc: Global, wants_answer: bool) {
-    let mut core = core(rt, alloc, wants_answer);
-    tell(
-        rt,
-        &mut core,
-        either(rt, words(alloc).ok(), words(alloc).ok()),
-    );
-    let first = core.step(Event::Conclude);
-    assert!(rt; is_wanted(&first, wants_answer) || matches!(first, Reply::Memory));
-    assert!(rt; !core.is_due(0));
-    for _ in 0..2 {
-        let reply = core.step(Event::Conclude);
-        assert!(rt; is_wanted(&reply, wants_answer));
-    }
+fn asked(rt: &impl Abort, alloc: Global, row: &str, wants_answer: bool) {
+    let mut core = either(rt, core(rt, alloc, row), core(rt, alloc, row));
+    let refused = tell(&mut core, either(rt, words(alloc), words(alloc)));
+    let first = asks(&mut core, wants_answer, true);
+    let due = core.is_due(0);
+    let second = asks(&mut core, wants_answer, false);
+    let third = asks(&mut core, wants_answer, false);
+    assert!(rt; !refused && first && !due && second && third);
 }
 
 #[test]
 fn memory_of_an_answer(rt: HostRuntime) {
-    asked(&rt, rt.alloc(), true);
+    asked(&rt, rt.alloc(), ANSWERED, true);
 }
 
 #[test]
 fn memory_of_a_message(rt: HostRuntime) {
-    asked(&rt, rt.alloc(), false);
-}
-
-// The words and two questions.
-fn questions(alloc: Global) -> Result<Vec<Event>, AllocError> {
-    let mut events = words(alloc)?;
-    events.push(Event::Conclude)?;
-    events.push(Event::Conclude)?;
-    Ok(events)
+    asked(&rt, rt.alloc(), FAILED, false);
 }
 
 // Whether the replies are six, the last the answer, and the one before it the answer or the refusal.
@@ -134,25 +124,28 @@ fn are_wanted(replies: &[Reply]) -> bool {
             Reply::Noted,
             first,
             last,
-        ] => { is_answer(last) && (is_answer(first) || matches!(first, Reply::Memory)) }
+        ] => { is_answer(last) && (is_answer(first) || is_refusal(first)) }
         _ => false,
+    }
+}
+
+// Whether the replies of a run are the wanted ones, or nothing where it was refused: the refusal is `Memory` and nothing
+// else.
+fn ran(rt: &impl Abort, alloc: Global) -> Option<bool> {
+    let events = questions(alloc)?;
+    match Core::run(alloc, shape_of(alloc, ANSWERED)?, BOTH, events.as_slice()) {
+        Ok(replies) => Some(are_wanted(replies.as_slice())),
+        Err(error) => {
+            assert!(rt; matches!(error, Error::Memory));
+            None
+        }
     }
 }
 
 #[test]
 fn memory_of_a_run(rt: HostRuntime) {
-    let alloc = rt.alloc();
-    let events = either(&rt, questions(alloc).ok(), questions(alloc).ok());
-    let mut is_run = false;
-    for _ in 0..2 {
-        let shape = either(&rt, shape(alloc, true).ok(), shape(alloc, true).ok());
-        match Core::run(alloc, shape, BOTH, events.as_slice()) {
-            Ok(replies) => {
-                assert!(rt; are_wanted(replies.as_slice()));
-                is_run = true;
-            }
-            Err(error) => assert!(rt; matches!(error, Error::Memory)),
-        }
-    }
-    assert!(rt; is_run);
+    let first = ran(&rt, rt.alloc());
+    let second = ran(&rt, rt.alloc());
+    assert!(rt; first.unwrap_or(true) && second.unwrap_or(true));
+    assert!(rt; first.is_some() || second.is_some());
 }

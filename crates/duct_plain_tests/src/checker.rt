@@ -5,233 +5,301 @@ use duct_plain::checker::{Source, got, held, is_balanced, origin, spent, trace};
 use duct_script::text::Words;
 use std::alloc::{AllocError, Global};
 use std::collections::BTreeMap;
+use std::process::Abort;
 use std::sync::Arc;
 use std::test::Fail;
 
-/// A journal that is being written.
-#[derive(Drop)]
-struct Written {
-    entries: Vec<Entry>,
-    alloc: Global,
-}
-
-impl Written {
-    fn new(alloc: Global) -> Written {
-        Written {
-            entries: Vec::new(alloc),
-            alloc,
-        }
-    }
-
-    fn add(&mut self, entry: Entry) -> Result<(), AllocError> {
-        self.entries.push(entry)?;
-        Ok(())
-    }
-
-    fn environment(&mut self) -> Result<(), AllocError> {
-        let none = Vec::new(self.alloc);
-        self.add(Entry::Environment(Ok(none)))
-    }
-
-    fn create(&mut self, path: &str, answer: Result<u64, Fault>) -> Result<(), AllocError> {
-        let path = String::from_str(self.alloc, path)?;
-        self.add(Entry::Create(path, answer))
-    }
-
-    fn open_read(&mut self, path: &str, answer: Result<u64, Fault>) -> Result<(), AllocError> {
-        let path = String::from_str(self.alloc, path)?;
-        self.add(Entry::OpenRead(path, answer))
-    }
-
-    fn spawn(&mut self, io: [Stdio<u64>; 3], answer: Result<u64, Fault>) -> Result<(), AllocError> {
-        let spec = spec(self.alloc)?;
-        self.add(Entry::Spawn(spec, io, answer))
-    }
-
-    fn feed(&mut self, number: u64, answer: Result<(), Fault>) -> Result<(), AllocError> {
-        let bytes = Arc::new(self.alloc, Vec::new(self.alloc))?;
-        self.add(Entry::Feed(number, bytes, answer))
-    }
-
-    /// What the checker says: the numbers got, those spent, whether they balance, how many are held, and the length of the
-    /// trace.
-    fn checked(&self) -> Result<String, AllocError> {
-        let entries = self.entries.as_slice();
-        let got = got(self.alloc, entries)?;
-        let spent = spent(self.alloc, entries)?;
-        let balanced = is_balanced(self.alloc, entries)?;
-        let held = held(self.alloc, entries)?;
-        let traced = trace(self.alloc, entries)?.len();
-        let mut text = String::new(self.alloc);
-        write!(
-            text,
-            "got {got:?} spent {spent:?} balanced {balanced} held {held} trace {traced}"
-        )?;
-        Ok(text)
-    }
-
-    fn origin(&self, number: u64) -> Source {
-        origin(self.entries.as_slice(), number)
-    }
-}
-
-/// The spec of a command of the word `a`, whose streams are inherited.
-fn spec(alloc: Global) -> Result<CommandSpec, AllocError> {
-    let words = vec![in alloc; String::from_str(alloc, "a")?]?;
-    let vars = BTreeMap::new(alloc);
-    let inherit = Port::Inherit;
-    Ok(spec_of(words, None, vars, inherit, inherit, inherit))
+/// An entry as a test writes it.
+#[derive(Clone, Copy)]
+enum Note {
+    Environment,
+    Pipe(Result<(u64, u64), Fault>),
+    OpenRead(Result<u64, Fault>),
+    Create(Result<u64, Fault>),
+    Duplicate(u64, Result<u64, Fault>),
+    Parent(Side, Result<u64, Fault>),
+    /// A refused one.
+    Canonicalize(Fault),
+    Spawn([Stdio<u64>; 3], Result<u64, Fault>),
+    Feed(u64, Result<(), Fault>),
+    Drain(u64),
+    Reader(u64),
+    Close(u64),
 }
 
 const INHERIT: Stdio<u64> = Stdio::Inherit;
 
 const REFUSED: Fault = Fault { kind: Kind::Other };
 
-#[test]
-fn one_command(rt: HostRuntime) -> Result<(), Fail> {
-    let mut journal = Written::new(rt.alloc());
-    journal.environment()?;
-    journal.spawn([INHERIT, INHERIT, INHERIT], Ok(1))?;
-    let wanted = "got [] spent [] balanced true held 0 trace 2";
-    assert_eq!(rt; journal.checked()?.as_str(), wanted);
+/// The spec of a command of no words.
+fn spec(alloc: Global) -> CommandSpec {
+    let inherit = Port::Inherit;
+    spec_of(
+        Vec::new(alloc),
+        None,
+        BTreeMap::new(alloc),
+        inherit,
+        inherit,
+        inherit,
+    )
+}
+
+/// A feed of no bytes.
+fn feed(alloc: Global, number: u64, answer: Result<(), Fault>) -> Result<Entry, AllocError> {
+    let bytes = Arc::new(alloc, Vec::new(alloc))?;
+    Ok(Entry::Feed(number, bytes, answer))
+}
+
+/// The entry that a note stands for. The checker reads no path and no spec: these are empty.
+fn entry(alloc: Global, note: Note) -> Result<Entry, AllocError> {
+    let entry = match note {
+        Note::Environment => Entry::Environment(Ok(Vec::new(alloc))),
+        Note::Pipe(answer) => Entry::Pipe(answer),
+        Note::OpenRead(answer) => Entry::OpenRead(String::new(alloc), answer),
+        Note::Create(answer) => Entry::Create(String::new(alloc), answer),
+        Note::Duplicate(lent, answer) => Entry::Duplicate(lent, answer),
+        Note::Parent(side, answer) => Entry::Parent(side, answer),
+        Note::Canonicalize(fault) => Entry::Canonicalize(String::new(alloc), Err(fault)),
+        Note::Spawn(io, answer) => Entry::Spawn(spec(alloc), io, answer),
+        Note::Feed(number, answer) => return feed(alloc, number, answer),
+        Note::Drain(number) => Entry::Drain(number, Ok(())),
+        Note::Reader(number) => Entry::Reader(number),
+        Note::Close(number) => Entry::Close(number),
+    };
+    Ok(entry)
+}
+
+fn push(alloc: Global, entries: &mut Vec<Entry>, note: Note) -> Result<(), AllocError> {
+    Ok(entries.push(entry(alloc, note)?)?)
+}
+
+fn journal(alloc: Global, notes: &[Note]) -> Result<Vec<Entry>, AllocError> {
+    let mut entries = Vec::new(alloc);
+    for note in notes {
+        push(alloc, &mut entries, *note)?;
+    }
+    Ok(entries)
+}
+
+/// The numbers got, and those spent.
+fn numbers(alloc: Global, entries: &[Entry]) -> Result<String, AllocError> {
+    let got = got(alloc, entries)?;
+    let spent = spent(alloc, entries)?;
+    Ok(format!(in alloc; "got {got:?} spent {spent:?}")?)
+}
+
+/// What the checker says: the numbers got, those spent, whether they balance, how many are held, and the length of the trace.
+fn checked(alloc: Global, entries: &[Entry]) -> Result<String, AllocError> {
+    let balanced = is_balanced(alloc, entries)?;
+    let held = held(alloc, entries)?;
+    let traced = trace(alloc, entries)?.len();
+    let mut text = numbers(alloc, entries)?;
+    write!(text, " balanced {balanced} held {held} trace {traced}")?;
+    Ok(text)
+}
+
+/// Fails unless each end of these numbers comes from there.
+fn come_from<R: Abort>(rt: &R, entries: &[Entry], origins: &[(u64, Source)]) {
+    for (number, wanted) in origins {
+        assert!(rt; origin(entries, *number) == *wanted);
+    }
+}
+
+/// Fails unless the checker says this of a journal of these entries, and its ends come from there.
+fn says<R: Abort + AllocGlobal>(
+    rt: &R,
+    notes: &[Note],
+    wanted: &str,
+    origins: &[(u64, Source)],
+) -> Result<(), Fail> {
+    let entries = journal(rt.alloc(), notes)?;
+    come_from(rt, entries.as_slice(), origins);
+    let found = checked(rt.alloc(), entries.as_slice())?;
+    assert_eq!(rt; found.as_str(), wanted);
     Ok(())
 }
+
+#[test]
+fn one_command(rt: HostRuntime) -> Result<(), Fail> {
+    says(
+        &rt,
+        &[
+            Note::Environment,
+            Note::Spawn([INHERIT, INHERIT, INHERIT], Ok(1)),
+        ],
+        "got [] spent [] balanced true held 0 trace 2",
+        &[],
+    )
+}
+
+const A_PIPE: [Note; 4] = [
+    Note::Environment,
+    Note::Pipe(Ok((1, 2))),
+    Note::Spawn([INHERIT, Stdio::End(2), INHERIT], Ok(3)),
+    Note::Spawn([Stdio::End(1), INHERIT, INHERIT], Ok(4)),
+];
 
 #[test]
 fn a_pipe_of_two_commands(rt: HostRuntime) -> Result<(), Fail> {
-    let mut journal = Written::new(rt.alloc());
-    journal.environment()?;
-    journal.add(Entry::Pipe(Ok((1, 2))))?;
-    journal.spawn([INHERIT, Stdio::End(2), INHERIT], Ok(3))?;
-    journal.spawn([Stdio::End(1), INHERIT, INHERIT], Ok(4))?;
     let wanted = "got [1, 2] spent [2, 1] balanced true held 0 trace 4";
-    assert_eq!(rt; journal.checked()?.as_str(), wanted);
-    assert_eq!(rt; journal.origin(2), Source::Opened(2));
-    assert_eq!(rt; journal.origin(1), Source::Opened(1));
-    Ok(())
+    says(
+        &rt,
+        &A_PIPE,
+        wanted,
+        &[(2, Source::Opened(2)), (1, Source::Opened(1))],
+    )
 }
 
 /// A null stdin, stdout to the file f, stderr to the parent's stdout.
+const A_FILE: [Note; 8] = [
+    Note::Environment,
+    Note::Parent(Side::Out, Ok(1)),
+    Note::Create(Ok(2)),
+    Note::Duplicate(2, Ok(3)),
+    Note::Duplicate(1, Ok(4)),
+    Note::Spawn([Stdio::Null, Stdio::End(3), Stdio::End(4)], Ok(5)),
+    Note::Close(2),
+    Note::Close(1),
+];
+
 #[test]
 fn a_file_and_the_parent(rt: HostRuntime) -> Result<(), Fail> {
-    let mut journal = Written::new(rt.alloc());
-    journal.environment()?;
-    journal.add(Entry::Parent(Side::Out, Ok(1)))?;
-    journal.create("f", Ok(2))?;
-    journal.add(Entry::Duplicate(2, Ok(3)))?;
-    journal.add(Entry::Duplicate(1, Ok(4)))?;
-    journal.spawn([Stdio::Null, Stdio::End(3), Stdio::End(4)], Ok(5))?;
-    journal.add(Entry::Close(2))?;
-    journal.add(Entry::Close(1))?;
     let wanted = "got [1, 2, 3, 4] spent [3, 4, 2, 1] balanced true held 0 trace 3";
-    assert_eq!(rt; journal.checked()?.as_str(), wanted);
-    assert_eq!(rt; journal.origin(3), Source::Opened(2));
-    assert_eq!(rt; journal.origin(4), Source::ParentOf(Side::Out));
-    Ok(())
+    let file = Source::Opened(2);
+    says(
+        &rt,
+        &A_FILE,
+        wanted,
+        &[(3, file), (4, Source::ParentOf(Side::Out))],
+    )
 }
 
 #[test]
 fn a_number_spent_twice(rt: HostRuntime) -> Result<(), Fail> {
-    let mut journal = Written::new(rt.alloc());
-    journal.open_read("f", Ok(1))?;
-    journal.add(Entry::Close(1))?;
-    journal.add(Entry::Drain(1, Ok(())))?;
-    let wanted = "got [1] spent [1, 1] balanced false held 0 trace 2";
-    assert_eq!(rt; journal.checked()?.as_str(), wanted);
-    Ok(())
+    says(
+        &rt,
+        &[Note::OpenRead(Ok(1)), Note::Close(1), Note::Drain(1)],
+        "got [1] spent [1, 1] balanced false held 0 trace 2",
+        &[],
+    )
 }
 
 #[test]
 fn a_number_never_spent(rt: HostRuntime) -> Result<(), Fail> {
-    let mut journal = Written::new(rt.alloc());
-    journal.add(Entry::Pipe(Ok((1, 2))))?;
-    journal.feed(2, Err(REFUSED))?;
-    let wanted = "got [1, 2] spent [2] balanced false held 1 trace 2";
-    assert_eq!(rt; journal.checked()?.as_str(), wanted);
-    Ok(())
+    says(
+        &rt,
+        &[Note::Pipe(Ok((1, 2))), Note::Feed(2, Err(REFUSED))],
+        "got [1, 2] spent [2] balanced false held 1 trace 2",
+        &[],
+    )
 }
 
 #[test]
 fn a_number_got_twice(rt: HostRuntime) -> Result<(), Fail> {
-    let mut journal = Written::new(rt.alloc());
-    journal.open_read("f", Ok(1))?;
-    journal.create("g", Ok(1))?;
-    journal.add(Entry::Reader(1))?;
-    journal.add(Entry::Close(1))?;
-    let wanted = "got [1, 1] spent [1, 1] balanced false held 0 trace 3";
-    assert_eq!(rt; journal.checked()?.as_str(), wanted);
-    Ok(())
+    says(
+        &rt,
+        &[
+            Note::OpenRead(Ok(1)),
+            Note::Create(Ok(1)),
+            Note::Reader(1),
+            Note::Close(1),
+        ],
+        "got [1, 1] spent [1, 1] balanced false held 0 trace 3",
+        &[],
+    )
 }
+
+const DUPLICATES: [Note; 4] = [
+    Note::Parent(Side::Err, Ok(1)),
+    Note::Duplicate(1, Ok(2)),
+    Note::Duplicate(2, Ok(3)),
+    Note::Duplicate(3, Err(REFUSED)),
+];
 
 #[test]
 fn a_duplicate_of_a_duplicate(rt: HostRuntime) -> Result<(), Fail> {
-    let mut journal = Written::new(rt.alloc());
-    journal.add(Entry::Parent(Side::Err, Ok(1)))?;
-    journal.add(Entry::Duplicate(1, Ok(2)))?;
-    journal.add(Entry::Duplicate(2, Ok(3)))?;
-    journal.add(Entry::Duplicate(3, Err(REFUSED)))?;
-    for (number, wanted) in [(3, Source::ParentOf(Side::Err)), (4, Source::Lent(4))] {
-        assert_eq!(rt; journal.origin(number), wanted);
-    }
+    let parent = Source::ParentOf(Side::Err);
     let wanted = "got [1, 2, 3] spent [] balanced false held 3 trace 0";
-    assert_eq!(rt; journal.checked()?.as_str(), wanted);
-    Ok(())
+    says(
+        &rt,
+        &DUPLICATES,
+        wanted,
+        &[(3, parent), (4, Source::Lent(4))],
+    )
 }
+
+/// An end of somebody else, and its close.
+const ADOPTED: [Note; 3] = [
+    Note::Duplicate(1, Ok(2)),
+    Note::Spawn([Stdio::End(2), INHERIT, INHERIT], Ok(3)),
+    Note::Close(1),
+];
 
 #[test]
 fn an_adopted_end(rt: HostRuntime) -> Result<(), Fail> {
-    let mut journal = Written::new(rt.alloc());
-    journal.add(Entry::Duplicate(1, Ok(2)))?;
-    journal.spawn([Stdio::End(2), INHERIT, INHERIT], Ok(3))?;
     let wanted = "got [2] spent [2] balanced true held 0 trace 1";
-    assert_eq!(rt; journal.checked()?.as_str(), wanted);
-    assert_eq!(rt; journal.origin(2), Source::Lent(1));
-    journal.add(Entry::Close(1))?;
+    says(&rt, &ADOPTED[..2], wanted, &[(2, Source::Lent(1))])?;
     let wanted = "got [2] spent [2, 1] balanced false held 0 trace 1";
-    assert_eq!(rt; journal.checked()?.as_str(), wanted);
-    Ok(())
+    says(&rt, &ADOPTED, wanted, &[])
 }
+
+/// A refused spawn takes its ends, and one of them is closed again.
+const TAKEN: [Note; 3] = [
+    Note::Pipe(Ok((1, 2))),
+    Note::Spawn([Stdio::End(1), Stdio::End(2), INHERIT], Err(REFUSED)),
+    Note::Close(1),
+];
 
 #[test]
 fn a_close_of_an_end_that_a_refused_spawn_took(rt: HostRuntime) -> Result<(), Fail> {
-    let mut journal = Written::new(rt.alloc());
-    journal.add(Entry::Pipe(Ok((1, 2))))?;
-    journal.spawn([Stdio::End(1), Stdio::End(2), INHERIT], Err(REFUSED))?;
     let wanted = "got [1, 2] spent [1, 2] balanced true held 0 trace 2";
-    assert_eq!(rt; journal.checked()?.as_str(), wanted);
-    journal.add(Entry::Close(1))?;
+    says(&rt, &TAKEN[..2], wanted, &[])?;
     let wanted = "got [1, 2] spent [1, 2, 1] balanced false held 0 trace 2";
-    assert_eq!(rt; journal.checked()?.as_str(), wanted);
-    Ok(())
+    says(&rt, &TAKEN, wanted, &[])
 }
 
 #[test]
 fn refused_requests_get_nothing(rt: HostRuntime) -> Result<(), Fail> {
-    let mut journal = Written::new(rt.alloc());
-    journal.add(Entry::Pipe(Err(REFUSED)))?;
-    journal.open_read("f", Err(REFUSED))?;
-    journal.create("g", Err(REFUSED))?;
-    journal.add(Entry::Parent(Side::Out, Err(REFUSED)))?;
-    let path = String::from_str(rt.alloc(), "./x")?;
-    journal.add(Entry::Canonicalize(path, Err(REFUSED)))?;
-    let wanted = "got [] spent [] balanced true held 0 trace 4";
-    assert_eq!(rt; journal.checked()?.as_str(), wanted);
-    Ok(())
+    says(
+        &rt,
+        &[
+            Note::Pipe(Err(REFUSED)),
+            Note::OpenRead(Err(REFUSED)),
+            Note::Create(Err(REFUSED)),
+            Note::Parent(Side::Out, Err(REFUSED)),
+            Note::Canonicalize(REFUSED),
+        ],
+        "got [] spent [] balanced true held 0 trace 4",
+        &[],
+    )
+}
+
+fn push_words(text: &mut String, entry: &Entry) -> Result<(), AllocError> {
+    write!(text, "{} | ", Words(entry))
+}
+
+/// The entries of the trace, in words.
+fn traced(alloc: Global, entries: &[Entry]) -> Result<String, AllocError> {
+    let trace = trace(alloc, entries)?;
+    let mut text = String::new(alloc);
+    for entry in trace.iter() {
+        push_words(&mut text, entry)?;
+    }
+    Ok(text)
 }
 
 /// The trace keeps the entries and their order.
 #[test]
 fn the_trace_in_order(rt: HostRuntime) -> Result<(), Fail> {
-    let mut journal = Written::new(rt.alloc());
-    journal.add(Entry::Pipe(Ok((1, 2))))?;
-    journal.add(Entry::Duplicate(2, Ok(3)))?;
-    journal.add(Entry::Drain(1, Ok(())))?;
-    journal.add(Entry::Close(2))?;
-    journal.add(Entry::Reader(3))?;
-    let mut text = String::new(rt.alloc());
-    for entry in trace(rt.alloc(), journal.entries.as_slice())? {
-        write!(text, "{} | ", Words(entry))?;
-    }
+    let notes = [
+        Note::Pipe(Ok((1, 2))),
+        Note::Duplicate(2, Ok(3)),
+        Note::Drain(1),
+        Note::Close(2),
+        Note::Reader(3),
+    ];
+    let entries = journal(rt.alloc(), &notes)?;
+    let text = traced(rt.alloc(), entries.as_slice())?;
     assert_eq!(rt; text.as_str(), "pipe ok 1 2 | drain 1 ok | reader 3 | ");
     Ok(())
 }
