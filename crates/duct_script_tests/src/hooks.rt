@@ -1,13 +1,14 @@
 //! The hooks of the tests, and the log that they share with a scripted system.
 use crate::asks::spec_of_words;
+use crate::children::start;
 use duct_base::spec::{CommandSpec, Hook, Port, Stream};
-use duct_base::system::{Child, Fault, Kind, Stdio, System};
+use duct_base::system::{Child, Fault, Kind, System};
 use duct_script::calls::{Call, CallLog};
-use duct_script::child::ScriptChild;
 use duct_script::hook::{Change, HookAnswer, ScriptHook, Target};
 use duct_script::requests::Sort;
 use duct_script::system::Script;
 use std::alloc::{AllocError, Global};
+use std::process::Abort;
 use std::sync::Arc;
 use std::test::Fail;
 
@@ -15,25 +16,55 @@ fn text(alloc: Global, text: &str) -> Result<String, AllocError> {
     String::from_str(alloc, text)
 }
 
-/// A hook that makes each change.
-fn busy(alloc: Global) -> Result<ScriptHook, AllocError> {
+/// A change of a spec.
+#[derive(Clone, Copy)]
+enum Row {
+    Word(&'static str),
+    Var(&'static str, &'static str),
+    NoVar(&'static str),
+    NoVars,
+    Folder(&'static str),
+    Port(Stream, Target),
+}
+
+/// Each change.
+const BUSY: [Row; 9] = [
+    Row::Var("X", "0"),
+    Row::NoVars,
+    Row::Word("x"),
+    Row::Var("A", "1"),
+    Row::Var("B", "2"),
+    Row::NoVar("A"),
+    Row::Folder("/in"),
+    Row::Port(Stream::In, Target::Place(1)),
+    Row::Port(Stream::Out, Target::Null),
+];
+
+fn change_of(alloc: Global, row: Row) -> Result<Change, AllocError> {
+    Ok(match row {
+        Row::Word(word) => Change::Word(text(alloc, word)?),
+        Row::Var(name, value) => Change::Var(text(alloc, name)?, text(alloc, value)?),
+        Row::NoVar(name) => Change::NoVar(text(alloc, name)?),
+        Row::NoVars => Change::NoVars,
+        Row::Folder(folder) => Change::Folder(text(alloc, folder)?),
+        Row::Port(stream, target) => Change::Port(stream, target),
+    })
+}
+
+/// A hook that makes each change, and then answers this.
+fn busy(alloc: Global, answer: HookAnswer) -> Result<ScriptHook, AllocError> {
+    let mut changes = Vec::new(alloc);
+    for row in BUSY {
+        changes.push(change_of(alloc, row)?)?;
+    }
     let mut hook = ScriptHook::new(alloc);
-    let changes = &mut hook.changes;
-    changes.push(Change::Var(text(alloc, "X")?, text(alloc, "0")?))?;
-    changes.push(Change::NoVars)?;
-    changes.push(Change::Word(text(alloc, "x")?))?;
-    changes.push(Change::Var(text(alloc, "A")?, text(alloc, "1")?))?;
-    changes.push(Change::Var(text(alloc, "B")?, text(alloc, "2")?))?;
-    changes.push(Change::NoVar(text(alloc, "A")?))?;
-    changes.push(Change::Folder(text(alloc, "/in")?))?;
-    changes.push(Change::Port(Stream::In, Target::Place(1)))?;
-    changes.push(Change::Port(Stream::Out, Target::Null))?;
+    hook.changes = changes;
+    hook.answer = answer;
     Ok(hook)
 }
 
-/// A spec in words: the words, the folder, the variables, the ports.
-fn in_words(alloc: Global, spec: &CommandSpec) -> Result<String, Fail> {
-    let mut text = String::new(alloc);
+/// Notes the words and the variables of a spec, its folder between them.
+fn note_texts(spec: &CommandSpec, text: &mut String) -> Result<(), Fail> {
     for word in spec.words() {
         write!(text, "{word} ")?;
     }
@@ -42,6 +73,13 @@ fn in_words(alloc: Global, spec: &CommandSpec) -> Result<String, Fail> {
     for (name, value) in spec.vars()?.iter() {
         write!(text, " {name}={value}")?;
     }
+    Ok(())
+}
+
+/// A spec in words: the words, the folder, the variables, the ports.
+fn in_words(alloc: Global, spec: &CommandSpec) -> Result<String, Fail> {
+    let mut text = String::new(alloc);
+    note_texts(spec, &mut text)?;
     let input = spec.port(Stream::In);
     let output = spec.port(Stream::Out);
     let error = spec.port(Stream::Err);
@@ -49,63 +87,104 @@ fn in_words(alloc: Global, spec: &CommandSpec) -> Result<String, Fail> {
     Ok(text)
 }
 
-#[test]
-fn a_hook_makes_its_changes(rt: HostRuntime) -> Result<(), Fail> {
-    let alloc = rt.alloc();
-    let mut spec = spec_of_words(alloc, &["a"])?;
-    let hook = busy(alloc)?;
-    assert!(rt; hook.change(&mut spec).is_ok());
-    let text = in_words(alloc, &spec)?;
-    assert_eq!(rt; text.as_str(), "a x in /in B=2 Place(1) Null Inherit");
+/// What a hook makes of a spec of these words, or the fault by which it refuses.
+fn made(alloc: Global, hook: &ScriptHook, words: &[&str]) -> Result<String, Fail> {
+    let mut spec = spec_of_words(alloc, words)?;
+    match hook.change(&mut spec) {
+        Ok(()) => in_words(alloc, &spec),
+        Err(fault) => {
+            let kind = fault.kind;
+            Ok(format!(in alloc; "{kind:?}")?)
+        }
+    }
+}
+
+/// Asserts that of a busy hook with this answer.
+fn makes<R: Abort + AllocGlobal>(
+    rt: &R,
+    answer: HookAnswer,
+    words: &[&str],
+    wanted: &str,
+) -> Result<(), Fail> {
+    let hook = busy(rt.alloc(), answer)?;
+    let found = made(rt.alloc(), &hook, words)?;
+    assert_eq!(rt; found.as_str(), wanted);
     Ok(())
 }
 
 #[test]
+fn a_hook_makes_its_changes(rt: HostRuntime) -> Result<(), Fail> {
+    let wanted = "a x in /in B=2 Place(1) Null Inherit";
+    makes(&rt, HookAnswer::Obey, &["a"], wanted)
+}
+
+const REFUSED: Fault = Fault {
+    kind: Kind::PermissionDenied,
+};
+
+#[test]
 fn a_hook_refuses(rt: HostRuntime) -> Result<(), Fail> {
-    let alloc = rt.alloc();
-    let refused = Fault::new(Kind::PermissionDenied);
-    let mut hook = busy(alloc)?;
-    hook.answer = HookAnswer::Refuse(refused);
-    let mut spec = spec_of_words(alloc, &["a"])?;
-    assert_eq!(rt; hook.change(&mut spec).err(), Some(refused));
-    Ok(())
+    makes(&rt, HookAnswer::Refuse(REFUSED), &["a"], "PermissionDenied")
 }
 
 #[test]
 fn a_hook_refuses_a_word(rt: HostRuntime) -> Result<(), Fail> {
-    let alloc = rt.alloc();
-    let refused = Fault::new(Kind::PermissionDenied);
-    let mut hook = busy(alloc)?;
-    hook.answer = HookAnswer::RefuseWord(text(alloc, "x")?, refused);
-    let mut spec = spec_of_words(alloc, &["a", "xx", ""])?;
-    assert_eq!(rt; hook.change(&mut spec).err(), None);
-    let mut spec = spec_of_words(alloc, &["a", "x"])?;
-    assert_eq!(rt; hook.change(&mut spec).err(), Some(refused));
+    let word = text(rt.alloc(), "x")?;
+    let hook = busy(rt.alloc(), HookAnswer::RefuseWord(word, REFUSED))?;
+    let others = made(rt.alloc(), &hook, &["a", "xx", ""])?;
+    let found = made(rt.alloc(), &hook, &["a", "x"])?;
+    let wanted = (
+        "a xx  x in /in B=2 Place(1) Null Inherit",
+        "PermissionDenied",
+    );
+    assert_eq!(rt; (others.as_str(), found.as_str()), wanted);
     Ok(())
 }
 
-/// Starts a child with no ends.
-fn start(alloc: Global, sys: &mut Script) -> Result<ScriptChild, Fail> {
-    let io = [Stdio::Inherit, Stdio::Inherit, Stdio::Inherit];
-    Ok(sys.spawn(spec_of_words(alloc, &["a"])?, io)?)
+/// Lets a hook with a label, which shares this log, change a spec.
+fn call_hook(alloc: Global, log: &Arc<CallLog>) -> Result<(), Fail> {
+    let mut hook = ScriptHook::new(alloc);
+    hook.label = 7;
+    hook.calls = Some(Arc::try_clone(log)?);
+    let mut spec = spec_of_words(alloc, &["a"])?;
+    let _ = hook.change(&mut spec);
+    Ok(())
+}
+
+/// Starts a child, polls it, kills it, and polls it.
+fn call_child(alloc: Global, sys: &mut Script) -> Result<(), Fail> {
+    let mut child = start(alloc, sys)?;
+    let _ = child.poll();
+    let _ = child.kill();
+    let _ = child.poll();
+    Ok(())
+}
+
+/// Asks a system, a hook and a child, which share this log.
+fn call_all(alloc: Global, log: &Arc<CallLog>) -> Result<(), Fail> {
+    let shared = Arc::try_clone(log)?;
+    let mut sys = Script::new(alloc)?;
+    sys.note_in(shared);
+    let _ = sys.environment()?;
+    call_hook(alloc, log)?;
+    call_child(alloc, &mut sys)
+}
+
+/// The calls at the first six places of that log, which has five, and how many were noted.
+fn calls_of(alloc: Global) -> Result<([Option<Call>; 6], u64), Fail> {
+    let log = Arc::new(alloc, CallLog::new(alloc, 5)?)?;
+    call_all(alloc, &log)?;
+    let mut calls = [None; 6];
+    for (place, call) in calls.iter_mut().enumerate() {
+        *call = log.get(place);
+    }
+    Ok((calls, log.noted()))
 }
 
 #[test]
 fn a_log_has_all_calls_in_order(rt: HostRuntime) -> Result<(), Fail> {
-    let alloc = rt.alloc();
-    let log = Arc::new(alloc, CallLog::new(alloc, 5)?)?;
-    let mut sys = Script::new(alloc)?;
-    sys.note_in(Arc::try_clone(&log)?);
-    let mut hook = ScriptHook::new(alloc);
-    hook.label = 7;
-    hook.calls = Some(Arc::try_clone(&log)?);
-    let _ = sys.environment()?;
-    let _ = hook.change(&mut spec_of_words(alloc, &["a"])?);
-    let mut child = start(alloc, &mut sys)?;
-    let _ = child.poll();
-    let _ = child.kill();
-    let _ = child.poll();
-    let wanted = [
+    let found = calls_of(rt.alloc())?;
+    let calls = [
         Some(Call::Request(Sort::Environment)),
         Some(Call::Hook(7)),
         Some(Call::Request(Sort::Spawn)),
@@ -113,9 +192,6 @@ fn a_log_has_all_calls_in_order(rt: HostRuntime) -> Result<(), Fail> {
         Some(Call::Order(1)),
         None,
     ];
-    for (place, call) in wanted.iter().enumerate() {
-        assert_eq!(rt; log.get(place), *call);
-    }
-    assert_eq!(rt; log.noted(), 6);
+    assert_eq!(rt; found, (calls, 6));
     Ok(())
 }
