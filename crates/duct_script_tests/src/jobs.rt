@@ -32,7 +32,7 @@ fn fed(feed: &mut ScriptFeed, text: &mut String) -> Result<(), AllocError> {
     }
     let polls = feed.polls();
     let number = feed.number();
-    write!(text, "| {polls} polls | number {number}\n")
+    writeln!(text, "| {polls} polls | number {number}")
 }
 
 /// Starts a feed, and notes the same of it.
@@ -90,7 +90,7 @@ fn drained(drain: &mut ScriptDrain, text: &mut String) -> Result<(), AllocError>
     }
     let polls = drain.polls();
     let number = drain.number();
-    write!(text, "| {polls} polls | number {number}\n")
+    writeln!(text, "| {polls} polls | number {number}")
 }
 
 /// Starts a drain, and notes the same of it.
