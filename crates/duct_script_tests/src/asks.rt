@@ -76,18 +76,33 @@ impl Bench {
 
     /// The answers, the numbers of the ends that aren't spent, the requests, the room, and then the journal.
     pub fn outcome(&self) -> Result<String, AllocError> {
+        let mut text = self.summary()?;
+        let journal = journal_in_words(self.alloc, self.sys.journal())?;
+        text.push_str(journal.as_str())?;
+        Ok(text)
+    }
+
+    /// That with no journal.
+    fn summary(&self) -> Result<String, AllocError> {
+        let answers = self.answers.as_str();
+        let held = self.held()?;
+        let requests = self.sys.requests();
+        let room = self.sys.room();
         let mut text = String::new(self.alloc);
-        text.push_str(self.answers.as_str())?;
-        text.push_str("| held")?;
+        writeln!(
+            text,
+            "{answers}| held{held} | asked {requests} | room {room}"
+        )?;
+        Ok(text)
+    }
+
+    /// The numbers of the ends that aren't spent, each behind a space.
+    fn held(&self) -> Result<String, AllocError> {
+        let mut text = String::new(self.alloc);
         for end in self.ends.iter() {
             let number = end.number();
             write!(text, " {number}")?;
         }
-        let requests = self.sys.requests();
-        let room = self.sys.room();
-        writeln!(text, " | asked {requests} | room {room}")?;
-        let journal = journal_in_words(self.alloc, self.sys.journal())?;
-        text.push_str(journal.as_str())?;
         Ok(text)
     }
 

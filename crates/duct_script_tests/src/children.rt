@@ -18,8 +18,9 @@ const NOT_FOUND: Fault = Fault {
 
 /// Starts a child with no ends.
 pub fn start(alloc: Global, sys: &mut Script) -> Result<ScriptChild, Fail> {
+    let spec = spec_of_words(alloc, &["a"])?;
     let io = [Stdio::Inherit, Stdio::Inherit, Stdio::Inherit];
-    Ok(sys.spawn(spec_of_words(alloc, &["a"])?, io)?)
+    Ok(sys.spawn(spec, io)?)
 }
 
 /// Starts a child after these requests, and gives it beside their answers.
@@ -109,23 +110,22 @@ fn order(child: &mut ScriptChild) -> bool {
     child.kill().is_ok()
 }
 
-/// The orders that were given to a child, and its count of polls.
-fn orders_of(alloc: Global, child: &ScriptChild, last: bool) -> Result<String, AllocError> {
-    let mut text = String::new(alloc);
+/// Notes the orders that were given to a child, and its count of polls.
+fn note_orders(child: &ScriptChild, last: bool, text: &mut String) -> Result<(), AllocError> {
     for (order, answer) in child.orders() {
         let obeyed = answer.is_ok();
         write!(text, "{order:?} {obeyed} | ")?;
     }
     let polls = child.polls();
-    write!(text, "{last} | {polls} polls")?;
-    Ok(text)
+    write!(text, "{last} | {polls} polls")
 }
 
 /// What comes of those orders to a child that is started after these requests.
 fn ordered(alloc: Global, asks: &[Ask]) -> Result<String, Fail> {
-    let (mut child, _) = start_after(alloc, asks)?;
+    let (mut child, mut text) = start_after(alloc, asks)?;
     let last = order(&mut child);
-    Ok(orders_of(alloc, &child, last)?)
+    note_orders(&child, last, &mut text)?;
+    Ok(text)
 }
 
 /// Asserts what comes of them.
@@ -148,20 +148,19 @@ fn a_child_with_no_list_obeys(rt: HostRuntime) -> Result<(), Fail> {
     orders_tell(&rt, &[], wanted)
 }
 
-/// What a clock shows that is asked three times, in seconds, and how often it was asked.
-fn shown(clock: &ScriptClock) -> ([u64; 3], u64) {
-    let first = clock.now().as_secs();
-    let second = clock.now().as_secs();
-    let third = clock.now().as_secs();
-    ([first, second, third], clock.asked())
+/// What a clock of these moments shows that is asked three times, and how often it was asked.
+fn shown(alloc: Global, moments: &[Duration]) -> Result<([Duration; 3], u64), AllocError> {
+    let clock = ScriptClock::new(Vec::from_slice(alloc, moments)?);
+    let shown = [clock.now(), clock.now(), clock.now()];
+    Ok((shown, clock.asked()))
 }
 
 #[test]
 fn a_clock_shows_its_moments(rt: HostRuntime) -> Result<(), Fail> {
-    let moments = [Duration::from_secs(1), Duration::from_secs(5)];
-    let clock = ScriptClock::new(Vec::from_slice(rt.alloc(), &moments)?);
-    let none = ScriptClock::new(Vec::new(rt.alloc()));
-    let found = (shown(&clock), none.now());
-    assert_eq!(rt; found, (([1, 5, 5], 3), Duration::ZERO));
+    let one = Duration::from_secs(1);
+    let five = Duration::from_secs(5);
+    let found = (shown(rt.alloc(), &[one, five])?, shown(rt.alloc(), &[])?);
+    let wanted = (([one, five, five], 3), ([Duration::ZERO; 3], 3));
+    assert_eq!(rt; found, wanted);
     Ok(())
 }

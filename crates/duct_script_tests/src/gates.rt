@@ -66,9 +66,10 @@ fn let_in(rt: &impl Threads, gate: &Gate, guest: Guest) -> Result<(u64, u64, u64
 
 /// A child whose number is behind a gate.
 fn gated_child(alloc: Global, gate: &Gate) -> Result<ScriptChild, Fail> {
-    let mut script = ChildScript::running(alloc);
-    script.gate = Some(gate.share()?);
+    let shared = gate.share()?;
     let mut sys = Script::new(alloc)?;
+    let mut script = ChildScript::running(alloc);
+    script.gate = Some(shared);
     sys.child(script)?;
     start(alloc, &mut sys)
 }
@@ -85,9 +86,11 @@ fn a_number_waits_at_a_shut_gate(rt: HostRuntime) -> Result<(), Fail> {
 
 /// A reader of one byte, whose reads are behind a gate.
 fn gated_reader(alloc: Global, gate: &Gate) -> Result<ScriptReader, Fail> {
+    let bytes = Vec::from_slice(alloc, &[7])?;
+    let shared = gate.share()?;
     let mut script = ReaderScript::empty(alloc);
-    script.bytes = Vec::from_slice(alloc, &[7])?;
-    script.gate = Some(gate.share()?);
+    script.bytes = bytes;
+    script.gate = Some(shared);
     reader_by(alloc, script)
 }
 

@@ -57,46 +57,59 @@ fn busy(alloc: Global, answer: HookAnswer) -> Result<ScriptHook, AllocError> {
     for row in BUSY {
         changes.push(change_of(alloc, row)?)?;
     }
-    let mut hook = ScriptHook::new(alloc);
-    hook.changes = changes;
-    hook.answer = answer;
-    Ok(hook)
+    Ok(ScriptHook {
+        changes,
+        answer,
+        label: 0,
+        calls: None,
+    })
 }
 
-/// Notes the words and the variables of a spec, its folder between them.
-fn note_texts(spec: &CommandSpec, text: &mut String) -> Result<(), Fail> {
+/// Notes the words and the folder of a spec.
+fn note_words(spec: &CommandSpec, text: &mut String) -> Result<(), AllocError> {
     for word in spec.words() {
         write!(text, "{word} ")?;
     }
     let folder = spec.folder().unwrap_or("none");
-    write!(text, "in {folder}")?;
+    write!(text, "in {folder}")
+}
+
+/// Notes the variables of a spec.
+fn note_variables(spec: &CommandSpec, text: &mut String) -> Result<(), Fail> {
     for (name, value) in spec.vars()?.iter() {
         write!(text, " {name}={value}")?;
     }
     Ok(())
 }
 
-/// A spec in words: the words, the folder, the variables, the ports.
-fn in_words(alloc: Global, spec: &CommandSpec) -> Result<String, Fail> {
-    let mut text = String::new(alloc);
-    note_texts(spec, &mut text)?;
+/// Notes a spec: the words, the folder, the variables, the ports.
+fn note_spec(spec: &CommandSpec, text: &mut String) -> Result<(), Fail> {
+    note_words(spec, text)?;
+    note_variables(spec, text)?;
     let input = spec.port(Stream::In);
     let output = spec.port(Stream::Out);
     let error = spec.port(Stream::Err);
-    write!(text, " {input:?} {output:?} {error:?}")?;
-    Ok(text)
+    Ok(write!(text, " {input:?} {output:?} {error:?}")?)
+}
+
+/// Notes the spec that a hook let pass, or the fault by which it refused it.
+fn note_answer(answer: Option<Fault>, spec: &CommandSpec, text: &mut String) -> Result<(), Fail> {
+    match answer {
+        None => note_spec(spec, text),
+        Some(fault) => {
+            let kind = fault.kind;
+            Ok(write!(text, "{kind:?}")?)
+        }
+    }
 }
 
 /// What a hook makes of a spec of these words, or the fault by which it refuses.
 fn made(alloc: Global, hook: &ScriptHook, words: &[&str]) -> Result<String, Fail> {
     let mut spec = spec_of_words(alloc, words)?;
-    match hook.change(&mut spec) {
-        Ok(()) => in_words(alloc, &spec),
-        Err(fault) => {
-            let kind = fault.kind;
-            Ok(format!(in alloc; "{kind:?}")?)
-        }
-    }
+    let answer = hook.change(&mut spec).err();
+    let mut text = String::new(alloc);
+    note_answer(answer, &spec, &mut text)?;
+    Ok(text)
 }
 
 /// Asserts that of a busy hook with this answer.
@@ -160,25 +173,44 @@ fn call_child(alloc: Global, sys: &mut Script) -> Result<(), Fail> {
     Ok(())
 }
 
-/// Asks a system, a hook and a child, which share this log.
-fn call_all(alloc: Global, log: &Arc<CallLog>) -> Result<(), Fail> {
+/// Asks for the environment.
+fn call_environment(sys: &mut Script) -> Result<(), Fail> {
+    sys.environment()?;
+    Ok(())
+}
+
+/// A system that shares this log.
+fn system_of(alloc: Global, log: &Arc<CallLog>) -> Result<Script, AllocError> {
     let shared = Arc::try_clone(log)?;
     let mut sys = Script::new(alloc)?;
     sys.note_in(shared);
-    let _ = sys.environment()?;
+    Ok(sys)
+}
+
+/// Asks a system, a hook and a child, which share this log.
+fn call_all(alloc: Global, log: &Arc<CallLog>) -> Result<(), Fail> {
+    let mut sys = system_of(alloc, log)?;
+    call_environment(&mut sys)?;
     call_hook(alloc, log)?;
     call_child(alloc, &mut sys)
+}
+
+fn first_six(log: &CallLog) -> [Option<Call>; 6] {
+    [
+        log.get(0),
+        log.get(1),
+        log.get(2),
+        log.get(3),
+        log.get(4),
+        log.get(5),
+    ]
 }
 
 /// The calls at the first six places of that log, which has five, and how many were noted.
 fn calls_of(alloc: Global) -> Result<([Option<Call>; 6], u64), Fail> {
     let log = Arc::new(alloc, CallLog::new(alloc, 5)?)?;
     call_all(alloc, &log)?;
-    let mut calls = [None; 6];
-    for (place, call) in calls.iter_mut().enumerate() {
-        *call = log.get(place);
-    }
-    Ok((calls, log.noted()))
+    Ok((first_six(&log), log.noted()))
 }
 
 #[test]

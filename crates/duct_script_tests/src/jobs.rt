@@ -5,6 +5,7 @@ use duct_script::job::{ScriptDrain, ScriptFeed};
 use duct_script::reader::{ReadStep, ReaderScript, ScriptReader};
 use duct_script::system::Script;
 use std::alloc::{AllocError, Global};
+use std::collections::VecDeque;
 use std::io::{ErrorKind, Read};
 use std::process::Abort;
 use std::test::Fail;
@@ -148,12 +149,13 @@ pub fn reader_by(alloc: Global, script: ReaderScript) -> Result<ScriptReader, Fa
 }
 
 fn script_of(alloc: Global, bytes: &[u8], steps: &[ReadStep]) -> Result<ReaderScript, AllocError> {
-    let mut script = ReaderScript::empty(alloc);
-    script.bytes = Vec::from_slice(alloc, bytes)?;
-    for step in steps {
-        script.steps.push_back(*step)?;
-    }
-    Ok(script)
+    let bytes = Vec::from_slice(alloc, bytes)?;
+    let steps = VecDeque::from_vec(Vec::from_slice(alloc, steps)?);
+    Ok(ReaderScript {
+        bytes,
+        steps,
+        gate: None,
+    })
 }
 
 /// The reader of a file.

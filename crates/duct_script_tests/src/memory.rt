@@ -56,8 +56,8 @@ fn memory_of_requests_is_refused_by_its_name(rt: HostRuntime) -> Result<(), Fail
 
 /// Starts a child with no ends.
 fn started(alloc: Global, sys: &mut Script) -> Option<ScriptChild> {
-    let io = [Stdio::Inherit, Stdio::Inherit, Stdio::Inherit];
     let spec = spec_of_words(alloc, &["a"]).ok()?;
+    let io = [Stdio::Inherit, Stdio::Inherit, Stdio::Inherit];
     sys.spawn(spec, io).ok()
 }
 
