@@ -138,6 +138,12 @@ impl Bench {
                 self.sys.clear_journal();
                 Ok(())
             }
+            Ask::Polls(_) | Ask::Orders(_, _) | Ask::FeedSays(_) | Ask::DrainSays(_) => self.list(
+                ask,
+            ),
+            Ask::Spawn(_, _, _) | Ask::Feed(_) | Ask::Drain(_) | Ask::Reader(_) | Ask::Close(_) => {
+                self.spend(ask)
+            }
             other => self.set(other),
         }
     }
@@ -159,7 +165,7 @@ impl Bench {
                 self.sys.skip_numbers_below(number);
                 Ok(())
             }
-            other => self.list(other),
+            _ => Ok(()),
         }
     }
 
@@ -179,7 +185,7 @@ impl Bench {
                 let script = drain_of(self.alloc, words)?;
                 self.sys.drain(script)
             }
-            spends => self.spend(spends),
+            _ => Ok(()),
         }
     }
 
@@ -366,10 +372,16 @@ pub fn spec_of_words(alloc: Global, words: &[&str]) -> Result<CommandSpec, Alloc
     Ok(spec_of(texts, None, vars, inherit, inherit, inherit))
 }
 
-/// What comes of these requests.
-fn outcome_of(alloc: Global, asks: &[Ask]) -> Result<String, AllocError> {
+/// A system that was asked these requests.
+pub fn asked(alloc: Global, asks: &[Ask]) -> Result<Bench, AllocError> {
     let mut bench = Bench::new(alloc)?;
     bench.ask_all(asks)?;
+    Ok(bench)
+}
+
+/// What comes of these requests.
+fn outcome_of(alloc: Global, asks: &[Ask]) -> Result<String, AllocError> {
+    let bench = asked(alloc, asks)?;
     bench.outcome()
 }
 

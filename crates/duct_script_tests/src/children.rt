@@ -1,5 +1,5 @@
 //! The children of a scripted system, and its clock.
-use crate::asks::{Ask, Bench, spec_of_words};
+use crate::asks::{Ask, asked, spec_of_words};
 use duct_base::system::{Child, Clock, ExitStatus, Fault, Kind, Stdio, System};
 use duct_script::child::{PollAnswer, ScriptChild};
 use duct_script::clock::ScriptClock;
@@ -25,8 +25,7 @@ pub fn start(alloc: Global, sys: &mut Script) -> Result<ScriptChild, Fail> {
 
 /// Starts a child after these requests, and gives it beside their answers.
 fn start_after(alloc: Global, asks: &[Ask]) -> Result<(ScriptChild, String), Fail> {
-    let mut bench = Bench::new(alloc)?;
-    bench.ask_all(asks)?;
+    let mut bench = asked(alloc, asks)?;
     let child = start(alloc, &mut bench.sys)?;
     Ok((child, bench.answers))
 }

@@ -112,15 +112,20 @@ fn made(alloc: Global, hook: &ScriptHook, words: &[&str]) -> Result<String, Fail
     Ok(text)
 }
 
-/// Asserts that of a busy hook with this answer.
+/// The same of a busy hook with this answer.
+fn outcome(alloc: Global, answer: HookAnswer, words: &[&str]) -> Result<String, Fail> {
+    let hook = busy(alloc, answer)?;
+    made(alloc, &hook, words)
+}
+
+/// Asserts what it makes.
 fn makes<R: Abort + AllocGlobal>(
     rt: &R,
     answer: HookAnswer,
     words: &[&str],
     wanted: &str,
 ) -> Result<(), Fail> {
-    let hook = busy(rt.alloc(), answer)?;
-    let found = made(rt.alloc(), &hook, words)?;
+    let found = outcome(rt.alloc(), answer, words)?;
     assert_eq!(rt; found.as_str(), wanted);
     Ok(())
 }
@@ -143,15 +148,12 @@ fn a_hook_refuses(rt: HostRuntime) -> Result<(), Fail> {
 #[test]
 fn a_hook_refuses_a_word(rt: HostRuntime) -> Result<(), Fail> {
     let word = text(rt.alloc(), "x")?;
-    let hook = busy(rt.alloc(), HookAnswer::RefuseWord(word, REFUSED))?;
-    let others = made(rt.alloc(), &hook, &["a", "xx", ""])?;
-    let found = made(rt.alloc(), &hook, &["a", "x"])?;
-    let wanted = (
-        "a xx  x in /in B=2 Place(1) Null Inherit",
-        "PermissionDenied",
-    );
-    assert_eq!(rt; (others.as_str(), found.as_str()), wanted);
-    Ok(())
+    let wanted = "a xx  x in /in B=2 Place(1) Null Inherit";
+    let answer = HookAnswer::RefuseWord(word, REFUSED);
+    makes(&rt, answer, &["a", "xx", ""], wanted)?;
+    let word = text(rt.alloc(), "x")?;
+    let answer = HookAnswer::RefuseWord(word, REFUSED);
+    makes(&rt, answer, &["a", "x"], "PermissionDenied")
 }
 
 /// Lets a hook with a label, which shares this log, change a spec.

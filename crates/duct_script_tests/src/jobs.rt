@@ -1,5 +1,5 @@
 //! The feeds, drains and readers of a scripted system.
-use crate::asks::{Ask, Bench, shared};
+use crate::asks::{Ask, Bench, asked, shared};
 use duct_base::system::{Fault, Job, Kind, Numbered, Said, System};
 use duct_script::job::{ScriptDrain, ScriptFeed};
 use duct_script::reader::{ReadStep, ReaderScript, ScriptReader};
@@ -42,12 +42,15 @@ fn feed_once(bench: &mut Bench) -> Result<(), Fail> {
     Ok(fed(&mut job, &mut bench.answers)?)
 }
 
+fn feed_twice(bench: &mut Bench) -> Result<(), Fail> {
+    feed_once(bench)?;
+    feed_once(bench)
+}
+
 /// What two feeds say that are started after these requests.
 fn two_feeds(alloc: Global, asks: &[Ask]) -> Result<String, Fail> {
-    let mut bench = Bench::new(alloc)?;
-    bench.ask_all(asks)?;
-    feed_once(&mut bench)?;
-    feed_once(&mut bench)?;
+    let mut bench = asked(alloc, asks)?;
+    feed_twice(&mut bench)?;
     Ok(bench.answers)
 }
 
@@ -100,12 +103,15 @@ fn drain_once(bench: &mut Bench) -> Result<(), Fail> {
     Ok(drained(&mut job, &mut bench.answers)?)
 }
 
+fn drain_twice(bench: &mut Bench) -> Result<(), Fail> {
+    drain_once(bench)?;
+    drain_once(bench)
+}
+
 /// What two drains say that are started after these requests.
 fn two_drains(alloc: Global, asks: &[Ask]) -> Result<String, Fail> {
-    let mut bench = Bench::new(alloc)?;
-    bench.ask_all(asks)?;
-    drain_once(&mut bench)?;
-    drain_once(&mut bench)?;
+    let mut bench = asked(alloc, asks)?;
+    drain_twice(&mut bench)?;
     Ok(bench.answers)
 }
 

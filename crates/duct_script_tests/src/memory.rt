@@ -1,5 +1,5 @@
 //! What comes of refused memory. The test passes with ample memory, and also where any one request for memory is refused.
-use crate::asks::{Ask, Bench, spec_of_words};
+use crate::asks::{Ask, asked, spec_of_words};
 use duct_base::system::{Child, Entry, Side, Stdio, System};
 use duct_script::checker::{got, held, is_balanced, spent, trace};
 use duct_script::child::ScriptChild;
@@ -26,13 +26,6 @@ const ALL: [Ask; 15] = [
     Ask::Environment,
 ];
 
-/// A system that was asked all of these.
-fn asked(alloc: Global) -> Result<Bench, AllocError> {
-    let mut bench = Bench::new(alloc)?;
-    bench.ask_all(&ALL)?;
-    Ok(bench)
-}
-
 /// Whether an answer is one that these requests may have.
 fn is_known(word: &str) -> bool {
     word == "" || word == "ok" || word == "reader-4" || word == "OutOfMemory"
@@ -40,7 +33,7 @@ fn is_known(word: &str) -> bool {
 
 /// The answers to these requests, if there is memory for them.
 fn answers(alloc: Global) -> Option<String> {
-    let bench = asked(alloc).ok()?;
+    let bench = asked(alloc, &ALL).ok()?;
     Some(bench.answers)
 }
 
@@ -93,7 +86,7 @@ fn checked(
 
 /// The same of the journal of these requests.
 fn all_checked(alloc: Global) -> Result<(usize, usize, bool, usize, bool), AllocError> {
-    let bench = asked(alloc)?;
+    let bench = asked(alloc, &ALL)?;
     checked(alloc, bench.sys.journal())
 }
 
