@@ -1,11 +1,17 @@
 //! A list of requests that is asked of a scripted system, and what comes of it, in words.
 use duct_base::spec::{CommandSpec, Port, spec_of};
-use duct_base::system::{Fault, Numbered, Side, Stdio, System};
+use duct_base::system::{Fault, Kind, Numbered, Said, Side, Stdio, System};
+use duct_script::answers::Answers;
+use duct_script::child::{ChildScript, PollAnswer};
+use duct_script::job::DrainScript;
+use duct_script::requests::Sort;
 use duct_script::system::{Script, ScriptEnd};
 use duct_script::text::journal_in_words;
 use std::alloc::{AllocError, Global};
 use std::collections::BTreeMap;
+use std::process::Abort;
 use std::sync::Arc;
+use std::test::Fail;
 
 /// A request. An end is named by its number.
 #[derive(Clone, Copy)]
@@ -26,6 +32,19 @@ pub enum Ask {
     Adopt,
     /// No request: the journal is cleared.
     Clear,
+    /// No requests: what the system is to answer.
+    Variable(&'static str, &'static str),
+    Canonical(&'static str, &'static str),
+    Refuse(u64, Kind),
+    RefuseSort(Sort, u64, Kind),
+    Starve(bool),
+    Skip(u64),
+    /// No requests: what the next child, feed or drain says. A child has the list of its polls, or those of its kills and its
+    /// signals.
+    Polls(&'static [PollAnswer]),
+    Orders(&'static [Result<(), Fault>], &'static [Result<(), Fault>]),
+    FeedSays(&'static [Said<()>]),
+    DrainSays(&'static [Said<&'static [u8]>]),
 }
 
 /// A system, the ends that it gave and that aren't spent, and the answers so far.
@@ -57,18 +76,33 @@ impl Bench {
 
     /// The answers, the numbers of the ends that aren't spent, the requests, the room, and then the journal.
     pub fn outcome(&self) -> Result<String, AllocError> {
+        let mut text = self.summary()?;
+        let journal = journal_in_words(self.alloc, self.sys.journal())?;
+        text.push_str(journal.as_str())?;
+        Ok(text)
+    }
+
+    /// That with no journal.
+    fn summary(&self) -> Result<String, AllocError> {
+        let answers = self.answers.as_str();
+        let held = self.held()?;
+        let requests = self.sys.requests();
+        let room = self.sys.room();
         let mut text = String::new(self.alloc);
-        text.push_str(self.answers.as_str())?;
-        text.push_str("| held")?;
+        writeln!(
+            text,
+            "{answers}| held{held} | asked {requests} | room {room}"
+        )?;
+        Ok(text)
+    }
+
+    /// The numbers of the ends that aren't spent, each behind a space.
+    fn held(&self) -> Result<String, AllocError> {
+        let mut text = String::new(self.alloc);
         for end in self.ends.iter() {
             let number = end.number();
             write!(text, " {number}")?;
         }
-        let requests = self.sys.requests();
-        let room = self.sys.room();
-        writeln!(text, " | asked {requests} | room {room}")?;
-        let journal = journal_in_words(self.alloc, self.sys.journal())?;
-        text.push_str(journal.as_str())?;
         Ok(text)
     }
 
@@ -104,7 +138,54 @@ impl Bench {
                 self.sys.clear_journal();
                 Ok(())
             }
-            spends => self.spend(spends),
+            Ask::Polls(_) | Ask::Orders(_, _) | Ask::FeedSays(_) | Ask::DrainSays(_) => self.list(
+                ask,
+            ),
+            Ask::Spawn(_, _, _) | Ask::Feed(_) | Ask::Drain(_) | Ask::Reader(_) | Ask::Close(_) => {
+                self.spend(ask)
+            }
+            other => self.set(other),
+        }
+    }
+
+    /// Sets what the system is to answer.
+    fn set(&mut self, ask: Ask) -> Result<(), AllocError> {
+        match ask {
+            Ask::Variable(name, value) => self.sys.variable(name, value),
+            Ask::Canonical(path, name) => self.sys.canonical(path, name),
+            Ask::Refuse(request, kind) => self.sys.refuse(request, Fault::new(kind)),
+            Ask::RefuseSort(sort, place, kind) => self
+                .sys
+                .refuse_sort(sort, place, Fault::new(kind)),
+            Ask::Starve(starved) => {
+                self.sys.starve(starved);
+                Ok(())
+            }
+            Ask::Skip(number) => {
+                self.sys.skip_numbers_below(number);
+                Ok(())
+            }
+            _ => Ok(()),
+        }
+    }
+
+    /// Sets what a child, a feed or a drain says.
+    fn list(&mut self, ask: Ask) -> Result<(), AllocError> {
+        match ask {
+            Ask::Polls(answers) => self.sys.polls(answers),
+            Ask::Orders(kills, signals) => {
+                let script = ordered(self.alloc, kills, signals)?;
+                self.sys.child(script)
+            }
+            Ask::FeedSays(words) => {
+                let script = Answers::of(Vec::from_slice(self.alloc, words)?);
+                self.sys.feed(script)
+            }
+            Ask::DrainSays(words) => {
+                let script = drain_of(self.alloc, words)?;
+                self.sys.drain(script)
+            }
+            _ => Ok(()),
         }
     }
 
@@ -194,7 +275,7 @@ impl Bench {
     }
 
     fn feed(&mut self, number: u64) -> Result<(), AllocError> {
-        let bytes = Arc::new(self.alloc, Vec::from_slice(self.alloc, b"xyz")?)?;
+        let bytes = shared(self.alloc, b"xyz")?;
         if let Some(end) = self.take(number) {
             if self.sys.room() > 0 {
                 let fault = self.sys.start_feed(end, bytes).err();
@@ -235,6 +316,42 @@ impl Bench {
     }
 }
 
+/// What a child answers that has these lists for kills and for signals.
+fn ordered(
+    alloc: Global,
+    kills: &[Result<(), Fault>],
+    signals: &[Result<(), Fault>],
+) -> Result<ChildScript, AllocError> {
+    let kills = Answers::of(Vec::from_slice(alloc, kills)?);
+    let signals = Answers::of(Vec::from_slice(alloc, signals)?);
+    let mut script = ChildScript::running(alloc);
+    script.kills = kills;
+    script.signals = signals;
+    Ok(script)
+}
+
+/// What a drain says by these words.
+fn drain_of(alloc: Global, words: &[Said<&[u8]>]) -> Result<DrainScript, AllocError> {
+    let mut said = Vec::new(alloc);
+    for word in words {
+        said.push(word_of(alloc, *word)?)?;
+    }
+    Ok(DrainScript::from_vec(said))
+}
+
+fn word_of(alloc: Global, word: Said<&[u8]>) -> Result<Said<Arc<Vec<u8>>>, AllocError> {
+    Ok(match word {
+        Said::Running => Said::Running,
+        Said::Done(bytes) => Said::Done(shared(alloc, bytes)?),
+        Said::Fault(fault) => Said::Fault(fault),
+    })
+}
+
+/// These bytes, with one owner.
+pub fn shared(alloc: Global, bytes: &[u8]) -> Result<Arc<Vec<u8>>, AllocError> {
+    Ok(Arc::new(alloc, Vec::from_slice(alloc, bytes)?)?)
+}
+
 /// Spawns a child where there is room for its entry, or where no stream is an end, and answers its fault.
 fn spawned(sys: &mut Script, spec: CommandSpec, io: [Stdio<ScriptEnd>; 3]) -> Option<Fault> {
     if sys.room() > 0 {
@@ -253,4 +370,24 @@ pub fn spec_of_words(alloc: Global, words: &[&str]) -> Result<CommandSpec, Alloc
     let vars = BTreeMap::new(alloc);
     let inherit = Port::Inherit;
     Ok(spec_of(texts, None, vars, inherit, inherit, inherit))
+}
+
+/// A system that was asked these requests.
+pub fn asked(alloc: Global, asks: &[Ask]) -> Result<Bench, AllocError> {
+    let mut bench = Bench::new(alloc)?;
+    bench.ask_all(asks)?;
+    Ok(bench)
+}
+
+/// What comes of these requests.
+fn outcome_of(alloc: Global, asks: &[Ask]) -> Result<String, AllocError> {
+    let bench = asked(alloc, asks)?;
+    bench.outcome()
+}
+
+/// Asserts what comes of these requests.
+pub fn tells<R: Abort + AllocGlobal>(rt: &R, asks: &[Ask], wanted: &str) -> Result<(), Fail> {
+    let found = outcome_of(rt.alloc(), asks)?;
+    assert_eq!(rt; found.as_str(), wanted);
+    Ok(())
 }

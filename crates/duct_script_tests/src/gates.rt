@@ -1,6 +1,7 @@
 //! The gates of the tests.
-use crate::asks::spec_of_words;
-use duct_base::system::{Numbered, Stdio, System};
+use crate::children::start;
+use crate::jobs::reader_by;
+use duct_base::system::Numbered;
 use duct_script::child::{ChildScript, ScriptChild};
 use duct_script::gate::Gate;
 use duct_script::gated::Gated;
@@ -8,9 +9,9 @@ use duct_script::reader::{ReaderScript, ScriptReader};
 use duct_script::system::Script;
 use std::alloc::Global;
 use std::io::{Read, Write};
-use std::process::Abort;
 use std::test::Fail;
 use std::thread;
+use std::thread::Threads;
 
 /// How many threads stand at a gate, once one does.
 fn stands(gate: &Gate) -> u64 {
@@ -23,40 +24,21 @@ fn stands(gate: &Gate) -> u64 {
     gate.standing()
 }
 
-/// A child whose number is behind a gate.
-fn gated_child(alloc: Global, gate: &Gate) -> Result<ScriptChild, Fail> {
-    let mut script = ChildScript::running(alloc);
-    script.gate = Some(gate.share()?);
-    let mut sys = Script::new(alloc)?;
-    sys.child(script)?;
-    let io = [Stdio::Inherit, Stdio::Inherit, Stdio::Inherit];
-    Ok(sys.spawn(spec_of_words(alloc, &["a"])?, io)?)
+/// What has a gate to pass.
+#[derive(Drop)]
+enum Guest {
+    Child(ScriptChild),
+    Reader(ScriptReader),
+    Writer(Gated<Vec<u8>>),
 }
 
-#[test]
-fn a_number_waits_at_a_shut_gate(rt: HostRuntime) -> Result<(), Fail> {
-    let gate = Gate::new(rt.alloc())?;
-    let child = gated_child(rt.alloc(), &gate)?;
-    assert_eq!(rt; child.number(), 1);
-    gate.shut();
-    let there = thread::spawn(&rt, move || child.number())?;
-    assert_eq!(rt; stands(&gate), 1);
-    gate.open();
-    assert_eq!(rt; there.join(&rt), 1);
-    assert_eq!(rt; gate.standing(), 0);
-    Ok(())
-}
-
-/// A reader of one byte, whose reads are behind a gate.
-fn gated_reader(rt: &impl Abort, alloc: Global, gate: &Gate) -> Result<ScriptReader, Fail> {
-    let mut script = ReaderScript::empty(alloc);
-    script.bytes = Vec::from_slice(alloc, &[7])?;
-    script.gate = Some(gate.share()?);
-    let mut sys = Script::new(alloc)?;
-    sys.bytes(script)?;
-    let end = sys.open_read("f")?;
-    assert!(rt; sys.room() > 0);
-    Ok(sys.reader(end))
+/// What a guest answers: a child its number, a reader how many bytes it gave, a writer how many it holds after a write.
+fn answer(guest: Guest) -> u64 {
+    match guest {
+        Guest::Child(child) => child.number(),
+        Guest::Reader(reader) => read_one(reader) as u64,
+        Guest::Writer(writer) => write_two(writer) as u64,
+    }
 }
 
 /// How many bytes a read gives.
@@ -65,40 +47,96 @@ fn read_one(mut reader: impl Read + Drop) -> usize {
     reader.read(&mut buf).unwrap_or(99)
 }
 
-#[test]
-fn a_read_waits_at_a_shut_gate(rt: HostRuntime) -> Result<(), Fail> {
-    let gate = Gate::new(rt.alloc())?;
-    let reader = gated_reader(&rt, rt.alloc(), &gate)?;
-    gate.shut();
-    let there = thread::spawn(&rt, move || read_one(reader))?;
-    assert_eq!(rt; stands(&gate), 1);
-    gate.open();
-    assert_eq!(rt; there.join(&rt), 1);
-    Ok(())
-}
-
 /// What a gated writer of bytes holds after a write.
 fn write_two(mut writer: Gated<Vec<u8>>) -> usize {
     let _ = writer.write(&[1, 2]);
     writer.inner.len()
 }
 
+/// Sends a guest to a shut gate, and opens it once somebody stands there. Answers how many stood there, what the guest
+/// answers, and how many stand there in the end.
+fn let_in(rt: &impl Threads, gate: &Gate, guest: Guest) -> Result<(u64, u64, u64), Fail> {
+    gate.shut();
+    let there = thread::spawn(rt, move || answer(guest))?;
+    let standing = stands(gate);
+    gate.open();
+    let answer = there.join(rt);
+    Ok((standing, answer, gate.standing()))
+}
+
+/// A child whose number is behind a gate.
+fn gated_child(alloc: Global, gate: &Gate) -> Result<ScriptChild, Fail> {
+    let shared = gate.share()?;
+    let mut sys = Script::new(alloc)?;
+    let mut script = ChildScript::running(alloc);
+    script.gate = Some(shared);
+    sys.child(script)?;
+    start(alloc, &mut sys)
+}
+
+/// The number of a gated child while its gate is open, and what comes of it at the shut gate.
+fn let_child_in(rt: &impl Threads, alloc: Global) -> Result<(u64, (u64, u64, u64)), Fail> {
+    let gate = Gate::new(alloc)?;
+    let child = gated_child(alloc, &gate)?;
+    let number = child.number();
+    Ok((number, let_in(rt, &gate, Guest::Child(child))?))
+}
+
+#[test]
+fn a_number_waits_at_a_shut_gate(rt: HostRuntime) -> Result<(), Fail> {
+    let found = let_child_in(&rt, rt.alloc())?;
+    assert_eq!(rt; found, (1, (1, 1, 0)));
+    Ok(())
+}
+
+/// A reader of one byte, whose reads are behind a gate.
+fn gated_reader(alloc: Global, gate: &Gate) -> Result<ScriptReader, Fail> {
+    let bytes = Vec::from_slice(alloc, &[7])?;
+    let shared = gate.share()?;
+    let mut script = ReaderScript::empty(alloc);
+    script.bytes = bytes;
+    script.gate = Some(shared);
+    reader_by(alloc, script)
+}
+
+fn let_reader_in(rt: &impl Threads, alloc: Global) -> Result<(u64, u64, u64), Fail> {
+    let gate = Gate::new(alloc)?;
+    let reader = gated_reader(alloc, &gate)?;
+    let_in(rt, &gate, Guest::Reader(reader))
+}
+
+#[test]
+fn a_read_waits_at_a_shut_gate(rt: HostRuntime) -> Result<(), Fail> {
+    let found = let_reader_in(&rt, rt.alloc())?;
+    assert_eq!(rt; found, (1, 1, 0));
+    Ok(())
+}
+
+/// A writer of bytes whose writes are behind a gate.
+fn gated_writer(alloc: Global, gate: &Gate) -> Result<Gated<Vec<u8>>, Fail> {
+    Ok(Gated {
+        gate: gate.share()?,
+        inner: Vec::new(alloc),
+    })
+}
+
+/// How many bytes a reader gives that has two open gates.
+fn read_through(alloc: Global, gate: Gate) -> Result<usize, Fail> {
+    let inner = gated_reader(alloc, &Gate::new(alloc)?)?;
+    Ok(read_one(Gated { gate, inner }))
+}
+
+/// What comes of a gated writer at the shut gate, and of a reader with that gate, which is open then.
+fn let_writer_in(rt: &impl Threads, alloc: Global) -> Result<((u64, u64, u64), usize), Fail> {
+    let gate = Gate::new(alloc)?;
+    let writer = gated_writer(alloc, &gate)?;
+    let found = let_in(rt, &gate, Guest::Writer(writer))?;
+    Ok((found, read_through(alloc, gate)?))
+}
+
 #[test]
 fn a_write_waits_at_a_shut_gate(rt: HostRuntime) -> Result<(), Fail> {
-    let gate = Gate::new(rt.alloc())?;
-    let writer = Gated {
-        gate: gate.share()?,
-        inner: Vec::new(rt.alloc()),
-    };
-    gate.shut();
-    let there = thread::spawn(&rt, move || write_two(writer))?;
-    assert_eq!(rt; stands(&gate), 1);
-    gate.open();
-    assert_eq!(rt; there.join(&rt), 2);
-    let open = Gated {
-        gate,
-        inner: gated_reader(&rt, rt.alloc(), &Gate::new(rt.alloc())?)?,
-    };
-    assert_eq!(rt; read_one(open), 1);
+    let found = let_writer_in(&rt, rt.alloc())?;
+    assert_eq!(rt; found, ((1, 2, 0), 1));
     Ok(())
 }

@@ -1,195 +1,237 @@
 //! The feeds, drains and readers of a scripted system.
+use crate::asks::{Ask, Bench, asked, shared};
 use duct_base::system::{Fault, Job, Kind, Numbered, Said, System};
-use duct_script::answers::Answers;
-use duct_script::job::{DrainScript, ScriptDrain, ScriptFeed};
+use duct_script::job::{ScriptDrain, ScriptFeed};
 use duct_script::reader::{ReadStep, ReaderScript, ScriptReader};
 use duct_script::system::Script;
 use std::alloc::{AllocError, Global};
+use std::collections::VecDeque;
 use std::io::{ErrorKind, Read};
 use std::process::Abort;
-use std::sync::Arc;
 use std::test::Fail;
 
-fn shared(alloc: Global, bytes: &[u8]) -> Result<Arc<Vec<u8>>, AllocError> {
-    Ok(Arc::new(alloc, Vec::from_slice(alloc, bytes)?)?)
-}
-
 /// Starts a feed of a file.
-fn feed(rt: &impl Abort, alloc: Global, sys: &mut Script) -> Result<ScriptFeed, Fail> {
+fn feed(alloc: Global, sys: &mut Script) -> Result<ScriptFeed, Fail> {
+    let bytes = shared(alloc, b"")?;
     let end = sys.open_read("f")?;
-    assert!(rt; sys.room() > 0);
-    Ok(sys.start_feed(end, shared(alloc, b"")?)?)
+    Ok(sys.start_feed(end, bytes)?)
 }
 
-/// Polls a feed three times, and gives what it says, its count of polls and its number.
-fn fed(alloc: Global, feed: &mut ScriptFeed) -> Result<String, AllocError> {
-    let mut text = String::new(alloc);
+/// Polls a feed, and notes what it says.
+fn poll_feed(feed: &mut ScriptFeed, text: &mut String) -> Result<(), AllocError> {
+    match feed.poll() {
+        Said::Running => text.push_str("running "),
+        Said::Done(()) => text.push_str("done "),
+        Said::Fault(_) => text.push_str("fault "),
+    }
+}
+
+/// Polls a feed three times, and notes what it says, its count of polls and its number.
+fn fed(feed: &mut ScriptFeed, text: &mut String) -> Result<(), AllocError> {
     for _ in 0..3 {
-        match feed.poll() {
-            Said::Running => text.push_str("running ")?,
-            Said::Done(()) => text.push_str("done ")?,
-            Said::Fault(_) => text.push_str("fault ")?,
-        }
+        poll_feed(feed, text)?;
     }
     let polls = feed.polls();
     let number = feed.number();
-    write!(text, "| {polls} polls | number {number}")?;
-    Ok(text)
+    writeln!(text, "| {polls} polls | number {number}")
+}
+
+/// Starts a feed, and notes the same of it.
+fn feed_once(bench: &mut Bench) -> Result<(), Fail> {
+    let mut job = feed(bench.alloc, &mut bench.sys)?;
+    Ok(fed(&mut job, &mut bench.answers)?)
+}
+
+fn feed_twice(bench: &mut Bench) -> Result<(), Fail> {
+    feed_once(bench)?;
+    feed_once(bench)
+}
+
+/// What two feeds say that are started after these requests.
+fn two_feeds(alloc: Global, asks: &[Ask]) -> Result<String, Fail> {
+    let mut bench = asked(alloc, asks)?;
+    feed_twice(&mut bench)?;
+    Ok(bench.answers)
 }
 
 #[test]
 fn a_feed_says_what_its_list_says(rt: HostRuntime) -> Result<(), Fail> {
-    let alloc = rt.alloc();
-    let mut sys = Script::new(alloc)?;
-    let said = [
-        Said::Running,
-        Said::Fault(Fault::new(Kind::WriteZero)),
-        Said::Done(()),
-    ];
-    sys.feed(Answers::of(Vec::from_slice(alloc, &said)?))?;
-    let mut first = feed(&rt, alloc, &mut sys)?;
-    let text = fed(alloc, &mut first)?;
-    assert_eq!(rt; text.as_str(), "running fault fault | 3 polls | number 1");
-    let mut second = feed(&rt, alloc, &mut sys)?;
-    let text = fed(alloc, &mut second)?;
-    assert_eq!(rt; text.as_str(), "done done done | 3 polls | number 2");
+    let asks = [Ask::FeedSays(&[Said::Running, Said::Fault(WRITE_ZERO), Said::Done(())])];
+    let found = two_feeds(rt.alloc(), &asks)?;
+    let wanted = "running fault fault | 3 polls | number 1\ndone done done | 3 polls | number 2\n";
+    assert_eq!(rt; found.as_str(), wanted);
     Ok(())
 }
 
+const WRITE_ZERO: Fault = Fault {
+    kind: Kind::WriteZero,
+};
+
+const OTHER: Fault = Fault { kind: Kind::Other };
+
 /// Starts a drain of a file.
-fn drain(rt: &impl Abort, sys: &mut Script) -> Result<ScriptDrain, Fail> {
+fn drain(sys: &mut Script) -> Result<ScriptDrain, Fail> {
     let end = sys.open_read("f")?;
-    assert!(rt; sys.room() > 0);
     Ok(sys.start_drain(end)?)
 }
 
-/// Polls a drain three times, and gives what it says, its count of polls and its number.
-fn drained(alloc: Global, drain: &mut ScriptDrain) -> Result<String, AllocError> {
-    let mut text = String::new(alloc);
-    for _ in 0..3 {
-        match drain.poll() {
-            Said::Running => text.push_str("running ")?,
-            Said::Done(bytes) => {
-                let bytes = bytes.as_slice();
-                write!(text, "{bytes:?} ")?;
-            }
-            Said::Fault(_) => text.push_str("fault ")?,
+/// Polls a drain, and notes what it says.
+fn poll_drain(drain: &mut ScriptDrain, text: &mut String) -> Result<(), AllocError> {
+    match drain.poll() {
+        Said::Running => text.push_str("running "),
+        Said::Done(bytes) => {
+            let bytes = bytes.as_slice();
+            write!(text, "{bytes:?} ")
         }
+        Said::Fault(_) => text.push_str("fault "),
+    }
+}
+
+/// Polls a drain three times, and notes what it says, its count of polls and its number.
+fn drained(drain: &mut ScriptDrain, text: &mut String) -> Result<(), AllocError> {
+    for _ in 0..3 {
+        poll_drain(drain, text)?;
     }
     let polls = drain.polls();
     let number = drain.number();
-    write!(text, "| {polls} polls | number {number}")?;
-    Ok(text)
+    writeln!(text, "| {polls} polls | number {number}")
 }
+
+/// Starts a drain, and notes the same of it.
+fn drain_once(bench: &mut Bench) -> Result<(), Fail> {
+    let mut job = drain(&mut bench.sys)?;
+    Ok(drained(&mut job, &mut bench.answers)?)
+}
+
+fn drain_twice(bench: &mut Bench) -> Result<(), Fail> {
+    drain_once(bench)?;
+    drain_once(bench)
+}
+
+/// What two drains say that are started after these requests.
+fn two_drains(alloc: Global, asks: &[Ask]) -> Result<String, Fail> {
+    let mut bench = asked(alloc, asks)?;
+    drain_twice(&mut bench)?;
+    Ok(bench.answers)
+}
+
+/// Asserts that they say this.
+fn drains_tell<R: Abort + AllocGlobal>(rt: &R, asks: &[Ask], wanted: &str) -> Result<(), Fail> {
+    let found = two_drains(rt.alloc(), asks)?;
+    assert_eq!(rt; found.as_str(), wanted);
+    Ok(())
+}
+
+static BYTES: [Said<&[u8]>; 3] = [Said::Running, Said::Done(&[7, 8]), Said::Done(&[9])];
+
+static RUNNING: [Said<&[u8]>; 1] = [Said::Running];
+
+static FAULT: [Said<&[u8]>; 1] = [Said::Fault(OTHER)];
 
 #[test]
 fn a_drain_says_what_its_list_says(rt: HostRuntime) -> Result<(), Fail> {
-    let alloc = rt.alloc();
-    let mut sys = Script::new(alloc)?;
-    let mut said = Vec::new(alloc);
-    said.push(Said::Running)?;
-    said.push(Said::Done(shared(alloc, &[7, 8])?))?;
-    said.push(Said::Done(shared(alloc, &[9])?))?;
-    sys.drain(DrainScript::from_vec(said))?;
-    let mut first = drain(&rt, &mut sys)?;
-    let text = drained(alloc, &mut first)?;
-    assert_eq!(rt; text.as_str(), "running [7, 8] [7, 8] | 3 polls | number 1");
-    let mut second = drain(&rt, &mut sys)?;
-    let text = drained(alloc, &mut second)?;
-    assert_eq!(rt; text.as_str(), "[] [] [] | 3 polls | number 2");
-    Ok(())
+    let wanted = "running [7, 8] [7, 8] | 3 polls | number 1\n[] [] [] | 3 polls | number 2\n";
+    drains_tell(&rt, &[Ask::DrainSays(&BYTES)], wanted)
 }
 
 #[test]
 fn a_drain_repeats_the_last_word(rt: HostRuntime) -> Result<(), Fail> {
-    let alloc = rt.alloc();
-    let mut sys = Script::new(alloc)?;
-    let mut said = Vec::new(alloc);
-    said.push(Said::Running)?;
-    sys.drain(DrainScript::from_vec(said))?;
-    let mut said = Vec::new(alloc);
-    said.push(Said::Fault(Fault::new(Kind::Other)))?;
-    sys.drain(DrainScript::from_vec(said))?;
-    let mut first = drain(&rt, &mut sys)?;
-    let text = drained(alloc, &mut first)?;
-    assert_eq!(rt;
-        text.as_str(),
-        "running running running | 3 polls | number 1"
-    );
-    let mut second = drain(&rt, &mut sys)?;
-    let text = drained(alloc, &mut second)?;
-    assert_eq!(rt; text.as_str(), "fault fault fault | 3 polls | number 2");
-    Ok(())
+    let asks = [Ask::DrainSays(&RUNNING), Ask::DrainSays(&FAULT)];
+    let wanted =
+        "running running running | 3 polls | number 1\nfault fault fault | 3 polls | number 2\n";
+    drains_tell(&rt, &asks, wanted)
 }
 
 /// A reader that gives these bytes by these steps.
-fn reader(
-    rt: &impl Abort,
-    alloc: Global,
-    bytes: &[u8],
-    steps: &[ReadStep],
-) -> Result<ScriptReader, Fail> {
+fn reader(alloc: Global, bytes: &[u8], steps: &[ReadStep]) -> Result<ScriptReader, Fail> {
+    reader_by(alloc, script_of(alloc, bytes, steps)?)
+}
+
+/// The reader of a file whose reader has this script.
+pub fn reader_by(alloc: Global, script: ReaderScript) -> Result<ScriptReader, Fail> {
     let mut sys = Script::new(alloc)?;
-    let mut script = ReaderScript::empty(alloc);
-    script.bytes = Vec::from_slice(alloc, bytes)?;
-    for step in steps {
-        script.steps.push_back(*step)?;
-    }
     sys.bytes(script)?;
+    read_file(&mut sys)
+}
+
+fn script_of(alloc: Global, bytes: &[u8], steps: &[ReadStep]) -> Result<ReaderScript, AllocError> {
+    let bytes = Vec::from_slice(alloc, bytes)?;
+    let steps = VecDeque::from_vec(Vec::from_slice(alloc, steps)?);
+    Ok(ReaderScript {
+        bytes,
+        steps,
+        gate: None,
+    })
+}
+
+/// The reader of a file.
+fn read_file(sys: &mut Script) -> Result<ScriptReader, Fail> {
     let end = sys.open_read("f")?;
-    assert!(rt; sys.room() > 0);
     Ok(sys.reader(end))
 }
 
-/// Reads so often into a buffer of this length, at most four, and gives what comes.
-fn reads(
-    alloc: Global,
-    reader: &mut ScriptReader,
-    length: usize,
-    times: u32,
-) -> Result<String, AllocError> {
-    let mut text = String::new(alloc);
-    for _ in 0..times {
-        let mut buf = [0u8; 4];
-        match reader.read(&mut buf[..length.min(4)]) {
-            Ok(count) => {
-                let bytes = &buf[..count.min(4)];
-                write!(text, "{bytes:?} ")?;
-            }
-            Err(error) => {
-                let kind = error.kind();
-                write!(text, "{kind:?} ")?;
-            }
+/// Reads into a buffer of this length, at most four, and notes what comes.
+fn read(reader: &mut ScriptReader, length: usize, text: &mut String) -> Result<(), AllocError> {
+    let mut buf = [0u8; 4];
+    match reader.read(&mut buf[..length.min(4)]) {
+        Ok(count) => {
+            let bytes = &buf[..count.min(4)];
+            write!(text, "{bytes:?} ")
+        }
+        Err(error) => {
+            let kind = error.kind();
+            write!(text, "{kind:?} ")
         }
     }
+}
+
+/// Reads so often into a buffer of each length, and notes what comes.
+fn read_all(
+    reader: &mut ScriptReader,
+    rows: &[(usize, u32)],
+    text: &mut String,
+) -> Result<(), AllocError> {
+    for (length, times) in rows {
+        for _ in 0..*times {
+            read(reader, *length, text)?;
+        }
+        text.push_str("| ")?;
+    }
+    Ok(())
+}
+
+/// What comes of those reads of these bytes by these steps.
+fn what_is_read(
+    alloc: Global,
+    bytes: &[u8],
+    steps: &[ReadStep],
+    rows: &[(usize, u32)],
+) -> Result<String, Fail> {
+    let mut reader = reader(alloc, bytes, steps)?;
+    let mut text = String::new(alloc);
+    read_all(&mut reader, rows, &mut text)?;
     Ok(text)
 }
 
 #[test]
 fn a_reader_gives_its_bytes_by_its_steps(rt: HostRuntime) -> Result<(), Fail> {
-    let alloc = rt.alloc();
     let steps = [
         ReadStep::Piece(3),
         ReadStep::Fault(ErrorKind::Interrupted),
         ReadStep::Piece(1),
         ReadStep::Fault(ErrorKind::Other),
     ];
-    let mut bytes = reader(&rt, alloc, &[1, 2, 3, 4, 5, 6, 7, 8], &steps)?;
-    let text = reads(alloc, &mut bytes, 2, 6)?;
-    assert_eq!(rt; text.as_str(), "[1, 2] [3] Interrupted [4] Other [5, 6] ");
-    let text = reads(alloc, &mut bytes, 0, 1)?;
-    assert_eq!(rt; text.as_str(), "[] ");
-    let text = reads(alloc, &mut bytes, 4, 3)?;
-    assert_eq!(rt; text.as_str(), "[7, 8] [] [] ");
+    let rows = [(2, 6), (0, 1), (4, 3)];
+    let found = what_is_read(rt.alloc(), &[1, 2, 3, 4, 5, 6, 7, 8], &steps, &rows)?;
+    let wanted = "[1, 2] [3] Interrupted [4] Other [5, 6] | [] | [7, 8] [] [] | ";
+    assert_eq!(rt; found.as_str(), wanted);
     Ok(())
 }
 
 #[test]
 fn a_fault_behind_a_long_piece_comes_at_the_end(rt: HostRuntime) -> Result<(), Fail> {
-    let alloc = rt.alloc();
     let steps = [ReadStep::Piece(9), ReadStep::Fault(ErrorKind::Other)];
-    let mut bytes = reader(&rt, alloc, &[1, 2], &steps)?;
-    let text = reads(alloc, &mut bytes, 4, 3)?;
-    assert_eq!(rt; text.as_str(), "[1, 2] Other [] ");
+    let found = what_is_read(rt.alloc(), &[1, 2], &steps, &[(4, 3)])?;
+    assert_eq!(rt; found.as_str(), "[1, 2] Other [] | ");
     Ok(())
 }

@@ -1,153 +1,168 @@
 //! Requests: their entries, their faults, their numbers, and the room.
-use crate::asks::{Ask, Bench};
-use duct_base::system::{Fault, Kind, Side, Stdio};
+use crate::asks::{Ask, tells};
+use duct_base::system::{Kind, Side, Stdio};
 use duct_script::requests::Sort;
 use std::test::Fail;
 
+const NULL: Stdio<u64> = Stdio::Null;
+
+const INHERIT: Stdio<u64> = Stdio::Inherit;
+
 #[test]
 fn each_request_adds_its_entry(rt: HostRuntime) -> Result<(), Fail> {
-    let mut bench = Bench::new(rt.alloc())?;
-    bench.sys.variable("A", "1")?;
-    bench.sys.variable("A", "2")?;
-    bench.sys.canonical("./x", "/x")?;
-    bench.ask_all(&[
-        Ask::Environment,
-        Ask::Pipe,
-        Ask::OpenRead("in"),
-        Ask::Create("out"),
-        Ask::Duplicate(4),
-        Ask::Parent(Side::Err),
-        Ask::Canonicalize("./x"),
-        Ask::Canonicalize("./y"),
-        Ask::Spawn(Stdio::End(1), Stdio::Null, Stdio::End(5)),
-        Ask::Feed(2),
-        Ask::Drain(3),
-        Ask::Reader(4),
-        Ask::Close(6),
-    ])?;
-    let wanted =
-        "ok ok ok ok ok ok ok ok ok ok ok reader-4 | held | asked 13 | room 0\nenvironment ok A=1 A=2\npipe ok 1 2\nopen_read in ok 3\ncreate out ok 4\nduplicate 4 ok 5\nparent Err ok 6\ncanonicalize ./x ok /x\ncanonicalize ./y ok ./y\nspawn a b end 1 null end 5 ok 7\nfeed 2 of 3 ok\ndrain 3 ok\nreader 4\nclose 6\n";
-    assert_eq!(rt; bench.outcome()?.as_str(), wanted);
-    Ok(())
+    tells(
+        &rt,
+        &[
+            Ask::Variable("A", "1"),
+            Ask::Variable("A", "2"),
+            Ask::Canonical("./x", "/x"),
+            Ask::Environment,
+            Ask::Pipe,
+            Ask::OpenRead("in"),
+            Ask::Create("out"),
+            Ask::Duplicate(4),
+            Ask::Parent(Side::Err),
+            Ask::Canonicalize("./x"),
+            Ask::Canonicalize("./y"),
+            Ask::Spawn(Stdio::End(1), Stdio::Null, Stdio::End(5)),
+            Ask::Feed(2),
+            Ask::Drain(3),
+            Ask::Reader(4),
+            Ask::Close(6),
+        ],
+        "ok ok ok ok ok ok ok ok ok ok ok reader-4 | held | asked 13 | room 0\nenvironment ok A=1 A=2\npipe ok 1 2\nopen_read in ok 3\ncreate out ok 4\nduplicate 4 ok 5\nparent Err ok 6\ncanonicalize ./x ok /x\ncanonicalize ./y ok ./y\nspawn a b end 1 null end 5 ok 7\nfeed 2 of 3 ok\ndrain 3 ok\nreader 4\nclose 6\n",
+    )
 }
 
 #[test]
 fn a_fault_comes_at_its_request(rt: HostRuntime) -> Result<(), Fail> {
-    let mut bench = Bench::new(rt.alloc())?;
-    bench.sys.refuse(2, Fault::new(Kind::NotFound))?;
-    bench.sys.refuse(3, Fault::new(Kind::Other))?;
-    let broken = Fault::new(Kind::BrokenPipe);
-    bench.sys.refuse_sort(Sort::Pipe, 2, broken)?;
-    bench.sys.refuse_sort(Sort::Close, 1, broken)?;
-    bench.ask_all(&[
-        Ask::Pipe,
-        Ask::OpenRead("f"),
-        Ask::Close(1),
-        Ask::Pipe,
-        Ask::Close(2),
-        Ask::Pipe,
-    ])?;
-    let wanted =
-        "ok NotFound BrokenPipe ok | held 3 4 | asked 6 | room 2\npipe ok 1 2\nopen_read f NotFound\nclose 1\npipe BrokenPipe\nclose 2\npipe ok 3 4\n";
-    assert_eq!(rt; bench.outcome()?.as_str(), wanted);
-    Ok(())
+    tells(
+        &rt,
+        &[
+            Ask::Refuse(2, Kind::NotFound),
+            Ask::Refuse(3, Kind::Other),
+            Ask::RefuseSort(Sort::Pipe, 2, Kind::BrokenPipe),
+            Ask::RefuseSort(Sort::Close, 1, Kind::BrokenPipe),
+            Ask::Pipe,
+            Ask::OpenRead("f"),
+            Ask::Close(1),
+            Ask::Pipe,
+            Ask::Close(2),
+            Ask::Pipe,
+        ],
+        "ok NotFound BrokenPipe ok | held 3 4 | asked 6 | room 2\npipe ok 1 2\nopen_read f NotFound\nclose 1\npipe BrokenPipe\nclose 2\npipe ok 3 4\n",
+    )
 }
-
-/// Each request that may be refused, on two pipes.
-const ALL: [Ask; 10] = [
-    Ask::Environment,
-    Ask::Pipe,
-    Ask::OpenRead("i"),
-    Ask::Create("o"),
-    Ask::Duplicate(3),
-    Ask::Parent(Side::Out),
-    Ask::Canonicalize("./x"),
-    Ask::Spawn(Stdio::End(1), Stdio::Inherit, Stdio::Inherit),
-    Ask::Feed(2),
-    Ask::Drain(3),
-];
 
 #[test]
 fn each_sort_is_refused(rt: HostRuntime) -> Result<(), Fail> {
-    let mut bench = Bench::new(rt.alloc())?;
-    bench.ask_all(&[Ask::Pipe, Ask::Pipe, Ask::Clear])?;
-    for request in 3..15 {
-        let refused = Fault::new(Kind::PermissionDenied);
-        bench.sys.refuse(request, refused)?;
-    }
-    bench.ask_all(&ALL)?;
-    bench.ask_all(&[Ask::Close(4)])?;
-    let wanted =
-        "ok ok PermissionDenied PermissionDenied PermissionDenied PermissionDenied PermissionDenied PermissionDenied PermissionDenied PermissionDenied PermissionDenied PermissionDenied | held | asked 13 | room 0\nenvironment PermissionDenied\npipe PermissionDenied\nopen_read i PermissionDenied\ncreate o PermissionDenied\nduplicate 3 PermissionDenied\nparent Out PermissionDenied\ncanonicalize ./x PermissionDenied\nspawn a b end 1 inherit inherit PermissionDenied\nfeed 2 of 3 PermissionDenied\ndrain 3 PermissionDenied\nclose 4\n";
-    assert_eq!(rt; bench.outcome()?.as_str(), wanted);
-    Ok(())
+    let refused = Kind::PermissionDenied;
+    tells(
+        &rt,
+        &[
+            Ask::Pipe,
+            Ask::Pipe,
+            Ask::Clear,
+            Ask::Refuse(3, refused),
+            Ask::Refuse(4, refused),
+            Ask::Refuse(5, refused),
+            Ask::Refuse(6, refused),
+            Ask::Refuse(7, refused),
+            Ask::Refuse(8, refused),
+            Ask::Refuse(9, refused),
+            Ask::Refuse(10, refused),
+            Ask::Refuse(11, refused),
+            Ask::Refuse(12, refused),
+            Ask::Refuse(13, refused),
+            Ask::Refuse(14, refused),
+            Ask::Environment,
+            Ask::Pipe,
+            Ask::OpenRead("i"),
+            Ask::Create("o"),
+            Ask::Duplicate(3),
+            Ask::Parent(Side::Out),
+            Ask::Canonicalize("./x"),
+            Ask::Spawn(Stdio::End(1), Stdio::Inherit, Stdio::Inherit),
+            Ask::Feed(2),
+            Ask::Drain(3),
+            Ask::Close(4),
+        ],
+        "ok ok PermissionDenied PermissionDenied PermissionDenied PermissionDenied PermissionDenied PermissionDenied PermissionDenied PermissionDenied PermissionDenied PermissionDenied | held | asked 13 | room 0\nenvironment PermissionDenied\npipe PermissionDenied\nopen_read i PermissionDenied\ncreate o PermissionDenied\nduplicate 3 PermissionDenied\nparent Out PermissionDenied\ncanonicalize ./x PermissionDenied\nspawn a b end 1 inherit inherit PermissionDenied\nfeed 2 of 3 PermissionDenied\ndrain 3 PermissionDenied\nclose 4\n",
+    )
 }
 
 #[test]
 fn a_starved_system_asks_only_what_is_given_ends(rt: HostRuntime) -> Result<(), Fail> {
-    let mut bench = Bench::new(rt.alloc())?;
-    bench.ask_all(&[Ask::Pipe, Ask::Pipe, Ask::Clear])?;
-    bench.sys.starve(true);
-    bench.ask_all(&ALL)?;
-    let inherit = Stdio::Inherit;
-    bench.ask_all(&[Ask::Spawn(inherit, Stdio::Null, inherit), Ask::Close(4)])?;
-    bench.sys.starve(false);
-    bench.ask_all(&[Ask::OpenRead("f")])?;
-    let wanted =
-        "ok ok OutOfMemory OutOfMemory OutOfMemory OutOfMemory OutOfMemory OutOfMemory OutOfMemory ok ok ok OutOfMemory ok | held 6 | asked 7 | room 1\nspawn a b end 1 inherit inherit ok 5\nfeed 2 of 3 ok\ndrain 3 ok\nclose 4\nopen_read f ok 6\n";
-    assert_eq!(rt; bench.outcome()?.as_str(), wanted);
-    Ok(())
+    tells(
+        &rt,
+        &[
+            Ask::Pipe,
+            Ask::Pipe,
+            Ask::Clear,
+            Ask::Starve(true),
+            Ask::Environment,
+            Ask::Pipe,
+            Ask::OpenRead("i"),
+            Ask::Create("o"),
+            Ask::Duplicate(3),
+            Ask::Parent(Side::Out),
+            Ask::Canonicalize("./x"),
+            Ask::Spawn(Stdio::End(1), Stdio::Inherit, Stdio::Inherit),
+            Ask::Feed(2),
+            Ask::Drain(3),
+            Ask::Spawn(INHERIT, Stdio::Null, INHERIT),
+            Ask::Close(4),
+            Ask::Starve(false),
+            Ask::OpenRead("f"),
+        ],
+        "ok ok OutOfMemory OutOfMemory OutOfMemory OutOfMemory OutOfMemory OutOfMemory OutOfMemory ok ok ok OutOfMemory ok | held 6 | asked 7 | room 1\nspawn a b end 1 inherit inherit ok 5\nfeed 2 of 3 ok\ndrain 3 ok\nclose 4\nopen_read f ok 6\n",
+    )
 }
 
 #[test]
 fn numbers_go_on(rt: HostRuntime) -> Result<(), Fail> {
-    let mut bench = Bench::new(rt.alloc())?;
-    let null = Stdio::Null;
-    bench.ask_all(&[
-        Ask::Adopt,
-        Ask::Duplicate(1),
-        Ask::Clear,
-        Ask::Close(2),
-        Ask::OpenRead("f"),
-        Ask::Spawn(null, null, null),
-    ])?;
-    bench.sys.skip_numbers_below(3);
-    bench.ask_all(&[Ask::OpenRead("g")])?;
-    let wanted =
-        "ok ok ok ok ok | held 1 3 5 | asked 5 | room 2\nclose 2\nopen_read f ok 3\nspawn a b null null null ok 4\nopen_read g ok 5\n";
-    assert_eq!(rt; bench.outcome()?.as_str(), wanted);
-    Ok(())
+    tells(
+        &rt,
+        &[
+            Ask::Adopt,
+            Ask::Duplicate(1),
+            Ask::Clear,
+            Ask::Close(2),
+            Ask::OpenRead("f"),
+            Ask::Spawn(NULL, NULL, NULL),
+            Ask::Skip(3),
+            Ask::OpenRead("g"),
+        ],
+        "ok ok ok ok ok | held 1 3 5 | asked 5 | room 2\nclose 2\nopen_read f ok 3\nspawn a b null null null ok 4\nopen_read g ok 5\n",
+    )
 }
 
 #[test]
 fn no_number_is_left(rt: HostRuntime) -> Result<(), Fail> {
-    let mut bench = Bench::new(rt.alloc())?;
-    bench.sys.skip_numbers_below(18_446_744_073_709_551_614);
-    let null = Stdio::Null;
-    bench.ask_all(&[
-        Ask::Pipe,
-        Ask::Create("g"),
-        Ask::Create("h"),
-        Ask::Adopt,
-        Ask::Spawn(null, null, null),
-    ])?;
-    let wanted =
-        "Other ok Other Other Other | held 18446744073709551614 | asked 4 | room 1\npipe Other\ncreate g ok 18446744073709551614\ncreate h Other\nspawn a b null null null Other\n";
-    assert_eq!(rt; bench.outcome()?.as_str(), wanted);
-    Ok(())
+    tells(
+        &rt,
+        &[
+            Ask::Skip(18_446_744_073_709_551_614),
+            Ask::Pipe,
+            Ask::Create("g"),
+            Ask::Create("h"),
+            Ask::Adopt,
+            Ask::Spawn(NULL, NULL, NULL),
+        ],
+        "Other ok Other Other Other | held 18446744073709551614 | asked 4 | room 1\npipe Other\ncreate g ok 18446744073709551614\ncreate h Other\nspawn a b null null null Other\n",
+    )
 }
 
 #[test]
 fn three_ends_lower_the_room_by_three(rt: HostRuntime) -> Result<(), Fail> {
-    let mut bench = Bench::new(rt.alloc())?;
-    bench.ask_all(&[
-        Ask::Pipe,
-        Ask::Duplicate(2),
-        Ask::Parent(Side::Out),
-        Ask::Spawn(Stdio::End(1), Stdio::End(2), Stdio::End(3)),
-    ])?;
-    let wanted =
-        "ok ok ok ok | held 4 | asked 4 | room 1\npipe ok 1 2\nduplicate 2 ok 3\nparent Out ok 4\nspawn a b end 1 end 2 end 3 ok 5\n";
-    assert_eq!(rt; bench.outcome()?.as_str(), wanted);
-    Ok(())
+    tells(
+        &rt,
+        &[
+            Ask::Pipe,
+            Ask::Duplicate(2),
+            Ask::Parent(Side::Out),
+            Ask::Spawn(Stdio::End(1), Stdio::End(2), Stdio::End(3)),
+        ],
+        "ok ok ok ok | held 4 | asked 4 | room 1\npipe ok 1 2\nduplicate 2 ok 3\nparent Out ok 4\nspawn a b end 1 end 2 end 3 ok 5\n",
+    )
 }
