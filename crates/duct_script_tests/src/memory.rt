@@ -1,7 +1,7 @@
 //! What comes of refused memory. The test passes with ample memory, and also where any one request for memory is refused.
 use crate::asks::{Ask, asked, spec_of_words};
 use duct_base::system::{Child, Entry, Side, Stdio, System};
-use duct_script::checker::{got, held, is_balanced, spent, trace};
+use duct_plain::checker::{got, held, is_balanced, spent, trace};
 use duct_script::child::ScriptChild;
 use duct_script::system::Script;
 use std::alloc::{AllocError, Global};
