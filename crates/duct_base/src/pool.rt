@@ -173,9 +173,9 @@ impl<C: Drop> Pool<C> {
         let Seat { mut seat } = seat;
         fill(&mut seat, child);
         if self.seats.append(&mut seat).is_err() {
-            self.lost = self.lost.saturating_add(1);
+            raise(&mut self.lost);
         }
-        self.given = self.given.saturating_add(1);
+        raise(&mut self.given);
     }
 
     // Counts a child that had ended when it was given.
@@ -185,8 +185,8 @@ impl<C: Drop> Pool<C> {
           reaped = one_more self.old.reaped;
         } }
     {
-        self.given = self.given.saturating_add(1);
-        self.reaped = self.reaped.saturating_add(1);
+        raise(&mut self.given);
+        raise(&mut self.reaped);
     }
 
     // Counts a child that answered a fault when it was given.
@@ -196,8 +196,8 @@ impl<C: Drop> Pool<C> {
           lost = one_more self.old.lost;
         } }
     {
-        self.given = self.given.saturating_add(1);
-        self.lost = self.lost.saturating_add(1);
+        raise(&mut self.given);
+        raise(&mut self.lost);
     }
 }
 
@@ -228,11 +228,11 @@ impl<C: Child> Pool<C> {
             }
             Ok(Some(_)) => {
                 self.seats = rest;
-                self.reaped = self.reaped.saturating_add(1);
+                raise(&mut self.reaped);
             }
             Err(_) => {
                 self.seats = rest;
-                self.lost = self.lost.saturating_add(1);
+                raise(&mut self.lost);
             }
         }
     }
@@ -250,6 +250,13 @@ pub fn pool_take<C: Child>(pool: &mut Pool<C>, place: Place<C>)
         Ok(Some(_)) => pool.reap(),
         Err(_) => pool.lose(),
     }
+}
+
+// Counts one more, up to the greatest u64.
+fn raise(count: &mut u64)
+    ensures { count.new ≡ one_more count.old }
+{
+    *count = count.saturating_add(1);
 }
 
 // Puts a child into the one empty seat of this list.

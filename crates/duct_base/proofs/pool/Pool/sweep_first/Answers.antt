@@ -16,8 +16,8 @@ returns-in-Ok-None g c =
 pub returns-in-Ok-Some : goal.returns-in-Ok-Some
 returns-in-Ok-Some g c =
     let polls = rw c.in-Ok-Some.field-0-is at c.in-Ok-Some.ensures in
-    sweeps_reaped g.C.Child.may_answer g.C.Child.child_view _ _ _ _ _ _ _ c.self.view_is refl c.others-rest.ensures.whole c.vacate-child.ensures.was _ polls.told (ap (λ n. record { children = seated c.others-rest.result; given = c.self.inside.given; reaped = n; lost = c.self.inside.lost }) c.saturating_add-self-inside.ensures)
+    sweeps_reaped g.C.Child.may_answer g.C.Child.child_view _ _ _ _ _ _ _ c.self.view_is refl c.others-rest.ensures.whole c.vacate-child.ensures.was _ polls.told (ap (λ n. record { children = seated c.others-rest.result; given = c.self.inside.given; reaped = n; lost = c.self.inside.lost }) c.raise.ensures)
 
 pub returns-in-Err : goal.returns-in-Err
 returns-in-Err g c =
-    sweeps_lost g.C.Child.may_answer g.C.Child.child_view _ _ _ _ _ _ _ c.self.view_is refl c.others-rest.ensures.whole c.vacate-child.ensures.was _ c.in-Err.ensures.told (ap (λ n. record { children = seated c.others-rest.result; given = c.self.inside.given; reaped = c.self.inside.reaped; lost = n }) c.saturating_add-self-inside-in-Err.ensures)
+    sweeps_lost g.C.Child.may_answer g.C.Child.child_view _ _ _ _ _ _ _ c.self.view_is refl c.others-rest.ensures.whole c.vacate-child.ensures.was _ c.in-Err.ensures.told (ap (λ n. record { children = seated c.others-rest.result; given = c.self.inside.given; reaped = c.self.inside.reaped; lost = n }) c.raise-in-Err.ensures)
