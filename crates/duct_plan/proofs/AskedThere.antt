@@ -7,26 +7,24 @@ use Rattle.duct_base.specs.Streams.{stream_of}
 use Rattle.duct_base.specs.declared.spec.Stream.TheVariants.{In, Out, Err}
 use Rattle.duct.specs.Asked.{IsAsked, stream_to, streams_to}
 use Rattle.duct.specs.Follows.{pairs_in, program_at}
-use Rattle.duct.specs.Lookup.{goes}
-use Rattle.duct.specs.Path.{Path}
-use Rattle.duct.specs.Plan.{Plan}
+use Rattle.duct.specs.Found.{Found}
 use Rattle.duct_plan.specs.AskedOf.{IsAskedThere}
 use Rattle.duct_plan.specs.declared.asked.Wired.{Wired}
 use Rattle.duct_plain.specs.Source.{origin_of}
 
-pub asked_there : {E H : Type 0} (lines : List Line) (plan : Plan E H) (number_of : E → ℕ) (place : ℕ) (up : Path E H) (words : List (List ℕ)) (pairs : Vars) (program : List ℕ) (answer : Wired) →
-    pairs ≡ pairs_in lines → program ≡ program_at lines place up words → IsAsked pairs program up words answer.spec →
-    map (stream_of origin_of) answer.streams ≡ streams_to lines plan number_of up → IsAskedThere lines plan number_of place up words answer
-asked_there lines plan number_of place up words pairs program answer pairs_are program_is spec_is streams_are = (
+pub asked_there : {E H : Type 0} (lines : List Line) (number_of : E → ℕ) (place : ℕ) (found : Found E H) (words : List (List ℕ)) (pairs : Vars) (program : List ℕ) (answer : Wired) →
+    pairs ≡ pairs_in lines → program ≡ program_at lines place found words → IsAsked pairs program found words answer.spec →
+    map (stream_of origin_of) answer.streams ≡ streams_to lines number_of found → IsAskedThere lines number_of place found words answer
+asked_there lines number_of place found words pairs program answer pairs_are program_is spec_is streams_are = (
   record {
     spec = answer.spec;
-    input = stream_to lines plan number_of In (goes up In);
-    output = stream_to lines plan number_of Out (goes up Out);
-    error = stream_to lines plan number_of Err (goes up Err);
+    input = stream_to lines number_of In found.input;
+    output = stream_to lines number_of Out found.output;
+    error = stream_to lines number_of Err found.error;
   },
   record {
-    spec_is = subst (λ (ps : Vars). IsAsked ps (program_at lines place up words) up words answer.spec) pairs_are
-        (subst (λ (p : List ℕ). IsAsked pairs p up words answer.spec) program_is spec_is);
+    spec_is = subst (λ (ps : Vars). IsAsked ps (program_at lines place found words) found words answer.spec) pairs_are
+        (subst (λ (p : List ℕ). IsAsked pairs p found words answer.spec) program_is spec_is);
     streams_are = refl;
   },
   record { spec_is = refl; streams_are = sym streams_are },

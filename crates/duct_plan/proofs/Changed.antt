@@ -1,4 +1,4 @@
--- Variables that are put in, taken away or replaced are those that are found one node further in.
+-- Variables that are put in, taken away or replaced are those that are found from the change on.
 use Rattle.std.specs.Prelude.{ℕ, Bool, true, false, cond, List, [], ◌∷◌, map, string_bytes, Some, None}
 use Rattle.std.specs.declared.option.Option.{Option}
 use Rattle.std.specs.declared.string.String.{String}
@@ -16,8 +16,7 @@ use Rattle.duct_base.proofs.Entries.{insert_texts, remove_texts}
 use Rattle.duct_base.specs.Spec.{Vars, pair_text, same_name, value_of, without_var}
 use Rattle.duct.proofs.Environments.{same_name-is, same_name-refl, value_of-insert, names_ascend, last_values-more}
 use Rattle.duct.specs.LastValues.{last_values}
-use Rattle.duct.specs.Path.{within}
-use Rattle.duct.specs.Tree.{env, env_remove, full_env}
+use Rattle.duct.specs.Found.{Sets, Removes, Replaces}
 use Rattle.duct_plan.specs.Variables.{Changes}
 
 -- the names of some variables
@@ -84,12 +83,12 @@ last_more es new pairs i item name value low is same_name same_value so_far put 
     (map-append pair_text (take i pairs) ((name, value) ∷ []) ∙ ap (λ (p : List ℕ × List ℕ). map pair_text (take i pairs) ++ p ∷ []) text
     ∙ sym (ap (λ xs. map pair_text xs) front ∙ map-append pair_text (take i pairs) (item ∷ [])))
 
-module _ {E H Z : Type 0} (place : ℕ) (es new : List (String Z × String Z)) where
+module _ {Z : Type 0} (es new : List (String Z × String Z)) where
   -- a pair that was put in
   pub put_in : (copied_name copied_value : String Z) (name value : List ℕ) → string_bytes copied_name ≡ name → string_bytes copied_value ≡ value →
       new ≡ insert_entry string_cmp es copied_name copied_value → IsStrictlySortedBy string_cmp (keys_of new) →
-      Changes {E = E} {H = H} (within place (env name value)) (map pair_text es) (map pair_text new)
-  put_in copied_name copied_value name value name_is value_is is sorted = λ pairs up before. record {
+      Changes (Sets name value) (map pair_text es) (map pair_text new)
+  put_in copied_name copied_value name value name_is value_is is sorted = λ pairs further before. record {
     values = λ other. ap (λ xs. value_of other (map pair_text xs)) is ∙ ap (λ xs. value_of other xs) (insert_texts es copied_name copied_value)
         ∙ value_of-insert other (map pair_text es) (string_bytes copied_name) (string_bytes copied_value)
         ∙ ap (λ (n : List ℕ). cond (same_name other n) (Some (string_bytes copied_value)) (value_of other (map pair_text es))) name_is
@@ -100,8 +99,8 @@ module _ {E H Z : Type 0} (place : ℕ) (es new : List (String Z × String Z)) w
 
   -- a name that was taken away
   pub taken_away : (asked name : List ℕ) → asked ≡ name → new ≡ remove_entry (is_at (λ k. slice_cmp nat_cmp asked (string_bytes k))) es → IsStrictlySortedBy string_cmp (keys_of new) →
-      Changes {E = E} {H = H} (within place (env_remove name)) (map pair_text es) (map pair_text new)
-  taken_away asked name same is sorted = λ pairs up before. record {
+      Changes (Removes name) (map pair_text es) (map pair_text new)
+  taken_away asked name same is sorted = λ pairs further before. record {
     values = λ other. ap (λ xs. value_of other (map pair_text xs)) is ∙ ap (λ xs. value_of other xs) (remove_texts asked es)
         ∙ value_of-without other asked (map pair_text es) before.ordered
         ∙ ap (λ (n : List ℕ). cond (same_name other n) None (value_of other (map pair_text es))) same
@@ -111,8 +110,8 @@ module _ {E H Z : Type 0} (place : ℕ) (es new : List (String Z × String Z)) w
 
   -- variables that came in place of all
   pub replaced : (texts before : Vars) → map pair_text new ≡ texts → IsStrictlySortedBy string_cmp (keys_of new) →
-      Changes {E = E} {H = H} (within place (full_env texts)) before (map pair_text new)
-  replaced texts before is sorted = λ pairs up found. record {
+      Changes (Replaces texts) before (map pair_text new)
+  replaced texts before is sorted = λ pairs further found. record {
     values = λ other. ap (λ xs. value_of other xs) is;
     ordered = names_ascend new sorted;
   }

@@ -1,4 +1,3 @@
-pub mod Around
 pub mod AskedThere
 pub mod Changed
 pub mod Counted

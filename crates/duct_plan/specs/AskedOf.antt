@@ -1,12 +1,15 @@
 -- What the code answers of the spec and the streams that a tree asks for a command.
-use Rattle.std.specs.Prelude.{ℕ, List, [], ◌∷◌, ◌≡◌, map, slice_get, Some}
+use Rattle.std.specs.Prelude.{ℕ, ◌<◌, ◌≤◌, List, [], ◌∷◌, ◌≡◌, length, map, slice_get, Some}
 use Rattle.duct_base.specs.Line.{Line}
 use Rattle.duct_base.specs.Streams.{stream_of}
 use Rattle.duct.specs.Chain.{Wired}
 use Rattle.duct.specs.Follows.{IsAskedAt}
-use Rattle.duct.specs.Path.{Path}
-use Rattle.duct.specs.Plan.{Plan, AskSpawn}
+use Rattle.duct.specs.Found.{Found}
+use Rattle.duct.specs.Plan.{Plan}
+use Rattle.duct.specs.Step.{AskSpawn}
 use Rattle.duct_plan.specs.Commands.{IsCommandAt}
+use Rattle.duct_plan.specs.declared.asked.AskedError.{AskedError}
+use Rattle.duct_plan.specs.declared.asked.AskedError.TheVariants.{TraceTooShort, Memory}
 use Rattle.duct_plan.specs.declared.asked.Wired as answer
 use Rattle.duct_plain.specs.Source.{origin_of}
 
@@ -15,12 +18,17 @@ pub record IsAnswered (wired : Wired) (asked : answer.Wired) : Type 0 where
   pub spec_is : wired.spec ≡ asked.spec
   pub streams_are : wired.input ∷ wired.output ∷ wired.error ∷ [] ≡ map (stream_of origin_of) asked.streams
 
--- the answer is what the tree asks for the command whose spawn stands at this place, with this way outwards and these words
-abbrev pub IsAskedThere : {E H : Type 0} → List Line → Plan E H → (E → ℕ) → ℕ → Path E H → List (List ℕ) → answer.Wired → Type 0
-IsAskedThere lines plan number_of place up words asked = (wired : Wired) × IsAskedAt lines plan number_of place up words wired × IsAnswered wired asked
+-- the answer is what the tree asks for the command whose spawn stands at this place, with this found outwards and these words
+abbrev pub IsAskedThere : {E H : Type 0} → List Line → (E → ℕ) → ℕ → Found E H → List (List ℕ) → answer.Wired → Type 0
+IsAskedThere lines number_of place found words asked = (wired : Wired) × IsAskedAt lines number_of place found words wired × IsAnswered wired asked
 
--- the answer is what the tree asks for the i-th command of the plan
+-- the answer is what the tree asks for the i-th command of the plan, up to whose spawn the trace comes
 abbrev pub IsAskedOf : {E H : Type 0} → List Line → Plan E H → (E → ℕ) → ℕ → answer.Wired → Type 0
 IsAskedOf {E} {H} lines plan number_of i asked =
-    (place : ℕ) × (up : Path E H) × (words : List (List ℕ)) × IsCommandAt i plan.items place × (slice_get plan.items place ≡ Some (AskSpawn up words))
-    × IsAskedThere lines plan number_of place up words asked
+    (place : ℕ) × (found : Found E H) × (words : List (List ℕ)) × IsCommandAt i plan.items place × (slice_get plan.items place ≡ Some (AskSpawn found words))
+    × (place ≤ length lines) × IsAskedThere lines number_of place found words asked
+
+-- an error that is no want of memory comes where the trace ends before the spawn of the i-th command
+abbrev pub EndsBefore : {E H : Type 0} → List Line → Plan E H → ℕ → AskedError → Type 0
+EndsBefore lines plan i TraceTooShort = (place : ℕ) × IsCommandAt i plan.items place × (length lines < place)
+EndsBefore lines plan i Memory = Unit {0}

@@ -1,27 +1,45 @@
 //! The spec and the streams that a tree asks for a command, before its hooks.
-ghost use Rattle.std.specs.Prelude.{◌≡◌, ◌≤◌, ◌↔◌, IsNone, IfOk, IfSome, map, string_bytes, count_by, ◌∷◌};
-ghost use Rattle.std.specs.Option.{option_map};
+ghost use Rattle.std.specs.Prelude.{◌≡◌, ◌≤◌, ◌↔◌, length, IsNone, IfOk, IfErr, IfSome, map, string_bytes, count_by, ◌∷◌};
+ghost use Rattle.std.specs.Option.{option_copied, option_map};
 ghost use Rattle.duct_base.specs.Spec.{pair_text};
 ghost use Rattle.duct.specs.Asked.{with_program, IsAsked};
 ghost use Rattle.duct.specs.Follows.{program_at};
-ghost use Rattle.duct.specs.Lookup.{folder};
-ghost use Rattle.duct_plan.specs.AskedOf.{IsAskedThere, IsAskedOf};
+ghost use Rattle.duct_plan.specs.AskedOf.{IsAskedThere, IsAskedOf, EndsBefore};
 ghost use Rattle.duct_plan.specs.Commands.{is_spawn};
+ghost use Rattle.duct_plan.specs.Found.{found_of};
 ghost use Rattle.duct_plan.specs.Lines.{lines_of};
 ghost use Rattle.duct_plan.specs.PlanView.{plan_view};
-ghost use Rattle.duct_plan.specs.Way.{way_of};
 
-use crate::found::{folder, goes};
+use crate::found::Found;
 use crate::items::{Item, Plan};
 use crate::plan::{is_canonical, program_of};
 use crate::streams::{port_to, streams_to};
 use crate::trace::{pairs_in, text_at};
 use crate::variables::variables;
-use crate::way::Crumb;
 use duct::{CommandSpec, Entry, Numbered, Stdio, Stream};
 use duct_base::spec::spec_of;
 use duct_plain::checker::Source;
 use std::alloc::{AllocError, Global};
+
+/// Why it is not told what the tree asks for a command.
+#[derive(Debug, Drop, Clone, Copy, PartialEq, Eq)]
+pub enum AskedError {
+    /// The trace ends before the command's item, so that an end or a name which the command is to get may not be known.
+    TraceTooShort,
+    /// There is no memory.
+    Memory,
+}
+
+impl From<AllocError> for AskedError {
+    ghost use Rattle.std.specs.Prelude.{◌≡◌};
+    ghost use Rattle.duct_plan.specs.declared.asked.AskedError.TheVariants.{Memory};
+
+    ghost from_gives = { λ _ error. error ≡ Memory };
+
+    fn from(_: AllocError) -> AskedError {
+        AskedError::Memory
+    }
+}
 
 /// The spec of a command, and where its three streams come from, in the order stdin, stdout, stderr.
 #[derive(Debug, Drop)]
@@ -31,48 +49,45 @@ pub struct Wired {
 }
 
 /// What the tree asks for a command of the plan, before its hooks, where a start made this trace: its spec and its streams.
-/// Nothing where the plan has no such command. The commands are counted from 0, in the order of their items. Refused only for
-/// want of memory.
+/// Nothing where the plan has no such command. The commands are counted from 0, in the order of their items. Refused where the
+/// trace ends before the command's item, and for want of memory.
 pub fn asked<E: Numbered, H>(
     alloc: Global,
     plan: &Plan<'_, E, H>,
     trace: &[&Entry],
     i: usize,
-) -> Result<Option<Wired>, AllocError>
+) -> Result<Option<Wired>, AskedError>
     ensures none { IfOk result (λ asked. IsNone asked ↔ (count_by is_spawn (plan_view plan.now).items ≤ i)) }
     ensures some { IfOk result (λ asked. IfSome asked (IsAskedOf (lines_of trace.now) (plan_view plan.now) E.number_of i)) }
+    ensures short { IfErr result (EndsBefore (lines_of trace.now) (plan_view plan.now) i) }
 {
     let Some(place) = plan.command(i) else {
         return Ok(None);
     };
+    if trace.len() < place {
+        return Err(AskedError::TraceTooShort);
+    }
     match &plan.items[place] {
-        Item::Spawn(way, words) => Ok(Some(asked_at(
-            alloc,
-            plan,
-            trace,
-            place,
-            way.as_slice(),
-            words,
-        )?)),
+        Item::Spawn(found, words) => Ok(Some(asked_at(alloc, trace, place, found, words)?)),
         _ => unreachable!(),
     }
 }
 
-/// What the tree asks for the command whose item stands at this place of the plan, with this way outwards and these words: its
+/// What the tree asks for the command whose item stands at this place of the plan, with this found outwards and these words: its
 /// spec and its streams, before its hooks. Refused only for want of memory.
 pub fn asked_at<E: Numbered, H>(
     alloc: Global,
-    plan: &Plan<'_, E, H>,
     trace: &[&Entry],
     place: usize,
-    way: &[Crumb<'_, E, H>],
+    found: &Found<'_, E, H>,
     words: &[String],
 ) -> Result<Wired, AllocError>
-    ensures { IfOk result (IsAskedThere (lines_of trace.now) (plan_view plan.now) E.number_of place (way_of way.now) (map string_bytes words.now)) }
+    requires { place ≤ length trace.now }
+    ensures { IfOk result (IsAskedThere (lines_of trace.now) E.number_of place (found_of found.now) (map string_bytes words.now)) }
 {
-    let program = program_at(trace, place, way, words);
-    let spec = spec(alloc, pairs_in(trace), program, way, words)?;
-    let streams = streams_to(trace, plan, way);
+    let program = program_at(trace, place, found, words);
+    let spec = spec(alloc, pairs_in(trace), program, found, words)?;
+    let streams = streams_to(trace, found);
     Ok(Wired { spec, streams })
 }
 
@@ -80,12 +95,12 @@ pub fn asked_at<E: Numbered, H>(
 fn program_at<'t, E, H>(
     trace: &[&'t Entry],
     place: usize,
-    way: &[Crumb<'_, E, H>],
+    found: &Found<'_, E, H>,
     words: &'t [String],
 ) -> &'t str
-    ensures { result.now ≡ program_at (lines_of trace.now) place (way_of way.now) (map string_bytes words.now) }
+    ensures { result.now ≡ program_at (lines_of trace.now) place (found_of found.now) (map string_bytes words.now) }
 {
-    if is_canonical(way, words) {
+    if is_canonical(found, words) {
         text_at(trace, place.saturating_sub(1))
     } else {
         program_of(words)
@@ -97,17 +112,17 @@ fn spec<E, H>(
     alloc: Global,
     pairs: &[(String, String)],
     program: &str,
-    way: &[Crumb<'_, E, H>],
+    found: &Found<'_, E, H>,
     words: &[String],
 ) -> Result<CommandSpec, AllocError>
-    ensures { IfOk result (IsAsked (map pair_text pairs.now) program.now (way_of way.now) (map string_bytes words.now)) }
+    ensures { IfOk result (IsAsked (map pair_text pairs.now) program.now (found_of found.now) (map string_bytes words.now)) }
 {
     let words = with_program(alloc, program, words)?;
-    let folder = copied_folder(alloc, way)?;
-    let vars = variables(alloc, pairs, way)?;
-    let stdin = port_to(Stream::In, goes(way, Stream::In));
-    let stdout = port_to(Stream::Out, goes(way, Stream::Out));
-    let stderr = port_to(Stream::Err, goes(way, Stream::Err));
+    let folder = copied(alloc, found.folder)?;
+    let vars = variables(alloc, pairs, found.changes.as_slice())?;
+    let stdin = port_to(Stream::In, found.input);
+    let stdout = port_to(Stream::Out, found.output);
+    let stderr = port_to(Stream::Err, found.error);
     Ok(spec_of(words, folder, vars, stdin, stdout, stderr))
 }
 
@@ -137,12 +152,12 @@ fn with_arguments(
     Ok(words)
 }
 
-/// A copy of the folder of a command, if it has one.
-fn copied_folder<E, H>(alloc: Global, way: &[Crumb<'_, E, H>]) -> Result<Option<String>, AllocError>
-    ensures { IfOk result (λ copy. option_map string_bytes copy ≡ folder (way_of way.now)) }
+/// A copy of a text, if there is one.
+fn copied(alloc: Global, text: Option<&str>) -> Result<Option<String>, AllocError>
+    ensures { IfOk result (λ copy. option_map string_bytes copy ≡ option_copied text.entry) }
 {
-    match folder(way) {
-        Some(path) => Ok(Some(String::from_str(alloc, path)?)),
+    match text {
+        Some(text) => Ok(Some(String::from_str(alloc, text)?)),
         None => Ok(None),
     }
 }

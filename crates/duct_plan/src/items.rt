@@ -3,7 +3,7 @@ ghost use Rattle.std.specs.Prelude.{◌≤◌, ◌↔◌, IsNone, IfSome, count_
 ghost use Rattle.duct_plan.specs.Commands.{is_spawn, IsCommandAt};
 ghost use Rattle.duct_plan.specs.PlanView.{plan_view};
 
-use crate::way::Crumb;
+use crate::found::Found;
 use std::fmt;
 
 /// One request of a start. A place is that of another item of the same plan, from 0.
@@ -14,8 +14,8 @@ pub enum Item<'t, E, H> {
     OpenRead(&'t str),
     Create(&'t str),
     Canonicalize(&'t str),
-    /// The child of a command: the way outwards from the command, and its words.
-    Spawn(Vec<Crumb<'t, E, H>>, &'t [String]),
+    /// The child of a command: what the command finds outwards, and its words.
+    Spawn(Found<'t, E, H>, &'t [String]),
     /// A worker that writes these bytes to the pipe which the item at this place got.
     Feed(usize, &'t [u8]),
     /// A worker that reads the pipe which the item at this place got.
@@ -33,7 +33,7 @@ pub struct Plan<'t, E, H> {
 }
 
 impl<E, H> fmt::Debug for Item<'_, E, H> {
-    /// `Pipe`, `Create("f")`, `Feed(1, [120])`. A way is not shown: `Spawn(["a", "b"])`.
+    /// `Pipe`, `Create("f")`, `Feed(1, [120])`. What is found is not shown: `Spawn(["a", "b"])`.
     fn fmt<W: fmt::Write>(&self, f: &mut fmt::Formatter<W>) -> fmt::Result {
         match self {
             Item::Environment => write!(f, "Environment"),

@@ -5,8 +5,10 @@
 pub mod asked;
 pub mod found;
 pub mod items;
+mod lookup;
 pub mod plan;
+mod step;
 mod streams;
 pub mod trace;
 mod variables;
-pub mod way;
+mod way;

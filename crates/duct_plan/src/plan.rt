@@ -1,16 +1,18 @@
 //! What a start asks of the system, made from the tree alone.
 ghost use Rattle.std.specs.Prelude.{◌≡◌, IfOk, map, string_bytes};
-ghost use Rattle.duct.specs.Plan.{asks, captures_out, captures_err, program_of, is_canonical, planned, begun, drains, reads, plan_of, plan_of_reader};
-ghost use Rattle.duct.specs.Tree.{command};
-ghost use Rattle.duct.specs.TreeOf.{layer_of, tree_of_node, tree_of};
-ghost use Rattle.duct_plan.specs.Layers.{before, after, canonical};
+ghost use Rattle.duct.specs.Plan.{asks, captures_out, captures_err, opened, place_for, closed, program_of, is_canonical, commanded, planned, begun, drains, reads, plan_of, plan_of_reader};
+ghost use Rattle.duct.specs.TreeOf.{tree_of_node, tree_of};
+ghost use Rattle.duct_plan.specs.Found.{found_of};
 ghost use Rattle.duct_plan.specs.PlanView.{item_of, plan_view};
+ghost use Rattle.duct_plan.specs.Step.{opening_of, closing_of};
 ghost use Rattle.duct_plan.specs.Way.{way_of};
 
-use crate::found::folder;
+use crate::found::Found;
 use crate::items::{Item, Plan};
-use crate::way::{Crumb, below, copied};
-use duct::tree::{Modifier, Node};
+use crate::lookup::found_on;
+use crate::step::{Opening, modifier_step};
+use crate::way::{Crumb, below};
+use duct::tree::Node;
 use duct::{Expression, asks_canonical};
 use std::alloc::{AllocError, Global};
 
@@ -135,14 +137,13 @@ pub(crate) fn program_of(words: &[String]) -> &str
 }
 
 /// Whether the program of a command is made canonical before its child is asked for.
-pub(crate) fn is_canonical<E, H>(way: &[Crumb<'_, E, H>], words: &[String]) -> bool
-    ensures { result ≡ is_canonical (way_of way.now) (map string_bytes words.now) }
+pub(crate) fn is_canonical<E, H>(found: &Found<'_, E, H>, words: &[String]) -> bool
+    ensures { result ≡ is_canonical (found_of found.now) (map string_bytes words.now) }
 {
-    asks_canonical(program_of(words), folder(way).is_some())
+    asks_canonical(program_of(words), found.folder.is_some())
 }
 
 /// The plan after a tree that stands below this way: each node before what it wraps, the left side before the right.
-#[tactic(auto, using(crate::proofs::Around::planned_around))]
 fn planned<'t, E: Drop, H: Drop>(
     alloc: Global,
     way: &[Crumb<'t, E, H>],
@@ -151,80 +152,82 @@ fn planned<'t, E: Drop, H: Drop>(
 ) -> Result<Plan<'t, E, H>, AllocError>
     ensures { IfOk result (λ after. plan_view after ≡ planned (way_of way.now) (tree_of_node node.now) (plan_view plan.entry)) }
 {
-    let place = plan.items.len();
     match node {
-        Node::Cmd(words) => command(alloc, way, words.as_slice(), plan),
+        Node::Cmd(words) => commanded(found_on(alloc, way)?, words.as_slice(), plan),
         Node::Pipe(left, right) => {
+            let place = plan.items.len();
             let left_way = below(alloc, Crumb::LeftOf(place), way)?;
             let right_way = below(alloc, Crumb::RightOf(place), way)?;
             let plan = planned(alloc, left_way.as_slice(), left, asks(Item::Pipe, plan)?)?;
             planned(alloc, right_way.as_slice(), right, plan)
         }
         Node::Io(modifier, inner) => {
+            let step = modifier_step(modifier);
+            let place = place_for(step.opening, &plan);
             let inner_way = below(alloc, Crumb::Within(place, modifier), way)?;
-            let plan = planned(alloc, inner_way.as_slice(), inner, before(modifier, plan)?)?;
-            after(modifier, place, plan)
+            let plan = opened(step.opening, plan)?;
+            let plan = planned(alloc, inner_way.as_slice(), inner, plan)?;
+            closed(step.feed, place, plan)
         }
     }
 }
 
-/// The plan after a command: its program is made canonical where that is asked, and then its child is asked for.
-fn command<'t, E: Drop, H: Drop>(
-    alloc: Global,
-    way: &[Crumb<'t, E, H>],
+/// The plan with a command that finds this outwards: its program is made canonical where that is asked, and then its child is
+/// asked for.
+fn commanded<'t, E: Drop, H: Drop>(
+    found: Found<'t, E, H>,
     words: &'t [String],
     plan: Plan<'t, E, H>,
 ) -> Result<Plan<'t, E, H>, AllocError>
-    ensures { IfOk result (λ after. plan_view after ≡ planned (way_of way.now) (command (map string_bytes words.now)) (plan_view plan.entry)) }
+    ensures { IfOk result (λ after. plan_view after ≡ commanded (found_of found.entry) (map string_bytes words.now) (plan_view plan.entry)) }
 {
-    let spawn = Item::Spawn(copied(alloc, way)?, words);
-    asks(spawn, canonical(way, words, plan)?)
-}
-
-/// The plan with the request that makes a command's program canonical, where that is asked.
-fn canonical<'t, E: Drop, H: Drop>(
-    way: &[Crumb<'t, E, H>],
-    words: &'t [String],
-    plan: Plan<'t, E, H>,
-) -> Result<Plan<'t, E, H>, AllocError>
-    ensures { IfOk result (λ after. plan_view after ≡ canonical (way_of way.now) (map string_bytes words.now) (plan_view plan.entry)) }
-{
-    if is_canonical(way, words) {
-        asks(Item::Canonicalize(program_of(words)), plan)
+    let plan = if is_canonical(&found, words) {
+        asks(Item::Canonicalize(program_of(words)), plan)?
     } else {
-        Ok(plan)
-    }
+        plan
+    };
+    asks(Item::Spawn(found, words), plan)
 }
 
-/// The plan after what a modifier asks before the expression that it stands round.
-fn before<'t, E: Drop, H: Drop>(
-    modifier: &'t Modifier<E, H>,
+/// The plan once a node has asked what it asks before what it wraps.
+fn opened<'t, E: Drop, H: Drop>(
+    opening: Opening<'t>,
     plan: Plan<'t, E, H>,
 ) -> Result<Plan<'t, E, H>, AllocError>
-    ensures { IfOk result (λ more. plan_view more ≡ before (layer_of modifier.now) (plan_view plan.entry)) }
+    ensures { IfOk result (λ more. plan_view more ≡ opened (opening_of opening.entry) (plan_view plan.entry)) }
 {
-    match modifier {
-        Modifier::StdinBytes(_) => asks(Item::Pipe, plan),
-        Modifier::StdinPath(path) => asks(Item::OpenRead(path.as_str()), plan),
-        Modifier::StdoutPath(path) | Modifier::StderrPath(path) => {
-            asks(Item::Create(path.as_str()), plan)
-        }
-        Modifier::StdoutCapture => captures_out(plan),
-        Modifier::StderrCapture => captures_err(plan),
-        _ => Ok(plan),
+    match opening {
+        Opening::Nothing => Ok(plan),
+        Opening::Pipe => asks(Item::Pipe, plan),
+        Opening::OpenRead(path) => asks(Item::OpenRead(path), plan),
+        Opening::Create(path) => asks(Item::Create(path), plan),
+        Opening::CapturesOut => captures_out(plan),
+        Opening::CapturesErr => captures_err(plan),
     }
 }
 
-/// The plan after what a modifier asks behind the expression that it stands round, where its own item stands at this place.
-fn after<'t, E: Drop, H: Drop>(
-    modifier: &'t Modifier<E, H>,
+/// The place of a node that comes next: that of the item that it asks or, of a capture, of its stream's one pipe.
+fn place_for<E, H>(opening: Opening<'_>, plan: &Plan<'_, E, H>) -> usize
+    ensures { result ≡ place_for (opening_of opening.entry) (plan_view plan.now) }
+{
+    let next = plan.items.len();
+    match opening {
+        Opening::Nothing | Opening::Pipe | Opening::OpenRead(_) | Opening::Create(_) => next,
+        Opening::CapturesOut => plan.out.unwrap_or(next),
+        Opening::CapturesErr => plan.err.unwrap_or(next),
+    }
+}
+
+/// The plan once a node at this place has asked what it asks after what it wraps: that these bytes are fed to its pipe.
+fn closed<'t, E: Drop, H: Drop>(
+    feed: Option<&'t [u8]>,
     place: usize,
     plan: Plan<'t, E, H>,
 ) -> Result<Plan<'t, E, H>, AllocError>
-    ensures { IfOk result (λ more. plan_view more ≡ after (layer_of modifier.now) place (plan_view plan.entry)) }
+    ensures { IfOk result (λ more. plan_view more ≡ closed (closing_of feed.entry place) (plan_view plan.entry)) }
 {
-    match modifier {
-        Modifier::StdinBytes(bytes) => asks(Item::Feed(place, bytes.as_slice()), plan),
-        _ => Ok(plan),
+    match feed {
+        None => Ok(plan),
+        Some(bytes) => asks(Item::Feed(place, bytes), plan),
     }
 }

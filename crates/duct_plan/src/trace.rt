@@ -49,7 +49,7 @@ fn text_of(entry: &Entry) -> &str
     }
 }
 
-/// The number of the first end that the entry at this place got: of a pipe the read end.
+/// The number of the first end that the entry at this place got: of a pipe the read end. It is 0 where no such end was got.
 pub fn first_end(trace: &[&Entry], place: usize) -> u64
     ensures { result ≡ end_at (lines_of trace.now) place 0 }
 {
@@ -59,7 +59,7 @@ pub fn first_end(trace: &[&Entry], place: usize) -> u64
     }
 }
 
-/// The number of the second end that the entry at this place got: of a pipe the write end.
+/// The number of the second end that the entry at this place got: of a pipe the write end. It is 0 where no such end was got.
 pub fn second_end(trace: &[&Entry], place: usize) -> u64
     ensures { result ≡ end_at (lines_of trace.now) place 1 }
 {

@@ -6,27 +6,27 @@ ghost use Rattle.std.specs.List.Sorted.{IsStrictlySortedBy};
 ghost use Rattle.std.specs.Ordering.{nat_cmp};
 ghost use Rattle.std.specs.String.{string_cmp};
 ghost use Rattle.duct_base.specs.Spec.{pair_text, value_of};
-ghost use Rattle.duct.specs.Path.{within};
-ghost use Rattle.duct.specs.TreeOf.{layer_of};
+ghost use Rattle.duct_plan.specs.Found.{change_of};
 ghost use Rattle.duct_plan.specs.Variables.{AreFound, Changes};
-ghost use Rattle.duct_plan.specs.Way.{crumb_of, way_of};
 
-use crate::way::Crumb;
-use duct::tree::Modifier;
+use crate::found::Change;
 use std::alloc::{AllocError, Global};
 use std::collections::BTreeMap;
 
-/// The variables that are found outwards, each name once and in order. They are made from the root of the tree inwards.
-pub(crate) fn variables<E, H>(
+/// The variables that are found outwards, each name once and in order. They are made from the furthest change to the nearest.
+pub(crate) fn variables(
     alloc: Global,
     pairs: &[(String, String)],
-    way: &[Crumb<'_, E, H>],
+    changes: &[Change<'_>],
 ) -> Result<BTreeMap<String, String>, AllocError>
-    ensures { IfOk result (λ vars. AreFound (map pair_text pairs.now) (way_of way.now) (map pair_text vars.entries)) }
+    ensures { IfOk result (λ vars. AreFound (map pair_text pairs.now) (map change_of changes.now) (map pair_text vars.entries)) }
 {
-    match way.split_first() {
+    match changes.split_first() {
         None => last_values(alloc, pairs),
-        Some((crumb, up)) => changed(crumb, variables(alloc, pairs, up)?),
+        Some((change, further)) => {
+            let vars = variables(alloc, pairs, further)?;
+            changed(alloc, *change, vars)
+        }
     }
 }
 
@@ -45,41 +45,31 @@ fn last_values(
     Ok(vars)
 }
 
-/// The variables after what a node does to them.
-fn changed<E, H>(
-    crumb: &Crumb<'_, E, H>,
+/// The variables after a change.
+fn changed(
+    alloc: Global,
+    change: Change<'_>,
     vars: BTreeMap<String, String>,
 ) -> Result<BTreeMap<String, String>, AllocError>
-    ensures { IfOk result (λ after. Changes (crumb_of crumb.now) (map pair_text vars.entries) (map pair_text after.entries)) }
-{
-    match crumb {
-        Crumb::Within(_, modifier) => changed_by(modifier, vars),
-        Crumb::LeftOf(_) | Crumb::RightOf(_) | Crumb::Captured(_) => Ok(vars),
-    }
-}
-
-/// The variables after what a modifier does to them.
-fn changed_by<E, H>(
-    modifier: &Modifier<E, H>,
-    vars: BTreeMap<String, String>,
-) -> Result<BTreeMap<String, String>, AllocError>
-    ensures { IfOk result (λ after. (place : ℕ) → Changes (within place (layer_of modifier.now)) (map pair_text vars.entries) (map pair_text after.entries)) }
+    ensures { IfOk result (λ after. Changes (change_of change.entry) (map pair_text vars.entries) (map pair_text after.entries)) }
 {
     let mut vars = vars;
-    match modifier {
-        Modifier::Env(name, value) => {
-            vars.insert(name.clone()?, value.clone()?)?;
+    match change {
+        Change::Sets(name, value) => {
+            vars.insert(
+                String::from_str(alloc, name)?,
+                String::from_str(alloc, value)?,
+            )?;
             Ok(vars)
         }
-        Modifier::EnvRemove(name) => {
-            let _ = vars.remove(name.as_str());
+        Change::Removes(name) => {
+            let _ = vars.remove(name);
             Ok(vars)
         }
-        Modifier::FullEnv(whole) => {
+        Change::Replaces(whole) => {
             let vars = copied(whole)?;
             Ok(vars)
         }
-        _ => Ok(vars),
     }
 }
 

@@ -1,13 +1,16 @@
 //! The way from a command outwards to the root of its tree.
 ghost use Rattle.std.specs.Prelude.{◌≡◌, ◌∷◌, IfOk};
+ghost use Rattle.duct.specs.Path.{place_of, step_of};
+ghost use Rattle.duct_plan.specs.Step.{IsStep};
+ghost use Rattle.duct_plan.specs.Way.{crumb_of};
 
+use crate::step::{Opening, Step, Turn, at_stdin, at_stdout, modifier_step};
 use duct::tree::Modifier;
 use std::alloc::{AllocError, Global};
 
-/// One node round a command, with the place that its item has in the plan, if it has one. A way is a slice of these, the
-/// nearest first.
+/// One node round a command, with its place in the plan. A way is a slice of these, the nearest first.
 #[derive_where(Clone, Copy)]
-pub enum Crumb<'t, E, H> {
+pub(crate) enum Crumb<'t, E, H> {
     /// A pipe, met from its left side.
     LeftOf(usize),
     /// A pipe, met from its right side.
@@ -16,6 +19,30 @@ pub enum Crumb<'t, E, H> {
     Within(usize, &'t Modifier<E, H>),
     /// The capture of stdout that a reader's start puts round the whole tree.
     Captured(usize),
+}
+
+/// The place of a node.
+pub(crate) fn place_of<E, H>(crumb: &Crumb<'_, E, H>) -> usize
+    ensures { result ≡ place_of (crumb_of crumb.now) }
+{
+    match crumb {
+        Crumb::LeftOf(place) => *place,
+        Crumb::RightOf(place) => *place,
+        Crumb::Within(place, _) => *place,
+        Crumb::Captured(place) => *place,
+    }
+}
+
+/// What a node does.
+pub(crate) fn step_of<'t, E, H>(crumb: &Crumb<'t, E, H>) -> Step<'t, E, H>
+    ensures { IsStep (step_of (crumb_of crumb.now)) result }
+{
+    match crumb {
+        Crumb::LeftOf(_) => at_stdout(Opening::Nothing, Turn::Writes),
+        Crumb::RightOf(_) => at_stdin(Opening::Nothing, Turn::Reads),
+        Crumb::Within(_, modifier) => modifier_step(modifier),
+        Crumb::Captured(_) => at_stdout(Opening::CapturesOut, Turn::Writes),
+    }
 }
 
 /// The way from below a node: that node, and then the way from the node itself.
@@ -32,18 +59,4 @@ pub(crate) fn below<'t, E, H>(
         way.push(*further)?;
     }
     Ok(way)
-}
-
-/// A copy of a way.
-pub(crate) fn copied<'t, E, H>(
-    alloc: Global,
-    way: &[Crumb<'t, E, H>],
-) -> Result<Vec<Crumb<'t, E, H>>, AllocError>
-    ensures { IfOk result (λ copy. copy.items ≡ way.now) }
-{
-    let mut copy = Vec::new(alloc);
-    for crumb in way {
-        copy.push(*crumb)?;
-    }
-    Ok(copy)
 }

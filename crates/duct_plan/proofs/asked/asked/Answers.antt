@@ -1,20 +1,22 @@
 -- The item at the command's place is its spawn.
-use Rattle.std.proofs.Common.{map, string_bytes, ap, ◌∙◌, Some}
+use Rattle.std.proofs.Common.{map, string_bytes, ap, ◌∙◌, Some, arith}
+use Rattle.std.proofs.lemmas.List.{length-map}
+use Rattle.duct_base.specs.Entry.{line_of}
 use Rattle.duct_plan.proofs.Counted.{item_at}
 use Rattle.duct_plan.specs.Commands.{is_spawn}
+use Rattle.duct_plan.specs.Found.{found_of}
 use Rattle.duct_plan.specs.PlanView.{item_of}
-use Rattle.duct_plan.specs.Way.{way_of}
 use Rattle.duct_plan.proofs.asked.asked.Goals as goal
 
 pub returns-clause-some : goal.returns-clause-some
 returns-clause-some g c =
     let items = c.args.plan.now.items.items in
-    let at = c.in-Some.ensures.some in
-    let h = c.in_ok-asked_at-in-Spawn.ensures in (
+    let at = c.in-Some.ensures.some in (
       c.in-Some.place,
-      way_of c.in-Spawn.way.items,
+      found_of c.in-Spawn.found,
       map string_bytes c.in-Spawn.words.now,
       at,
       item_at item_of is_spawn items c.in-Some.place c.index.result.now at.asks_child c.index.ensures ∙ ap (λ i. Some (item_of i)) c.in-Spawn.is,
-      rw c.as_slice.ensures.value at h,
+      omega (arith, length-map c.args.trace.now (λ entry. line_of entry.now)),
+      c.in_ok-asked_at-in-Spawn.ensures,
     )

@@ -1,6 +1,6 @@
--- Each call has one node less to look at.
+-- Each call has one change less to look at.
 use Rattle.std.proofs.Common.{length}
 use Rattle.duct_plan.proofs.found.+variable.Given as goal
 
 abbrev pub decreases-variable : goal.decreases-variable
-decreases-variable g l = length l.way.now
+decreases-variable l = length l.changes.now

@@ -1,6 +1,6 @@
--- Each call has one node less to look at.
+-- Each call has one change less to look at.
 use Rattle.std.proofs.Common.{length}
 use Rattle.duct_plan.proofs.variables.+variables.Given as goal
 
 abbrev pub decreases-variables : goal.decreases-variables
-decreases-variables g l = length l.way.now
+decreases-variables l = length l.changes.now

@@ -1,6 +1,16 @@
--- A modifier changes the variables as it does at any place.
-use Rattle.std.proofs.lemmas.Result.{IfOk-weaker}
+-- Variables that were put in, taken away or replaced.
+use Rattle.std.proofs.Common.{refl}
+use Rattle.duct_plan.proofs.Changed.{put_in, taken_away, replaced}
 use Rattle.duct_plan.proofs.variables.changed.Goals as goal
 
-pub returns-in-Within : goal.returns-in-Within
-returns-in-Within g c = IfOk-weaker c.changed_by.result _ _ (λ after h. rw c.in-Within.is (h c.in-Within.field-0)) c.changed_by.ensures
+pub returns-in_ok-insert-in-Sets : goal.returns-in_ok-insert-in-Sets
+returns-in_ok-insert-in-Sets c = rw c.in-Sets.is
+    (put_in c.args.vars.entries c.insert.new.self.entries _ _ _ _ c.in_ok-from_str-in-Sets.ensures.ok c.in_ok-from_str-in-Sets-2.ensures.ok c.in_ok-insert-in-Sets.ensures.entries c.in_ok-insert-in-Sets.ensures.ordered)
+
+pub returns-in-Removes : goal.returns-in-Removes
+returns-in-Removes c = rw c.in-Removes.is
+    (taken_away c.args.vars.entries c.remove.new.self.entries _ _ refl c.remove.ensures.entries c.remove.ensures.ordered)
+
+pub returns-in_ok-vars-in-Replaces : goal.returns-in_ok-vars-in-Replaces
+returns-in_ok-vars-in-Replaces c = rw c.in-Replaces.is
+    (replaced c.args.vars.entries c.in_ok-vars-in-Replaces.vars.entries _ _ c.in_ok-vars-in-Replaces.ensures.values c.in_ok-vars-in-Replaces.ensures.ordered)

@@ -1,0 +1,72 @@
+-- What one node does, as contracts see it.
+use Rattle.std.specs.Prelude.{ℕ, List, [], ◌∷◌, ◌≡◌, Some, None}
+use Rattle.std.specs.Borrow.{Bor}
+use Rattle.std.specs.Option.{option_copied}
+use Rattle.std.specs.declared.option.Option.{Option}
+use Rattle.duct_base.specs.declared.spec.Stream.TheVariants.{In, Out, Err}
+use Rattle.duct.specs.Found as outwards
+use Rattle.duct.specs.Step as node
+use Rattle.duct_plan.specs.Found.{change_of, hook_of}
+use Rattle.duct_plan.specs.declared.found.Change.{Change}
+use Rattle.duct_plan.specs.declared.step.Opening.{Opening}
+use Rattle.duct_plan.specs.declared.step.Opening.TheVariants as opening
+use Rattle.duct_plan.specs.declared.step.Step.{Step}
+use Rattle.duct_plan.specs.declared.step.Turn.{Turn}
+use Rattle.duct_plan.specs.declared.step.Turn.TheVariants as turn
+
+-- what a node asks before what it wraps
+abbrev pub opening_of : {E H : Type 0} → Opening → node.Opening E H
+opening_of opening.Nothing = node.OpensNothing
+opening_of opening.Pipe = node.Opens node.AskPipe
+opening_of (opening.OpenRead path) = node.Opens (node.AskOpenRead path.now)
+opening_of (opening.Create path) = node.Opens (node.AskCreate path.now)
+opening_of opening.CapturesOut = node.CapturesOut
+opening_of opening.CapturesErr = node.CapturesErr
+
+-- what it asks after that, from its place
+abbrev pub closing_of : {E H : Type 0} → Option (Bor (List ℕ)) → ℕ → List (node.Item E H)
+closing_of None place = []
+closing_of (Some bytes) place = node.AskFeed place bytes.now ∷ []
+
+-- what it says of a stream, from its place
+abbrev pub turn_of : {E : Type 0} → Turn E → ℕ → node.Turn E
+turn_of (turn.Follows stream) place = node.Follows stream
+turn_of turn.Nothing place = node.Decides outwards.Nothing
+turn_of (turn.Lends end) place = node.Decides (outwards.Lends end.now)
+turn_of turn.Reads place = node.Decides (outwards.ReaderAt place)
+turn_of turn.Writes place = node.Decides (outwards.WriterAt place)
+turn_of turn.Opened place = node.Decides (outwards.FileAt place)
+
+-- the change of variables, if there is one
+abbrev pub changes_of : Option Change → List outwards.Change
+changes_of None = []
+changes_of (Some change) = change_of change ∷ []
+
+-- the hook with the ends beside it, if there is one
+abbrev pub hooks_of : {E H : Type 0} → Option (Bor H × Bor (List E)) → List (H × List E)
+hooks_of None = []
+hooks_of (Some hook) = hook_of hook ∷ []
+
+-- the code's node that does nothing
+abbrev pub idle : {E H : Type 0} → Step E H
+idle = record {
+  opening = opening.Nothing;
+  feed = None;
+  input = turn.Follows In;
+  output = turn.Follows Out;
+  error = turn.Follows Err;
+  folder = None;
+  change = None;
+  hook = None;
+}
+
+-- the answer is what this node does
+pub record IsStep {E H : Type 0} (step : node.Step E H) (answer : Step E H) : Type 0 where
+  pub opening_is : opening_of answer.opening ≡ step.opening
+  pub closing_is : (place : ℕ) → closing_of answer.feed place ≡ step.closing place
+  pub input_is : (place : ℕ) → turn_of answer.input place ≡ step.turn place In
+  pub output_is : (place : ℕ) → turn_of answer.output place ≡ step.turn place Out
+  pub error_is : (place : ℕ) → turn_of answer.error place ≡ step.turn place Err
+  pub folder_is : option_copied answer.folder ≡ step.folder
+  pub changes_are : changes_of answer.change ≡ step.changes
+  pub hooks_are : hooks_of answer.hook ≡ step.hooks

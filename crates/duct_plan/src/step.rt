@@ -1,0 +1,154 @@
+//! What one node of a tree does: what it asks, how it turns streams, and what it says of folder, variables and hooks.
+ghost use Rattle.std.specs.Prelude.{◌≡◌, Some};
+ghost use Rattle.duct.specs.Step.{step};
+ghost use Rattle.duct.specs.TreeOf.{layer_of};
+ghost use Rattle.duct_plan.specs.Step.{idle, IsStep};
+
+use crate::found::Change;
+use duct::Stream;
+use duct::tree::Modifier;
+
+/// What a node asks before what it wraps.
+#[derive(Clone, Copy)]
+pub(crate) enum Opening<'t> {
+    Nothing,
+    Pipe,
+    OpenRead(&'t str),
+    Create(&'t str),
+    /// The one capture pipe of stdout.
+    CapturesOut,
+    /// The one capture pipe of stderr.
+    CapturesErr,
+}
+
+/// What a node says of a stream.
+#[derive_where(Clone, Copy)]
+pub(crate) enum Turn<'t, E> {
+    /// This stream is looked for further out.
+    Follows(Stream),
+    /// It goes to nothing.
+    Nothing,
+    /// It goes to this end of the caller.
+    Lends(&'t E),
+    /// It goes to the read end of the pipe at the node's place.
+    Reads,
+    /// It goes to the write end of the pipe at the node's place.
+    Writes,
+    /// It goes to the file at the node's place.
+    Opened,
+}
+
+/// What a node does. Its place is that of the item that it asks or, of a capture, of its stream's one pipe.
+#[derive_where(Clone, Copy)]
+pub(crate) struct Step<'t, E, H> {
+    pub opening: Opening<'t>,
+    /// The bytes that are fed to the pipe at its place, after what it wraps.
+    pub feed: Option<&'t [u8]>,
+    /// What it says of stdin.
+    pub input: Turn<'t, E>,
+    /// What it says of stdout.
+    pub output: Turn<'t, E>,
+    /// What it says of stderr.
+    pub error: Turn<'t, E>,
+    pub folder: Option<&'t str>,
+    pub change: Option<Change<'t>>,
+    pub hook: Option<(&'t H, &'t [E])>,
+}
+
+/// A node that does no more than to ask this before what it wraps.
+fn only<'t, E, H>(opening: Opening<'t>) -> Step<'t, E, H>
+    ensures { result ≡ record idle { opening = opening.entry } }
+{
+    Step {
+        opening,
+        feed: None,
+        input: Turn::Follows(Stream::In),
+        output: Turn::Follows(Stream::Out),
+        error: Turn::Follows(Stream::Err),
+        folder: None,
+        change: None,
+        hook: None,
+    }
+}
+
+/// A node that decides or turns stdin.
+pub(crate) fn at_stdin<'t, E, H>(opening: Opening<'t>, input: Turn<'t, E>) -> Step<'t, E, H>
+    ensures { result ≡ record idle { opening = opening.entry; input = input.entry } }
+{
+    Step {
+        input,
+        ..only(opening)
+    }
+}
+
+/// A node that decides or turns stdout.
+pub(crate) fn at_stdout<'t, E, H>(opening: Opening<'t>, output: Turn<'t, E>) -> Step<'t, E, H>
+    ensures { result ≡ record idle { opening = opening.entry; output = output.entry } }
+{
+    Step {
+        output,
+        ..only(opening)
+    }
+}
+
+/// A node that decides or turns stderr.
+pub(crate) fn at_stderr<'t, E, H>(opening: Opening<'t>, error: Turn<'t, E>) -> Step<'t, E, H>
+    ensures { result ≡ record idle { opening = opening.entry; error = error.entry } }
+{
+    Step {
+        error,
+        ..only(opening)
+    }
+}
+
+/// A node that changes the variables.
+fn changing<'t, E, H>(change: Change<'t>) -> Step<'t, E, H>
+    ensures { result ≡ record idle { change = Some change.entry } }
+{
+    Step {
+        change: Some(change),
+        ..only(Opening::Nothing)
+    }
+}
+
+/// Each kind of node round one expression.
+pub(crate) fn modifier_step<'t, E, H>(modifier: &'t Modifier<E, H>) -> Step<'t, E, H>
+    ensures { IsStep (step (layer_of modifier.now)) result }
+{
+    match modifier {
+        Modifier::StdinBytes(bytes) => Step {
+            feed: Some(bytes.as_slice()),
+            ..at_stdin(Opening::Pipe, Turn::Reads)
+        },
+        Modifier::StdinPath(path) => at_stdin(Opening::OpenRead(path.as_str()), Turn::Opened),
+        Modifier::StdinFile(end) => at_stdin(Opening::Nothing, Turn::Lends(end)),
+        Modifier::StdinNull => at_stdin(Opening::Nothing, Turn::Nothing),
+        Modifier::StdoutPath(path) => at_stdout(Opening::Create(path.as_str()), Turn::Opened),
+        Modifier::StdoutFile(end) => at_stdout(Opening::Nothing, Turn::Lends(end)),
+        Modifier::StdoutNull => at_stdout(Opening::Nothing, Turn::Nothing),
+        Modifier::StdoutCapture => at_stdout(Opening::CapturesOut, Turn::Writes),
+        Modifier::StdoutToStderr => at_stdout(Opening::Nothing, Turn::Follows(Stream::Err)),
+        Modifier::StderrPath(path) => at_stderr(Opening::Create(path.as_str()), Turn::Opened),
+        Modifier::StderrFile(end) => at_stderr(Opening::Nothing, Turn::Lends(end)),
+        Modifier::StderrNull => at_stderr(Opening::Nothing, Turn::Nothing),
+        Modifier::StderrCapture => at_stderr(Opening::CapturesErr, Turn::Writes),
+        Modifier::StderrToStdout => at_stderr(Opening::Nothing, Turn::Follows(Stream::Out)),
+        Modifier::StdoutStderrSwap => Step {
+            output: Turn::Follows(Stream::Err),
+            error: Turn::Follows(Stream::Out),
+            ..only(Opening::Nothing)
+        },
+        Modifier::Dir(path) => Step {
+            folder: Some(path.as_str()),
+            ..only(Opening::Nothing)
+        },
+        Modifier::Env(name, value) => changing(Change::Sets(name.as_str(), value.as_str())),
+        Modifier::EnvRemove(name) => changing(Change::Removes(name.as_str())),
+        Modifier::FullEnv(vars) => changing(Change::Replaces(vars)),
+        Modifier::Unchecked => only(Opening::Nothing),
+        Modifier::BeforeSpawn(hook, ends) => Step {
+            hook: Some((hook, ends.as_slice())),
+            ..only(Opening::Nothing)
+        },
+    }
+}
