@@ -9,12 +9,12 @@ fn stdout_is_read_in_place_of_drained(rt: HostRuntime) -> Result<(), Fail> {
         "
         reader: a
         plan: Environment, Pipe, Spawn a, Reader 1; stdout's capture at 1
-        goes: a -> stdin capture-Out stderr
+        goes: a -> stdin writer-1 stderr
         given: a -> inherit 2 inherit
 
         reader: a stdout_capture
         plan: Environment, Pipe, Spawn a, Reader 1; stdout's capture at 1
-        goes: a -> stdin capture-Out stderr
+        goes: a -> stdin writer-1 stderr
         given: a -> inherit 2 inherit
 
         reader: a stdout_null
@@ -32,12 +32,12 @@ fn stderr_is_drained_before_the_reader(rt: HostRuntime) -> Result<(), Fail> {
         "
         reader: a stderr_capture
         plan: Environment, Pipe, Pipe, Spawn a, Drain 2, Reader 1; stdout's capture at 1; stderr's capture at 2
-        goes: a -> stdin capture-Out capture-Err
+        goes: a -> stdin writer-1 writer-2
         given: a -> inherit 2 4
 
         reader: a stdout_stderr_swap stderr_capture
         plan: Environment, Pipe, Pipe, Spawn a, Drain 2, Reader 1; stdout's capture at 1; stderr's capture at 2
-        goes: a -> stdin capture-Err capture-Out
+        goes: a -> stdin writer-2 writer-1
         given: a -> inherit 4 2
         ",
     )
@@ -50,12 +50,12 @@ fn pipes_and_inputs_below_a_reader(rt: HostRuntime) -> Result<(), Fail> {
         "
         reader: a b pipe
         plan: Environment, Pipe, Pipe, Spawn a, Spawn b, Reader 1; stdout's capture at 1
-        goes: a -> stdin writer-2 stderr; b -> reader-2 capture-Out stderr
+        goes: a -> stdin writer-2 stderr; b -> reader-2 writer-1 stderr
         given: a -> inherit 4 inherit; b -> 3 2 inherit
 
         reader: a stdin_bytes=x
         plan: Environment, Pipe, Pipe, Spawn a, Feed 2 [120], Reader 1; stdout's capture at 1
-        goes: a -> reader-2 capture-Out stderr
+        goes: a -> reader-2 writer-1 stderr
         given: a -> 3 2 inherit
         ",
     )

@@ -214,17 +214,17 @@ fn redirections_into_captures(rt: HostRuntime) -> Result<(), Fail> {
         "
         expression: a stdout_to_stderr stderr_capture
         plan: Environment, Pipe, Spawn a, Drain 1; stderr's capture at 1
-        goes: a -> stdin capture-Err capture-Err
+        goes: a -> stdin writer-1 writer-1
         given: a -> inherit 2 2
 
         expression: a stderr_capture stdout_to_stderr
         plan: Environment, Pipe, Spawn a, Drain 1; stderr's capture at 1
-        goes: a -> stdin stderr capture-Err
+        goes: a -> stdin stderr writer-1
         given: a -> inherit parent-Err 2
 
         expression: a stderr_to_stdout stdout_capture
         plan: Environment, Pipe, Spawn a, Drain 1; stdout's capture at 1
-        goes: a -> stdin capture-Out capture-Out
+        goes: a -> stdin writer-1 writer-1
         given: a -> inherit 2 2
         ",
     )
@@ -260,12 +260,12 @@ fn a_swap_inside_of_captures(rt: HostRuntime) -> Result<(), Fail> {
         "
         expression: a stdout_stderr_swap stdout_capture stderr_capture
         plan: Environment, Pipe, Pipe, Spawn a, Drain 2, Drain 1; stdout's capture at 2; stderr's capture at 1
-        goes: a -> stdin capture-Err capture-Out
+        goes: a -> stdin writer-1 writer-2
         given: a -> inherit 2 4
 
         expression: a stdout_stderr_swap stdout_stderr_swap stdout_capture stderr_capture
         plan: Environment, Pipe, Pipe, Spawn a, Drain 2, Drain 1; stdout's capture at 2; stderr's capture at 1
-        goes: a -> stdin capture-Out capture-Err
+        goes: a -> stdin writer-2 writer-1
         given: a -> inherit 4 2
         ",
     )
@@ -363,7 +363,7 @@ fn captures_met_twice_share_a_pipe(rt: HostRuntime) -> Result<(), Fail> {
         "
         expression: a stdout_capture stdout_capture
         plan: Environment, Pipe, Spawn a, Drain 1; stdout's capture at 1
-        goes: a -> stdin capture-Out stderr
+        goes: a -> stdin writer-1 stderr
         given: a -> inherit 2 inherit
 
         expression: a stdout_null stdout_capture
@@ -381,12 +381,12 @@ fn captures_on_both_sides_of_a_pipe(rt: HostRuntime) -> Result<(), Fail> {
         "
         expression: a stderr_capture b stderr_capture pipe
         plan: Environment, Pipe, Pipe, Spawn a, Spawn b, Drain 2; stderr's capture at 2
-        goes: a -> stdin writer-1 capture-Err; b -> reader-1 stdout capture-Err
+        goes: a -> stdin writer-1 writer-2; b -> reader-1 stdout writer-2
         given: a -> inherit 2 4; b -> 1 inherit 4
 
         expression: a stdout_capture b stdout_capture pipe
         plan: Environment, Pipe, Pipe, Spawn a, Spawn b, Drain 2; stdout's capture at 2
-        goes: a -> stdin capture-Out stderr; b -> reader-1 capture-Out stderr
+        goes: a -> stdin writer-2 stderr; b -> reader-1 writer-2 stderr
         given: a -> inherit 4 inherit; b -> 1 4 inherit
         ",
     )
@@ -399,17 +399,17 @@ fn captures_under_a_pipe(rt: HostRuntime) -> Result<(), Fail> {
         "
         expression: a stdout_capture b pipe
         plan: Environment, Pipe, Pipe, Spawn a, Spawn b, Drain 2; stdout's capture at 2
-        goes: a -> stdin capture-Out stderr; b -> reader-1 stdout stderr
+        goes: a -> stdin writer-2 stderr; b -> reader-1 stdout stderr
         given: a -> inherit 4 inherit; b -> 1 inherit inherit
 
         expression: a b stdout_capture pipe
         plan: Environment, Pipe, Spawn a, Pipe, Spawn b, Drain 3; stdout's capture at 3
-        goes: a -> stdin writer-1 stderr; b -> reader-1 capture-Out stderr
+        goes: a -> stdin writer-1 stderr; b -> reader-1 writer-3 stderr
         given: a -> inherit 2 inherit; b -> 1 5 inherit
 
         expression: a b pipe stdout_capture
         plan: Environment, Pipe, Pipe, Spawn a, Spawn b, Drain 1; stdout's capture at 1
-        goes: a -> stdin writer-2 stderr; b -> reader-2 capture-Out stderr
+        goes: a -> stdin writer-2 stderr; b -> reader-2 writer-1 stderr
         given: a -> inherit 4 inherit; b -> 3 2 inherit
         ",
     )
@@ -445,7 +445,7 @@ fn inputs_and_pipes(rt: HostRuntime) -> Result<(), Fail> {
         "
         expression: a stdin_bytes=xyz b pipe stdout_capture
         plan: Environment, Pipe, Pipe, Pipe, Spawn a, Feed 3 [120, 121, 122], Spawn b, Drain 1; stdout's capture at 1
-        goes: a -> reader-3 writer-2 stderr; b -> reader-2 capture-Out stderr
+        goes: a -> reader-3 writer-2 stderr; b -> reader-2 writer-1 stderr
         given: a -> 5 4 inherit; b -> 3 2 inherit
 
         expression: a b stdin_bytes=p pipe

@@ -1,16 +1,15 @@
 //! What commands are asked for and their children are given, and the message of a failed command, in words.
 use crate::expressions::Tree;
 use crate::streams::push_stream;
-use crate::texts::{TestCrumb, TestPlan, begin, push_folder, push_variable};
+use crate::texts::{TestFound, TestPlan, begin, push_folder, push_variable};
 use duct::tree::Node;
 use duct::{
     CommandSpec, Core, Drains, Entry, Error, Event, ExitStatus, Reply, Shape, Stream, Word,
 };
 use duct_follows::chain::wired;
-use duct_plan::asked::{Wired, asked};
-use duct_plan::found::hooks;
-use duct_plan::items::Item;
 use duct_plain::checker::trace;
+use duct_plan::asked::{Wired, asked};
+use duct_plan::items::Item;
 use std::alloc::{AllocError, Global};
 use std::sync::Arc;
 use std::test::Fail;
@@ -99,12 +98,13 @@ fn push_known(
     plan: &TestPlan,
     trace: &[&Entry],
     command: usize,
-) -> Result<(), AllocError> {
+) -> Result<(), Fail> {
     let known = asked(alloc, plan, trace, command)?.is_some();
     if !text.is_empty() {
         text.push(' ')?;
     }
-    text.push_str(if known { "yes" } else { "no" })
+    text.push_str(if known { "yes" } else { "no" })?;
+    Ok(())
 }
 
 /// The words that the first command's child is given once its hooks ran, or the error by which they stop a start.
@@ -121,32 +121,27 @@ fn wired_first(
     plan: &TestPlan,
     entries: &[Entry],
 ) -> Result<Result<Wired, Error>, Fail> {
-    let way = first_way(plan).ok_or("no command")?;
-    let hooks = hooks(alloc, way)?;
+    let found = first_found(plan).ok_or("no command")?;
     match asked_first(alloc, plan, entries)? {
-        Some(asked) => Ok(wired(asked, hooks.as_slice())),
+        Some(asked) => Ok(wired(asked, found.hooks.as_slice())),
         None => Err(Fail::from("no command")),
     }
 }
 
-/// The way outwards from the first command.
-fn first_way<'p, 't>(plan: &'p TestPlan<'t>) -> Option<&'p [TestCrumb<'t>]> {
+/// What the first command finds outwards.
+fn first_found<'p, 't>(plan: &'p TestPlan<'t>) -> Option<&'p TestFound<'t>> {
     for item in plan.items.iter() {
-        if let Item::Spawn(way, _) = item {
-            return Some(way.as_slice());
+        if let Item::Spawn(found, _) = item {
+            return Some(found);
         }
     }
     None
 }
 
 /// What the first command is asked for.
-fn asked_first(
-    alloc: Global,
-    plan: &TestPlan,
-    entries: &[Entry],
-) -> Result<Option<Wired>, AllocError> {
+fn asked_first(alloc: Global, plan: &TestPlan, entries: &[Entry]) -> Result<Option<Wired>, Fail> {
     let traced = trace(alloc, entries)?;
-    asked(alloc, plan, traced.as_slice(), 0)
+    Ok(asked(alloc, plan, traced.as_slice(), 0)?)
 }
 
 /// The words with a space between two.

@@ -1,7 +1,7 @@
 //! Where streams go and where their ends come from, in words.
 use duct::{CommandSpec, Numbered, Port, Stdio, Stream};
-use duct_plan::found::Target;
 use duct_plain::checker::Source;
+use duct_plan::found::Target;
 use duct_script::system::ScriptEnd;
 use std::alloc::AllocError;
 
@@ -16,7 +16,6 @@ pub fn push_target(text: &mut String, target: Target<ScriptEnd>) -> Result<(), A
         Target::WriterAt(place) => write!(text, " writer-{place}"),
         Target::FileAt(place) => write!(text, " file-{place}"),
         Target::Lends(end) => push_lent(text, end.number()),
-        Target::CaptureOf(stream) => write!(text, " capture-{stream:?}"),
     }
 }
 

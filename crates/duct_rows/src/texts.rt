@@ -1,10 +1,9 @@
 //! Plans, and what a command finds, in words.
 use crate::hooks::push_words;
 use crate::streams::push_target;
-use duct::{Numbered, Stream};
-use duct_plan::found::{folder, goes, hooks, variable};
+use duct::Numbered;
+use duct_plan::found::{Found, variable};
 use duct_plan::items::{Item, Plan};
-use duct_plan::way::Crumb;
 use duct_script::hook::ScriptHook;
 use duct_script::system::ScriptEnd;
 use std::alloc::{AllocError, Global};
@@ -13,7 +12,7 @@ pub type TestPlan<'t> = Plan<'t, ScriptEnd, ScriptHook>;
 
 pub type TestItem<'t> = Item<'t, ScriptEnd, ScriptHook>;
 
-pub type TestCrumb<'t> = Crumb<'t, ScriptEnd, ScriptHook>;
+pub type TestFound<'t> = Found<'t, ScriptEnd, ScriptHook>;
 
 /// The items of a plan, and then the places of its capture pipes.
 pub fn plan_text(alloc: Global, plan: &TestPlan) -> Result<String, AllocError> {
@@ -89,9 +88,9 @@ pub enum Find<'a> {
 pub fn found_text(alloc: Global, plan: &TestPlan, find: Find) -> Result<String, AllocError> {
     let mut text = String::new(alloc);
     for item in plan.items.iter() {
-        if let Item::Spawn(way, words) = item {
+        if let Item::Spawn(found, words) = item {
             begin(&mut text, words)?;
-            push_found(alloc, &mut text, way.as_slice(), find)?;
+            push_found(&mut text, found, find)?;
         }
     }
     Ok(text)
@@ -109,24 +108,19 @@ pub fn begin(text: &mut String, words: &[String]) -> Result<(), AllocError> {
     text.push_str("->")
 }
 
-fn push_found(
-    alloc: Global,
-    text: &mut String,
-    way: &[TestCrumb],
-    find: Find,
-) -> Result<(), AllocError> {
+fn push_found(text: &mut String, found: &TestFound, find: Find) -> Result<(), AllocError> {
     match find {
-        Find::Streams => push_targets(text, way),
-        Find::Folder => push_folder(text, folder(way)),
+        Find::Streams => push_targets(text, found),
+        Find::Folder => push_folder(text, found.folder),
         Find::Variables(names, parent) => {
             for name in names.iter() {
-                if let Some(value) = variable(parent, way, name) {
+                if let Some(value) = variable(parent, found.changes.as_slice(), name) {
                     push_variable(text, name, value)?;
                 }
             }
             Ok(())
         }
-        Find::Hooks => push_hooks(text, hooks(alloc, way)?.as_slice()),
+        Find::Hooks => push_hooks(text, found.hooks.as_slice()),
     }
 }
 
@@ -140,10 +134,10 @@ fn push_hooks<'t>(
     Ok(())
 }
 
-fn push_targets(text: &mut String, way: &[TestCrumb]) -> Result<(), AllocError> {
-    push_target(text, goes(way, Stream::In))?;
-    push_target(text, goes(way, Stream::Out))?;
-    push_target(text, goes(way, Stream::Err))
+fn push_targets(text: &mut String, found: &TestFound) -> Result<(), AllocError> {
+    push_target(text, found.input)?;
+    push_target(text, found.output)?;
+    push_target(text, found.error)
 }
 
 /// Adds a folder, or that it is the parent's.
