@@ -3,19 +3,32 @@ use Rattle.std.specs.Prelude.{ℕ, List, Bool, true, ◌&&◌, Some, None, if◌
 use Rattle.std.specs.List.{list_all}
 use Rattle.std.specs.declared.option.Option.{Option}
 use Rattle.duct_base.specs.Quoted.{is_printable}
-use Rattle.duct.specs.Tree.{Layer, Tree, command, pipe, around, stdin_path, stdout_path, stderr_path, dir, env, env_remove, full_env}
+use Rattle.duct.specs.Tree.{Layer, Tree, command, pipe, around, stdin_bytes, stdin_path, stdin_file, stdin_null, stdout_path, stdout_file, stdout_null, stdout_capture, stdout_to_stderr, stderr_path, stderr_file, stderr_null, stderr_capture, stderr_to_stdout, stdout_stderr_swap, dir, env, env_remove, full_env, unchecked, before_spawn}
 use Rattle.duct.specs.Text.{text}
 
 -- whether the texts of a layer are printable
 abbrev pub is_layer_printable : {E H : Type 0} → Layer E H → Bool
+is_layer_printable (stdin_bytes bytes) = true
 is_layer_printable (stdin_path path) = is_printable path
+is_layer_printable (stdin_file end) = true
+is_layer_printable stdin_null = true
 is_layer_printable (stdout_path path) = is_printable path
+is_layer_printable (stdout_file end) = true
+is_layer_printable stdout_null = true
+is_layer_printable stdout_capture = true
+is_layer_printable stdout_to_stderr = true
 is_layer_printable (stderr_path path) = is_printable path
+is_layer_printable (stderr_file end) = true
+is_layer_printable stderr_null = true
+is_layer_printable stderr_capture = true
+is_layer_printable stderr_to_stdout = true
+is_layer_printable stdout_stderr_swap = true
 is_layer_printable (dir path) = is_printable path
 is_layer_printable (env name value) = is_printable name && is_printable value
 is_layer_printable (env_remove name) = is_printable name
 is_layer_printable (full_env vars) = list_all (λ variable. is_printable variable.0 && is_printable variable.1) vars
-is_layer_printable _ = true
+is_layer_printable unchecked = true
+is_layer_printable (before_spawn hook ends) = true
 
 -- whether all texts of a tree are printable
 abbrev pub is_tree_printable : {E H : Type 0} → Tree E H → Bool
