@@ -9,9 +9,7 @@ use Rattle.duct_base.specs.declared.error.Error.{Error}
 use Rattle.duct_base.specs.declared.system.Stdio.{Stdio}
 use Rattle.duct.specs.Chain.{Wired, Chain, ChainStops, lent}
 use Rattle.duct.specs.Follows.{IsGiven, IsAskedAt}
-use Rattle.duct.specs.Lookup.{hooks}
-use Rattle.duct.specs.Path.{Path}
-use Rattle.duct.specs.Plan.{Plan}
+use Rattle.duct.specs.Found.{Found}
 use Rattle.duct_follows.specs.Given.{AreThese, AreAnswered, FoundNoMemory, Decides}
 use Rattle.duct_follows.specs.ScriptHooks.{allows, refuses}
 use Rattle.duct_follows.specs.Wiring.{wired_of}
@@ -33,56 +31,53 @@ answered_is wired asked is =
     let own = answered_of wired asked is in
     same_wired wired (wired_of asked) (is.spec_is ∙ sym own.spec_is) (is.streams_are ∙ sym own.streams_are)
 
-module _ {E : Type 0} (lines : List Line) (plan : Plan E ScriptHook) (number_of : E → ℕ) (place : ℕ) (up : Path E ScriptHook) (words : List (List ℕ)) where
+module _ {E : Type 0} (lines : List Line) (number_of : E → ℕ) (place : ℕ) (found : Found E ScriptHook) (words : List (List ℕ)) where
   -- a command's spec and streams are asked for by the tree
   abbrev pub IsAskedHere : Wired → Type 0
-  IsAskedHere wired = IsAskedAt lines plan number_of place up words wired
+  IsAskedHere wired = IsAskedAt lines number_of place found words wired
 
   -- a spec and streams are to be given
   abbrev IsGivenHere : Spec → List (Stdio Origin) → Type 0
-  IsGivenHere spec streams = IsGiven allows number_of lines plan place up words spec streams
+  IsGivenHere spec streams = IsGiven allows number_of lines place found words spec streams
 
   -- what the answer stands for is asked for
-  pub answer_is_asked : (asked : answer.Wired) → IsAskedThere lines plan number_of place up words asked → IsAskedHere (wired_of asked)
+  pub answer_is_asked : (asked : answer.Wired) → IsAskedThere lines number_of place found words asked → IsAskedHere (wired_of asked)
   answer_is_asked asked there = subst IsAskedHere (answered_is there.0 asked there.2) there.1
 
   -- and nothing else
-  pub only_the_answer : (asked : answer.Wired) (wired : Wired) → IsAskedThere lines plan number_of place up words asked → IsAskedHere wired → wired ≡ wired_of asked
-  only_the_answer asked wired there is = same_asked_at lines plan number_of place up words wired (wired_of asked) is (answer_is_asked asked there)
+  pub only_the_answer : (asked : answer.Wired) (wired : Wired) → IsAskedThere lines number_of place found words asked → IsAskedHere wired → wired ≡ wired_of asked
+  only_the_answer asked wired there is = same_asked_at lines number_of place found words wired (wired_of asked) is (answer_is_asked asked there)
 
-  given_these : (asked given : answer.Wired) → IsAskedThere lines plan number_of place up words asked →
-      Chain allows (lent number_of (hooks up)) (wired_of asked) (wired_of given) → IsAnswered (wired_of given) given →
+  given_these : (asked given : answer.Wired) → IsAskedThere lines number_of place found words asked →
+      Chain allows (lent number_of found.hooks) (wired_of asked) (wired_of given) → IsAnswered (wired_of given) given →
       (spec : Spec) (streams : List (Stdio Origin)) → IsGivenHere spec streams ↔ AreThese given spec streams
   given_these asked given there chain own spec streams =
       let to : IsGivenHere spec streams → AreThese given spec streams = λ is.
       let before : is.0 ≡ wired_of asked = only_the_answer asked is.0 there is.2 in
-      let also : Chain allows (lent number_of (hooks up)) (wired_of asked) is.1 = subst (λ (wired : Wired). Chain allows (lent number_of (hooks up)) wired is.1) before is.3 in
-      let after : is.1 ≡ wired_of given = chain_one allows makes_one (lent number_of (hooks up)) (wired_of asked) is.1 (wired_of given) also chain in
+      let also : Chain allows (lent number_of found.hooks) (wired_of asked) is.1 = subst (λ (wired : Wired). Chain allows (lent number_of found.hooks) wired is.1) before is.3 in
+      let after : is.1 ≡ wired_of given = chain_one allows makes_one (lent number_of found.hooks) (wired_of asked) is.1 (wired_of given) also chain in
       record { spec_is = is.4 ∙ ap (λ wired. wired.spec) after; streams_are = is.5 ∙ ap streams_in after ∙ own.streams_are } in
       let back : AreThese given spec streams → IsGivenHere spec streams = λ these.
       (wired_of asked, wired_of given, answer_is_asked asked there, chain, these.spec_is, these.streams_are ∙ sym own.streams_are) in
       (to, back)
 
-  given_none : (asked : answer.Wired) (error : Error) → IsAskedThere lines plan number_of place up words asked →
-      ChainStops allows refuses (lent number_of (hooks up)) (wired_of asked) error → ¬ (FoundNoMemory error) →
+  given_none : (asked : answer.Wired) (error : Error) → IsAskedThere lines number_of place found words asked →
+      ChainStops allows refuses (lent number_of found.hooks) (wired_of asked) error → ¬ (FoundNoMemory error) →
       (spec : Spec) (streams : List (Stdio Origin)) → IsGivenHere spec streams ↔ ⊥
   given_none asked error there stops decided spec streams =
       let to : IsGivenHere spec streams → ⊥ = λ is.
       let before : is.0 ≡ wired_of asked = only_the_answer asked is.0 there is.2 in
-      let also : Chain allows (lent number_of (hooks up)) (wired_of asked) is.1 = subst (λ (wired : Wired). Chain allows (lent number_of (hooks up)) wired is.1) before is.3 in
-      chain_none allows refuses makes_one makes_none (lent number_of (hooks up)) (wired_of asked) is.1 error decided stops also in
+      let also : Chain allows (lent number_of found.hooks) (wired_of asked) is.1 = subst (λ (wired : Wired). Chain allows (lent number_of found.hooks) wired is.1) before is.3 in
+      chain_none allows refuses makes_one makes_none (lent number_of found.hooks) (wired_of asked) is.1 error decided stops also in
       (to, λ never. absurd never)
 
   -- what the hooks made of it is to be given, or nothing where they stopped the start and that is no want of memory
-  pub given_is : (asked : answer.Wired) (found : List (ScriptHook × List E)) (made : Result answer.Wired Error) (given : Option answer.Wired) →
-      found ≡ hooks up → IsAskedThere lines plan number_of place up words asked →
-      IfOk made (λ after. Chain allows (lent number_of found) (wired_of asked) (wired_of after)) →
+  pub given_is : (asked : answer.Wired) (made : Result answer.Wired Error) (given : Option answer.Wired) → IsAskedThere lines number_of place found words asked →
+      IfOk made (λ after. Chain allows (lent number_of found.hooks) (wired_of asked) (wired_of after)) →
       IfOk made (λ after. IsAnswered (wired_of after) after) →
-      IfErr made (λ error. ChainStops allows refuses (lent number_of found) (wired_of asked) error) →
+      IfErr made (λ error. ChainStops allows refuses (lent number_of found.hooks) (wired_of asked) error) →
       Decides made given → (spec : Spec) (streams : List (Stdio Origin)) → IsGivenHere spec streams ↔ AreAnswered given spec streams
-  given_is asked found (Ok after) given are there chain own stops decides spec streams =
-      subst (λ (given : Option answer.Wired). IsGivenHere spec streams ↔ AreAnswered given spec streams) (sym decides)
-      (given_these asked after there (subst (λ (found : List (ScriptHook × List E)). Chain allows (lent number_of found) (wired_of asked) (wired_of after)) are chain) own spec streams)
-  given_is asked found (Err error) given are there chain own stops decides spec streams =
-      subst (λ (given : Option answer.Wired). IsGivenHere spec streams ↔ AreAnswered given spec streams) (sym decides.0)
-      (given_none asked error there (subst (λ (found : List (ScriptHook × List E)). ChainStops allows refuses (lent number_of found) (wired_of asked) error) are stops) decides.1 spec streams)
+  given_is asked (Ok after) given there chain own stops decides spec streams =
+      subst (λ (given : Option answer.Wired). IsGivenHere spec streams ↔ AreAnswered given spec streams) (sym decides) (given_these asked after there chain own spec streams)
+  given_is asked (Err error) given there chain own stops decides spec streams =
+      subst (λ (given : Option answer.Wired). IsGivenHere spec streams ↔ AreAnswered given spec streams) (sym decides.0) (given_none asked error there stops decides.1 spec streams)

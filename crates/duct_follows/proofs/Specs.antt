@@ -10,8 +10,7 @@ use Rattle.duct_base.specs.declared.system.Stdio.{Stdio}
 use Rattle.duct.specs.Asked.{IsAsked}
 use Rattle.duct.specs.Chain.{Wired}
 use Rattle.duct.specs.Follows.{IsAskedAt}
-use Rattle.duct.specs.Path.{Path}
-use Rattle.duct.specs.Plan.{Plan}
+use Rattle.duct.specs.Found.{Found}
 use Rattle.duct_follows.proofs.Variables.{same_vars}
 
 -- the spec of these parts
@@ -29,9 +28,9 @@ same_spec one other words folder vars input output error =
     let same : spec_of one.words one.folder one.vars one.input one.output one.error ≡ spec_of other.words other.folder other.vars other.input other.output other.error = cc in same
 
 -- specs that are asked for the same
-pub same_asked : {E H : Type 0} (pairs : Vars) (program : List ℕ) (up : Path E H) (words : List (List ℕ)) (one other : Spec) →
-    IsAsked pairs program up words one → IsAsked pairs program up words other → one ≡ other
-same_asked pairs program up words one other is also =
+pub same_asked : {E H : Type 0} (pairs : Vars) (program : List ℕ) (found : Found E H) (words : List (List ℕ)) (one other : Spec) →
+    IsAsked pairs program found words one → IsAsked pairs program found words other → one ≡ other
+same_asked pairs program found words one other is also =
     same_spec one other
     (is.words_are ∙ sym also.words_are)
     (is.folder_is ∙ sym also.folder_is)
@@ -46,7 +45,7 @@ same_wired one other spec streams =
     let same : wired_of one.spec one.input one.output one.error ≡ wired_of other.spec other.input other.output other.error = cc in same
 
 -- so what is asked for a command is one
-pub same_asked_at : {E H : Type 0} (lines : List Line) (plan : Plan E H) (number_of : E → ℕ) (place : ℕ) (up : Path E H) (words : List (List ℕ)) (one other : Wired) →
-    IsAskedAt lines plan number_of place up words one → IsAskedAt lines plan number_of place up words other → one ≡ other
-same_asked_at lines plan number_of place up words one other is also =
-    same_wired one other (same_asked _ _ up words one.spec other.spec is.spec_is also.spec_is) (is.streams_are ∙ sym also.streams_are)
+pub same_asked_at : {E H : Type 0} (lines : List Line) (number_of : E → ℕ) (place : ℕ) (found : Found E H) (words : List (List ℕ)) (one other : Wired) →
+    IsAskedAt lines number_of place found words one → IsAskedAt lines number_of place found words other → one ≡ other
+same_asked_at lines number_of place found words one other is also =
+    same_wired one other (same_asked _ _ found words one.spec other.spec is.spec_is also.spec_is) (is.streams_are ∙ sym also.streams_are)

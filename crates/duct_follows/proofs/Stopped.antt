@@ -9,9 +9,9 @@ use Rattle.duct_base.specs.declared.error.Error.TheVariants.{System, Checked, No
 use Rattle.duct.specs.Causes.{StoppedBy, StoppedNext}
 use Rattle.duct.specs.Chain.{Wired, Chain, ChainStops, lent}
 use Rattle.duct.specs.Follows.{IsAskedAt}
-use Rattle.duct.specs.Lookup.{hooks}
-use Rattle.duct.specs.Path.{Path}
-use Rattle.duct.specs.Plan.{Plan, Item}
+use Rattle.duct.specs.Found.{Found}
+use Rattle.duct.specs.Plan.{Plan}
+use Rattle.duct.specs.Step.{Item}
 use Rattle.duct_follows.specs.Cause.{TellsStop, Tells}
 use Rattle.duct_follows.specs.Given.{FoundNoMemory}
 use Rattle.duct_follows.specs.ScriptHooks.{allows, refuses}
@@ -42,55 +42,50 @@ stops_some : {E : Type 0} (number_of : E → ℕ) (found : List (ScriptHook × L
 stops_some number_of [] before error stops = λ none. stops
 stops_some number_of (hook ∷ found) before error stops = λ none. cc
 
-module _ {E : Type 0} (lines : List Line) (plan : Plan E ScriptHook) (number_of : E → ℕ) (place : ℕ) (up : Path E ScriptHook) (words : List (List ℕ)) (asked : answer.Wired) (there : IsAskedThere lines plan number_of place up words asked) where
+module _ {E : Type 0} (lines : List Line) (number_of : E → ℕ) (place : ℕ) (found : Found E ScriptHook) (words : List (List ℕ)) (asked : answer.Wired) (there : IsAskedThere lines number_of place found words asked) where
   -- the hooks of the command stop the start with an error
   abbrev IsStopped : Error → Type 0
-  IsStopped error = (before : Wired) × IsAskedAt lines plan number_of place up words before × ChainStops allows refuses (lent number_of (hooks up)) before error
+  IsStopped error = (before : Wired) × IsAskedAt lines number_of place found words before × ChainStops allows refuses (lent number_of found.hooks) before error
 
   -- they do over what the answer stands for
-  over_the_answer : (error : Error) → IsStopped error → ChainStops allows refuses (lent number_of (hooks up)) (wired_of asked) error
+  over_the_answer : (error : Error) → IsStopped error → ChainStops allows refuses (lent number_of found.hooks) (wired_of asked) error
   over_the_answer error is =
-      subst (λ (before : Wired). ChainStops allows refuses (lent number_of (hooks up)) before error) (only_the_answer lines plan number_of place up words asked is.0 there is.1) is.2
+      subst (λ (before : Wired). ChainStops allows refuses (lent number_of found.hooks) before error) (only_the_answer lines number_of place found words asked is.0 there is.1) is.2
 
-  of_the_answer : (error : Error) → ChainStops allows refuses (lent number_of (hooks up)) (wired_of asked) error → IsStopped error
-  of_the_answer error stops = (wired_of asked, answer_is_asked lines plan number_of place up words asked there, stops)
+  of_the_answer : (error : Error) → ChainStops allows refuses (lent number_of found.hooks) (wired_of asked) error → IsStopped error
+  of_the_answer error stops = (wired_of asked, answer_is_asked lines number_of place found words asked there, stops)
 
-  stopped_by_memory : (error : Error) (some_hook told : Bool) → FoundNoMemory error → told ≡ some_hook → IsTrue some_hook ↔ (¬ (hooks up ≡ [])) → IsTrue told ↔ IsStopped error
+  stopped_by_memory : (error : Error) (some_hook told : Bool) → FoundNoMemory error → told ≡ some_hook → IsTrue some_hook ↔ (¬ (found.hooks ≡ [])) → IsTrue told ↔ IsStopped error
   stopped_by_memory error some_hook told memory is some =
       subst (λ (told : Bool). IsTrue told ↔ IsStopped error) (sym is) (
-        λ there_is. of_the_answer error (memory_stops number_of (hooks up) (wired_of asked) error memory (some.0 there_is)),
-        λ stopped. some.1 (stops_some number_of (hooks up) (wired_of asked) error (over_the_answer error stopped)),
+        λ there_is. of_the_answer error (memory_stops number_of found.hooks (wired_of asked) error memory (some.0 there_is)),
+        λ stopped. some.1 (stops_some number_of found.hooks (wired_of asked) error (over_the_answer error stopped)),
       )
 
   stopped_as_told : (made : Result answer.Wired Error) (error : Error) (told : Bool) →
-      IfOk made (λ after. Chain allows (lent number_of (hooks up)) (wired_of asked) (wired_of after)) →
-      IfErr made (λ stop. ChainStops allows refuses (lent number_of (hooks up)) (wired_of asked) stop) →
+      IfOk made (λ after. Chain allows (lent number_of found.hooks) (wired_of asked) (wired_of after)) →
+      IfErr made (λ stop. ChainStops allows refuses (lent number_of found.hooks) (wired_of asked) stop) →
       ¬ (FoundNoMemory error) → TellsStop made error told → IsTrue told ↔ IsStopped error
   stopped_as_told (Ok after) error told chain stops decided tells =
-      (λ is. cc, λ stopped. absurd (chain_none allows refuses makes_one makes_none (lent number_of (hooks up)) (wired_of asked) (wired_of after) error decided (over_the_answer error stopped) chain))
+      (λ is. cc, λ stopped. absurd (chain_none allows refuses makes_one makes_none (lent number_of found.hooks) (wired_of asked) (wired_of after) error decided (over_the_answer error stopped) chain))
   stopped_as_told (Err stop) error told chain stops decided tells = (
-    λ is. of_the_answer error (subst (λ (error : Error). ChainStops allows refuses (lent number_of (hooks up)) (wired_of asked) error) (same_stop_is stop error (tells.1.0 is)) stops),
-    λ stopped. tells.1.1 (chain_stops_same allows refuses makes_one makes_none refuses_one (lent number_of (hooks up)) (wired_of asked) stop error tells.0 decided stops (over_the_answer error stopped)),
+    λ is. of_the_answer error (subst (λ (error : Error). ChainStops allows refuses (lent number_of found.hooks) (wired_of asked) error) (same_stop_is stop error (tells.1.0 is)) stops),
+    λ stopped. tells.1.1 (chain_stops_same allows refuses makes_one makes_none refuses_one (lent number_of found.hooks) (wired_of asked) stop error tells.0 decided stops (over_the_answer error stopped)),
   )
 
-  pub stopped_is : (found : List (ScriptHook × List E)) → found ≡ hooks up → (made : Result answer.Wired Error) (error : Error) (some_hook told : Bool) →
-      IsTrue some_hook ↔ (¬ (found ≡ [])) →
-      IfOk made (λ after. Chain allows (lent number_of found) (wired_of asked) (wired_of after)) →
-      IfErr made (λ stop. ChainStops allows refuses (lent number_of found) (wired_of asked) stop) →
+  pub stopped_is : (made : Result answer.Wired Error) (error : Error) (some_hook told : Bool) →
+      IsTrue some_hook ↔ (¬ (found.hooks ≡ [])) →
+      IfOk made (λ after. Chain allows (lent number_of found.hooks) (wired_of asked) (wired_of after)) →
+      IfErr made (λ stop. ChainStops allows refuses (lent number_of found.hooks) (wired_of asked) stop) →
       Tells made some_hook error told → IsTrue told ↔ IsStopped error
-  stopped_is found are made error some_hook told some chain stops (inl memory) =
-      stopped_by_memory error some_hook told memory.0 memory.1 (subst (λ (found : List (ScriptHook × List E)). IsTrue some_hook ↔ (¬ (found ≡ []))) are some)
-  stopped_is found are made error some_hook told some chain stops (inr decided) =
-      stopped_as_told made error told
-      (subst (λ (found : List (ScriptHook × List E)). IfOk made (λ after. Chain allows (lent number_of found) (wired_of asked) (wired_of after))) are chain)
-      (subst (λ (found : List (ScriptHook × List E)). IfErr made (λ stop. ChainStops allows refuses (lent number_of found) (wired_of asked) stop)) are stops)
-      decided.0 decided.1
+  stopped_is made error some_hook told some chain stops (inl memory) = stopped_by_memory error some_hook told memory.0 memory.1 some
+  stopped_is made error some_hook told some chain stops (inr decided) = stopped_as_told made error told chain stops decided.0 decided.1
 
 -- the next item stands at the place after the trace
 pub next_is : {E : Type 0} (number_of : E → ℕ) (plan : Plan E ScriptHook) (added : List Line) (place : ℕ) (item : Option (Item E ScriptHook)) (error : Error) (told : Bool) →
-    place ≡ length (trace added) → slice_get plan.items place ≡ item → IsTrue told ↔ StoppedBy allows refuses number_of (trace added) plan place item error →
+    place ≡ length (trace added) → slice_get plan.items place ≡ item → IsTrue told ↔ StoppedBy allows refuses number_of (trace added) place item error →
     IsTrue told ↔ StoppedNext allows refuses number_of plan added error
 next_is {E} number_of plan added place item error told next at_place tells =
-    let at_item : IsTrue told ↔ StoppedBy allows refuses number_of (trace added) plan place (slice_get plan.items place) error =
-    subst (λ (item : Option (Item E ScriptHook)). IsTrue told ↔ StoppedBy allows refuses number_of (trace added) plan place item error) (sym at_place) tells in
-    subst (λ (place : ℕ). IsTrue told ↔ StoppedBy allows refuses number_of (trace added) plan place (slice_get plan.items place) error) next at_item
+    let at_item : IsTrue told ↔ StoppedBy allows refuses number_of (trace added) place (slice_get plan.items place) error =
+    subst (λ (item : Option (Item E ScriptHook)). IsTrue told ↔ StoppedBy allows refuses number_of (trace added) place item error) (sym at_place) tells in
+    subst (λ (place : ℕ). IsTrue told ↔ StoppedBy allows refuses number_of (trace added) place (slice_get plan.items place) error) next at_item

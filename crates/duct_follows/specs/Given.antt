@@ -9,6 +9,8 @@ use Rattle.duct_base.specs.declared.error.Error.{Error}
 use Rattle.duct_base.specs.declared.error.Error.TheVariants.{Hook}
 use Rattle.duct_base.specs.declared.system.Kind.TheVariants.{OutOfMemory}
 use Rattle.duct_base.specs.declared.system.Stdio.{Stdio}
+use Rattle.duct_follows.specs.declared.untold.Untold.{Untold}
+use Rattle.duct_follows.specs.declared.untold.Untold.TheVariants.{HookOutOfMemory}
 use Rattle.duct_plan.specs.declared.asked.Wired.{Wired}
 use Rattle.duct_plain.specs.Source.{origin_of}
 
@@ -31,3 +33,8 @@ FoundNoMemory _ = ⊥
 abbrev pub Decides : Result Wired Error → Option Wired → Type 0
 Decides (Ok after) given = given ≡ Some after
 Decides (Err error) given = (given ≡ None) × ¬ (FoundNoMemory error)
+
+-- what the hooks made is not told, since one of them refused for want of memory
+abbrev pub IsUntoldBy : Result Wired Error → Untold → Type 0
+IsUntoldBy (Ok after) untold = ⊥
+IsUntoldBy (Err error) untold = (untold ≡ HookOutOfMemory) × FoundNoMemory error

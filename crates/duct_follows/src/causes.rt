@@ -1,40 +1,40 @@
 //! Whether the error of a refused start has a cause, for hooks of the scripted system.
-ghost use Rattle.std.specs.Prelude.{◌≡◌, ◌↔◌, ◌⊎◌, [], map, string_bytes, slice_get, IfOk, IsTrue, Some};
+ghost use Rattle.std.specs.Prelude.{◌≡◌, ◌↔◌, ◌⊎◌, ◌≤◌, [], length, map, string_bytes, slice_get, IfOk, IsTrue, Some};
 ghost use Rattle.std.specs.Option.{option_copied};
 ghost use Rattle.duct_base.specs.Entry.{line_of};
 ghost use Rattle.duct_base.specs.Trace.{trace};
 ghost use Rattle.duct_base.specs.declared.system.Kind.TheVariants.{OutOfMemory};
 ghost use Rattle.duct.specs.Causes.{last_fault, AnswersLastFault, StoppedBy, StoppedNext, HasCause};
-ghost use Rattle.duct.specs.Plan.{AskSpawn};
+ghost use Rattle.duct.specs.Step.{AskSpawn};
 ghost use Rattle.duct_follows.specs.Cause.{IsSameStop, Tells};
 ghost use Rattle.duct_follows.specs.ScriptHooks.{allows, refuses};
 ghost use Rattle.duct_follows.specs.Wiring.{hooks_of};
+ghost use Rattle.duct_plan.specs.Found.{found_of};
 ghost use Rattle.duct_plan.specs.PlanView.{item_of, plan_view};
-ghost use Rattle.duct_plan.specs.Way.{way_of};
 
 use crate::chain::wired;
 use crate::follows::found_no_memory;
 use crate::stops::{fault_of, is_close};
+use crate::untold::Untold;
 use duct_base::error::Error;
 use duct_base::spec::Hook;
 use duct_base::system::{Entry, Fault, Kind, Numbered};
 use duct_plain::checker::trace;
 use duct_plan::asked::{Wired, asked_at};
-use duct_plan::found::hooks;
+use duct_plan::found::Found;
 use duct_plan::items::{Item, Plan};
-use duct_plan::way::Crumb;
 use duct_script::hook::ScriptHook;
-use std::alloc::{AllocError, Global};
+use std::alloc::Global;
 
 /// Whether the error by which a start was refused has a cause in what was added: a system's fault but want of memory is that of
 /// the last entry which is no close, and a hook's error is that of the hooks of the next command. For this those hooks are run
-/// once more, over a spec of their own. Refused for want of memory, and where one of them refuses by `OutOfMemory`.
+/// once more, over a spec of their own. It is not told for want of memory, and where one of them refuses by `OutOfMemory`.
 pub fn has_cause<E: Numbered>(
     alloc: Global,
     plan: &Plan<'_, E, ScriptHook>,
     added: &[Entry],
     error: &Error,
-) -> Result<bool, AllocError>
+) -> Result<bool, Untold>
     ensures { IfOk result (λ yes. IsTrue yes ↔ HasCause ⟦<ScriptHook as Hook>⟧.allows ⟦<ScriptHook as Hook>⟧.refuses E.number_of (plan_view plan.now) (map line_of added.now) error.now) }
 {
     match error {
@@ -95,12 +95,12 @@ fn is_stopped_next<E: Numbered>(
     plan: &Plan<'_, E, ScriptHook>,
     added: &[Entry],
     error: &Error,
-) -> Result<bool, AllocError>
+) -> Result<bool, Untold>
     ensures { IfOk result (λ yes. IsTrue yes ↔ StoppedNext allows refuses E.number_of (plan_view plan.now) (map line_of added.now) error.now) }
 {
     let place = trace(alloc, added)?.len();
     match item_at(plan.items.as_slice(), place) {
-        Some(item) => is_stopped_by(alloc, plan, added, place, item, error),
+        Some(item) => is_stopped_by(alloc, added, place, item, error),
         None => Ok(false),
     }
 }
@@ -115,19 +115,17 @@ fn item_at<T>(items: &[T], place: usize) -> Option<&T>
 /// Whether the item at this place is the spawn of a command whose hooks stop the start with this error.
 fn is_stopped_by<E: Numbered>(
     alloc: Global,
-    plan: &Plan<'_, E, ScriptHook>,
     added: &[Entry],
     place: usize,
     item: &Item<'_, E, ScriptHook>,
     error: &Error,
-) -> Result<bool, AllocError>
+) -> Result<bool, Untold>
+    requires { place ≤ length (trace (map line_of added.now)) }
     ensures { IfOk result (λ yes. IsTrue yes
-        ↔ StoppedBy allows refuses E.number_of (trace (map line_of added.now)) (plan_view plan.now) place (Some (item_of item.now)) error.now) }
+        ↔ StoppedBy allows refuses E.number_of (trace (map line_of added.now)) place (Some (item_of item.now)) error.now) }
 {
     match item {
-        Item::Spawn(way, words) => {
-            is_stopped(alloc, plan, added, place, way.as_slice(), words, error)
-        }
+        Item::Spawn(found, words) => is_stopped(alloc, added, place, found, words, error),
         _ => Ok(false),
     }
 }
@@ -135,21 +133,20 @@ fn is_stopped_by<E: Numbered>(
 /// Whether the hooks of the command whose item stands at this place stop the start with this error.
 fn is_stopped<E: Numbered>(
     alloc: Global,
-    plan: &Plan<'_, E, ScriptHook>,
     added: &[Entry],
     place: usize,
-    way: &[Crumb<'_, E, ScriptHook>],
+    found: &Found<'_, E, ScriptHook>,
     words: &[String],
     error: &Error,
-) -> Result<bool, AllocError>
+) -> Result<bool, Untold>
+    requires { place ≤ length (trace (map line_of added.now)) }
     ensures { IfOk result (λ yes. IsTrue yes
-        ↔ StoppedBy allows refuses E.number_of (trace (map line_of added.now)) (plan_view plan.now) place (Some (AskSpawn (way_of way.now) (map string_bytes words.now))) error.now) }
+        ↔ StoppedBy allows refuses E.number_of (trace (map line_of added.now)) place (Some (AskSpawn (found_of found.now) (map string_bytes words.now))) error.now) }
 {
     let trace = trace(alloc, added)?;
-    let asked = asked_at(alloc, plan, trace.as_slice(), place, way, words)?;
-    let hooks = hooks(alloc, way)?;
-    let found = hooks.as_slice();
-    stops_with(wired(asked, found), is_some_hook(found), error)
+    let asked = asked_at(alloc, trace.as_slice(), place, found, words)?;
+    let hooks = found.hooks.as_slice();
+    stops_with(wired(asked, hooks), is_some_hook(hooks), error)
 }
 
 /// Whether there is a hook.
@@ -162,12 +159,8 @@ fn is_some_hook<E, H>(hooks: &[(&H, &[E])]) -> bool
     }
 }
 
-/// Whether the hooks, if there are any, stopped the start with this error. Refused where a hook found no memory.
-fn stops_with(
-    made: Result<Wired, Error>,
-    some_hook: bool,
-    error: &Error,
-) -> Result<bool, AllocError>
+/// Whether the hooks, if there are any, stopped the start with this error. It is not told where a hook refused by `OutOfMemory`.
+fn stops_with(made: Result<Wired, Error>, some_hook: bool, error: &Error) -> Result<bool, Untold>
     ensures { IfOk result (Tells made some_hook error.now) }
 {
     if found_no_memory(error) {
@@ -177,7 +170,7 @@ fn stops_with(
         Ok(_) => Ok(false),
         Err(stop) => {
             if found_no_memory(&stop) {
-                Err(AllocError)
+                Err(Untold::HookOutOfMemory)
             } else {
                 Ok(is_same_stop(&stop, error))
             }

@@ -1,5 +1,5 @@
 //! Whether what a start added to the journal follows a plan, for hooks of the scripted system.
-ghost use Rattle.std.specs.Prelude.{◌≡◌, ℕ, ◌+◌, ◌↔◌, ◌<◌, ◌^◌, length, map, string_bytes, IfOk, IsTrue, List};
+ghost use Rattle.std.specs.Prelude.{◌≡◌, ℕ, ◌+◌, ◌↔◌, ◌<◌, ◌≤◌, ◌^◌, length, map, string_bytes, IfOk, IfErr, IsTrue, List};
 ghost use Rattle.duct_base.specs.Entry.{line_of};
 ghost use Rattle.duct_base.specs.Origin.{Origin, origin, Opened};
 ghost use Rattle.duct_base.specs.Spec.{Spec};
@@ -8,50 +8,50 @@ ghost use Rattle.duct_base.specs.Trace.{trace};
 ghost use Rattle.duct_base.specs.declared.system.Stdio.{Stdio};
 ghost use Rattle.duct.specs.Asked.{end_at};
 ghost use Rattle.duct.specs.Follows.{Answers, AnswersFrom, Follows, FollowsWhole, IsGiven};
-ghost use Rattle.duct_follows.specs.Given.{AreAnswered, FoundNoMemory, Decides};
+ghost use Rattle.duct_follows.specs.Given.{AreAnswered, FoundNoMemory, Decides, IsUntoldBy};
 ghost use Rattle.duct_follows.specs.ScriptHooks.{allows};
+ghost use Rattle.duct_plan.specs.Found.{found_of};
 ghost use Rattle.duct_plan.specs.Lines.{lines_of};
 ghost use Rattle.duct_plan.specs.PlanView.{item_of, plan_view};
-ghost use Rattle.duct_plan.specs.Way.{way_of};
 
 use crate::chain::wired;
 use crate::same::{same_spec, same_streams};
 use crate::stops::{is_clean, stops_at_fault};
+use crate::untold::Untold;
 use duct_base::error::Error;
 use duct_base::spec::{CommandSpec, Hook};
 use duct_base::system::{Entry, Kind, Numbered, Stdio};
 use duct_plain::checker::{Source, origin, trace};
 use duct_plan::asked::{Wired, asked_at};
-use duct_plan::found::hooks;
+use duct_plan::found::Found;
 use duct_plan::items::{Item, Plan};
 use duct_plan::trace::{first_end, second_end};
-use duct_plan::way::Crumb;
 use duct_script::hook::ScriptHook;
 use std::alloc::{AllocError, Global};
 
 /// Whether what was added follows a front of the plan: each entry of its trace answers the item of the plan at its place, and
 /// after an entry with a fault there are only closes. For this the hooks of the commands are run once more, over specs of
-/// their own. Refused for want of memory, and where a hook refuses by `OutOfMemory`.
+/// their own. It is not told for want of memory, and where a hook refuses by `OutOfMemory`.
 pub fn follows<E: Numbered>(
     alloc: Global,
     plan: &Plan<'_, E, ScriptHook>,
     added: &[Entry],
-) -> Result<bool, AllocError>
+) -> Result<bool, Untold>
     ensures { IfOk result (λ yes. IsTrue yes ↔ Follows ⟦<ScriptHook as Hook>⟧.allows E.number_of (plan_view plan.now) (map line_of added.now)) }
 {
     let trace = trace(alloc, added)?;
     let items = plan.items.as_slice();
-    let answered = answers_from(alloc, added, plan, 0, items, trace.as_slice())?;
+    let answered = answers_from(alloc, added, 0, items, trace.as_slice())?;
     Ok(answered && stops_at_fault(added))
 }
 
 /// Whether what was added follows the whole plan, without a fault. For this the hooks of the commands are run once more, over
-/// specs of their own. Refused for want of memory, and where a hook refuses by `OutOfMemory`.
+/// specs of their own. It is not told for want of memory, and where a hook refuses by `OutOfMemory`.
 pub fn follows_whole<E: Numbered>(
     alloc: Global,
     plan: &Plan<'_, E, ScriptHook>,
     added: &[Entry],
-) -> Result<bool, AllocError>
+) -> Result<bool, Untold>
     ensures { IfOk result (λ yes. IsTrue yes ↔ FollowsWhole ⟦<ScriptHook as Hook>⟧.allows E.number_of (plan_view plan.now) (map line_of added.now)) }
 {
     let trace = trace(alloc, added)?;
@@ -62,21 +62,21 @@ pub fn follows_whole<E: Numbered>(
 fn answers_from<E: Numbered>(
     alloc: Global,
     added: &[Entry],
-    plan: &Plan<'_, E, ScriptHook>,
     place: usize,
     items: &[Item<'_, E, ScriptHook>],
     entries: &[&Entry],
-) -> Result<bool, AllocError>
-    requires { place + length entries.now < 2 ^ 64 }
+) -> Result<bool, Untold>
+    requires fits { place + length entries.now < 2 ^ 64 }
+    requires last { place + length entries.now ≡ length (trace (map line_of added.now)) }
     ensures { IfOk result (λ yes. IsTrue yes
-        ↔ AnswersFrom allows E.number_of (map line_of added.now) (plan_view plan.now) place (map item_of items.now) (lines_of entries.now)) }
+        ↔ AnswersFrom allows E.number_of (map line_of added.now) place (map item_of items.now) (lines_of entries.now)) }
 {
     match (items.split_first(), entries.split_first()) {
         (_, None) => Ok(true),
         (None, Some(_)) => Ok(false),
         (Some((item, items)), Some((entry, entries))) => {
-            let first = answers(alloc, added, plan, place, item, entry)?;
-            let rest = answers_from(alloc, added, plan, place + 1, items, entries)?;
+            let first = answers(alloc, added, place, item, entry)?;
+            let rest = answers_from(alloc, added, place + 1, items, entries)?;
             Ok(first && rest)
         }
     }
@@ -86,13 +86,13 @@ fn answers_from<E: Numbered>(
 fn answers<E: Numbered>(
     alloc: Global,
     added: &[Entry],
-    plan: &Plan<'_, E, ScriptHook>,
     place: usize,
     item: &Item<'_, E, ScriptHook>,
     entry: &Entry,
-) -> Result<bool, AllocError>
+) -> Result<bool, Untold>
+    requires { place ≤ length (trace (map line_of added.now)) }
     ensures { IfOk result (λ yes. IsTrue yes
-        ↔ Answers allows E.number_of (map line_of added.now) (plan_view plan.now) place (item_of item.now) (line_of entry.now)) }
+        ↔ Answers allows E.number_of (map line_of added.now) place (item_of item.now) (line_of entry.now)) }
 {
     match (item, entry) {
         (Item::Environment, Entry::Environment(_)) => Ok(true),
@@ -100,15 +100,15 @@ fn answers<E: Numbered>(
         (Item::OpenRead(path), Entry::OpenRead(opened, _)) => Ok(opened.as_str() == *path),
         (Item::Create(path), Entry::Create(made, _)) => Ok(made.as_str() == *path),
         (Item::Canonicalize(name), Entry::Canonicalize(path, _)) => Ok(path.as_str() == *name),
-        (Item::Spawn(way, words), Entry::Spawn(spec, io, _)) => {
-            let given = given(alloc, added, plan, place, way.as_slice(), words)?;
-            is_answered(added, spec, io, given)
+        (Item::Spawn(found, words), Entry::Spawn(spec, io, _)) => {
+            let given = given(alloc, added, place, found, words)?;
+            Ok(is_answered(added, spec, io, given)?)
         }
         (Item::Feed(pipe, bytes), Entry::Feed(end, fed, _)) => {
             Ok(fed.as_slice() == *bytes && is_writer(alloc, added, *pipe, *end)?)
         }
-        (Item::Drain(pipe), Entry::Drain(end, _)) => is_reader(alloc, added, *pipe, *end),
-        (Item::Reader(pipe), Entry::Reader(end)) => is_reader(alloc, added, *pipe, *end),
+        (Item::Drain(pipe), Entry::Drain(end, _)) => Ok(is_reader(alloc, added, *pipe, *end)?),
+        (Item::Reader(pipe), Entry::Reader(end)) => Ok(is_reader(alloc, added, *pipe, *end)?),
         _ => Ok(false),
     }
 }
@@ -149,30 +149,30 @@ fn is_answered(
 fn given<E: Numbered>(
     alloc: Global,
     added: &[Entry],
-    plan: &Plan<'_, E, ScriptHook>,
     place: usize,
-    way: &[Crumb<'_, E, ScriptHook>],
+    found: &Found<'_, E, ScriptHook>,
     words: &[String],
-) -> Result<Option<Wired>, AllocError>
+) -> Result<Option<Wired>, Untold>
+    requires { place ≤ length (trace (map line_of added.now)) }
     ensures { IfOk result (λ given. (spec : Spec) (streams : List (Stdio Origin)) →
-        IsGiven allows E.number_of (trace (map line_of added.now)) (plan_view plan.now) place (way_of way.now) (map string_bytes words.now) spec streams
+        IsGiven allows E.number_of (trace (map line_of added.now)) place (found_of found.now) (map string_bytes words.now) spec streams
         ↔ AreAnswered given spec streams) }
 {
     let trace = trace(alloc, added)?;
-    let asked = asked_at(alloc, plan, trace.as_slice(), place, way, words)?;
-    let hooks = hooks(alloc, way)?;
-    decided(wired(asked, hooks.as_slice()))
+    let asked = asked_at(alloc, trace.as_slice(), place, found, words)?;
+    decided(wired(asked, found.hooks.as_slice()))
 }
 
-/// What the hooks made, or nothing where one of them stopped the start. Refused where a hook found no memory.
-fn decided(made: Result<Wired, Error>) -> Result<Option<Wired>, AllocError>
-    ensures { IfOk result (Decides made) }
+/// What the hooks made, or nothing where one of them stopped the start. It is not told where a hook refused by `OutOfMemory`.
+fn decided(made: Result<Wired, Error>) -> Result<Option<Wired>, Untold>
+    ensures ok { IfOk result (Decides made) }
+    ensures err { IfErr result (IsUntoldBy made) }
 {
     match made {
         Ok(after) => Ok(Some(after)),
         Err(error) => {
             if found_no_memory(&error) {
-                Err(AllocError)
+                Err(Untold::HookOutOfMemory)
             } else {
                 Ok(None)
             }

@@ -6,3 +6,4 @@ pub mod chain;
 pub mod follows;
 pub mod same;
 pub mod stops;
+pub mod untold;

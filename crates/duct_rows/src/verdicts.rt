@@ -5,19 +5,17 @@ use crate::words::{fault, first_word};
 use duct::{Entry, Error};
 use duct_follows::causes::{answers_last_fault, has_cause};
 use duct_follows::follows::{follows, follows_whole};
+use duct_follows::untold::Untold;
 use duct_plan::plan::plan;
-use std::alloc::{AllocError, Global};
+use std::alloc::Global;
 use std::test::Fail;
 
-/// `whole` where a journal follows the whole plan, `front` where it follows a front of it, `neither`, or `no memory` where that
-/// isn't told.
-pub fn followed(
-    alloc: Global,
-    plan: &TestPlan,
-    entries: &[Entry],
-) -> Result<&'static str, AllocError> {
-    let Ok(front) = follows(alloc, plan, entries) else {
-        return Ok("no memory");
+/// `whole` where a journal follows the whole plan, `front` where it follows a front of it, `neither`, or `no memory` where a
+/// hook found none, so that it isn't told.
+pub fn followed(alloc: Global, plan: &TestPlan, entries: &[Entry]) -> Result<&'static str, Fail> {
+    let front = match follows(alloc, plan, entries) {
+        Err(Untold::HookOutOfMemory) => return Ok("no memory"),
+        told => told?,
     };
     Ok(match (front, follows_whole(alloc, plan, entries)?) {
         (true, true) => "whole",
@@ -35,7 +33,7 @@ pub fn followed_by(
 ) -> Result<&'static str, Fail> {
     let tree = written(alloc, expression)?;
     let plan = plan(alloc, &tree)?;
-    Ok(followed(alloc, &plan, entries)?)
+    followed(alloc, &plan, entries)
 }
 
 /// `cause` where the error of this text has a cause in a journal beside the plan, or `no cause`.

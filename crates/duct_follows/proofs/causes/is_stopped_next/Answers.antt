@@ -22,7 +22,7 @@ returns-in-Some g c =
     let got : slice_get c.as_slice.result.now place ≡ Some c.in-Some.item.now = sym c.in-Some.ensures in
     let at_place : slice_get plan.items place ≡ item =
     slice_get-map item_of c.args.plan.now.items.items place ∙ ap (λ items. option_map item_of (slice_get items place)) (sym c.as_slice.ensures.value) ∙ ap (option_map item_of) got in
-    IfOk-weaker c.is_stopped_by.result (λ (told : Bool). IsTrue told ↔ StoppedBy allows refuses g.E.Numbered.number_of (trace lines) plan place item c.args.error.now) _
+    IfOk-weaker c.is_stopped_by.result (λ (told : Bool). IsTrue told ↔ StoppedBy allows refuses g.E.Numbered.number_of (trace lines) place item c.args.error.now) _
     (λ told tells. next_is g.E.Numbered.number_of plan lines place item c.args.error.now told next at_place tells) c.is_stopped_by.ensures
 
 pub returns-in-None : goal.returns-in-None

@@ -3,28 +3,23 @@ use Rattle.std.proofs.lemmas.Result.{IfOk-weaker}
 use Rattle.duct_base.specs.Entry.{line_of}
 use Rattle.duct_base.specs.Line.{Line}
 use Rattle.duct_base.specs.Trace.{trace}
-use Rattle.duct.specs.Lookup.{hooks}
 use Rattle.duct_follows.specs.Given.{Decides}
-use Rattle.duct_follows.specs.Wiring.{hooks_of}
 use Rattle.duct_follows.proofs.Given.{given_is}
 use Rattle.duct_follows.proofs.follows.given.Goals as goal
 use Rattle.duct_plan.specs.AskedOf.{IsAskedThere}
+use Rattle.duct_plan.specs.Found.{found_of}
 use Rattle.duct_plan.specs.Lines.{lines_of}
-use Rattle.duct_plan.specs.PlanView.{plan_view}
-use Rattle.duct_plan.specs.Way.{way_of}
 
 pub returns : goal.returns
 returns g c =
     let lines = trace (map line_of c.args.added.now) in
-    let plan = plan_view c.args.plan.now in
     let number_of = g.E.Numbered.number_of in
-    let up = way_of c.args.way.now in
+    let found = found_of c.args.found.now in
     let words = map string_bytes c.args.words.now in
     let traced : lines_of c.as_slice.result.now ≡ lines = ap lines_of c.as_slice.ensures.value ∙ c.in_ok-trace.ensures in
-    let there : IsAskedThere lines plan number_of c.args.place up words c.in_ok-asked.asked =
-    subst (λ (lines : List Line). IsAskedThere lines plan number_of c.args.place up words c.in_ok-asked.asked) traced c.in_ok-asked.ensures in
-    let found : hooks_of c.as_slice-2.result.now ≡ hooks up = ap hooks_of c.as_slice-2.ensures.value ∙ c.in_ok-hooks.ensures in
-    let made = c.wired.ensures in
+    let there : IsAskedThere lines number_of c.args.place found words c.in_ok-asked.asked =
+    subst (λ (lines : List Line). IsAskedThere lines number_of c.args.place found words c.in_ok-asked.asked) traced c.in_ok-asked.ensures in
+    let made = rw c.as_slice-2.ensures.value at c.wired.ensures in
     IfOk-weaker c.decided.result (Decides c.wired.result) _
-    (λ given decides. given_is lines plan number_of c.args.place up words c.in_ok-asked.asked (hooks_of c.as_slice-2.result.now) c.wired.result given found there made.ok made.streams made.err decides)
-    c.decided.ensures
+    (λ given decides. given_is lines number_of c.args.place found words c.in_ok-asked.asked c.wired.result given there made.ok made.streams made.err decides)
+    c.decided.ensures.ok
