@@ -16,8 +16,8 @@ use Rattle.std.proofs.lemmas.List.{reverse-append, map-append, append-nil}
 use Rattle.std.proofs.lemmas.List.Sums.{fold-append}
 use Rattle.std.proofs.lemmas.Map.Text.{is_eq-slice_cmp}
 use Rattle.std.proofs.lemmas.Slice.Eq.{bytes_eq-Decides}
-use Rattle.duct_base.specs.Spec.{Vars, pair_text, same_name, value_of}
-use Rattle.duct_base.proofs.Entries.{insert_texts}
+use Rattle.duct_system.specs.SpecView.{Vars, pair_text, same_name, value_of}
+use Rattle.duct_system.proofs.Entries.{insert_texts}
 use Rattle.duct.specs.LastValues.{last_values}
 
 -- the first of them, if there is one

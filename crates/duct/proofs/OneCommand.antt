@@ -7,52 +7,52 @@ use Rattle.std.specs.Ordering.{nat_cmp}
 use Rattle.std.proofs.Common.{◌≡◌, ◌+◌, ◌*◌, ◌≤◌, refl, ap, sym, ◌∙◌, subst, arith, inl, inr, append_assoc, length-append}
 use Rattle.std.proofs.lemmas.List.{append-nil}
 use Rattle.std.proofs.lemmas.List.Elements.{All-nil, All-cons}
-use Rattle.duct_base.specs.Child.{Answer, ChildView, IsUnasked}
-use Rattle.duct_base.specs.Journal.{JournalView, Adds, AddsNothing, Asks, GivesEnds, IsRefused}
-use Rattle.duct_base.specs.Ledger.{IsBalanced, got, spent, got_by, held}
-use Rattle.duct_base.specs.Job.{JobView, unpolled_job}
-use Rattle.duct_base.specs.Line.{Line, Environment, Spawn}
-use Rattle.duct_base.specs.Origin.{origin}
+use Rattle.duct_system.specs.Child.{Answer, ChildView, IsUnasked}
+use Rattle.duct_system.specs.Journal.{JournalView, Adds, AddsNothing, Asks, GivesEnds, IsRefused}
+use Rattle.duct_system.specs.Ledger.{IsBalanced, got, spent, got_by, held}
+use Rattle.duct_system.specs.Job.{JobView, unpolled_job}
+use Rattle.duct_system.specs.EntryView.{EntryView, Environment, Spawn}
+use Rattle.duct_system.specs.Origin.{origin}
 use Rattle.duct_base.specs.Pool.{PoolView, Sieves}
-use Rattle.duct_base.specs.Shapes.{outline_of}
-use Rattle.duct_base.specs.Spec.{Spec, Vars, value_of}
-use Rattle.duct_base.specs.Started.{StartsOne, StartsNone, children_in}
-use Rattle.duct_base.specs.Streams.{stream_of}
-use Rattle.duct_base.specs.Trace.{segment, trace}
-use Rattle.duct_base.specs.declared.error.Error.{Error}
-use Rattle.duct_base.specs.declared.error.Error.TheVariants as error
-use Rattle.duct_base.specs.declared.spec.Port.TheVariants as port
-use Rattle.duct_base.specs.declared.spec.Stream.TheVariants as stream
-use Rattle.duct_base.specs.declared.status.Shape.{Shape}
-use Rattle.duct_base.specs.declared.system.Fault.{Fault}
-use Rattle.duct_base.specs.declared.system.Stdio.{Stdio}
-use Rattle.duct_base.specs.declared.system.Stdio.TheVariants.{Inherit}
+use Rattle.duct_status.specs.ShapeView.{shape_view}
+use Rattle.duct_system.specs.SpecView.{SpecView, Vars, value_of}
+use Rattle.duct_system.specs.Started.{StartsOne, StartsNone, children_in}
+use Rattle.duct_system.specs.Streams.{stream_of}
+use Rattle.duct_system.specs.Trace.{segment, trace}
+use Rattle.duct_system.specs.declared.error.Error.{Error}
+use Rattle.duct_system.specs.declared.error.Error.TheVariants as error
+use Rattle.duct_system.specs.declared.spec.Port.TheVariants as port
+use Rattle.duct_system.specs.declared.spec.Stream.TheVariants as stream
+use Rattle.duct_status.specs.declared.status.Shape.{Shape}
+use Rattle.duct_system.specs.declared.system.Fault.{Fault}
+use Rattle.duct_system.specs.declared.system.Stdio.{Stdio}
+use Rattle.duct_system.specs.declared.system.Stdio.TheVariants.{Inherit}
 use Rattle.duct.specs.Asked.{IsAsked, with_program}
 use Rattle.duct.specs.Causes.{HasCause, AnswersLastFault}
 use Rattle.duct.specs.Chain.{Allows, Refuses, Wired}
 use Rattle.duct.specs.Follows.{Follows, FollowsWhole, IsGiven}
 use Rattle.duct.specs.Found.{plain}
 use Rattle.duct.specs.Left.{StaysInPool, Leaves, LeavesStarted, pool_view}
-use Rattle.duct.specs.OutlineOfTree.{outline_of_tree}
+use Rattle.duct.specs.ShapeOfTree.{shape_of_tree}
 use Rattle.duct.specs.Plan.{Plan, plan_of, program_of}
 use Rattle.duct.specs.Running.{IsRunning}
 use Rattle.duct.specs.Start.{Grows, HoldsFew, StartSucceeds, StartRefused}
-use Rattle.duct.specs.Tree.{Tree, command}
+use Rattle.duct.specs.TreeView.{TreeView, command}
 
-segment-added : (old xs : List Line) → segment old (old ++ xs) ≡ xs
+segment-added : (old xs : List EntryView) → segment old (old ++ xs) ≡ xs
 segment-added [] xs = refl
-segment-added (line ∷ old) xs = segment-added old xs
+segment-added (entry ∷ old) xs = segment-added old xs
 
-pub segment-none : (old : List Line) → segment old old ≡ []
+pub segment-none : (old : List EntryView) → segment old old ≡ []
 segment-none [] = refl
-segment-none (line ∷ old) = segment-none old
+segment-none (entry ∷ old) = segment-none old
 
 pub on_err : {T E Q : Type 0} (r : Result T E) → Q → OnErr r Q
 on_err (Ok value) q = tt
 on_err (Err error) q = q
 
 -- what was added to a journal, which forgot nothing
-record Added (xs : List Line) (old new : JournalView) : Type 0 where
+record Added (xs : List EntryView) (old new : JournalView) : Type 0 where
   entries_are : new.entries ≡ old.entries ++ xs
   added_is : new.added ≡ old.added + length xs
   next_grows : old.next ≤ new.next
@@ -66,29 +66,29 @@ added_none old new nothing = record {
   room_grows = nothing.room_grows;
 }
 
-added_one : (line : Line) (old new : JournalView) → Asks line old new → Added (line ∷ []) old new
-added_one line old new asks = record {
+added_one : (entry : EntryView) (old new : JournalView) → Asks entry old new → Added (entry ∷ []) old new
+added_one entry old new asks = record {
   entries_are = asks.entries_are;
   added_is = asks.added_is;
   next_grows = asks.next_grows;
   room_grows = omega (arith, asks.room_is);
 }
 
-added_more : (xs ys : List Line) (old mid new : JournalView) → Added xs old mid → Added ys mid new → Added (xs ++ ys) old new
+added_more : (xs ys : List EntryView) (old mid new : JournalView) → Added xs old mid → Added ys mid new → Added (xs ++ ys) old new
 added_more xs ys old mid new first second = record {
-  entries_are = second.entries_are ∙ ap (λ (l : List Line). l ++ ys) first.entries_are ∙ append_assoc old.entries xs ys;
+  entries_are = second.entries_are ∙ ap (λ (l : List EntryView). l ++ ys) first.entries_are ∙ append_assoc old.entries xs ys;
   added_is = omega (arith, first.added_is, second.added_is, length-append xs ys);
   next_grows = omega (arith, first.next_grows, second.next_grows);
   room_grows = omega (arith, first.room_grows, second.room_grows);
 }
 
-segment_is : (xs : List Line) (old new : JournalView) → Added xs old new → segment old.entries new.entries ≡ xs
+segment_is : (xs : List EntryView) (old new : JournalView) → Added xs old new → segment old.entries new.entries ≡ xs
 segment_is xs old new added = ap (λ l. segment old.entries l) added.entries_are ∙ segment-added old.entries xs
 
-grows : (xs : List Line) (old new : JournalView) → Added xs old new → Grows old new
+grows : (xs : List EntryView) (old new : JournalView) → Added xs old new → Grows old new
 grows xs old new added = let same = sym (segment_is xs old new added) in record {
-  front = added.entries_are ∙ ap (λ (l : List Line). old.entries ++ l) same;
-  counted = added.added_is ∙ ap (λ (l : List Line). old.added + length l) same;
+  front = added.entries_are ∙ ap (λ (l : List EntryView). old.entries ++ l) same;
+  counted = added.added_is ∙ ap (λ (l : List EntryView). old.added + length l) same;
   next_grows = added.next_grows;
   room_grows = added.room_grows;
 }
@@ -101,22 +101,22 @@ abbrev pub inherited : List (Stdio ℕ)
 inherited = Inherit ∷ Inherit ∷ Inherit ∷ []
 
 -- numbers that nobody got and nobody spent are balanced
-balanced : (added : List Line) → got added ≡ [] → spent added ≡ [] → IsBalanced added
+balanced : (added : List EntryView) → got added ≡ [] → spent added ≡ [] → IsBalanced added
 balanced added nothing_got nothing_spent = λ number. rw (nothing_got, nothing_spent) (refl, omega arith)
 
 no_front : (front rest : List ℕ) → front ++ rest ≡ [] → (front ≡ []) × (rest ≡ [])
 no_front [] rest e = (refl, e)
 no_front (number ∷ front) rest e = absurd (cc)
 
-got_front : (count : ℕ) (added : List Line) → got added ≡ [] → got (take count added) ≡ []
+got_front : (count : ℕ) (added : List EntryView) → got added ≡ [] → got (take count added) ≡ []
 got_front zero added none = refl
 got_front (suc count) [] none = refl
-got_front (suc count) (line ∷ added) none =
-    let parts = no_front (got_by line) (got added) none in
+got_front (suc count) (entry ∷ added) none =
+    let parts = no_front (got_by entry) (got added) none in
     ap (λ (l : List ℕ). l ++ got (take count added)) parts.0 ∙ got_front count added parts.1
 
 -- of ends that nobody got none is held
-none_held : {E H : Type 0} (tree : Tree E H) (added : List Line) → got added ≡ [] → HoldsFew tree added
+none_held : {E H : Type 0} (tree : TreeView E H) (added : List EntryView) → got added ≡ [] → HoldsFew tree added
 none_held tree added none = λ count. omega (arith, ap (λ (l : List ℕ). length l) (got_front count added none))
 
 -- a pool that nobody touched, where no child was started
@@ -124,7 +124,7 @@ sieves_all : (may : ChildView → Answer → Type 0) (children : List ChildView)
 sieves_all may [] = (refl, refl, refl)
 sieves_all may (child ∷ children) = inl (child, children, record { number_is = refl; process_is = refl; orders_are = refl }, refl, sieves_all may children)
 
-pub pool_untouched : {C : Type 0} (may : ℕ → Answer → Type 0) (view : C → ChildView) (added : List Line) (pool : PoolView C) → children_in added ≡ [] →
+pub pool_untouched : {C : Type 0} (may : ℕ → Answer → Type 0) (view : C → ChildView) (added : List EntryView) (pool : PoolView C) → children_in added ≡ [] →
     LeavesStarted may view added pool pool
 pool_untouched may view added pool none = (
   [],
@@ -146,16 +146,16 @@ pool_untouched may view added pool none = (
   },
 )
 
-pub pool_of_none : {C : Type 0} (may : ℕ → Answer → Type 0) (view : C → ChildView) (entries : List Line) (pool : PoolView C) →
+pub pool_of_none : {C : Type 0} (may : ℕ → Answer → Type 0) (view : C → ChildView) (entries : List EntryView) (pool : PoolView C) →
     LeavesStarted may view (segment entries entries) pool pool
 pool_of_none may view entries pool = pool_untouched may view (segment entries entries) pool (ap (λ l. children_in l) (segment-none entries))
 
 -- one child that runs, and no worker
-pub alone_running : {E H C F D V W : Type 0} (child : C → ChildView) (feed : F → JobView V) (drain : D → JobView W) (tree : Tree E H) (words : List (List ℕ)) (added : List Line) (number : ℕ) (place : C)
-    (shape : Shape) (children : List C) → tree ≡ command words → outline_of shape ≡ outline_of_tree tree → children ≡ place ∷ [] → (child place).number ≡ number → IsUnasked (child place) → StartsOne number added →
+pub alone_running : {E H C F D V W : Type 0} (child : C → ChildView) (feed : F → JobView V) (drain : D → JobView W) (tree : TreeView E H) (words : List (List ℕ)) (added : List EntryView) (number : ℕ) (place : C)
+    (shape : Shape) (children : List C) → tree ≡ command words → shape_view shape ≡ shape_of_tree tree → children ≡ place ∷ [] → (child place).number ≡ number → IsUnasked (child place) → StartsOne number added →
     IsRunning child feed drain tree (plan_of tree) added (record { shape = shape; children = children; feeds = []; output = None; error = None })
-alone_running child feed drain tree words added number place shape children same outlined one numbered unasked starts = record {
-  shape_is = outlined;
+alone_running child feed drain tree words added number place shape children same shape_seen one numbered unasked starts = record {
+  shape_is = shape_seen;
   children_are = ap (λ l. map (λ c. (child c).number) l) one ∙ ap (λ n. n ∷ []) numbered ∙ sym starts.child;
   unasked = subst (λ l. All (λ c. IsUnasked (child c)) l) (sym one) (All-cons (λ c. IsUnasked (child c)) place [] unasked (All-nil (λ c. IsUnasked (child c))));
   feeds_are = ap (λ l. map (λ n. unpolled_job n) l) (sym starts.no_feeds);
@@ -165,7 +165,7 @@ alone_running child feed drain tree words added number place shape children same
 }
 
 module _ {E H : Type 0} (allows : Allows H) (refuses : Refuses H) (number_of : E → ℕ) (words : List (List ℕ)) where
-  abbrev tree : Tree E H
+  abbrev tree : TreeView E H
   tree = command words
 
   abbrev plan : Plan E H
@@ -178,7 +178,7 @@ module _ {E H : Type 0} (allows : Allows H) (refuses : Refuses H) (number_of : E
   environment_follows (Ok pairs) = record { answers = (tt, tt); stops = (tt, tt) }
   environment_follows (Err fault) = record { answers = (tt, tt); stops = (tt, tt) }
 
-  given : (pairs : Vars) (spec : Spec) (answer : Result ℕ Fault) → IsAsked {E = E} {H = H} pairs (program_of words) plain words spec →
+  given : (pairs : Vars) (spec : SpecView) (answer : Result ℕ Fault) → IsAsked {E = E} {H = H} pairs (program_of words) plain words spec →
       let added = Environment (Ok pairs) ∷ Spawn spec inherited answer ∷ [] in
       IsGiven allows number_of (trace added) 1 plain words spec (map (stream_of (origin added)) inherited)
   given pairs spec answer asked =
@@ -186,17 +186,17 @@ module _ {E H : Type 0} (allows : Allows H) (refuses : Refuses H) (number_of : E
       (wired, wired, record { spec_is = asked; streams_are = refl }, refl, refl, refl)
 
   -- the spec that the tree asks for is given, with no hook in between
-  spawn_follows : (pairs : Vars) (spec : Spec) (answer : Result ℕ Fault) → IsAsked {E = E} {H = H} pairs (program_of words) plain words spec →
+  spawn_follows : (pairs : Vars) (spec : SpecView) (answer : Result ℕ Fault) → IsAsked {E = E} {H = H} pairs (program_of words) plain words spec →
       Follows allows number_of plan (Environment (Ok pairs) ∷ Spawn spec inherited answer ∷ [])
   spawn_follows pairs spec (Ok number) asked = record { answers = (tt, (given pairs spec (Ok number) asked, tt)); stops = (tt, (tt, tt)) }
   spawn_follows pairs spec (Err fault) asked = record { answers = (tt, (given pairs spec (Err fault) asked, tt)); stops = (tt, (tt, tt)) }
 
-  whole : (pairs : Vars) (spec : Spec) (number : ℕ) → IsAsked {E = E} {H = H} pairs (program_of words) plain words spec →
+  whole : (pairs : Vars) (spec : SpecView) (number : ℕ) → IsAsked {E = E} {H = H} pairs (program_of words) plain words spec →
       FollowsWhole allows number_of plan (Environment (Ok pairs) ∷ Spawn spec inherited (Ok number) ∷ [])
   whole pairs spec number asked = record { follows = spawn_follows pairs spec (Ok number) asked; whole = refl; clean = (refl, (refl, tt)) }
 
   -- a refusal by what was added
-  refused_with : (old new : JournalView) (xs : List Line) (e : Error) → Added xs old new → Follows allows number_of plan xs →
+  refused_with : (old new : JournalView) (xs : List EntryView) (e : Error) → Added xs old new → Follows allows number_of plan xs →
       HasCause allows refuses number_of plan xs e → AnswersLastFault xs e → got xs ≡ [] → spent xs ≡ [] → StartRefused allows refuses number_of tree plan old new e
   refused_with old new xs e added follows cause last none_got none_spent =
       let same = sym (segment_is xs old new added) in record {
@@ -229,7 +229,7 @@ module _ {E H : Type 0} (allows : Allows H) (refuses : Refuses H) (number_of : E
       refused_with old new (Environment (Ok pairs) ∷ []) error.Memory (added_one _ old new asks) (environment_follows (Ok pairs)) tt (λ other e. absurd (cc)) refl refl
 
   -- the spawn was refused, or there was no memory to ask for it
-  pub spawn_refused : (old mid new : JournalView) (pairs : Vars) (spec : Spec) (fault : Fault) → Asks (Environment (Ok pairs)) old mid →
+  pub spawn_refused : (old mid new : JournalView) (pairs : Vars) (spec : SpecView) (fault : Fault) → Asks (Environment (Ok pairs)) old mid →
       IsRefused (Spawn spec inherited (Err fault)) 0 fault mid new → IsAsked {E = E} {H = H} pairs (program_of words) plain words spec →
       StartRefused allows refuses number_of tree plan old new (error.System fault)
   spawn_refused old mid new pairs spec fault first (inl asks) asked =
@@ -241,7 +241,7 @@ module _ {E H : Type 0} (allows : Allows H) (refuses : Refuses H) (number_of : E
       (environment_follows (Ok pairs)) (inl none.2) (λ other e. absurd (cc)) refl refl
 
   -- the child was started
-  pub spawn_succeeds : (old mid new : JournalView) (pairs : Vars) (spec : Spec) (number : ℕ) → Asks (Environment (Ok pairs)) old mid →
+  pub spawn_succeeds : (old mid new : JournalView) (pairs : Vars) (spec : SpecView) (number : ℕ) → Asks (Environment (Ok pairs)) old mid →
       GivesEnds (Spawn spec inherited (Ok number)) 0 mid new → IsAsked {E = E} {H = H} pairs (program_of words) plain words spec →
       StartSucceeds allows number_of tree plan old new
   spawn_succeeds old mid new pairs spec number first gives asked =
@@ -255,13 +255,13 @@ module _ {E H : Type 0} (allows : Allows H) (refuses : Refuses H) (number_of : E
       }
 
 -- the children and workers of these segments
-pub one_started : (old mid new : JournalView) (pairs : Vars) (spec : Spec) (number : ℕ) → Asks (Environment (Ok pairs)) old mid →
+pub one_started : (old mid new : JournalView) (pairs : Vars) (spec : SpecView) (number : ℕ) → Asks (Environment (Ok pairs)) old mid →
     GivesEnds (Spawn spec inherited (Ok number)) 0 mid new → StartsOne number (segment old.entries new.entries)
 one_started old mid new pairs spec number first gives =
     let added = added_more (_ ∷ []) (_ ∷ []) old mid new (added_one _ old mid first) (added_one _ mid new gives) in
     subst (λ l. StartsOne number l) (sym (segment_is _ old new added)) (record { child = refl; no_feeds = refl; no_drains = refl })
 
-none_started : (xs : List Line) (old new : JournalView) → Added xs old new → StartsNone xs → StartsNone (segment old.entries new.entries)
+none_started : (xs : List EntryView) (old new : JournalView) → Added xs old new → StartsNone xs → StartsNone (segment old.entries new.entries)
 none_started xs old new added none = subst StartsNone (sym (segment_is xs old new added)) none
 
 pub none_by_environment : (old new : JournalView) (fault : Fault) → IsRefused (Environment (Err fault)) 0 fault old new → StartsNone (segment old.entries new.entries)
@@ -271,7 +271,7 @@ none_by_environment old new fault (inr none) = none_started _ old new (added_non
 pub none_by_memory : (old new : JournalView) (pairs : Vars) → Asks (Environment (Ok pairs)) old new → StartsNone (segment old.entries new.entries)
 none_by_memory old new pairs asks = none_started _ old new (added_one _ old new asks) (record { no_children = refl; no_feeds = refl; no_drains = refl })
 
-pub none_by_spawn : (old mid new : JournalView) (pairs : Vars) (spec : Spec) (fault : Fault) → Asks (Environment (Ok pairs)) old mid →
+pub none_by_spawn : (old mid new : JournalView) (pairs : Vars) (spec : SpecView) (fault : Fault) → Asks (Environment (Ok pairs)) old mid →
     IsRefused (Spawn spec inherited (Err fault)) 0 fault mid new → StartsNone (segment old.entries new.entries)
 none_by_spawn old mid new pairs spec fault first (inl asks) =
     none_started _ old new (added_more (_ ∷ []) (_ ∷ []) old mid new (added_one _ old mid first) (added_one _ mid new asks)) (record { no_children = refl; no_feeds = refl; no_drains = refl })
@@ -283,7 +283,7 @@ with_own_program [] = refl
 with_own_program (word ∷ words) = refl
 
 -- the spec of a command with nothing round it is the one that its tree asks for
-pub plainly_asked : {E H : Type 0} (pairs vars : Vars) (words copy : List (List ℕ)) (spec : Spec) →
+pub plainly_asked : {E H : Type 0} (pairs vars : Vars) (words copy : List (List ℕ)) (spec : SpecView) →
     spec ≡ record { words = copy; folder = None; vars = vars; input = port.Inherit; output = port.Inherit; error = port.Inherit } → copy ≡ words →
     ((name : List ℕ) → value_of name vars ≡ value_of name (reverse pairs)) → IsStrictlySortedBy (slice_cmp nat_cmp) (map (λ pair. pair.0) vars) →
     IsAsked {E = E} {H = H} pairs (program_of words) plain words spec
@@ -296,7 +296,7 @@ plainly_asked {E} {H} pairs vars words copy spec is same values ordered = rw is 
 })
 
 -- what is asked for it names no end and no hook, so the types of these do not matter
-pub plain_everywhere : {E H F K : Type 0} (pairs : Vars) (words : List (List ℕ)) (spec : Spec) →
+pub plain_everywhere : {E H F K : Type 0} (pairs : Vars) (words : List (List ℕ)) (spec : SpecView) →
     IsAsked {E = E} {H = H} pairs (program_of words) plain words spec → IsAsked {E = F} {H = K} pairs (program_of words) plain words spec
 plain_everywhere pairs words spec asked = record {
   words_are = asked.words_are;

@@ -2,16 +2,16 @@
 use Rattle.std.specs.Prelude.{ℕ, zero, suc, true, false, List, [], ◌∷◌, map, length, get_or, set, slice_get, MatchOption, Ok, Err, Some, None}
 use Rattle.std.specs.declared.option.Option.{Option}
 use Rattle.std.proofs.Common.{◌≡◌, ◌+◌, ◌<◌, ◌≤◌, add-one, refl, ap, sym, ◌∙◌, subst, arith}
-use Rattle.duct_base.specs.Child.{Answer, ChildView, PollsChild, child_after, ending_after}
-use Rattle.duct_base.specs.Notice.{from_command}
-use Rattle.duct_base.specs.Words.{Words, is_due, is_word_due, word_after, change_at, words_after}
-use Rattle.duct_base.specs.declared.status.Word.{Word}
-use Rattle.duct_base.specs.declared.system.ExitStatus.{ExitStatus}
+use Rattle.duct_system.specs.Child.{Answer, ChildView, PollsChild, child_after, ending_after}
+use Rattle.duct_status.specs.EventView.{from_command}
+use Rattle.duct_status.specs.Latest.{Latest, is_due, is_word_due, word_after, change_at, latest_after}
+use Rattle.duct_status.specs.declared.status.Word.{Word}
+use Rattle.duct_system.specs.declared.system.ExitStatus.{ExitStatus}
 use Rattle.duct.specs.Polled.{AskedIfDue, AllAsked, AskedAt}
-use Rattle.duct.specs.Stored.{word_of, stored_word, stored_words}
+use Rattle.duct.specs.Stored.{word_of, stored_word, stored_latest}
 
 -- the words of a start without workers
-abbrev commands_alone : List Word → Words
+abbrev commands_alone : List Word → Latest
 commands_alone words = record { commands = words; inputs = []; output = None; error = None }
 
 -- the word that a child stores
@@ -77,29 +77,29 @@ module _ {C : Type 0} (view : C → ChildView) (may : ℕ → Answer → Type 0)
   words_changed (child ∷ children) (suc at) before after answer low is polls due = ap (λ ws. said (view child) ∷ ws) (words_changed children at before after answer (omega arith) is polls due)
 
   -- the same, by the words that a core keeps of the children
-  pub not_asked_in : (items children : List C) (at : ℕ) (kept : Words) → items ≡ children → kept ≡ stored_words (map view items) → at < length children → is_due kept at ≡ false →
+  pub not_asked_in : (items children : List C) (at : ℕ) (kept : Latest) → items ≡ children → kept ≡ stored_latest (map view items) → at < length children → is_due kept at ≡ false →
       AskedAt may at (map view children) (map view children)
   not_asked_in items children at kept same is low over =
-      not_asked children at low (ap (λ cs. is_word_due (slice_get (words cs) at)) (sym same) ∙ ap (λ (w : Words). is_due w at) (sym is) ∙ over)
+      not_asked children at low (ap (λ cs. is_word_due (slice_get (words cs) at)) (sym same) ∙ ap (λ (w : Latest). is_due w at) (sym is) ∙ over)
 
-  due_in : (items : List C) (at : ℕ) (kept : Words) → kept ≡ stored_words (map view items) → is_due kept at ≡ true → is_word_due (slice_get (words items) at) ≡ true
-  due_in items at kept is due = ap (λ (w : Words). is_due w at) (sym is) ∙ due
+  due_in : (items : List C) (at : ℕ) (kept : Latest) → kept ≡ stored_latest (map view items) → is_due kept at ≡ true → is_word_due (slice_get (words items) at) ≡ true
+  due_in items at kept is due = ap (λ (w : Latest). is_due w at) (sym is) ∙ due
 
   within : (items children : List C) (at : ℕ) → items ≡ children → at < length children → at < length items
   within items children at same low = subst (λ (cs : List C). at < length cs) (sym same) low
 
-  pub asked_in : (items children : List C) (at : ℕ) (before after : C) (answer : Answer) (kept : Words) → items ≡ children → kept ≡ stored_words (map view items) → at < length children →
+  pub asked_in : (items children : List C) (at : ℕ) (before after : C) (answer : Answer) (kept : Latest) → items ≡ children → kept ≡ stored_latest (map view items) → at < length children →
       is_due kept at ≡ true → before ≡ get_or items at before → PollsChild may (view before) answer (view after) → AskedAt may at (map view children) (map view (set items at after))
   asked_in items children at before after answer kept same is low due found polls =
       subst (λ (cs : List C). AskedAt may at (map view cs) (map view (set items at after))) same
       (asked items at before after answer (within items children at same low) found polls (due_in items at kept is due))
 
   -- a core that was told what the child answered keeps the words that the children store
-  pub words_in_step : (items children : List C) (at : ℕ) (before after : C) (answer : Answer) (kept later : Words) (heard : Word) → items ≡ children → kept ≡ stored_words (map view items) → at < length children →
-      is_due kept at ≡ true → before ≡ get_or items at before → PollsChild may (view before) answer (view after) → heard ≡ word_of answer → later ≡ words_after kept (from_command at heard) →
-      later ≡ stored_words (map view (set items at after))
+  pub words_in_step : (items children : List C) (at : ℕ) (before after : C) (answer : Answer) (kept later : Latest) (heard : Word) → items ≡ children → kept ≡ stored_latest (map view items) → at < length children →
+      is_due kept at ≡ true → before ≡ get_or items at before → PollsChild may (view before) answer (view after) → heard ≡ word_of answer → later ≡ latest_after kept (from_command at heard) →
+      later ≡ stored_latest (map view (set items at after))
   words_in_step items children at before after answer kept later heard same is low due found polls hears told =
-      told ∙ ap (λ (h : Word). words_after kept (from_command at h)) hears ∙ ap (λ (w : Words). words_after w (from_command at (word_of answer))) is
+      told ∙ ap (λ (h : Word). latest_after kept (from_command at h)) hears ∙ ap (λ (w : Latest). latest_after w (from_command at (word_of answer))) is
       ∙ ap (λ (ws : List Word). commands_alone ws) (words_changed items at before after answer (within items children at same low) found polls (due_in items at kept is due))
 
 -- the first ones were polled or had ended, and the others are as before

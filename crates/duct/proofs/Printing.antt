@@ -7,13 +7,13 @@ use Rattle.std.specs.List.{list_all}
 use Rattle.std.specs.Fmt.{DisplaysOnOk, decimal}
 use Rattle.std.proofs.Common.{◌≡◌, refl, ap, sym, ◌∙◌, subst, append_assoc, rules}
 use Rattle.std.proofs.lemmas.Bool.{and_parts}
-use Rattle.duct_base.specs.Spec.{Vars}
-use Rattle.duct_base.specs.Quoted.{is_printable, quoted, listed}
-use Rattle.duct_base.proofs.Quotes.{debug_str-printable, debug_list-listed, debug_list-printable}
-use Rattle.duct.specs.Tree.{Layer, Tree, command, pipe, around, stdin_bytes, stdin_path, stdin_file, stdin_null, stdout_path, stdout_file, stdout_null, stdout_capture, stdout_to_stderr, stderr_path, stderr_file, stderr_null, stderr_capture, stderr_to_stdout, stdout_stderr_swap, dir, env, env_remove, full_env, unchecked, before_spawn}
-use Rattle.duct.specs.Printed.{printed, printed_layer, printed_vars}
-use Rattle.duct.specs.Text.{text, layer_text, variable_text}
-use Rattle.duct.specs.Shown.{is_layer_printable, is_tree_printable}
+use Rattle.duct_system.specs.SpecView.{Vars}
+use Rattle.duct_status.specs.Quoted.{is_printable, quoted, listed}
+use Rattle.duct_status.proofs.Quotes.{debug_str-printable, debug_list-listed, debug_list-printable}
+use Rattle.duct.specs.TreeView.{ModifierView, TreeView, command, pipe, around, stdin_bytes, stdin_path, stdin_file, stdin_null, stdout_path, stdout_file, stdout_null, stdout_capture, stdout_to_stderr, stderr_path, stderr_file, stderr_null, stderr_capture, stderr_to_stdout, stdout_stderr_swap, dir, env, env_remove, full_env, unchecked, before_spawn}
+use Rattle.duct.specs.Printed.{printed, printed_modifier, printed_vars}
+use Rattle.duct.specs.Text.{text, modifier_text, variable_text}
+use Rattle.duct.specs.Shown.{is_modifier_printable, is_tree_printable}
 
 -- five pieces, joined from the right and from the left
 joined_five : (a b c d e : List ℕ) → a ++ (b ++ (c ++ (d ++ e))) ≡ a ++ b ++ c ++ d ++ e
@@ -57,40 +57,40 @@ printed_vars-listed (variable ∷ vars) is =
     let text = joined_four (quoted variable.0) (codes ": ") (quoted variable.1) (after_vars vars) ∙ listed-after_vars variable vars in
     rw (debug_str-printable variable.0 here.0, debug_str-printable variable.1 here.1, printed_vars-after vars both.1) (ap Some text)
 
-layer_prints : {E H : Type 0} (layer : Layer E H) → is_layer_printable layer ≡ true → printed_layer layer ≡ Some (layer_text layer)
-layer_prints (stdin_bytes bytes) is = rw (debug_list-listed (λ b. Some (decimal b)) decimal (λ b. true) (λ b e. refl) bytes (all_true bytes)) (simp append_assoc)
-layer_prints (stdin_path path) is = rw (debug_str-printable path is) refl
-layer_prints (stdin_file end) is = refl
-layer_prints stdin_null is = refl
-layer_prints (stdout_path path) is = rw (debug_str-printable path is) refl
-layer_prints (stdout_file end) is = refl
-layer_prints stdout_null is = refl
-layer_prints stdout_capture is = refl
-layer_prints stdout_to_stderr is = refl
-layer_prints (stderr_path path) is = rw (debug_str-printable path is) refl
-layer_prints (stderr_file end) is = refl
-layer_prints stderr_null is = refl
-layer_prints stderr_capture is = refl
-layer_prints stderr_to_stdout is = refl
-layer_prints stdout_stderr_swap is = refl
-layer_prints (dir path) is = rw (debug_str-printable path is) refl
-layer_prints (env name value) is =
+modifier_prints : {E H : Type 0} (modifier : ModifierView E H) → is_modifier_printable modifier ≡ true → printed_modifier modifier ≡ Some (modifier_text modifier)
+modifier_prints (stdin_bytes bytes) is = rw (debug_list-listed (λ b. Some (decimal b)) decimal (λ b. true) (λ b e. refl) bytes (all_true bytes)) (simp append_assoc)
+modifier_prints (stdin_path path) is = rw (debug_str-printable path is) refl
+modifier_prints (stdin_file end) is = refl
+modifier_prints stdin_null is = refl
+modifier_prints (stdout_path path) is = rw (debug_str-printable path is) refl
+modifier_prints (stdout_file end) is = refl
+modifier_prints stdout_null is = refl
+modifier_prints stdout_capture is = refl
+modifier_prints stdout_to_stderr is = refl
+modifier_prints (stderr_path path) is = rw (debug_str-printable path is) refl
+modifier_prints (stderr_file end) is = refl
+modifier_prints stderr_null is = refl
+modifier_prints stderr_capture is = refl
+modifier_prints stderr_to_stdout is = refl
+modifier_prints stdout_stderr_swap is = refl
+modifier_prints (dir path) is = rw (debug_str-printable path is) refl
+modifier_prints (env name value) is =
     let both = and_parts (is_printable name) (is_printable value) is in
     rw (debug_str-printable name both.0, debug_str-printable value both.1) (ap Some (joined_five (codes "Env(") (quoted name) (codes ", ") (quoted value) (codes ")")))
-layer_prints (env_remove name) is = rw (debug_str-printable name is) refl
-layer_prints (full_env vars) is = rw (printed_vars-listed vars is) refl
-layer_prints unchecked is = refl
-layer_prints (before_spawn hook ends) is = refl
+modifier_prints (env_remove name) is = rw (debug_str-printable name is) refl
+modifier_prints (full_env vars) is = rw (printed_vars-listed vars is) refl
+modifier_prints unchecked is = refl
+modifier_prints (before_spawn hook ends) is = refl
 
 -- a printable tree prints its text
-pub tree_prints : {E H : Type 0} (tree : Tree E H) → is_tree_printable tree ≡ true → printed tree ≡ Some (text tree)
+pub tree_prints : {E H : Type 0} (tree : TreeView E H) → is_tree_printable tree ≡ true → printed tree ≡ Some (text tree)
 tree_prints (command words) is = rw (debug_list-printable words is) refl
 tree_prints (pipe left right) is =
     let both = and_parts (is_tree_printable left) (is_tree_printable right) is in
     rw (tree_prints left both.0, tree_prints right both.1) (ap Some (joined_five (codes "Pipe(") (text left) (codes ", ") (text right) (codes ")")))
-tree_prints (around layer inner) is =
-    let both = and_parts (is_layer_printable layer) (is_tree_printable inner) is in
-    rw (layer_prints layer both.0, tree_prints inner both.1) (ap Some (joined_five (codes "Io(") (layer_text layer) (codes ", ") (text inner) (codes ")")))
+tree_prints (around modifier inner) is =
+    let both = and_parts (is_modifier_printable modifier) (is_tree_printable inner) is in
+    rw (modifier_prints modifier both.0, tree_prints inner both.1) (ap Some (joined_five (codes "Io(") (modifier_text modifier) (codes ", ") (text inner) (codes ")")))
 
 -- what is promised where a test holds, of what is printed then
 pub displays_if : {W : Type 0} (took : W → List ℕ → W → Type 0) (f : Formatter W) (r : Result (Unit {0}) Error) (g : Formatter W) (b : Bool) (o : Option (List ℕ)) (bytes : List ℕ) → (b ≡ true → o ≡ Some bytes) → DisplaysOnOk took f r o g → DisplaysOnOk took f r (if b then Some bytes else None) g

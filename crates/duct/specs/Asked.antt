@@ -4,17 +4,17 @@ use Rattle.std.specs.Option.{option_to_list}
 use Rattle.std.specs.List.Sorted.{IsStrictlySortedBy}
 use Rattle.std.specs.Cmp.Lexicographic.{slice_cmp}
 use Rattle.std.specs.Ordering.{nat_cmp}
-use Rattle.duct_base.specs.Ledger.{got_by}
-use Rattle.duct_base.specs.Line.{Line}
-use Rattle.duct_base.specs.Origin.{Origin, Opened, ParentOf, Lent}
-use Rattle.duct_base.specs.Spec.{Spec, Vars, value_of, port_of}
-use Rattle.duct_base.specs.declared.spec.Port.{Port}
-use Rattle.duct_base.specs.declared.spec.Port.TheVariants as port
-use Rattle.duct_base.specs.declared.spec.Stream.{Stream}
-use Rattle.duct_base.specs.declared.spec.Stream.TheVariants.{In, Out, Err}
-use Rattle.duct_base.specs.declared.system.Side.TheVariants as side
-use Rattle.duct_base.specs.declared.system.Stdio.{Stdio}
-use Rattle.duct_base.specs.declared.system.Stdio.TheVariants.{Inherit, Null, End}
+use Rattle.duct_system.specs.Ledger.{got_by}
+use Rattle.duct_system.specs.EntryView.{EntryView}
+use Rattle.duct_system.specs.Origin.{Origin, Opened, ParentOf, Lent}
+use Rattle.duct_system.specs.SpecView.{SpecView, Vars, value_of, port_of}
+use Rattle.duct_system.specs.declared.spec.Port.{Port}
+use Rattle.duct_system.specs.declared.spec.Port.TheVariants as port
+use Rattle.duct_system.specs.declared.spec.Stream.{Stream}
+use Rattle.duct_system.specs.declared.spec.Stream.TheVariants.{In, Out, Err}
+use Rattle.duct_system.specs.declared.system.Side.TheVariants as side
+use Rattle.duct_system.specs.declared.system.Stdio.{Stdio}
+use Rattle.duct_system.specs.declared.system.Stdio.TheVariants.{Inherit, Null, End}
 use Rattle.duct.specs.Found.{Found, Target, Parents, Nothing, ReaderAt, WriterAt, FileAt, Lends, target_of, variable}
 
 -- the port of a stream that goes there: the parent's own stream at its own place is inherited
@@ -32,7 +32,7 @@ with_program program (word ∷ words) = program ∷ words
 
 -- the spec has these words with this program, the folder and the variables that are found outwards, each name once and in
 -- order, and for each stream the port of where it goes
-pub record IsAsked {E H : Type 0} (pairs : Vars) (program : List ℕ) (found : Found E H) (words : List (List ℕ)) (spec : Spec) : Type 0 where
+pub record IsAsked {E H : Type 0} (pairs : Vars) (program : List ℕ) (found : Found E H) (words : List (List ℕ)) (spec : SpecView) : Type 0 where
   pub words_are : spec.words ≡ with_program program words
   pub folder_is : spec.folder ≡ found.folder
   pub vars_are : (name : List ℕ) → value_of name spec.vars ≡ variable pairs found.changes name
@@ -40,24 +40,24 @@ pub record IsAsked {E H : Type 0} (pairs : Vars) (program : List ℕ) (found : F
   pub ports_are : (stream : Stream) → port_of stream spec ≡ port_to stream (target_of found stream)
 
 -- the number of an end that the entry at a place of the trace got: of a pipe the read end is the first, the write end the second
-abbrev pub end_at : List Line → ℕ → ℕ → ℕ
-end_at lines place which = slice_index (flat_map got_by (option_to_list (slice_get lines place))) which
+abbrev pub end_at : List EntryView → ℕ → ℕ → ℕ
+end_at entries place which = slice_index (flat_map got_by (option_to_list (slice_get entries place))) which
 
 -- where a stream that goes there comes from, by the trace and the numbers of the caller's ends
-abbrev pub stream_to : {E : Type 0} → List Line → (E → ℕ) → Stream → Target E → Stdio Origin
-stream_to lines number_of In (Parents In) = Inherit
-stream_to lines number_of Out (Parents Out) = Inherit
-stream_to lines number_of Err (Parents Err) = Inherit
-stream_to lines number_of stream (Parents In) = Inherit
-stream_to lines number_of stream (Parents Out) = End (ParentOf side.Out)
-stream_to lines number_of stream (Parents Err) = End (ParentOf side.Err)
-stream_to lines number_of stream Nothing = Null
-stream_to lines number_of stream (ReaderAt place) = End (Opened (end_at lines place 0))
-stream_to lines number_of stream (WriterAt place) = End (Opened (end_at lines place 1))
-stream_to lines number_of stream (FileAt place) = End (Opened (end_at lines place 0))
-stream_to lines number_of stream (Lends end) = End (Lent (number_of end))
+abbrev pub stream_to : {E : Type 0} → List EntryView → (E → ℕ) → Stream → Target E → Stdio Origin
+stream_to entries number_of In (Parents In) = Inherit
+stream_to entries number_of Out (Parents Out) = Inherit
+stream_to entries number_of Err (Parents Err) = Inherit
+stream_to entries number_of stream (Parents In) = Inherit
+stream_to entries number_of stream (Parents Out) = End (ParentOf side.Out)
+stream_to entries number_of stream (Parents Err) = End (ParentOf side.Err)
+stream_to entries number_of stream Nothing = Null
+stream_to entries number_of stream (ReaderAt place) = End (Opened (end_at entries place 0))
+stream_to entries number_of stream (WriterAt place) = End (Opened (end_at entries place 1))
+stream_to entries number_of stream (FileAt place) = End (Opened (end_at entries place 0))
+stream_to entries number_of stream (Lends end) = End (Lent (number_of end))
 
 -- the three streams of a command, in the order stdin, stdout, stderr
-abbrev pub streams_to : {E H : Type 0} → List Line → (E → ℕ) → Found E H → List (Stdio Origin)
-streams_to lines number_of found =
-    stream_to lines number_of In found.input ∷ stream_to lines number_of Out found.output ∷ stream_to lines number_of Err found.error ∷ []
+abbrev pub streams_to : {E H : Type 0} → List EntryView → (E → ℕ) → Found E H → List (Stdio Origin)
+streams_to entries number_of found =
+    stream_to entries number_of In found.input ∷ stream_to entries number_of Out found.output ∷ stream_to entries number_of Err found.error ∷ []

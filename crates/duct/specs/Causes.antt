@@ -2,40 +2,40 @@
 use Rattle.std.specs.Prelude.{ℕ, ◌-◌, List, ◌≡◌, ◌⊎◌, length, filter, not, slice_get, Some}
 use Rattle.std.specs.declared.option.Option.{Option}
 use Rattle.std.specs.Option.{option_and_then}
-use Rattle.duct_base.specs.Line.{Line}
-use Rattle.duct_base.specs.Trace.{trace, is_close, fault_of}
-use Rattle.duct_base.specs.declared.error.Error.{Error}
-use Rattle.duct_base.specs.declared.error.Error.TheVariants.{System, Hook, HookEnd, Memory}
-use Rattle.duct_base.specs.declared.system.Fault.{Fault}
-use Rattle.duct_base.specs.declared.system.Kind.TheVariants.{OutOfMemory}
+use Rattle.duct_system.specs.EntryView.{EntryView}
+use Rattle.duct_system.specs.Trace.{trace, is_close, fault_of}
+use Rattle.duct_system.specs.declared.error.Error.{Error}
+use Rattle.duct_system.specs.declared.error.Error.TheVariants.{System, Hook, HookEnd, Memory}
+use Rattle.duct_system.specs.declared.system.Fault.{Fault}
+use Rattle.duct_system.specs.declared.system.Kind.TheVariants.{OutOfMemory}
 use Rattle.duct.specs.Chain.{Wired, Allows, Refuses, ChainStops, lent}
 use Rattle.duct.specs.Follows.{IsAskedAt}
 use Rattle.duct.specs.Plan.{Plan}
 use Rattle.duct.specs.Step.{Item, AskSpawn}
 
 -- the entries that are no closes
-abbrev pub asked_in : List Line → List Line
-asked_in added = filter (λ line. not (is_close line)) added
+abbrev pub asked_in : List EntryView → List EntryView
+asked_in added = filter (λ entry. not (is_close entry)) added
 
 -- the fault of the last entry that is no close, if it was refused
-abbrev pub last_fault : List Line → Option Fault
+abbrev pub last_fault : List EntryView → Option Fault
 last_fault added = option_and_then fault_of (slice_get (asked_in added) (length (asked_in added) - 1))
 
 -- the item is a spawn, and the hooks of its command stop the start with this error
-abbrev pub StoppedBy : {E H : Type 0} → Allows H → Refuses H → (E → ℕ) → List Line → ℕ → Option (Item E H) → Error → Type 0
-StoppedBy allows refuses number_of lines place (Some (AskSpawn found words)) error =
-    (before : Wired) × IsAskedAt lines number_of place found words before × ChainStops allows refuses (lent number_of found.hooks) before error
-StoppedBy allows refuses number_of lines place other error = ⊥
+abbrev pub StoppedBy : {E H : Type 0} → Allows H → Refuses H → (E → ℕ) → List EntryView → ℕ → Option (Item E H) → Error → Type 0
+StoppedBy allows refuses number_of entries place (Some (AskSpawn found words)) error =
+    (before : Wired) × IsAskedAt entries number_of place found words before × ChainStops allows refuses (lent number_of found.hooks) before error
+StoppedBy allows refuses number_of entries place other error = ⊥
 
 -- the hooks of the command whose spawn is the next item of the plan stop the start with this error
-abbrev pub StoppedNext : {E H : Type 0} → Allows H → Refuses H → (E → ℕ) → Plan E H → List Line → Error → Type 0
+abbrev pub StoppedNext : {E H : Type 0} → Allows H → Refuses H → (E → ℕ) → Plan E H → List EntryView → Error → Type 0
 StoppedNext allows refuses number_of plan added error =
     let place = length (trace added) in
     StoppedBy allows refuses number_of (trace added) place (slice_get plan.items place) error
 
 -- the error has a cause: a system's fault but want of memory is that of the last entry which is no close; a hook's is that of the
 -- next command; a start answers no other but want of memory
-abbrev pub HasCause : {E H : Type 0} → Allows H → Refuses H → (E → ℕ) → Plan E H → List Line → Error → Type 0
+abbrev pub HasCause : {E H : Type 0} → Allows H → Refuses H → (E → ℕ) → Plan E H → List EntryView → Error → Type 0
 HasCause allows refuses number_of plan added (System fault) = (fault.kind ≡ OutOfMemory) ⊎ (last_fault added ≡ Some fault)
 HasCause allows refuses number_of plan added (Hook fault) = StoppedNext allows refuses number_of plan added (Hook fault)
 HasCause allows refuses number_of plan added (HookEnd place) = StoppedNext allows refuses number_of plan added (HookEnd place)
@@ -43,5 +43,5 @@ HasCause allows refuses number_of plan added Memory = Unit {0}
 HasCause allows refuses number_of plan added other = ⊥
 
 -- a fault of the last entry that is no close is the answer, and no other
-abbrev pub AnswersLastFault : List Line → Error → Type 0
+abbrev pub AnswersLastFault : List EntryView → Error → Type 0
 AnswersLastFault added error = (fault : Fault) → last_fault added ≡ Some fault → error ≡ System fault

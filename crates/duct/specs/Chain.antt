@@ -1,30 +1,30 @@
 -- What the hooks of a command make of its spec and its streams, the outermost first, and when one of them stops the start.
 use Rattle.std.specs.Prelude.{ℕ, List, [], ◌∷◌, ◌≡◌, ◌⊎◌, length, map, slice_get, Some, None, nat_lt, if◌then◌else◌}
 use Rattle.std.specs.declared.option.Option.{Option}
-use Rattle.duct_base.specs.Origin.{Origin, Lent}
-use Rattle.duct_base.specs.Spec.{Spec, GivesNothing}
-use Rattle.duct_base.specs.declared.error.Error.{Error}
-use Rattle.duct_base.specs.declared.error.Error.TheVariants.{Hook, HookEnd}
-use Rattle.duct_base.specs.declared.spec.Port.{Port}
-use Rattle.duct_base.specs.declared.spec.Port.TheVariants as port
-use Rattle.duct_base.specs.declared.system.Fault.{Fault}
-use Rattle.duct_base.specs.declared.system.Stdio.{Stdio}
-use Rattle.duct_base.specs.declared.system.Stdio.TheVariants.{Inherit, Null, End}
+use Rattle.duct_system.specs.Origin.{Origin, Lent}
+use Rattle.duct_system.specs.SpecView.{SpecView, GivesNothing}
+use Rattle.duct_system.specs.declared.error.Error.{Error}
+use Rattle.duct_system.specs.declared.error.Error.TheVariants.{Hook, HookEnd}
+use Rattle.duct_system.specs.declared.spec.Port.{Port}
+use Rattle.duct_system.specs.declared.spec.Port.TheVariants as port
+use Rattle.duct_system.specs.declared.system.Fault.{Fault}
+use Rattle.duct_system.specs.declared.system.Stdio.{Stdio}
+use Rattle.duct_system.specs.declared.system.Stdio.TheVariants.{Inherit, Null, End}
 
 -- a spec, and where each of its streams comes from
 pub record Wired : Type 0 where
-  pub spec : Spec
+  pub spec : SpecView
   pub input : Stdio Origin
   pub output : Stdio Origin
   pub error : Stdio Origin
 
 -- what the hooks of one type may make of a spec
 abbrev pub Allows : Type 0 → Type 1
-Allows H = H → Spec → Spec → Type 0
+Allows H = H → SpecView → SpecView → Type 0
 
 -- the faults by which they may refuse one
 abbrev pub Refuses : Type 0 → Type 1
-Refuses H = H → Spec → Fault → Type 0
+Refuses H = H → SpecView → Fault → Type 0
 
 -- the place that a port names, if fewer ends than that stand beside the hook
 abbrev pub missing_at : ℕ → Port → Option ℕ
@@ -37,7 +37,7 @@ either (Some place) other = Some place
 either None other = other
 
 -- the first place of a spec that is not there, in the order stdin, stdout, stderr
-abbrev pub missing : ℕ → Spec → Option ℕ
+abbrev pub missing : ℕ → SpecView → Option ℕ
 missing count spec = either (missing_at count spec.input) (either (missing_at count spec.output) (missing_at count spec.error))
 
 -- a place that was found is given
@@ -58,7 +58,7 @@ settled ends port.Given stream = stream
 settled ends (port.Place place) stream = end_of_place (slice_get ends place)
 
 -- a spec that a hook made, with its places found among the ends beside the hook
-abbrev pub settle : List Origin → Spec → Wired → Wired
+abbrev pub settle : List Origin → SpecView → Wired → Wired
 settle ends made before = record {
   spec = record made { input = found made.input; output = found made.output; error = found made.error };
   input = settled ends made.input before.input;
@@ -67,14 +67,14 @@ settle ends made before = record {
 }
 
 -- a hook makes this spec of that one: it may do so, and it gives no stream an end
-pub record Makes {H : Type 0} (allows : Allows H) (hook : H) (before made : Spec) : Type 0 where
+pub record Makes {H : Type 0} (allows : Allows H) (hook : H) (before made : SpecView) : Type 0 where
   pub allowed : allows hook before made
   pub gives_nothing : GivesNothing before made
 
 -- one hook leads from one to the other
 abbrev pub Changes : {H : Type 0} → Allows H → H → List Origin → Wired → Wired → Type 0
 Changes allows hook ends before after =
-    (made : Spec) × Makes allows hook before.spec made × (missing (length ends) made ≡ None) × (after ≡ settle ends made before)
+    (made : SpecView) × Makes allows hook before.spec made × (missing (length ends) made ≡ None) × (after ≡ settle ends made before)
 
 -- the hooks lead from one to the other, each with the ends beside it
 abbrev pub Chain : {H : Type 0} → Allows H → List (H × List Origin) → Wired → Wired → Type 0
@@ -84,7 +84,7 @@ Chain allows (hook ∷ hooks) before after = (between : Wired) × Changes allows
 -- one hook stops the start with this error: by a fault of its own, or by the first place that is not there
 abbrev pub Stops : {H : Type 0} → Allows H → Refuses H → H → List Origin → Wired → Error → Type 0
 Stops allows refuses hook ends before (Hook fault) = refuses hook before.spec fault
-Stops allows refuses hook ends before (HookEnd place) = (made : Spec) × Makes allows hook before.spec made × (missing (length ends) made ≡ Some place)
+Stops allows refuses hook ends before (HookEnd place) = (made : SpecView) × Makes allows hook before.spec made × (missing (length ends) made ≡ Some place)
 Stops allows refuses hook ends before other = ⊥
 
 -- one of the hooks stops the start with this error

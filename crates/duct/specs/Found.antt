@@ -1,9 +1,9 @@
 -- What a command finds on its way outwards.
 use Rattle.std.specs.Prelude.{ℕ, List, Some, None, if◌then◌else◌, [], ◌∷◌, reverse}
 use Rattle.std.specs.declared.option.Option.{Option}
-use Rattle.duct_base.specs.Spec.{Vars, value_of, same_name}
-use Rattle.duct_base.specs.declared.spec.Stream.{Stream}
-use Rattle.duct_base.specs.declared.spec.Stream.TheVariants.{In, Out, Err}
+use Rattle.duct_system.specs.SpecView.{Vars, value_of, same_name}
+use Rattle.duct_system.specs.declared.spec.Stream.{Stream}
+use Rattle.duct_system.specs.declared.spec.Stream.TheVariants.{In, Out, Err}
 
 -- where a stream goes: to the parent's own stream, to nothing, to an end of the pipe or the file that the item at this
 -- place of the plan got, or to an end of the caller

@@ -1,6 +1,6 @@
 -- The variables that a list of names and values sets: in order of name, each name with the last of its values.
 use Rattle.std.specs.Prelude.{[], fold}
-use Rattle.duct_base.specs.Spec.{Vars, with_var}
+use Rattle.duct_system.specs.SpecView.{Vars, with_var}
 
 -- the pairs are put in one after the other, and a value replaces the one that its name had
 abbrev pub last_values : Vars → Vars

@@ -1,9 +1,9 @@
 -- What a start leaves of the pool that it was lent.
 use Rattle.std.specs.Prelude.{ℕ, ◌+◌, ◌<◌, ◌^◌, ◌≡◌, List, ◌++◌, All, length, map, Ok, None}
-use Rattle.duct_base.specs.Child.{Answer, ChildView, PollsChild, IsUnasked}
-use Rattle.duct_base.specs.Line.{Line}
+use Rattle.duct_system.specs.Child.{Answer, ChildView, PollsChild, IsUnasked}
+use Rattle.duct_system.specs.EntryView.{EntryView}
 use Rattle.duct_base.specs.Pool.{PoolView, Sieves, counted}
-use Rattle.duct_base.specs.Started.{children_in}
+use Rattle.duct_system.specs.Started.{children_in}
 
 -- a child that a pool keeps over some sweeps: its number, its process and its orders are as before
 pub record StaysInPool (before after : ChildView) : Type 0 where
@@ -32,7 +32,7 @@ abbrev pub pool_view : {C : Type 0} → (C → ChildView) → PoolView C → Poo
 pool_view view pool = record { children = map view pool.children; given = pool.given; reaped = pool.reaped; lost = pool.lost }
 
 -- the pool after a refused start: it was given each child that the start had started, which nobody had asked before
-abbrev pub LeavesStarted : {C : Type 0} → (ℕ → Answer → Type 0) → (C → ChildView) → List Line → PoolView C → PoolView C → Type 0
+abbrev pub LeavesStarted : {C : Type 0} → (ℕ → Answer → Type 0) → (C → ChildView) → List EntryView → PoolView C → PoolView C → Type 0
 LeavesStarted may view added before after =
     (started : List ChildView) × (map (λ child. child.number) started ≡ children_in added) × All IsUnasked started
     × Leaves may started (pool_view view before) (pool_view view after)

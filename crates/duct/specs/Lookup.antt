@@ -2,8 +2,8 @@
 use Rattle.std.specs.Prelude.{ℕ, List, [], ◌∷◌, ◌++◌, None}
 use Rattle.std.specs.Option.{option_or}
 use Rattle.std.specs.declared.option.Option.{Option}
-use Rattle.duct_base.specs.declared.spec.Stream.{Stream}
-use Rattle.duct_base.specs.declared.spec.Stream.TheVariants.{In, Out, Err}
+use Rattle.duct_system.specs.declared.spec.Stream.{Stream}
+use Rattle.duct_system.specs.declared.spec.Stream.TheVariants.{In, Out, Err}
 use Rattle.duct.specs.Found.{Found, Target, Parents, Change}
 use Rattle.duct.specs.Path.{Path, place_of, step_of}
 use Rattle.duct.specs.Step.{Turn, Decides, Follows}

@@ -1,7 +1,7 @@
 -- Borrowed names and values as lists of bytes.
 use Rattle.std.specs.Prelude.{ℕ, List, map}
 use Rattle.std.specs.Borrow.{Bor}
-use Rattle.duct_base.specs.Spec.{Vars}
+use Rattle.duct_system.specs.SpecView.{Vars}
 
 -- the texts of some names and their values
 abbrev pub pairs_of : List (Bor (List ℕ) × Bor (List ℕ)) → Vars

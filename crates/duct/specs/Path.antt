@@ -1,13 +1,13 @@
 -- The way from a command outwards to the root of its tree.
 use Rattle.std.specs.Prelude.{ℕ, List}
 use Rattle.duct.specs.Step.{Step, left_step, right_step, step}
-use Rattle.duct.specs.Tree.{Layer}
+use Rattle.duct.specs.TreeView.{ModifierView}
 
--- one node round a command: a pipe, met from its left or its right side, or a layer; each with its place in the plan
+-- one node round a command: a pipe, met from its left or its right side, or a modifier; each with its place in the plan
 pub data Crumb (E H : Type 0) : Type 0 where
   left_of : ℕ → Crumb E H
   right_of : ℕ → Crumb E H
-  within : ℕ → Layer E H → Crumb E H
+  within : ℕ → ModifierView E H → Crumb E H
 
 -- the nodes round a command, the nearest first
 abbrev pub Path : Type 0 → Type 0 → Type 0
@@ -17,10 +17,10 @@ Path E H = List (Crumb E H)
 abbrev pub place_of : {E H : Type 0} → Crumb E H → ℕ
 place_of (left_of place) = place
 place_of (right_of place) = place
-place_of (within place layer) = place
+place_of (within place modifier) = place
 
 -- what a node does
 abbrev pub step_of : {E H : Type 0} → Crumb E H → Step E H
 step_of (left_of place) = left_step
 step_of (right_of place) = right_step
-step_of (within place layer) = step layer
+step_of (within place modifier) = step modifier

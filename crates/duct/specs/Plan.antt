@@ -6,7 +6,7 @@ use Rattle.duct.specs.Found.{Found}
 use Rattle.duct.specs.Lookup.{found_on}
 use Rattle.duct.specs.Path.{Path, left_of, right_of, within}
 use Rattle.duct.specs.Step.{Item, AskEnvironment, AskPipe, AskCanonicalize, AskSpawn, AskDrain, AskReader, Opening, OpensNothing, Opens, CapturesOut, CapturesErr, step}
-use Rattle.duct.specs.Tree.{Tree, command, pipe, around, stdout_capture}
+use Rattle.duct.specs.TreeView.{TreeView, command, pipe, around, stdout_capture}
 
 -- the items so far, and the places of the capture pipes of stdout and stderr once they are open
 pub record Plan (E H : Type 0) : Type 0 where
@@ -58,14 +58,14 @@ commanded found words plan =
     asks (AskSpawn found words) (if is_canonical found words then asks (AskCanonicalize (program_of words)) plan else plan)
 
 -- the plan after a tree that stands below this way outwards: each node before what it wraps, the left side before the right
-abbrev pub planned : {E H : Type 0} → Path E H → Tree E H → Plan E H → Plan E H
+abbrev pub planned : {E H : Type 0} → Path E H → TreeView E H → Plan E H → Plan E H
 planned up (command words) plan = commanded (found_on up) words plan
 planned up (pipe left right) plan =
     let place = length plan.items in
     planned (right_of place ∷ up) right (planned (left_of place ∷ up) left (asks AskPipe plan))
-planned up (around layer inner) plan =
-    let place = place_for (step layer).opening plan in
-    closed ((step layer).closing place) (planned (within place layer ∷ up) inner (opened (step layer).opening plan))
+planned up (around modifier inner) plan =
+    let place = place_for (step modifier).opening plan in
+    closed ((step modifier).closing place) (planned (within place modifier ∷ up) inner (opened (step modifier).opening plan))
 
 -- a plan before its tree: the environment is asked first
 abbrev pub begun : {E H : Type 0} → Plan E H
@@ -82,9 +82,9 @@ reads None plan = plan
 reads (Some place) plan = asks (AskReader place) plan
 
 -- the plan of a start: after all commands the workers of stdout's capture pipe, then of stderr's
-abbrev pub plan_of : {E H : Type 0} → Tree E H → Plan E H
+abbrev pub plan_of : {E H : Type 0} → TreeView E H → Plan E H
 plan_of tree = let plan = planned [] tree begun in drains plan.err (drains plan.out plan)
 
 -- the plan of a reader's start: that of the tree inside one stdout capture, with the reader as its last item in place of stdout's worker
-abbrev pub plan_of_reader : {E H : Type 0} → Tree E H → Plan E H
+abbrev pub plan_of_reader : {E H : Type 0} → TreeView E H → Plan E H
 plan_of_reader tree = let plan = planned [] (around stdout_capture tree) begun in reads plan.out (drains plan.err plan)

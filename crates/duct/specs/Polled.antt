@@ -6,15 +6,15 @@ use Rattle.std.specs.declared.alloc.Global.{Global}
 use Rattle.std.specs.declared.sync.Arc.{Arc}
 use Rattle.std.specs.Arc.{arc_value}
 use Rattle.std.specs.List.{AllZip}
-use Rattle.duct_base.specs.Child.{Answer, ChildView, PollsChild}
-use Rattle.duct_base.specs.Conclusion.{Concludes}
-use Rattle.duct_base.specs.Outline.{Outline}
-use Rattle.duct_base.specs.Response.{Response, noted, unknown, pending, faulted, answered, failed, no_memory}
-use Rattle.duct_base.specs.Words.{Words}
-use Rattle.duct_base.specs.declared.error.Error.{Error}
-use Rattle.duct_base.specs.declared.error.Error.TheVariants as error
-use Rattle.duct_base.specs.declared.system.ExitStatus.{ExitStatus}
-use Rattle.duct_base.specs.declared.system.Output.{Output}
+use Rattle.duct_system.specs.Child.{Answer, ChildView, PollsChild}
+use Rattle.duct_status.specs.Outcome.{Concludes}
+use Rattle.duct_status.specs.ShapeView.{ShapeView}
+use Rattle.duct_status.specs.ReplyView.{ReplyView, noted, unknown, pending, faulted, answered, failed, no_memory}
+use Rattle.duct_status.specs.Latest.{Latest}
+use Rattle.duct_system.specs.declared.error.Error.{Error}
+use Rattle.duct_system.specs.declared.error.Error.TheVariants as error
+use Rattle.duct_system.specs.declared.system.ExitStatus.{ExitStatus}
+use Rattle.duct_system.specs.declared.system.Output.{Output}
 
 -- what a poll answers: nothing yet, an output, or an error
 abbrev pub Polled : Type 0
@@ -29,8 +29,8 @@ abbrev pub IsChecked : List ℕ → Error → Type 0
 IsChecked text (error.Checked message) = string_bytes (arc_value message) ≡ text
 IsChecked text other = ⊥
 
--- the answer that a response of the core gives
-abbrev pub Gives : Response → Polled → Type 0
+-- the answer that a reply of the core gives
+abbrev pub Gives : ReplyView → Polled → Type 0
 Gives pending polled = polled ≡ Ok None
 Gives (faulted fault) polled = polled ≡ Err (error.System fault)
 Gives (answered status out err) polled = IsOkAnd polled (λ found. IsSomeAnd found (λ output. IsOutput status out err (arc_value output)))
@@ -39,8 +39,8 @@ Gives no_memory polled = polled ≡ Err error.Memory
 Gives noted polled = ⊥
 Gives unknown polled = ⊥
 
--- the response is one to the question how an expression ended
-abbrev pub IsConclusion : Response → Type 0
+-- the reply is one to the question how an expression ended
+abbrev pub IsConclusion : ReplyView → Type 0
 IsConclusion noted = ⊥
 IsConclusion unknown = ⊥
 IsConclusion pending = Unit {0}
@@ -50,8 +50,8 @@ IsConclusion (failed text) = Unit {0}
 IsConclusion no_memory = Unit {0}
 
 -- the answer is the outcome of these words
-abbrev pub IsOutcome : Outline → Words → Polled → Type 0
-IsOutcome outline words polled = (response : Response) × Concludes outline words response × Gives response polled
+abbrev pub IsOutcome : ShapeView → Latest → Polled → Type 0
+IsOutcome shape words polled = (reply : ReplyView) × Concludes shape words reply × Gives reply polled
 
 -- a child was polled once, or had ended and is as before
 abbrev pub AskedIfDue : (ℕ → Answer → Type 0) → ChildView → ChildView → Type 0

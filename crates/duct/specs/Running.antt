@@ -2,15 +2,15 @@
 use Rattle.std.specs.Prelude.{ℕ, List, ◌++◌, ◌≡◌, map, is_some, All}
 use Rattle.std.specs.Option.{option_map, option_to_list}
 use Rattle.std.specs.declared.option.Option.{Option}
-use Rattle.duct_base.specs.Child.{ChildView, IsUnasked}
-use Rattle.duct_base.specs.Job.{JobView, unpolled_job}
-use Rattle.duct_base.specs.Line.{Line}
-use Rattle.duct_base.specs.Shapes.{outline_of}
-use Rattle.duct_base.specs.Started.{children_in, feeds_in, drains_in}
-use Rattle.duct_base.specs.declared.status.Shape.{Shape}
-use Rattle.duct.specs.OutlineOfTree.{outline_of_tree}
+use Rattle.duct_system.specs.Child.{ChildView, IsUnasked}
+use Rattle.duct_system.specs.Job.{JobView, unpolled_job}
+use Rattle.duct_system.specs.EntryView.{EntryView}
+use Rattle.duct_status.specs.ShapeView.{shape_view}
+use Rattle.duct_system.specs.Started.{children_in, feeds_in, drains_in}
+use Rattle.duct_status.specs.declared.status.Shape.{Shape}
+use Rattle.duct.specs.ShapeOfTree.{shape_of_tree}
 use Rattle.duct.specs.Plan.{Plan}
-use Rattle.duct.specs.Tree.{Tree}
+use Rattle.duct.specs.TreeView.{TreeView}
 
 -- its shape, its children from left to right, its input workers in tree order, and the capture workers of stdout and of stderr
 pub record RunningView (C F D : Type 0) : Type 0 where
@@ -23,8 +23,8 @@ pub record RunningView (C F D : Type 0) : Type 0 where
 -- the shape of this tree, with the children and the workers that were added to the journal, each by its number in its place and
 -- nobody asked yet; stdout and stderr have a worker where the plan opened their capture pipes
 pub record IsRunning {E H C F D V W : Type 0} (child : C → ChildView) (feed : F → JobView V) (drain : D → JobView W)
-    (tree : Tree E H) (plan : Plan E H) (added : List Line) (running : RunningView C F D) : Type 0 where
-  pub shape_is : outline_of running.shape ≡ outline_of_tree tree
+    (tree : TreeView E H) (plan : Plan E H) (added : List EntryView) (running : RunningView C F D) : Type 0 where
+  pub shape_is : shape_view running.shape ≡ shape_of_tree tree
   pub children_are : map (λ c. (child c).number) running.children ≡ children_in added
   pub unasked : All (λ c. IsUnasked (child c)) running.children
   pub feeds_are : map feed running.feeds ≡ map (λ number. unpolled_job number) (feeds_in added)

@@ -1,82 +1,82 @@
 -- What a start promises of the journal.
 use Rattle.std.specs.Prelude.{ℕ, ◌+◌, ◌*◌, ◌<◌, ◌≤◌, max, List, [], ◌∷◌, ◌++◌, ◌≡◌, length, take, All}
-use Rattle.duct_base.specs.Journal.{JournalView}
-use Rattle.duct_base.specs.Ledger.{IsBalanced, held}
-use Rattle.duct_base.specs.Line.{Line}
-use Rattle.duct_base.specs.Trace.{segment}
-use Rattle.duct_base.specs.declared.error.Error.{Error}
+use Rattle.duct_system.specs.Journal.{JournalView}
+use Rattle.duct_system.specs.Ledger.{IsBalanced, held}
+use Rattle.duct_system.specs.EntryView.{EntryView}
+use Rattle.duct_system.specs.Trace.{segment}
+use Rattle.duct_system.specs.declared.error.Error.{Error}
 use Rattle.duct.specs.Causes.{HasCause, AnswersLastFault}
 use Rattle.duct.specs.Chain.{Allows, Refuses}
 use Rattle.duct.specs.Follows.{Follows, FollowsWhole}
 use Rattle.duct.specs.Plan.{Plan}
-use Rattle.duct.specs.Tree.{Layer, Tree, command, pipe, around, stdin_bytes, stdin_path, stdin_file, stdin_null, stdout_path, stdout_file, stdout_null, stdout_capture, stdout_to_stderr, stderr_path, stderr_file, stderr_null, stderr_capture, stderr_to_stdout, stdout_stderr_swap, dir, env, env_remove, full_env, unchecked, before_spawn}
+use Rattle.duct.specs.TreeView.{ModifierView, TreeView, command, pipe, around, stdin_bytes, stdin_path, stdin_file, stdin_null, stdout_path, stdout_file, stdout_null, stdout_capture, stdout_to_stderr, stderr_path, stderr_file, stderr_null, stderr_capture, stderr_to_stdout, stdout_stderr_swap, dir, env, env_remove, full_env, unchecked, before_spawn}
 
 -- the ends of the caller that a node holds
-abbrev pub layer_ends : {E H : Type 0} → Layer E H → List E
-layer_ends (stdin_bytes bytes) = []
-layer_ends (stdin_path path) = []
-layer_ends (stdin_file end) = end ∷ []
-layer_ends stdin_null = []
-layer_ends (stdout_path path) = []
-layer_ends (stdout_file end) = end ∷ []
-layer_ends stdout_null = []
-layer_ends stdout_capture = []
-layer_ends stdout_to_stderr = []
-layer_ends (stderr_path path) = []
-layer_ends (stderr_file end) = end ∷ []
-layer_ends stderr_null = []
-layer_ends stderr_capture = []
-layer_ends stderr_to_stdout = []
-layer_ends stdout_stderr_swap = []
-layer_ends (dir path) = []
-layer_ends (env name value) = []
-layer_ends (env_remove name) = []
-layer_ends (full_env vars) = []
-layer_ends unchecked = []
-layer_ends (before_spawn hook ends) = ends
+abbrev pub modifier_ends : {E H : Type 0} → ModifierView E H → List E
+modifier_ends (stdin_bytes bytes) = []
+modifier_ends (stdin_path path) = []
+modifier_ends (stdin_file end) = end ∷ []
+modifier_ends stdin_null = []
+modifier_ends (stdout_path path) = []
+modifier_ends (stdout_file end) = end ∷ []
+modifier_ends stdout_null = []
+modifier_ends stdout_capture = []
+modifier_ends stdout_to_stderr = []
+modifier_ends (stderr_path path) = []
+modifier_ends (stderr_file end) = end ∷ []
+modifier_ends stderr_null = []
+modifier_ends stderr_capture = []
+modifier_ends stderr_to_stdout = []
+modifier_ends stdout_stderr_swap = []
+modifier_ends (dir path) = []
+modifier_ends (env name value) = []
+modifier_ends (env_remove name) = []
+modifier_ends (full_env vars) = []
+modifier_ends unchecked = []
+modifier_ends (before_spawn hook ends) = ends
 
 -- the ends of the caller that a tree holds
-abbrev pub ends_in : {E H : Type 0} → Tree E H → List E
+abbrev pub ends_in : {E H : Type 0} → TreeView E H → List E
 ends_in (command words) = []
 ends_in (pipe left right) = ends_in left ++ ends_in right
-ends_in (around layer inner) = layer_ends layer ++ ends_in inner
+ends_in (around modifier inner) = modifier_ends modifier ++ ends_in inner
 
 -- the caller's ends came from this system before the start: their numbers are below the one that is given next
-abbrev pub AreEarlier : {E H : Type 0} → (E → ℕ) → JournalView → Tree E H → Type 0
+abbrev pub AreEarlier : {E H : Type 0} → (E → ℕ) → JournalView → TreeView E H → Type 0
 AreEarlier number_of old tree = All (λ end. number_of end < old.next) (ends_in tree)
 
 -- how many ends a node may hold open while its command starts
-abbrev pub layer_depth : {E H : Type 0} → Layer E H → ℕ
-layer_depth (stdin_bytes bytes) = 1
-layer_depth (stdin_path path) = 1
-layer_depth (stdin_file end) = 1
-layer_depth stdin_null = 0
-layer_depth (stdout_path path) = 1
-layer_depth (stdout_file end) = 1
-layer_depth stdout_null = 0
-layer_depth stdout_capture = 0
-layer_depth stdout_to_stderr = 0
-layer_depth (stderr_path path) = 1
-layer_depth (stderr_file end) = 1
-layer_depth stderr_null = 0
-layer_depth stderr_capture = 0
-layer_depth stderr_to_stdout = 0
-layer_depth stdout_stderr_swap = 0
-layer_depth (dir path) = 0
-layer_depth (env name value) = 0
-layer_depth (env_remove name) = 0
-layer_depth (full_env vars) = 0
-layer_depth unchecked = 0
-layer_depth (before_spawn hook ends) = 0
+abbrev pub modifier_depth : {E H : Type 0} → ModifierView E H → ℕ
+modifier_depth (stdin_bytes bytes) = 1
+modifier_depth (stdin_path path) = 1
+modifier_depth (stdin_file end) = 1
+modifier_depth stdin_null = 0
+modifier_depth (stdout_path path) = 1
+modifier_depth (stdout_file end) = 1
+modifier_depth stdout_null = 0
+modifier_depth stdout_capture = 0
+modifier_depth stdout_to_stderr = 0
+modifier_depth (stderr_path path) = 1
+modifier_depth (stderr_file end) = 1
+modifier_depth stderr_null = 0
+modifier_depth stderr_capture = 0
+modifier_depth stderr_to_stdout = 0
+modifier_depth stdout_stderr_swap = 0
+modifier_depth (dir path) = 0
+modifier_depth (env name value) = 0
+modifier_depth (env_remove name) = 0
+modifier_depth (full_env vars) = 0
+modifier_depth unchecked = 0
+modifier_depth (before_spawn hook ends) = 0
 
 -- the most pipes, inputs, paths and files on one command's way
-abbrev pub depth : {E H : Type 0} → Tree E H → ℕ
+abbrev pub depth : {E H : Type 0} → TreeView E H → ℕ
 depth (command words) = 0
 depth (pipe left right) = max (depth left) (depth right) + 1
-depth (around layer inner) = layer_depth layer + depth inner
+depth (around modifier inner) = modifier_depth modifier + depth inner
 
 -- after every entry at most twice that and 12 ends are held
-abbrev pub HoldsFew : {E H : Type 0} → Tree E H → List Line → Type 0
+abbrev pub HoldsFew : {E H : Type 0} → TreeView E H → List EntryView → Type 0
 HoldsFew tree added = (count : ℕ) → held (take count added) ≤ 2 * depth tree + 12
 
 -- the old journal is the front of the new one, nothing was cleared away in between, and neither numbers nor room have fallen
@@ -87,7 +87,7 @@ pub record Grows (old new : JournalView) : Type 0 where
   pub room_grows : old.room ≤ new.room
 
 -- a start that succeeds: the journal has grown, by what follows the whole plan; each end got was spent
-pub record StartSucceeds {E H : Type 0} (allows : Allows H) (number_of : E → ℕ) (tree : Tree E H) (plan : Plan E H) (old new : JournalView) : Type 0 where
+pub record StartSucceeds {E H : Type 0} (allows : Allows H) (number_of : E → ℕ) (tree : TreeView E H) (plan : Plan E H) (old new : JournalView) : Type 0 where
   pub grows : Grows old new
   pub whole : AreEarlier number_of old tree → FollowsWhole allows number_of plan (segment old.entries new.entries)
   pub balanced : IsBalanced (segment old.entries new.entries)
@@ -95,7 +95,7 @@ pub record StartSucceeds {E H : Type 0} (allows : Allows H) (number_of : E → �
 
 -- a start that is refused: the journal has grown, by what follows the plan up to the refusal, where the error has its cause; each end
 -- got was spent
-pub record StartRefused {E H : Type 0} (allows : Allows H) (refuses : Refuses H) (number_of : E → ℕ) (tree : Tree E H) (plan : Plan E H)
+pub record StartRefused {E H : Type 0} (allows : Allows H) (refuses : Refuses H) (number_of : E → ℕ) (tree : TreeView E H) (plan : Plan E H)
     (old new : JournalView) (error : Error) : Type 0 where
   pub grows : Grows old new
   pub follows : AreEarlier number_of old tree → Follows allows number_of plan (segment old.entries new.entries)
@@ -105,7 +105,7 @@ pub record StartRefused {E H : Type 0} (allows : Allows H) (refuses : Refuses H)
   pub few : HoldsFew tree (segment old.entries new.entries)
 
 -- a tree of one command
-abbrev pub IsCommand : {E H : Type 0} → Tree E H → Type 0
+abbrev pub IsCommand : {E H : Type 0} → TreeView E H → Type 0
 IsCommand (command words) = Unit {0}
 IsCommand (pipe left right) = ⊥
-IsCommand (around layer inner) = ⊥
+IsCommand (around modifier inner) = ⊥

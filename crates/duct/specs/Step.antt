@@ -1,10 +1,10 @@
 -- What one node of a tree does: what it asks, how it turns streams, and what it says of folder, variables and hooks.
 use Rattle.std.specs.Prelude.{ℕ, List, [], ◌∷◌, Some, None}
 use Rattle.std.specs.declared.option.Option.{Option}
-use Rattle.duct_base.specs.declared.spec.Stream.{Stream}
-use Rattle.duct_base.specs.declared.spec.Stream.TheVariants.{In, Out, Err}
+use Rattle.duct_system.specs.declared.spec.Stream.{Stream}
+use Rattle.duct_system.specs.declared.spec.Stream.TheVariants.{In, Out, Err}
 use Rattle.duct.specs.Found.{Found, Target, Nothing, ReaderAt, WriterAt, FileAt, Lends, Change, Sets, Removes, Replaces}
-use Rattle.duct.specs.Tree.{Layer, stdin_bytes, stdin_path, stdin_file, stdin_null, stdout_path, stdout_file, stdout_null, stdout_capture, stdout_to_stderr, stderr_path, stderr_file, stderr_null, stderr_capture, stderr_to_stdout, stdout_stderr_swap, dir, env, env_remove, full_env, unchecked, before_spawn}
+use Rattle.duct.specs.TreeView.{ModifierView, stdin_bytes, stdin_path, stdin_file, stdin_null, stdout_path, stdout_file, stdout_null, stdout_capture, stdout_to_stderr, stderr_path, stderr_file, stderr_null, stderr_capture, stderr_to_stdout, stdout_stderr_swap, dir, env, env_remove, full_env, unchecked, before_spawn}
 
 -- one request: a canonical name is asked for a program, a spawn for what its command finds outwards and its words; a worker and
 -- the reader get an end of the pipe that the item at this place got
@@ -81,7 +81,7 @@ abbrev pub right_step : {E H : Type 0} → Step E H
 right_step = record idle { turn = λ place. at_stdin (Decides (ReaderAt place)) }
 
 -- each kind of node round one expression
-abbrev pub step : {E H : Type 0} → Layer E H → Step E H
+abbrev pub step : {E H : Type 0} → ModifierView E H → Step E H
 step (stdin_bytes bytes) = record idle {
   opening = Opens AskPipe;
   closing = λ place. AskFeed place bytes ∷ [];

@@ -1,11 +1,11 @@
 -- What children store of what they were asked, as the words of commands.
 use Rattle.std.specs.Prelude.{List, [], map, Ok, Err, Some, None}
 use Rattle.std.specs.declared.option.Option.{Option}
-use Rattle.duct_base.specs.Child.{Answer, ChildView}
-use Rattle.duct_base.specs.Words.{Words}
-use Rattle.duct_base.specs.declared.status.Word.{Word}
-use Rattle.duct_base.specs.declared.status.Word.TheVariants as word
-use Rattle.duct_base.specs.declared.system.ExitStatus.{ExitStatus}
+use Rattle.duct_system.specs.Child.{Answer, ChildView}
+use Rattle.duct_status.specs.Latest.{Latest}
+use Rattle.duct_status.specs.declared.status.Word.{Word}
+use Rattle.duct_status.specs.declared.status.Word.TheVariants as word
+use Rattle.duct_system.specs.declared.system.ExitStatus.{ExitStatus}
 
 -- the word of an answer
 abbrev pub word_of : Answer → Word
@@ -21,8 +21,8 @@ stored_word None (Some (Ok found)) = word.Running
 stored_word None None = word.Running
 
 -- the words that the children of a start without workers store
-abbrev pub stored_words : List ChildView → Words
-stored_words children = record {
+abbrev pub stored_latest : List ChildView → Latest
+stored_latest children = record {
   commands = map (λ child. stored_word child.ending child.last) children;
   inputs = [];
   output = None;

@@ -1,8 +1,7 @@
 //! An expression: a shared tree of commands, pipes between them, and what is asked of them.
 ghost use Rattle.std.specs.Prelude.{◌≡◌, ◌∷◌, map, string_bytes, IfOk, IsOkUnless};
-ghost use Rattle.duct_base.specs.Spec.{texts_of};
-ghost use Rattle.duct.specs.Tree.{command};
-ghost use Rattle.duct.specs.TreeOf.{tree_of, tree_of_node};
+ghost use Rattle.duct_system.specs.SpecView.{texts_of};
+ghost use Rattle.duct.specs.TreeView.{command, tree_view, node_view};
 
 mod builders;
 mod debug;
@@ -74,7 +73,7 @@ pub struct Expression<E, H = HookBox> {
 }
 
 impl<E: Drop, H: Drop> Clone for Expression<E, H> {
-    ghost is_clone = { λ expression copy. tree_of copy ≡ tree_of expression };
+    ghost is_clone = { λ expression copy. tree_view copy ≡ tree_view expression };
 
     /// One more owner of the same tree, which takes no memory. Refused only where there are too many owners.
     fn clone(&self) -> Result<Expression<E, H>, AllocError> {
@@ -91,7 +90,7 @@ pub fn cmd<E: Drop, P: IntoExecutablePath, H: Drop>(
     program: P,
     args: &[&str],
 ) -> Result<Expression<E, H>, Error>
-    ensures tree { IfOk result (λ made. tree_of made ≡ command (P.executable program ∷ texts_of args.now)) }
+    ensures tree { IfOk result (λ made. tree_view made ≡ command (P.executable program ∷ texts_of args.now)) }
     ensures memory { IsOkUnless result Error.Memory }
 {
     let words = words(alloc, program.to_executable(alloc)?, args)?;
@@ -116,7 +115,7 @@ fn words(alloc: Global, program: String, args: &[&str]) -> Result<Vec<String>, E
 impl<E, H> Expression<E, H> {
     /// The outermost node of the tree.
     pub fn root(&self) -> &Node<E, H>
-        ensures { tree_of_node result.now ≡ tree_of self.now }
+        ensures { node_view result.now ≡ tree_view self.now }
     {
         &self.root
     }

@@ -1,11 +1,11 @@
 //! An expression that runs: its children, and what they said so far.
 ghost use Rattle.std.specs.Prelude.{◌≡◌, ◌<◌, [], ◌++◌, length, map, None};
 ghost use Rattle.std.specs.Option.{option_to_list};
-ghost use Rattle.duct_base.specs.Response.{response_of};
-ghost use Rattle.duct_base.specs.State.{words_in};
-ghost use Rattle.duct_base.specs.Shapes.{outline_of};
+ghost use Rattle.duct_status.specs.ReplyView.{reply_view};
+ghost use Rattle.duct_status.specs.CoreView.{latest_in};
+ghost use Rattle.duct_status.specs.ShapeView.{shape_view};
 ghost use Rattle.duct.specs.Polled.{IsConclusion, Gives, IsOutcome, AllAsked, AskedAt};
-ghost use Rattle.duct.specs.Stored.{word_of, stored_words};
+ghost use Rattle.duct.specs.Stored.{word_of, stored_latest};
 
 use duct_base::error::Error;
 use duct_base::pool::Place;
@@ -23,10 +23,10 @@ pub struct Running<S: System> {
 impl<S: System> Model for Running<S> {
     ghost use Rattle.std.specs.Prelude.{◌≡◌, [], map, None};
     ghost use Rattle.std.specs.Coded.{codes};
-    ghost use Rattle.duct_base.specs.State.{words_in};
-    ghost use Rattle.duct_base.specs.contracts.status.Shape as shape;
+    ghost use Rattle.duct_status.specs.CoreView.{latest_in};
+    ghost use Rattle.duct_status.specs.contracts.status.Shape as shape;
     ghost use Rattle.duct.specs.Running.{RunningView};
-    ghost use Rattle.duct.specs.Stored.{stored_words};
+    ghost use Rattle.duct.specs.Stored.{stored_latest};
 
     ghost Value = { RunningView S.Child S.Feed S.Drain };
 
@@ -40,7 +40,7 @@ impl<S: System> Model for Running<S> {
       error = None;
     } };
 
-    ghost invariant = { λ r. words_in r.core ≡ stored_words (map S.Child.child_view r.children.items) };
+    ghost invariant = { λ r. latest_in r.core ≡ stored_latest (map S.Child.child_view r.children.items) };
 }
 
 // The word of a child's answer.
@@ -57,7 +57,7 @@ fn word(answer: Result<Option<ExitStatus>, Fault>) -> Word
 impl<S: System> Running<S> {
     // One command with its child, which nobody has polled yet.
     pub(crate) fn of_command(core: Core, children: Vec<Place<S::Child>>) -> Running<S>
-        requires { words_in core ≡ stored_words (map S.Child.child_view children.items) }
+        requires { latest_in core ≡ stored_latest (map S.Child.child_view children.items) }
         ensures { result ≡ record {
           shape = core.shape;
           children = children.items;
@@ -84,7 +84,7 @@ impl<S: System> Running<S> {
     // Polls the child at this place, if it has not ended, and tells the core.
     fn ask(&mut self, at: usize)
         requires { at < length self.old.children }
-        ensures outline { outline_of self.new.shape ≡ outline_of self.old.shape }
+        ensures shape { shape_view self.new.shape ≡ shape_view self.old.shape }
         ensures asked { AskedAt S.Child.may_answer at (map S.Child.child_view self.old.children) (map S.Child.child_view self.new.children) }
     {
         if !self.core.is_due(at) {
@@ -99,9 +99,9 @@ impl<S: System> Running<S> {
     /// is `Error::Checked`. `Error::Memory` comes only for want of memory; all that was heard is kept, and the next poll
     /// tries again.
     pub fn poll(&mut self) -> Result<Option<Arc<Output>>, Error>
-        ensures outline { outline_of self.new.shape ≡ outline_of self.old.shape }
+        ensures shape { shape_view self.new.shape ≡ shape_view self.old.shape }
         ensures asked { AllAsked S.Child.may_answer (map S.Child.child_view self.old.children) (map S.Child.child_view self.new.children) }
-        ensures outcome { IsOutcome (outline_of self.new.shape) (stored_words (map S.Child.child_view self.new.children)) result }
+        ensures outcome { IsOutcome (shape_view self.new.shape) (stored_latest (map S.Child.child_view self.new.children)) result }
     {
         for at in 0..self.children.len() {
             self.ask(at);
@@ -111,9 +111,9 @@ impl<S: System> Running<S> {
 
     // The outcome of what the children said.
     fn conclude(&mut self) -> Result<Option<Arc<Output>>, Error>
-        ensures outline { outline_of self.new.shape ≡ outline_of self.old.shape }
+        ensures shape { shape_view self.new.shape ≡ shape_view self.old.shape }
         ensures children { self.new.children ≡ self.old.children }
-        ensures outcome { IsOutcome (outline_of self.new.shape) (stored_words (map S.Child.child_view self.new.children)) result }
+        ensures outcome { IsOutcome (shape_view self.new.shape) (stored_latest (map S.Child.child_view self.new.children)) result }
     {
         answer(self.core.step(Event::Conclude))
     }
@@ -121,8 +121,8 @@ impl<S: System> Running<S> {
 
 // What a poll answers by the core's reply to the question.
 fn answer(reply: Reply) -> Result<Option<Arc<Output>>, Error>
-    requires { IsConclusion (response_of reply) }
-    ensures { Gives (response_of reply) result }
+    requires { IsConclusion (reply_view reply) }
+    ensures { Gives (reply_view reply) result }
 {
     match reply {
         Reply::Pending => Ok(None),

@@ -3,18 +3,17 @@ ghost use Rattle.std.specs.Prelude.{◌≡◌, ℕ, List, map, reverse, string_b
 ghost use Rattle.std.specs.Cmp.Lexicographic.{slice_cmp};
 ghost use Rattle.std.specs.List.Sorted.{IsStrictlySortedBy};
 ghost use Rattle.std.specs.Ordering.{nat_cmp};
-ghost use Rattle.duct_base.specs.Child.{IsUnasked};
-ghost use Rattle.duct_base.specs.Spec.{pair_text, value_of};
-ghost use Rattle.duct_base.specs.Started.{StartsOne, StartsNone};
-ghost use Rattle.duct_base.specs.Trace.{segment};
+ghost use Rattle.duct_system.specs.Child.{IsUnasked};
+ghost use Rattle.duct_system.specs.SpecView.{pair_text, value_of};
+ghost use Rattle.duct_system.specs.Started.{StartsOne, StartsNone};
+ghost use Rattle.duct_system.specs.Trace.{segment};
 ghost use Rattle.duct.specs.Asked.{IsAsked};
 ghost use Rattle.duct.specs.Found.{plain};
 ghost use Rattle.duct.specs.Left.{LeavesStarted};
 ghost use Rattle.duct.specs.Plan.{plan_of, program_of};
 ghost use Rattle.duct.specs.Running.{IsRunning};
 ghost use Rattle.duct.specs.Start.{StartSucceeds, StartRefused, IsCommand};
-ghost use Rattle.duct.specs.Tree.{command};
-ghost use Rattle.duct.specs.TreeOf.{tree_of};
+ghost use Rattle.duct.specs.TreeView.{command, tree_view};
 
 use crate::expression::{Expression, Node};
 use crate::running::Running;
@@ -111,13 +110,13 @@ impl<E: Drop, H: Hook> Expression<E, H> {
         sys: &mut S,
         pool: &mut Pool<S::Child>,
     ) -> Result<Running<S>, Error>
-        requires { IsCommand (tree_of self.now) }
-        ensures ok { OnOk result (let tree = tree_of self.now in
+        requires { IsCommand (tree_view self.now) }
+        ensures ok { OnOk result (let tree = tree_view self.now in
             StartSucceeds H.allows E.number_of tree (plan_of tree) (S.journal_view sys.old) (S.journal_view sys.new)) }
-        ensures running { IfOk result (let tree = tree_of self.now in
+        ensures running { IfOk result (let tree = tree_view self.now in
             IsRunning S.Child.child_view S.Feed.job_view S.Drain.job_view tree (plan_of tree)
             (segment (S.journal_view sys.old).entries (S.journal_view sys.new).entries)) }
-        ensures err { IfErr result (let tree = tree_of self.now in
+        ensures err { IfErr result (let tree = tree_view self.now in
             StartRefused H.allows H.refuses E.number_of tree (plan_of tree) (S.journal_view sys.old) (S.journal_view sys.new)) }
         ensures pool_given { OnErr result
             (LeavesStarted S.Child.may_answer S.Child.child_view

@@ -3,10 +3,10 @@ use Rattle.std.proofs.Common.{◌≡◌, ℕ, zero, suc, ◌+◌, ◌^◌, ◌<�
 use Rattle.std.proofs.lemmas.List.{append-nil, take_all, drop_all}
 use Rattle.std.specs.Prelude.{map, Some, None, Ok, Err}
 use Rattle.std.specs.declared.option.Option.{Option}
-use Rattle.duct_base.specs.Child.{Answer, ChildView, PollsChild}
+use Rattle.duct_system.specs.Child.{Answer, ChildView, PollsChild}
 use Rattle.duct_base.specs.Pool.{PoolView, seated, counted, greatest, AddsUp, Sieves, AsksAll, Sweeps, IsSwept, Takes}
-use Rattle.duct_base.specs.declared.system.ExitStatus.{ExitStatus}
-use Rattle.duct_base.specs.declared.system.Fault.{Fault}
+use Rattle.duct_system.specs.declared.system.ExitStatus.{ExitStatus}
+use Rattle.duct_system.specs.declared.system.Fault.{Fault}
 
 -- two lists of children, one behind the other
 pub sieves-append : {A B : Type 0} (may : A → Answer → Type 0) (keeps : A → B → Type 0) (xs others : List A) (ls more : List B) (r l r' l' : ℕ) →

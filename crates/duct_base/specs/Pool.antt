@@ -2,9 +2,9 @@
 use Rattle.std.specs.Prelude.{ℕ, zero, suc, ◌+◌, ◌-◌, ◌^◌, ◌<◌, ◌≡◌, ◌⊎◌, min, List, [], ◌∷◌, ◌++◌, flat_map, length, take, drop, Ok, Err, Some, None}
 use Rattle.std.specs.declared.option.Option.{Option}
 use Rattle.std.specs.Option.{option_to_list}
-use Rattle.duct_base.specs.Child.{Answer, ChildView, PollsChild}
-use Rattle.duct_base.specs.declared.system.ExitStatus.{ExitStatus}
-use Rattle.duct_base.specs.declared.system.Fault.{Fault}
+use Rattle.duct_system.specs.Child.{Answer, ChildView, PollsChild}
+use Rattle.duct_system.specs.declared.system.ExitStatus.{ExitStatus}
+use Rattle.duct_system.specs.declared.system.Fault.{Fault}
 
 -- the children that it keeps, in order, and how many were ever given to it, found ended, and lost to a fault
 pub record PoolView (C : Type 0) : Type 0 where

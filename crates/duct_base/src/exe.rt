@@ -3,7 +3,7 @@ ghost use Rattle.std.specs.Prelude.{◌≡◌, ℕ, List, IfOk, IsOkUnless, stri
 ghost use Rattle.std.specs.Path.{path_bytes, path_buf_bytes};
 ghost use Rattle.duct_base.specs.Executable.{begins_with_slash, dotted, asks_canonical};
 
-use crate::error::Error;
+use duct_system::error::Error;
 use std::alloc::Global;
 use std::path::{Path, PathBuf};
 

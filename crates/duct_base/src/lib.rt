@@ -2,11 +2,12 @@
 //! statuses and abandoned children. It knows no expression.
 #![tactic(auto)]
 
-pub mod error;
+pub use duct_status::status;
+pub use duct_system::error;
+pub use duct_system::journal;
+pub use duct_system::names;
+pub use duct_system::spec;
+pub use duct_system::system;
+
 pub mod exe;
-pub mod journal;
-pub mod names;
 pub mod pool;
-pub mod spec;
-pub mod status;
-pub mod system;

@@ -1,9 +1,9 @@
 //! Children that a start or a handle gave up while they ran, kept so that they can be asked for their endings.
 ghost use Rattle.std.specs.Prelude.{◌≡◌, ◌+◌, ◌<◌, ◌^◌, ◌∷◌, ◌++◌, [], length, Some, None};
-ghost use Rattle.duct_base.specs.Child.{one_more};
+ghost use Rattle.duct_system.specs.Child.{one_more};
 ghost use Rattle.duct_base.specs.Pool.{Sweeps, IsSwept, Takes};
 
-use crate::system::{Child, ExitStatus, Fault, Numbered};
+use duct_system::system::{Child, ExitStatus, Fault, Numbered};
 use std::alloc::{AllocError, Global};
 use std::collections::LinkedList;
 use std::marker::Model;

@@ -1,22 +1,22 @@
 -- Hooks that make one spec of a spec and no other make one of a command's spec and streams, and where one of them stops the
 -- start they make none.
 use Rattle.std.proofs.Common.{◌≡◌, List, [], ◌∷◌, sym, ◌∙◌, ap, subst, inl, inr}
-use Rattle.duct_base.specs.Origin.{Origin}
-use Rattle.duct_base.specs.Spec.{Spec}
-use Rattle.duct_base.specs.declared.error.Error.{Error}
-use Rattle.duct_base.specs.declared.error.Error.TheVariants.{System, Checked, NotUtf8, Hook, HookEnd, Deadline, Memory}
-use Rattle.duct_base.specs.declared.system.Fault.{Fault}
-use Rattle.duct_base.specs.declared.system.Kind.TheVariants.{OutOfMemory}
+use Rattle.duct_system.specs.Origin.{Origin}
+use Rattle.duct_system.specs.SpecView.{SpecView}
+use Rattle.duct_system.specs.declared.error.Error.{Error}
+use Rattle.duct_system.specs.declared.error.Error.TheVariants.{System, Checked, NotUtf8, Hook, HookEnd, Deadline, Memory}
+use Rattle.duct_system.specs.declared.system.Fault.{Fault}
+use Rattle.duct_system.specs.declared.system.Kind.TheVariants.{OutOfMemory}
 use Rattle.duct.specs.Chain.{Wired, Allows, Refuses, Changes, Chain, Stops, ChainStops, settle}
 use Rattle.duct_follows.specs.Given.{FoundNoMemory}
 
 -- each hook makes one spec of a spec
 abbrev pub MakesOne : {H : Type 0} → Allows H → Type 0
-MakesOne {H} allows = (hook : H) (before one other : Spec) → allows hook before one → allows hook before other → one ≡ other
+MakesOne {H} allows = (hook : H) (before one other : SpecView) → allows hook before one → allows hook before other → one ≡ other
 
 -- a hook makes nothing of a spec that it refuses, but for want of memory
 abbrev pub MakesNone : {H : Type 0} → Allows H → Refuses H → Type 0
-MakesNone {H} allows refuses = (hook : H) (before made : Spec) (fault : Fault) → refuses hook before fault → ¬ (fault.kind ≡ OutOfMemory) → ¬ (allows hook before made)
+MakesNone {H} allows refuses = (hook : H) (before made : SpecView) (fault : Fault) → refuses hook before fault → ¬ (fault.kind ≡ OutOfMemory) → ¬ (allows hook before made)
 
 -- one hook
 pub changes_one : {H : Type 0} (allows : Allows H) → MakesOne allows → (hook : H) (ends : List Origin) (before one other : Wired) →

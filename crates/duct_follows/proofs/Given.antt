@@ -2,11 +2,11 @@
 use Rattle.std.proofs.Common.{◌≡◌, refl, ℕ, List, sym, ◌∙◌, ap, subst, ◌↔◌, Ok, Err, IfOk, IfErr}
 use Rattle.std.specs.declared.option.Option.{Option}
 use Rattle.std.specs.declared.result.Result.{Result}
-use Rattle.duct_base.specs.Line.{Line}
-use Rattle.duct_base.specs.Origin.{Origin}
-use Rattle.duct_base.specs.Spec.{Spec}
-use Rattle.duct_base.specs.declared.error.Error.{Error}
-use Rattle.duct_base.specs.declared.system.Stdio.{Stdio}
+use Rattle.duct_system.specs.EntryView.{EntryView}
+use Rattle.duct_system.specs.Origin.{Origin}
+use Rattle.duct_system.specs.SpecView.{SpecView}
+use Rattle.duct_system.specs.declared.error.Error.{Error}
+use Rattle.duct_system.specs.declared.system.Stdio.{Stdio}
 use Rattle.duct.specs.Chain.{Wired, Chain, ChainStops, lent}
 use Rattle.duct.specs.Follows.{IsGiven, IsAskedAt}
 use Rattle.duct.specs.Found.{Found}
@@ -31,26 +31,26 @@ answered_is wired asked is =
     let own = answered_of wired asked is in
     same_wired wired (wired_of asked) (is.spec_is ∙ sym own.spec_is) (is.streams_are ∙ sym own.streams_are)
 
-module _ {E : Type 0} (lines : List Line) (number_of : E → ℕ) (place : ℕ) (found : Found E ScriptHook) (words : List (List ℕ)) where
+module _ {E : Type 0} (entries : List EntryView) (number_of : E → ℕ) (place : ℕ) (found : Found E ScriptHook) (words : List (List ℕ)) where
   -- a command's spec and streams are asked for by the tree
   abbrev pub IsAskedHere : Wired → Type 0
-  IsAskedHere wired = IsAskedAt lines number_of place found words wired
+  IsAskedHere wired = IsAskedAt entries number_of place found words wired
 
   -- a spec and streams are to be given
-  abbrev IsGivenHere : Spec → List (Stdio Origin) → Type 0
-  IsGivenHere spec streams = IsGiven allows number_of lines place found words spec streams
+  abbrev IsGivenHere : SpecView → List (Stdio Origin) → Type 0
+  IsGivenHere spec streams = IsGiven allows number_of entries place found words spec streams
 
   -- what the answer stands for is asked for
-  pub answer_is_asked : (asked : answer.Wired) → IsAskedThere lines number_of place found words asked → IsAskedHere (wired_of asked)
+  pub answer_is_asked : (asked : answer.Wired) → IsAskedThere entries number_of place found words asked → IsAskedHere (wired_of asked)
   answer_is_asked asked there = subst IsAskedHere (answered_is there.0 asked there.2) there.1
 
   -- and nothing else
-  pub only_the_answer : (asked : answer.Wired) (wired : Wired) → IsAskedThere lines number_of place found words asked → IsAskedHere wired → wired ≡ wired_of asked
-  only_the_answer asked wired there is = same_asked_at lines number_of place found words wired (wired_of asked) is (answer_is_asked asked there)
+  pub only_the_answer : (asked : answer.Wired) (wired : Wired) → IsAskedThere entries number_of place found words asked → IsAskedHere wired → wired ≡ wired_of asked
+  only_the_answer asked wired there is = same_asked_at entries number_of place found words wired (wired_of asked) is (answer_is_asked asked there)
 
-  given_these : (asked given : answer.Wired) → IsAskedThere lines number_of place found words asked →
+  given_these : (asked given : answer.Wired) → IsAskedThere entries number_of place found words asked →
       Chain allows (lent number_of found.hooks) (wired_of asked) (wired_of given) → IsAnswered (wired_of given) given →
-      (spec : Spec) (streams : List (Stdio Origin)) → IsGivenHere spec streams ↔ AreThese given spec streams
+      (spec : SpecView) (streams : List (Stdio Origin)) → IsGivenHere spec streams ↔ AreThese given spec streams
   given_these asked given there chain own spec streams =
       let to : IsGivenHere spec streams → AreThese given spec streams = λ is.
       let before : is.0 ≡ wired_of asked = only_the_answer asked is.0 there is.2 in
@@ -61,9 +61,9 @@ module _ {E : Type 0} (lines : List Line) (number_of : E → ℕ) (place : ℕ) 
       (wired_of asked, wired_of given, answer_is_asked asked there, chain, these.spec_is, these.streams_are ∙ sym own.streams_are) in
       (to, back)
 
-  given_none : (asked : answer.Wired) (error : Error) → IsAskedThere lines number_of place found words asked →
+  given_none : (asked : answer.Wired) (error : Error) → IsAskedThere entries number_of place found words asked →
       ChainStops allows refuses (lent number_of found.hooks) (wired_of asked) error → ¬ (FoundNoMemory error) →
-      (spec : Spec) (streams : List (Stdio Origin)) → IsGivenHere spec streams ↔ ⊥
+      (spec : SpecView) (streams : List (Stdio Origin)) → IsGivenHere spec streams ↔ ⊥
   given_none asked error there stops decided spec streams =
       let to : IsGivenHere spec streams → ⊥ = λ is.
       let before : is.0 ≡ wired_of asked = only_the_answer asked is.0 there is.2 in
@@ -72,11 +72,11 @@ module _ {E : Type 0} (lines : List Line) (number_of : E → ℕ) (place : ℕ) 
       (to, λ never. absurd never)
 
   -- what the hooks made of it is to be given, or nothing where they stopped the start and that is no want of memory
-  pub given_is : (asked : answer.Wired) (made : Result answer.Wired Error) (given : Option answer.Wired) → IsAskedThere lines number_of place found words asked →
+  pub given_is : (asked : answer.Wired) (made : Result answer.Wired Error) (given : Option answer.Wired) → IsAskedThere entries number_of place found words asked →
       IfOk made (λ after. Chain allows (lent number_of found.hooks) (wired_of asked) (wired_of after)) →
       IfOk made (λ after. IsAnswered (wired_of after) after) →
       IfErr made (λ error. ChainStops allows refuses (lent number_of found.hooks) (wired_of asked) error) →
-      Decides made given → (spec : Spec) (streams : List (Stdio Origin)) → IsGivenHere spec streams ↔ AreAnswered given spec streams
+      Decides made given → (spec : SpecView) (streams : List (Stdio Origin)) → IsGivenHere spec streams ↔ AreAnswered given spec streams
   given_is asked (Ok after) given there chain own stops decides spec streams =
       subst (λ (given : Option answer.Wired). IsGivenHere spec streams ↔ AreAnswered given spec streams) (sym decides) (given_these asked after there chain own spec streams)
   given_is asked (Err error) given there chain own stops decides spec streams =

@@ -4,20 +4,20 @@ use Rattle.std.specs.Option.{option_and_then}
 use Rattle.std.proofs.Math.Seq.{get_or-append_seam}
 use Rattle.std.proofs.lemmas.List.Elements.{filter-append}
 use Rattle.std.proofs.lemmas.Option.{slice_get_read}
-use Rattle.duct_base.specs.Line.{Line}
-use Rattle.duct_base.specs.Trace.{is_close, fault_of}
+use Rattle.duct_system.specs.EntryView.{EntryView}
+use Rattle.duct_system.specs.Trace.{is_close, fault_of}
 use Rattle.duct.specs.Causes.{asked_in, last_fault}
 
 -- the last of a list is the one that was added
-last-push : (lines : List Line) (line : Line) → slice_get (lines ++ line ∷ []) (length (lines ++ line ∷ []) - 1) ≡ Some line
-last-push lines line =
-    let place : length (lines ++ line ∷ []) - 1 ≡ length lines = omega (arith, length-append lines (line ∷ [])) in
-    rw place (slice_get_read (lines ++ line ∷ []) (length (lines ++ line ∷ [])) (length lines) line refl
-    (omega (arith, length-append lines (line ∷ []))) (sym (get_or-append_seam lines line [] line)))
+last-push : (entries : List EntryView) (entry : EntryView) → slice_get (entries ++ entry ∷ []) (length (entries ++ entry ∷ []) - 1) ≡ Some entry
+last-push entries entry =
+    let place : length (entries ++ entry ∷ []) - 1 ≡ length entries = omega (arith, length-append entries (entry ∷ [])) in
+    rw place (slice_get_read (entries ++ entry ∷ []) (length (entries ++ entry ∷ [])) (length entries) entry refl
+    (omega (arith, length-append entries (entry ∷ []))) (sym (get_or-append_seam entries entry [] entry)))
 
 -- an entry that is no close is the last of those
-pub last_fault-push : (lines : List Line) (line : Line) → is_close line ≡ false → last_fault (lines ++ line ∷ []) ≡ fault_of line
-last_fault-push lines line open_is =
-    let kept : asked_in (line ∷ []) ≡ line ∷ [] = rw open_is refl in
-    let asked : asked_in (lines ++ line ∷ []) ≡ asked_in lines ++ line ∷ [] = filter-append (λ line. not (is_close line)) lines (line ∷ []) ∙ ap (λ more. asked_in lines ++ more) kept in
-    ap (λ asked. option_and_then fault_of (slice_get asked (length asked - 1))) asked ∙ ap (option_and_then fault_of) (last-push (asked_in lines) line)
+pub last_fault-push : (entries : List EntryView) (entry : EntryView) → is_close entry ≡ false → last_fault (entries ++ entry ∷ []) ≡ fault_of entry
+last_fault-push entries entry open_is =
+    let kept : asked_in (entry ∷ []) ≡ entry ∷ [] = rw open_is refl in
+    let asked : asked_in (entries ++ entry ∷ []) ≡ asked_in entries ++ entry ∷ [] = filter-append (λ entry. not (is_close entry)) entries (entry ∷ []) ∙ ap (λ more. asked_in entries ++ more) kept in
+    ap (λ asked. option_and_then fault_of (slice_get asked (length asked - 1))) asked ∙ ap (option_and_then fault_of) (last-push (asked_in entries) entry)

@@ -1,11 +1,11 @@
 -- Hooks stop a start with one error, want of memory aside.
 use Rattle.std.proofs.Common.{◌≡◌, List, [], ◌∷◌, subst, inl, inr, ap}
-use Rattle.duct_base.specs.Origin.{Origin}
-use Rattle.duct_base.specs.Spec.{Spec}
-use Rattle.duct_base.specs.declared.error.Error.{Error}
-use Rattle.duct_base.specs.declared.error.Error.TheVariants.{System, Checked, NotUtf8, Hook, HookEnd, Deadline, Memory}
-use Rattle.duct_base.specs.declared.system.Fault.{Fault}
-use Rattle.duct_base.specs.declared.system.Kind.TheVariants.{OutOfMemory}
+use Rattle.duct_system.specs.Origin.{Origin}
+use Rattle.duct_system.specs.SpecView.{SpecView}
+use Rattle.duct_system.specs.declared.error.Error.{Error}
+use Rattle.duct_system.specs.declared.error.Error.TheVariants.{System, Checked, NotUtf8, Hook, HookEnd, Deadline, Memory}
+use Rattle.duct_system.specs.declared.system.Fault.{Fault}
+use Rattle.duct_system.specs.declared.system.Kind.TheVariants.{OutOfMemory}
 use Rattle.duct.specs.Chain.{Wired, Allows, Refuses, Stops, ChainStops}
 use Rattle.duct_follows.specs.Cause.{IsSameStop}
 use Rattle.duct_follows.specs.Given.{FoundNoMemory}
@@ -13,7 +13,7 @@ use Rattle.duct_follows.proofs.Chains.{MakesOne, MakesNone, changes_one, stops_n
 
 -- each hook refuses a spec by one fault, want of memory aside
 abbrev pub RefusesByOne : {H : Type 0} → Refuses H → Type 0
-RefusesByOne {H} refuses = (hook : H) (before : Spec) (one other : Fault) → refuses hook before one → refuses hook before other →
+RefusesByOne {H} refuses = (hook : H) (before : SpecView) (one other : Fault) → refuses hook before one → refuses hook before other →
     ¬ (one.kind ≡ OutOfMemory) → ¬ (other.kind ≡ OutOfMemory) → one ≡ other
 
 -- errors that are the same stop are the same

@@ -1,12 +1,12 @@
 -- What a tree asks for a command is one spec with its streams, and no other.
 use Rattle.std.proofs.Common.{◌≡◌, ℕ, List, [], ◌∷◌, sym, ◌∙◌}
 use Rattle.std.specs.declared.option.Option.{Option}
-use Rattle.duct_base.specs.Line.{Line}
-use Rattle.duct_base.specs.Origin.{Origin}
-use Rattle.duct_base.specs.Spec.{Spec, Vars}
-use Rattle.duct_base.specs.declared.spec.Port.{Port}
-use Rattle.duct_base.specs.declared.spec.Stream.TheVariants.{In, Out, Err}
-use Rattle.duct_base.specs.declared.system.Stdio.{Stdio}
+use Rattle.duct_system.specs.EntryView.{EntryView}
+use Rattle.duct_system.specs.Origin.{Origin}
+use Rattle.duct_system.specs.SpecView.{SpecView, Vars}
+use Rattle.duct_system.specs.declared.spec.Port.{Port}
+use Rattle.duct_system.specs.declared.spec.Stream.TheVariants.{In, Out, Err}
+use Rattle.duct_system.specs.declared.system.Stdio.{Stdio}
 use Rattle.duct.specs.Asked.{IsAsked}
 use Rattle.duct.specs.Chain.{Wired}
 use Rattle.duct.specs.Follows.{IsAskedAt}
@@ -14,21 +14,21 @@ use Rattle.duct.specs.Found.{Found}
 use Rattle.duct_follows.proofs.Variables.{same_vars}
 
 -- the spec of these parts
-abbrev spec_of : List (List ℕ) → Option (List ℕ) → Vars → Port → Port → Port → Spec
+abbrev spec_of : List (List ℕ) → Option (List ℕ) → Vars → Port → Port → Port → SpecView
 spec_of words folder vars input output error = record { words = words; folder = folder; vars = vars; input = input; output = output; error = error }
 
 -- the spec and the streams of these parts
-abbrev wired_of : Spec → Stdio Origin → Stdio Origin → Stdio Origin → Wired
+abbrev wired_of : SpecView → Stdio Origin → Stdio Origin → Stdio Origin → Wired
 wired_of spec input output error = record { spec = spec; input = input; output = output; error = error }
 
 -- specs with the same parts
-pub same_spec : (one other : Spec) → one.words ≡ other.words → one.folder ≡ other.folder → one.vars ≡ other.vars →
+pub same_spec : (one other : SpecView) → one.words ≡ other.words → one.folder ≡ other.folder → one.vars ≡ other.vars →
     one.input ≡ other.input → one.output ≡ other.output → one.error ≡ other.error → one ≡ other
 same_spec one other words folder vars input output error =
     let same : spec_of one.words one.folder one.vars one.input one.output one.error ≡ spec_of other.words other.folder other.vars other.input other.output other.error = cc in same
 
 -- specs that are asked for the same
-pub same_asked : {E H : Type 0} (pairs : Vars) (program : List ℕ) (found : Found E H) (words : List (List ℕ)) (one other : Spec) →
+pub same_asked : {E H : Type 0} (pairs : Vars) (program : List ℕ) (found : Found E H) (words : List (List ℕ)) (one other : SpecView) →
     IsAsked pairs program found words one → IsAsked pairs program found words other → one ≡ other
 same_asked pairs program found words one other is also =
     same_spec one other
@@ -45,7 +45,7 @@ same_wired one other spec streams =
     let same : wired_of one.spec one.input one.output one.error ≡ wired_of other.spec other.input other.output other.error = cc in same
 
 -- so what is asked for a command is one
-pub same_asked_at : {E H : Type 0} (lines : List Line) (number_of : E → ℕ) (place : ℕ) (found : Found E H) (words : List (List ℕ)) (one other : Wired) →
-    IsAskedAt lines number_of place found words one → IsAskedAt lines number_of place found words other → one ≡ other
-same_asked_at lines number_of place found words one other is also =
+pub same_asked_at : {E H : Type 0} (entries : List EntryView) (number_of : E → ℕ) (place : ℕ) (found : Found E H) (words : List (List ℕ)) (one other : Wired) →
+    IsAskedAt entries number_of place found words one → IsAskedAt entries number_of place found words other → one ≡ other
+same_asked_at entries number_of place found words one other is also =
     same_wired one other (same_asked _ _ found words one.spec other.spec is.spec_is also.spec_is) (is.streams_are ∙ sym also.streams_are)

@@ -2,10 +2,10 @@
 use Rattle.std.proofs.Common.{◌≡◌, ℕ, Bool, List, [], ◌∷◌, sym, subst, inl, inr, refl, ◌↔◌, IsTrue, length, slice_get, Ok, Err, IfOk, IfErr}
 use Rattle.std.specs.declared.option.Option.{Option}
 use Rattle.std.specs.declared.result.Result.{Result}
-use Rattle.duct_base.specs.Line.{Line}
-use Rattle.duct_base.specs.Trace.{trace}
-use Rattle.duct_base.specs.declared.error.Error.{Error}
-use Rattle.duct_base.specs.declared.error.Error.TheVariants.{System, Checked, NotUtf8, Hook, HookEnd, Deadline, Memory}
+use Rattle.duct_system.specs.EntryView.{EntryView}
+use Rattle.duct_system.specs.Trace.{trace}
+use Rattle.duct_system.specs.declared.error.Error.{Error}
+use Rattle.duct_system.specs.declared.error.Error.TheVariants.{System, Checked, NotUtf8, Hook, HookEnd, Deadline, Memory}
 use Rattle.duct.specs.Causes.{StoppedBy, StoppedNext}
 use Rattle.duct.specs.Chain.{Wired, Chain, ChainStops, lent}
 use Rattle.duct.specs.Follows.{IsAskedAt}
@@ -42,18 +42,18 @@ stops_some : {E : Type 0} (number_of : E → ℕ) (found : List (ScriptHook × L
 stops_some number_of [] before error stops = λ none. stops
 stops_some number_of (hook ∷ found) before error stops = λ none. cc
 
-module _ {E : Type 0} (lines : List Line) (number_of : E → ℕ) (place : ℕ) (found : Found E ScriptHook) (words : List (List ℕ)) (asked : answer.Wired) (there : IsAskedThere lines number_of place found words asked) where
+module _ {E : Type 0} (entries : List EntryView) (number_of : E → ℕ) (place : ℕ) (found : Found E ScriptHook) (words : List (List ℕ)) (asked : answer.Wired) (there : IsAskedThere entries number_of place found words asked) where
   -- the hooks of the command stop the start with an error
   abbrev IsStopped : Error → Type 0
-  IsStopped error = (before : Wired) × IsAskedAt lines number_of place found words before × ChainStops allows refuses (lent number_of found.hooks) before error
+  IsStopped error = (before : Wired) × IsAskedAt entries number_of place found words before × ChainStops allows refuses (lent number_of found.hooks) before error
 
   -- they do over what the answer stands for
   over_the_answer : (error : Error) → IsStopped error → ChainStops allows refuses (lent number_of found.hooks) (wired_of asked) error
   over_the_answer error is =
-      subst (λ (before : Wired). ChainStops allows refuses (lent number_of found.hooks) before error) (only_the_answer lines number_of place found words asked is.0 there is.1) is.2
+      subst (λ (before : Wired). ChainStops allows refuses (lent number_of found.hooks) before error) (only_the_answer entries number_of place found words asked is.0 there is.1) is.2
 
   of_the_answer : (error : Error) → ChainStops allows refuses (lent number_of found.hooks) (wired_of asked) error → IsStopped error
-  of_the_answer error stops = (wired_of asked, answer_is_asked lines number_of place found words asked there, stops)
+  of_the_answer error stops = (wired_of asked, answer_is_asked entries number_of place found words asked there, stops)
 
   stopped_by_memory : (error : Error) (some_hook told : Bool) → FoundNoMemory error → told ≡ some_hook → IsTrue some_hook ↔ (¬ (found.hooks ≡ [])) → IsTrue told ↔ IsStopped error
   stopped_by_memory error some_hook told memory is some =
@@ -82,7 +82,7 @@ module _ {E : Type 0} (lines : List Line) (number_of : E → ℕ) (place : ℕ) 
   stopped_is made error some_hook told some chain stops (inr decided) = stopped_as_told made error told chain stops decided.0 decided.1
 
 -- the next item stands at the place after the trace
-pub next_is : {E : Type 0} (number_of : E → ℕ) (plan : Plan E ScriptHook) (added : List Line) (place : ℕ) (item : Option (Item E ScriptHook)) (error : Error) (told : Bool) →
+pub next_is : {E : Type 0} (number_of : E → ℕ) (plan : Plan E ScriptHook) (added : List EntryView) (place : ℕ) (item : Option (Item E ScriptHook)) (error : Error) (told : Bool) →
     place ≡ length (trace added) → slice_get plan.items place ≡ item → IsTrue told ↔ StoppedBy allows refuses number_of (trace added) place item error →
     IsTrue told ↔ StoppedNext allows refuses number_of plan added error
 next_is {E} number_of plan added place item error told next at_place tells =

@@ -9,7 +9,7 @@ use Rattle.std.proofs.lemmas.Map.{lookup-none}
 use Rattle.std.proofs.lemmas.Map.Entries.{lookup_head, lookup_tail, none_past_head, none_below_head}
 use Rattle.std.proofs.lemmas.Map.Keys.{sorted_tail, IsDistinct-from_sorted}
 use Rattle.std.proofs.lemmas.Map.Lookups.{exact_bytes}
-use Rattle.duct_base.specs.Spec.{Vars, same_name, value_of}
+use Rattle.duct_system.specs.SpecView.{Vars, same_name, value_of}
 
 -- the order of names
 abbrev name_cmp : List ℕ → List ℕ → Ordering

@@ -1,10 +1,10 @@
 -- Three streams, one by one and as a list.
 use Rattle.std.proofs.Common.{◌≡◌, refl, List, [], ◌∷◌, map, length, ap, arith}
 use Rattle.std.proofs.lemmas.List.{length-map}
-use Rattle.duct_base.specs.Origin.{Origin}
-use Rattle.duct_base.specs.Spec.{Spec}
-use Rattle.duct_base.specs.Streams.{stream_of}
-use Rattle.duct_base.specs.declared.system.Stdio.{Stdio}
+use Rattle.duct_system.specs.Origin.{Origin}
+use Rattle.duct_system.specs.SpecView.{SpecView}
+use Rattle.duct_system.specs.Streams.{stream_of}
+use Rattle.duct_system.specs.declared.system.Stdio.{Stdio}
 use Rattle.duct.specs.Chain.{Wired}
 use Rattle.duct_plain.specs.declared.checker.Source.{Source}
 use Rattle.duct_plain.specs.Source.{origin_of}
@@ -19,7 +19,7 @@ pub three_streams : (input output error : Stdio Origin) (streams : List (Stdio S
 three_streams input output error streams are = omega (arith, simp length-map at (ap length are))
 
 -- three streams are the list of the three
-pub wired-streams : (spec : Spec) (streams : List (Stdio Source)) → length streams ≡ 3 → streams_in (wired_with spec streams) ≡ map (stream_of origin_of) streams
+pub wired-streams : (spec : SpecView) (streams : List (Stdio Source)) → length streams ≡ 3 → streams_in (wired_with spec streams) ≡ map (stream_of origin_of) streams
 wired-streams spec [] three = absurd (omega arith)
 wired-streams spec (input ∷ []) three = absurd (omega arith)
 wired-streams spec (input ∷ output ∷ []) three = absurd (omega arith)

@@ -1,8 +1,8 @@
 -- What the code answers of the error with which hooks stop a start.
 use Rattle.std.specs.Prelude.{Bool, false, ◌≡◌, ◌↔◌, ◌⊎◌, IsTrue, Ok, Err}
 use Rattle.std.specs.declared.result.Result.{Result}
-use Rattle.duct_base.specs.declared.error.Error.{Error}
-use Rattle.duct_base.specs.declared.error.Error.TheVariants.{Hook, HookEnd}
+use Rattle.duct_system.specs.declared.error.Error.{Error}
+use Rattle.duct_system.specs.declared.error.Error.TheVariants.{Hook, HookEnd}
 use Rattle.duct_follows.specs.Given.{FoundNoMemory}
 use Rattle.duct_plan.specs.declared.asked.Wired.{Wired}
 

@@ -2,25 +2,25 @@
 use Rattle.std.specs.Prelude.{List, ◌≡◌, map, Ok, Err, Some, None}
 use Rattle.std.specs.declared.option.Option.{Option}
 use Rattle.std.specs.declared.result.Result.{Result}
-use Rattle.duct_base.specs.Origin.{Origin}
-use Rattle.duct_base.specs.Spec.{Spec}
-use Rattle.duct_base.specs.Streams.{stream_of}
-use Rattle.duct_base.specs.declared.error.Error.{Error}
-use Rattle.duct_base.specs.declared.error.Error.TheVariants.{Hook}
-use Rattle.duct_base.specs.declared.system.Kind.TheVariants.{OutOfMemory}
-use Rattle.duct_base.specs.declared.system.Stdio.{Stdio}
+use Rattle.duct_system.specs.Origin.{Origin}
+use Rattle.duct_system.specs.SpecView.{SpecView}
+use Rattle.duct_system.specs.Streams.{stream_of}
+use Rattle.duct_system.specs.declared.error.Error.{Error}
+use Rattle.duct_system.specs.declared.error.Error.TheVariants.{Hook}
+use Rattle.duct_system.specs.declared.system.Kind.TheVariants.{OutOfMemory}
+use Rattle.duct_system.specs.declared.system.Stdio.{Stdio}
 use Rattle.duct_follows.specs.declared.untold.Untold.{Untold}
 use Rattle.duct_follows.specs.declared.untold.Untold.TheVariants.{HookOutOfMemory}
 use Rattle.duct_plan.specs.declared.asked.Wired.{Wired}
 use Rattle.duct_plain.specs.Source.{origin_of}
 
 -- they are those of the answer
-pub record AreThese (given : Wired) (spec : Spec) (streams : List (Stdio Origin)) : Type 0 where
+pub record AreThese (given : Wired) (spec : SpecView) (streams : List (Stdio Origin)) : Type 0 where
   pub spec_is : spec ≡ given.spec
   pub streams_are : streams ≡ map (stream_of origin_of) given.streams
 
 -- they are those of the answer, and without one there are none
-abbrev pub AreAnswered : Option Wired → Spec → List (Stdio Origin) → Type 0
+abbrev pub AreAnswered : Option Wired → SpecView → List (Stdio Origin) → Type 0
 AreAnswered (Some given) spec streams = AreThese given spec streams
 AreAnswered None spec streams = ⊥
 

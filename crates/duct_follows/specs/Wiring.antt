@@ -2,13 +2,13 @@
 use Rattle.std.specs.Prelude.{ℕ, List, map, slice_get, Some, None}
 use Rattle.std.specs.Borrow.{Bor}
 use Rattle.std.specs.declared.option.Option.{Option}
-use Rattle.duct_base.specs.Origin.{Origin, Lent}
-use Rattle.duct_base.specs.Spec.{Spec}
-use Rattle.duct_base.specs.Streams.{stream_of}
-use Rattle.duct_base.specs.declared.spec.Stream.{Stream}
-use Rattle.duct_base.specs.declared.spec.Stream.TheVariants.{In, Out, Err}
-use Rattle.duct_base.specs.declared.system.Stdio.{Stdio}
-use Rattle.duct_base.specs.declared.system.Stdio.TheVariants.{Inherit}
+use Rattle.duct_system.specs.Origin.{Origin, Lent}
+use Rattle.duct_system.specs.SpecView.{SpecView}
+use Rattle.duct_system.specs.Streams.{stream_of}
+use Rattle.duct_system.specs.declared.spec.Stream.{Stream}
+use Rattle.duct_system.specs.declared.spec.Stream.TheVariants.{In, Out, Err}
+use Rattle.duct_system.specs.declared.system.Stdio.{Stdio}
+use Rattle.duct_system.specs.declared.system.Stdio.TheVariants.{Inherit}
 use Rattle.duct.specs.Chain.{Wired, found}
 use Rattle.duct_plan.specs.Found.{hook_of}
 use Rattle.duct_plan.specs.declared.asked.Wired as answer
@@ -21,7 +21,7 @@ from (Some stream) = stream_of origin_of stream
 from None = Inherit
 
 -- a spec with the three streams in the order stdin, stdout, stderr
-abbrev pub wired_with : Spec → List (Stdio Source) → Wired
+abbrev pub wired_with : SpecView → List (Stdio Source) → Wired
 wired_with spec streams = record { spec = spec; input = from (slice_get streams 0); output = from (slice_get streams 1); error = from (slice_get streams 2) }
 
 -- the spec of a command and where its streams come from
@@ -37,7 +37,7 @@ abbrev pub lent_ends : {E : Type 0} → (E → ℕ) → List E → List Origin
 lent_ends number_of ends = map (λ end. Lent (number_of end)) ends
 
 -- the spec with a given end in place of the place that a stream names, if it names one
-abbrev pub with_found : Stream → Spec → Spec
+abbrev pub with_found : Stream → SpecView → SpecView
 with_found In spec = record spec { input = found spec.input }
 with_found Out spec = record spec { output = found spec.output }
 with_found Err spec = record spec { error = found spec.error }

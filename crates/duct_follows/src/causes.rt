@@ -1,9 +1,9 @@
 //! Whether the error of a refused start has a cause, for hooks of the scripted system.
 ghost use Rattle.std.specs.Prelude.{◌≡◌, ◌↔◌, ◌⊎◌, ◌≤◌, [], length, map, string_bytes, slice_get, IfOk, IsTrue, Some};
 ghost use Rattle.std.specs.Option.{option_copied};
-ghost use Rattle.duct_base.specs.Entry.{line_of};
-ghost use Rattle.duct_base.specs.Trace.{trace};
-ghost use Rattle.duct_base.specs.declared.system.Kind.TheVariants.{OutOfMemory};
+ghost use Rattle.duct_system.specs.EntryView.{entry_view};
+ghost use Rattle.duct_system.specs.Trace.{trace};
+ghost use Rattle.duct_system.specs.declared.system.Kind.TheVariants.{OutOfMemory};
 ghost use Rattle.duct.specs.Causes.{last_fault, AnswersLastFault, StoppedBy, StoppedNext, HasCause};
 ghost use Rattle.duct.specs.Step.{AskSpawn};
 ghost use Rattle.duct_follows.specs.Cause.{IsSameStop, Tells};
@@ -35,7 +35,7 @@ pub fn has_cause<E: Numbered>(
     added: &[Entry],
     error: &Error,
 ) -> Result<bool, Untold>
-    ensures { IfOk result (λ yes. IsTrue yes ↔ HasCause ⟦<ScriptHook as Hook>⟧.allows ⟦<ScriptHook as Hook>⟧.refuses E.number_of (plan_view plan.now) (map line_of added.now) error.now) }
+    ensures { IfOk result (λ yes. IsTrue yes ↔ HasCause ⟦<ScriptHook as Hook>⟧.allows ⟦<ScriptHook as Hook>⟧.refuses E.number_of (plan_view plan.now) (map entry_view added.now) error.now) }
 {
     match error {
         Error::System(fault) => Ok(is_last_fault(added, *fault)),
@@ -48,14 +48,14 @@ pub fn has_cause<E: Numbered>(
 
 /// Whether a fault is want of memory, or that of the last entry which is no close.
 fn is_last_fault(added: &[Entry], fault: Fault) -> bool
-    ensures { IsTrue result ↔ ((fault.kind ≡ OutOfMemory) ⊎ (last_fault (map line_of added.now) ≡ Some fault)) }
+    ensures { IsTrue result ↔ ((fault.kind ≡ OutOfMemory) ⊎ (last_fault (map entry_view added.now) ≡ Some fault)) }
 {
     fault.kind == Kind::OutOfMemory || last_fault(added) == Some(fault)
 }
 
 /// The fault of the last entry that is no close, if it was refused.
 pub fn last_fault(added: &[Entry]) -> Option<Fault>
-    ensures { result ≡ last_fault (map line_of added.now) }
+    ensures { result ≡ last_fault (map entry_view added.now) }
 {
     match added.split_last() {
         None => None,
@@ -71,7 +71,7 @@ pub fn last_fault(added: &[Entry]) -> Option<Fault>
 
 /// Whether the error is that fault of the last entry which is no close, where that entry was refused.
 pub fn answers_last_fault(added: &[Entry], error: &Error) -> bool
-    ensures { IsTrue result ↔ AnswersLastFault (map line_of added.now) error.now }
+    ensures { IsTrue result ↔ AnswersLastFault (map entry_view added.now) error.now }
 {
     match last_fault(added) {
         None => true,
@@ -96,7 +96,7 @@ fn is_stopped_next<E: Numbered>(
     added: &[Entry],
     error: &Error,
 ) -> Result<bool, Untold>
-    ensures { IfOk result (λ yes. IsTrue yes ↔ StoppedNext allows refuses E.number_of (plan_view plan.now) (map line_of added.now) error.now) }
+    ensures { IfOk result (λ yes. IsTrue yes ↔ StoppedNext allows refuses E.number_of (plan_view plan.now) (map entry_view added.now) error.now) }
 {
     let place = trace(alloc, added)?.len();
     match item_at(plan.items.as_slice(), place) {
@@ -120,9 +120,9 @@ fn is_stopped_by<E: Numbered>(
     item: &Item<'_, E, ScriptHook>,
     error: &Error,
 ) -> Result<bool, Untold>
-    requires { place ≤ length (trace (map line_of added.now)) }
+    requires { place ≤ length (trace (map entry_view added.now)) }
     ensures { IfOk result (λ yes. IsTrue yes
-        ↔ StoppedBy allows refuses E.number_of (trace (map line_of added.now)) place (Some (item_of item.now)) error.now) }
+        ↔ StoppedBy allows refuses E.number_of (trace (map entry_view added.now)) place (Some (item_of item.now)) error.now) }
 {
     match item {
         Item::Spawn(found, words) => is_stopped(alloc, added, place, found, words, error),
@@ -139,9 +139,9 @@ fn is_stopped<E: Numbered>(
     words: &[String],
     error: &Error,
 ) -> Result<bool, Untold>
-    requires { place ≤ length (trace (map line_of added.now)) }
+    requires { place ≤ length (trace (map entry_view added.now)) }
     ensures { IfOk result (λ yes. IsTrue yes
-        ↔ StoppedBy allows refuses E.number_of (trace (map line_of added.now)) place (Some (AskSpawn (found_of found.now) (map string_bytes words.now))) error.now) }
+        ↔ StoppedBy allows refuses E.number_of (trace (map entry_view added.now)) place (Some (AskSpawn (found_of found.now) (map string_bytes words.now))) error.now) }
 {
     let trace = trace(alloc, added)?;
     let asked = asked_at(alloc, trace.as_slice(), place, found, words)?;

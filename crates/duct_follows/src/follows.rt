@@ -1,17 +1,17 @@
 //! Whether what a start added to the journal follows a plan, for hooks of the scripted system.
 ghost use Rattle.std.specs.Prelude.{◌≡◌, ℕ, ◌+◌, ◌↔◌, ◌<◌, ◌≤◌, ◌^◌, length, map, string_bytes, IfOk, IfErr, IsTrue, List};
-ghost use Rattle.duct_base.specs.Entry.{line_of};
-ghost use Rattle.duct_base.specs.Origin.{Origin, origin, Opened};
-ghost use Rattle.duct_base.specs.Spec.{Spec};
-ghost use Rattle.duct_base.specs.Streams.{stream_of};
-ghost use Rattle.duct_base.specs.Trace.{trace};
-ghost use Rattle.duct_base.specs.declared.system.Stdio.{Stdio};
+ghost use Rattle.duct_system.specs.EntryView.{entry_view};
+ghost use Rattle.duct_system.specs.Origin.{Origin, origin, Opened};
+ghost use Rattle.duct_system.specs.SpecView.{SpecView};
+ghost use Rattle.duct_system.specs.Streams.{stream_of};
+ghost use Rattle.duct_system.specs.Trace.{trace};
+ghost use Rattle.duct_system.specs.declared.system.Stdio.{Stdio};
 ghost use Rattle.duct.specs.Asked.{end_at};
 ghost use Rattle.duct.specs.Follows.{Answers, AnswersFrom, Follows, FollowsWhole, IsGiven};
 ghost use Rattle.duct_follows.specs.Given.{AreAnswered, FoundNoMemory, Decides, IsUntoldBy};
 ghost use Rattle.duct_follows.specs.ScriptHooks.{allows};
 ghost use Rattle.duct_plan.specs.Found.{found_of};
-ghost use Rattle.duct_plan.specs.Lines.{lines_of};
+ghost use Rattle.duct_plan.specs.EntryViews.{entry_views};
 ghost use Rattle.duct_plan.specs.PlanView.{item_of, plan_view};
 
 use crate::chain::wired;
@@ -37,7 +37,7 @@ pub fn follows<E: Numbered>(
     plan: &Plan<'_, E, ScriptHook>,
     added: &[Entry],
 ) -> Result<bool, Untold>
-    ensures { IfOk result (λ yes. IsTrue yes ↔ Follows ⟦<ScriptHook as Hook>⟧.allows E.number_of (plan_view plan.now) (map line_of added.now)) }
+    ensures { IfOk result (λ yes. IsTrue yes ↔ Follows ⟦<ScriptHook as Hook>⟧.allows E.number_of (plan_view plan.now) (map entry_view added.now)) }
 {
     let trace = trace(alloc, added)?;
     let items = plan.items.as_slice();
@@ -52,7 +52,7 @@ pub fn follows_whole<E: Numbered>(
     plan: &Plan<'_, E, ScriptHook>,
     added: &[Entry],
 ) -> Result<bool, Untold>
-    ensures { IfOk result (λ yes. IsTrue yes ↔ FollowsWhole ⟦<ScriptHook as Hook>⟧.allows E.number_of (plan_view plan.now) (map line_of added.now)) }
+    ensures { IfOk result (λ yes. IsTrue yes ↔ FollowsWhole ⟦<ScriptHook as Hook>⟧.allows E.number_of (plan_view plan.now) (map entry_view added.now)) }
 {
     let trace = trace(alloc, added)?;
     Ok(trace.len() == plan.items.len() && is_clean(added) && follows(alloc, plan, added)?)
@@ -67,9 +67,9 @@ fn answers_from<E: Numbered>(
     entries: &[&Entry],
 ) -> Result<bool, Untold>
     requires fits { place + length entries.now < 2 ^ 64 }
-    requires last { place + length entries.now ≡ length (trace (map line_of added.now)) }
+    requires last { place + length entries.now ≡ length (trace (map entry_view added.now)) }
     ensures { IfOk result (λ yes. IsTrue yes
-        ↔ AnswersFrom allows E.number_of (map line_of added.now) place (map item_of items.now) (lines_of entries.now)) }
+        ↔ AnswersFrom allows E.number_of (map entry_view added.now) place (map item_of items.now) (entry_views entries.now)) }
 {
     match (items.split_first(), entries.split_first()) {
         (_, None) => Ok(true),
@@ -90,9 +90,9 @@ fn answers<E: Numbered>(
     item: &Item<'_, E, ScriptHook>,
     entry: &Entry,
 ) -> Result<bool, Untold>
-    requires { place ≤ length (trace (map line_of added.now)) }
+    requires { place ≤ length (trace (map entry_view added.now)) }
     ensures { IfOk result (λ yes. IsTrue yes
-        ↔ Answers allows E.number_of (map line_of added.now) place (item_of item.now) (line_of entry.now)) }
+        ↔ Answers allows E.number_of (map entry_view added.now) place (item_of item.now) (entry_view entry.now)) }
 {
     match (item, entry) {
         (Item::Environment, Entry::Environment(_)) => Ok(true),
@@ -115,7 +115,7 @@ fn answers<E: Numbered>(
 
 /// Whether an end comes from the read end of the pipe that the entry at this place of the trace got.
 fn is_reader(alloc: Global, added: &[Entry], pipe: usize, end: u64) -> Result<bool, AllocError>
-    ensures { IfOk result (λ yes. IsTrue yes ↔ (origin (map line_of added.now) end ≡ Opened (end_at (trace (map line_of added.now)) pipe 0))) }
+    ensures { IfOk result (λ yes. IsTrue yes ↔ (origin (map entry_view added.now) end ≡ Opened (end_at (trace (map entry_view added.now)) pipe 0))) }
 {
     let trace = trace(alloc, added)?;
     Ok(origin(added, end) == Source::Opened(first_end(trace.as_slice(), pipe)))
@@ -123,7 +123,7 @@ fn is_reader(alloc: Global, added: &[Entry], pipe: usize, end: u64) -> Result<bo
 
 /// Whether an end comes from the write end of the pipe that the entry at this place of the trace got.
 fn is_writer(alloc: Global, added: &[Entry], pipe: usize, end: u64) -> Result<bool, AllocError>
-    ensures { IfOk result (λ yes. IsTrue yes ↔ (origin (map line_of added.now) end ≡ Opened (end_at (trace (map line_of added.now)) pipe 1))) }
+    ensures { IfOk result (λ yes. IsTrue yes ↔ (origin (map entry_view added.now) end ≡ Opened (end_at (trace (map entry_view added.now)) pipe 1))) }
 {
     let trace = trace(alloc, added)?;
     Ok(origin(added, end) == Source::Opened(second_end(trace.as_slice(), pipe)))
@@ -136,7 +136,7 @@ fn is_answered(
     io: &[Stdio<u64>; 3],
     given: Option<Wired>,
 ) -> Result<bool, AllocError>
-    ensures { IfOk result (λ yes. IsTrue yes ↔ AreAnswered given spec.now (map (stream_of (origin (map line_of added.now))) io.now)) }
+    ensures { IfOk result (λ yes. IsTrue yes ↔ AreAnswered given spec.now (map (stream_of (origin (map entry_view added.now))) io.now)) }
 {
     match given {
         None => Ok(false),
@@ -153,9 +153,9 @@ fn given<E: Numbered>(
     found: &Found<'_, E, ScriptHook>,
     words: &[String],
 ) -> Result<Option<Wired>, Untold>
-    requires { place ≤ length (trace (map line_of added.now)) }
-    ensures { IfOk result (λ given. (spec : Spec) (streams : List (Stdio Origin)) →
-        IsGiven allows E.number_of (trace (map line_of added.now)) place (found_of found.now) (map string_bytes words.now) spec streams
+    requires { place ≤ length (trace (map entry_view added.now)) }
+    ensures { IfOk result (λ given. (spec : SpecView) (streams : List (Stdio Origin)) →
+        IsGiven allows E.number_of (trace (map entry_view added.now)) place (found_of found.now) (map string_bytes words.now) spec streams
         ↔ AreAnswered given spec streams) }
 {
     let trace = trace(alloc, added)?;

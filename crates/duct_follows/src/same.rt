@@ -1,9 +1,9 @@
 //! Whether two specs are the same, and whether two lists of streams come from the same places.
 ghost use Rattle.std.specs.Prelude.{◌≡◌, ◌↔◌, map, string_bytes, IfOk, IsTrue};
 ghost use Rattle.std.specs.Option.{option_copied};
-ghost use Rattle.duct_base.specs.Entry.{line_of};
-ghost use Rattle.duct_base.specs.Origin.{origin};
-ghost use Rattle.duct_base.specs.Streams.{stream_of};
+ghost use Rattle.duct_system.specs.EntryView.{entry_view};
+ghost use Rattle.duct_system.specs.Origin.{origin};
+ghost use Rattle.duct_system.specs.Streams.{stream_of};
 ghost use Rattle.duct_follows.specs.Same.{lent_pair, HaveSamePorts};
 ghost use Rattle.duct_plain.specs.Source.{origin_of};
 
@@ -75,7 +75,7 @@ fn same_port(one: Port, other: Port) -> bool
 
 /// Whether the ends of three streams come from these places, by what the entries say.
 pub fn same_streams(entries: &[Entry], io: &[Stdio<u64>; 3], streams: &[Stdio<Source>; 3]) -> bool
-    ensures { IsTrue result ↔ (map (stream_of (origin (map line_of entries.now))) io.now ≡ map (stream_of origin_of) streams.now) }
+    ensures { IsTrue result ↔ (map (stream_of (origin (map entry_view entries.now))) io.now ≡ map (stream_of origin_of) streams.now) }
 {
     let [input, output, error] = *io;
     let [from_input, from_output, from_error] = *streams;
@@ -86,7 +86,7 @@ pub fn same_streams(entries: &[Entry], io: &[Stdio<u64>; 3], streams: &[Stdio<So
 
 /// Whether the end of a stream comes from this place.
 fn same_stream(entries: &[Entry], stream: Stdio<u64>, source: Stdio<Source>) -> bool
-    ensures { IsTrue result ↔ (stream_of (origin (map line_of entries.now)) stream ≡ stream_of origin_of source) }
+    ensures { IsTrue result ↔ (stream_of (origin (map entry_view entries.now)) stream ≡ stream_of origin_of source) }
 {
     match (stream, source) {
         (Stdio::Inherit, Stdio::Inherit) => true,

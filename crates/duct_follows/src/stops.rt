@@ -1,13 +1,13 @@
 //! Whether entries of a journal have a fault, and whether only closes come after it.
 ghost use Rattle.std.specs.Prelude.{◌≡◌, ◌↔◌, map, IsTrue};
-ghost use Rattle.duct_base.specs.Entry.{line_of};
-ghost use Rattle.duct_base.specs.Trace.{is_close, fault_of, IsClean, OnlyCloses, StopsAtFault};
+ghost use Rattle.duct_system.specs.EntryView.{entry_view};
+ghost use Rattle.duct_system.specs.Trace.{is_close, fault_of, IsClean, OnlyCloses, StopsAtFault};
 
 use duct_base::system::{Entry, Fault};
 
 /// Whether no entry has a fault.
 pub fn is_clean(entries: &[Entry]) -> bool
-    ensures { IsTrue result ↔ IsClean (map line_of entries.now) }
+    ensures { IsTrue result ↔ IsClean (map entry_view entries.now) }
 {
     for entry in entries {
         if fault_of(entry).is_some() {
@@ -19,7 +19,7 @@ pub fn is_clean(entries: &[Entry]) -> bool
 
 /// Whether after an entry with a fault there are only closes.
 pub fn stops_at_fault(entries: &[Entry]) -> bool
-    ensures { IsTrue result ↔ StopsAtFault (map line_of entries.now) }
+    ensures { IsTrue result ↔ StopsAtFault (map entry_view entries.now) }
 {
     let mut left = entries;
     while let Some((first, rest)) = left.split_first() {
@@ -33,7 +33,7 @@ pub fn stops_at_fault(entries: &[Entry]) -> bool
 
 /// The fault that an entry answered, if it was refused.
 pub fn fault_of(entry: &Entry) -> Option<Fault>
-    ensures { result ≡ fault_of (line_of entry.now) }
+    ensures { result ≡ fault_of (entry_view entry.now) }
 {
     match entry {
         Entry::Environment(Err(fault)) => Some(*fault),
@@ -52,7 +52,7 @@ pub fn fault_of(entry: &Entry) -> Option<Fault>
 
 /// Whether each entry is a close.
 fn only_closes(entries: &[Entry]) -> bool
-    ensures { IsTrue result ↔ OnlyCloses (map line_of entries.now) }
+    ensures { IsTrue result ↔ OnlyCloses (map entry_view entries.now) }
 {
     for entry in entries {
         if !is_close(entry) {
@@ -64,7 +64,7 @@ fn only_closes(entries: &[Entry]) -> bool
 
 /// Whether an entry is a close.
 pub(crate) fn is_close(entry: &Entry) -> bool
-    ensures { result ≡ is_close (line_of entry.now) }
+    ensures { result ≡ is_close (entry_view entry.now) }
 {
     matches!(entry, Entry::Close(_))
 }

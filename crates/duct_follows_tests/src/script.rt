@@ -1,7 +1,7 @@
 //! A journal that the scripted system keeps.
 use duct::{CommandSpec, Fault, Port, Stdio, System};
 use duct_base::spec::spec_of;
-use duct_rows::verdicts::followed_by;
+use duct_rows::checks::followed_by;
 use duct_script::system::Script;
 use std::alloc::{AllocError, Global};
 use std::collections::BTreeMap;

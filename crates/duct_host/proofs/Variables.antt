@@ -9,7 +9,7 @@ use Rattle.std.proofs.Math.Seq.{take-suc}
 use Rattle.std.proofs.lemmas.List.{get_or-map, length-map}
 use Rattle.std.proofs.lemmas.Grind.{fold-append}
 use Rattle.std.proofs.lemmas.Slice.Eq.{bytes_eq-Decides}
-use Rattle.duct_base.specs.Spec.{Vars}
+use Rattle.duct_system.specs.SpecView.{Vars}
 use Rattle.duct_host.specs.Variables.{value_set, IsWholeEnvironment, Sets}
 
 -- what one more variable behind the others says of a name

@@ -1,5 +1,5 @@
 -- What contracts see of a child of the host.
-use Rattle.duct_base.specs.Child.{ChildView}
+use Rattle.duct_system.specs.Child.{ChildView}
 use Rattle.duct_host.specs.declared.child.Child.{Child}
 
 -- a child: its id is that of the process

@@ -2,10 +2,10 @@
 use Rattle.std.specs.Prelude.{ℤ, Some, None, Ok, Err}
 use Rattle.std.specs.declared.option.Option.{Option}
 use Rattle.std.specs.declared.result.Result.{Result}
-use Rattle.duct_base.specs.declared.system.ExitStatus.{ExitStatus}
-use Rattle.duct_base.specs.declared.system.ExitStatus.TheVariants.{Code, Signal}
-use Rattle.duct_base.specs.declared.system.Fault.{Fault}
-use Rattle.duct_base.specs.declared.system.Kind.TheVariants.{Other}
+use Rattle.duct_system.specs.declared.system.ExitStatus.{ExitStatus}
+use Rattle.duct_system.specs.declared.system.ExitStatus.TheVariants.{Code, Signal}
+use Rattle.duct_system.specs.declared.system.Fault.{Fault}
+use Rattle.duct_system.specs.declared.system.Kind.TheVariants.{Other}
 
 -- the code if there is one, else the signal; a status with neither is no ending
 abbrev pub ending_said : Option ℤ → Option ℤ → Result ExitStatus Fault

@@ -1,8 +1,8 @@
 -- The kind of fault that an error of std is answered as.
 use Rattle.std.specs.declared.io.ErrorKind.{ErrorKind}
 use Rattle.std.specs.declared.io.ErrorKind.TheVariants as error
-use Rattle.duct_base.specs.declared.system.Kind.{Kind}
-use Rattle.duct_base.specs.declared.system.Kind.TheVariants.{NotFound, PermissionDenied, BrokenPipe, WriteZero, InvalidInput, Unsupported, OutOfMemory, Other}
+use Rattle.duct_system.specs.declared.system.Kind.{Kind}
+use Rattle.duct_system.specs.declared.system.Kind.TheVariants.{NotFound, PermissionDenied, BrokenPipe, WriteZero, InvalidInput, Unsupported, OutOfMemory, Other}
 
 -- the kind of the same name, and Other where there is none
 abbrev pub kind_of : ErrorKind → Kind

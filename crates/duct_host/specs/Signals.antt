@@ -1,10 +1,10 @@
 -- The signals that a child of a host can be sent.
 use Rattle.std.specs.Prelude.{◌≡◌, ℤ, pos, List, [], ◌∷◌, Contains, Err}
 use Rattle.std.specs.declared.result.Result.{Result}
-use Rattle.duct_base.specs.declared.system.Fault.{Fault}
-use Rattle.duct_base.specs.declared.system.Kind.TheVariants.{InvalidInput}
-use Rattle.duct_base.specs.declared.system.Order.{Order}
-use Rattle.duct_base.specs.declared.system.Order.TheVariants.{Kill, Signal}
+use Rattle.duct_system.specs.declared.system.Fault.{Fault}
+use Rattle.duct_system.specs.declared.system.Kind.TheVariants.{InvalidInput}
+use Rattle.duct_system.specs.declared.system.Order.{Order}
+use Rattle.duct_system.specs.declared.system.Order.TheVariants.{Kill, Signal}
 
 -- the numbers of the signals
 abbrev pub signals : List ℤ

@@ -1,6 +1,6 @@
 -- Steps that change one part of what a host keeps.
 use Rattle.std.specs.Prelude.{◌≡◌, ◌≤◌}
-use Rattle.duct_base.specs.Journal.{JournalView}
+use Rattle.duct_system.specs.Journal.{JournalView}
 
 -- nothing but the count of numbers has changed, and it has not fallen
 abbrev pub OnlyCounts : JournalView → JournalView → Type 0

@@ -5,7 +5,7 @@ use Rattle.std.specs.Process.{command_var, clears_env, SameOtherVars}
 use Rattle.std.specs.declared.alloc.Global.{Global}
 use Rattle.std.specs.declared.option.Option.{Option}
 use Rattle.std.specs.declared.process.Command.{Command}
-use Rattle.duct_base.specs.Spec.{Vars}
+use Rattle.duct_system.specs.SpecView.{Vars}
 
 -- the value of a name once the variables are set in their order
 abbrev pub value_set : List ℕ → Vars → Option (List ℕ)

@@ -1,6 +1,6 @@
 //! A child process of the host.
 ghost use Rattle.std.specs.Prelude.{◌≡◌, ◌↔◌, Contains, IsTrue, IfSome, IfNone, IfErr};
-ghost use Rattle.duct_base.specs.declared.system.Kind.TheVariants.{Other};
+ghost use Rattle.duct_system.specs.declared.system.Kind.TheVariants.{Other};
 ghost use Rattle.std.specs.Process.{exit_code, exit_signal};
 ghost use Rattle.duct_host.specs.Endings.{ending_said};
 ghost use Rattle.duct_host.specs.Signals.{signals};
@@ -27,7 +27,7 @@ pub struct Child<R: Processes> {
 }
 
 impl<R: Processes> Child<R> {
-    ghost use Rattle.duct_base.specs.Child.{IsUnasked};
+    ghost use Rattle.duct_system.specs.Child.{IsUnasked};
     ghost use Rattle.duct_host.specs.ChildView.{child_view};
 
     /// A child that was just started and asked nothing.

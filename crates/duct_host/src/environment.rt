@@ -1,6 +1,6 @@
 //! The parent's environment, read entry by entry.
 ghost use Rattle.std.specs.Prelude.{◌≡◌, [], ◌∷◌, ◌++◌, map, string_bytes, IfOk, IfSome, OnOk};
-ghost use Rattle.duct_base.specs.Spec.{pair_text};
+ghost use Rattle.duct_system.specs.SpecView.{pair_text};
 
 use std::alloc::{AllocError, Global};
 use std::env::FillError;

@@ -1,7 +1,7 @@
 //! From what std answers to what a system answers: errors become faults, and what a signal interrupts is tried again.
 ghost use Rattle.std.specs.Prelude.{◌≡◌};
 ghost use Rattle.std.specs.IoError.{error_kind};
-ghost use Rattle.duct_base.specs.declared.system.Kind.TheVariants.{OutOfMemory};
+ghost use Rattle.duct_system.specs.declared.system.Kind.TheVariants.{OutOfMemory};
 ghost use Rattle.duct_host.specs.Kinds.{kind_of};
 
 use duct_base::system::{Fault, Kind};

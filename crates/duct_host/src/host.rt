@@ -1,8 +1,8 @@
 //! The host: a system over the real machine.
 ghost use Rattle.std.specs.Prelude.{◌≡◌, ◌≢◌, ◌+◌, ◌-◌, ◌^◌, ◌<◌, ◌≤◌, [], map, min, string_bytes, IfOk, IfErr, OnOk};
-ghost use Rattle.duct_base.specs.Journal.{IsNew};
-ghost use Rattle.duct_base.specs.Spec.{pair_text};
-ghost use Rattle.duct_base.specs.declared.system.Kind.TheVariants.{Other, OutOfMemory};
+ghost use Rattle.duct_system.specs.Journal.{IsNew};
+ghost use Rattle.duct_system.specs.SpecView.{pair_text};
+ghost use Rattle.duct_system.specs.declared.system.Kind.TheVariants.{Other, OutOfMemory};
 ghost use Rattle.duct_host.specs.Steps.{OnlyCounts, OnlyRoom};
 
 use crate::child::Child;
@@ -36,7 +36,7 @@ pub struct Host<R> {
 
 /// What contracts see of a host is its journal.
 impl<R> Model for Host<R> {
-    ghost use Rattle.duct_base.specs.Journal.{JournalView};
+    ghost use Rattle.duct_system.specs.Journal.{JournalView};
 
     ghost Value = { JournalView };
 
@@ -139,7 +139,7 @@ impl<R> Host<R> {
 }
 
 impl<R: Processes + Files<File = File> + Env + Parents + Clone + Drop> Host<R> {
-    ghost use Rattle.duct_base.specs.Child.{IsUnasked};
+    ghost use Rattle.duct_system.specs.Child.{IsUnasked};
     ghost use Rattle.duct_host.specs.ChildView.{child_view};
 
     /// Two ends of a new pipe, with the next two numbers.
@@ -176,10 +176,10 @@ impl<R: Processes + Files<File = File> + Env + Parents + Clone + Drop> Host<R> {
 impl<R: Processes + Files<File = File> + Env + Parents + Clone + Drop> System for Host<R> {
     ghost use Rattle.std.specs.Prelude.{◌≤◌, length, map, min, Ok, Err, IfOk, IfErr};
     ghost use Rattle.std.proofs.Common.{lit<};
-    ghost use Rattle.duct_base.specs.Child.{IsUnasked};
-    ghost use Rattle.duct_base.specs.Journal.{GivesEnds, IsNew, IsRefused};
-    ghost use Rattle.duct_base.specs.Line.{Spawn};
-    ghost use Rattle.duct_base.specs.Streams.{stream_of, ends_of};
+    ghost use Rattle.duct_system.specs.Child.{IsUnasked};
+    ghost use Rattle.duct_system.specs.Journal.{GivesEnds, IsNew, IsRefused};
+    ghost use Rattle.duct_system.specs.EntryView.{Spawn};
+    ghost use Rattle.duct_system.specs.Streams.{stream_of, ends_of};
     ghost use Rattle.duct_host.specs.ChildView.{child_view};
 
     type End = End;

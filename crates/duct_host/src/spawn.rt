@@ -1,8 +1,8 @@
 //! From the spec of a command to a process.
 ghost use Rattle.std.specs.Prelude.{◌≡◌, [], ◌∷◌, ◌++◌, length, map, string_bytes, IfOk, IfErr, OnOk};
 ghost use Rattle.std.specs.Process.{command_program, command_args, command_dir, SameProgramAndArgs, SameEnv, SameDir};
-ghost use Rattle.duct_base.specs.Streams.{stream_of, ends_of};
-ghost use Rattle.duct_base.specs.declared.system.Kind.TheVariants.{InvalidInput};
+ghost use Rattle.duct_system.specs.Streams.{stream_of, ends_of};
+ghost use Rattle.duct_system.specs.declared.system.Kind.TheVariants.{InvalidInput};
 ghost use Rattle.duct_host.specs.Variables.{IsWholeEnvironment, Sets};
 
 use crate::end::End;

@@ -27,8 +27,8 @@ impl Numbered for FeedWorker {
 /// What a worker may say is left open.
 impl Job for FeedWorker {
     ghost use Rattle.std.proofs.Common.{refl};
-    ghost use Rattle.duct_base.specs.declared.system.Kind.TheVariants.{Unsupported};
-    ghost use Rattle.duct_base.specs.declared.system.Said.TheVariants as said;
+    ghost use Rattle.duct_system.specs.declared.system.Kind.TheVariants.{Unsupported};
+    ghost use Rattle.duct_system.specs.declared.system.Said.TheVariants as said;
 
     type Result = ();
 
@@ -65,8 +65,8 @@ impl Job for DrainWorker {
     ghost use Rattle.std.proofs.Common.{refl};
     ghost use Rattle.std.specs.Prelude.{◌≡◌};
     ghost use Rattle.std.specs.Arc.{arc_value};
-    ghost use Rattle.duct_base.specs.declared.system.Kind.TheVariants.{Unsupported};
-    ghost use Rattle.duct_base.specs.declared.system.Said.TheVariants as said;
+    ghost use Rattle.duct_system.specs.declared.system.Kind.TheVariants.{Unsupported};
+    ghost use Rattle.duct_system.specs.declared.system.Said.TheVariants as said;
 
     type Result = Arc<Vec<u8>>;
 

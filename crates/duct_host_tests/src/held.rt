@@ -1,6 +1,6 @@
 //! A host with the ends that it gave, by their numbers.
 ghost use Rattle.std.specs.Prelude.{◌≡◌, ◌+◌, ◌≤◌, [], ◌∷◌, length, vec_len, IfOk, OnOk, OnErr};
-ghost use Rattle.duct_base.specs.Streams.{ends_of};
+ghost use Rattle.duct_system.specs.Streams.{ends_of};
 
 use crate::support::{Machine, Started, same, say, tell, text_of};
 use duct_base::spec::CommandSpec;

@@ -1,7 +1,7 @@
 -- Numbers that balance wherever they stand.
 use Rattle.std.proofs.Common.{◌≡◌, refl, sym, ◌∙◌, subst, ℕ, ◌==◌, ◌⊎◌, inl, inr, Bool, true, false, List, [], ◌∷◌, arith}
 use Rattle.std.proofs.lemmas.Bool.{eqb-true}
-use Rattle.duct_base.specs.Ledger.{count_of}
+use Rattle.duct_system.specs.Ledger.{count_of}
 use Rattle.duct_plain.specs.Balance.{Balances, BalancesAt, AllBalance}
 
 -- one number more in front

@@ -1,18 +1,18 @@
 -- Commands by their numbers: the way to a number and the number of a way, levels at a pipe, and the winner by number.
 use Rattle.std.proofs.Common.{◌≡◌, ◌≢◌, ℕ, ◌+◌, ◌-◌, ◌<◌, ◌≤◌, ◌⊎◌, inl, inr, Bool, true, false, cond, nat_lt, List, refl, ap, sym, ◌∙◌, subst, arith}
 use Rattle.std.proofs.lemmas.Bool.Decides.{nat_tests}
-use Rattle.duct_base.specs.declared.status.Word.{Word}
-use Rattle.duct_base.specs.Endings.{Endings, ending, pipe, unchecked, Way, endings_of}
-use Rattle.duct_base.specs.Outline as outline
-use Rattle.duct_base.specs.Outline.{Outline, command_count}
-use Rattle.duct_base.specs.Winner.{level, LeftBeats, RightBeats, Beats, IsWinner}
+use Rattle.duct_status.specs.declared.status.Word.{Word}
+use Rattle.duct_status.specs.Endings.{Endings, ending, pipe, unchecked, Way, endings_of}
+use Rattle.duct_status.specs.ShapeView as shape
+use Rattle.duct_status.specs.ShapeView.{ShapeView, command_count}
+use Rattle.duct_status.specs.Winner.{level, LeftBeats, RightBeats, Beats, IsWinner}
 use Rattle.duct_plain.specs.Numbered.{ending_count, number_at, way_at, BeatsAll, Tells}
 
-pub counts : (o : Outline) (first : ℕ) (words : List Word) → ending_count (endings_of o first words) ≡ command_count o
-counts (outline.command texts) first words = refl
-counts (outline.pipe l r) first words = ap (λ n. n + ending_count (endings_of r (first + command_count l) words)) (counts l first words) ∙ ap (λ n. command_count l + n) (counts r (first + command_count l) words)
-counts (outline.input t) first words = counts t first words
-counts (outline.unchecked t) first words = counts t first words
+pub counts : (o : ShapeView) (first : ℕ) (words : List Word) → ending_count (endings_of o first words) ≡ command_count o
+counts (shape.command texts) first words = refl
+counts (shape.pipe l r) first words = ap (λ n. n + ending_count (endings_of r (first + command_count l) words)) (counts l first words) ∙ ap (λ n. command_count l + n) (counts r (first + command_count l) words)
+counts (shape.input t) first words = counts t first words
+counts (shape.unchecked t) first words = counts t first words
 
 pub way_left : (l r : Endings) (k : ℕ) → k < ending_count l → way_at (pipe l r) k ≡ inl (way_at l k)
 way_left l r k low = let e : nat_lt k (ending_count l) ≡ true = grind (arith, nat_tests) in ap (λ b. cond {A = Way (pipe l r)} b (inl (way_at l k)) (inr (way_at r (k - ending_count l)))) e

@@ -2,17 +2,16 @@
 use Rattle.std.proofs.Common.{◌≡◌, ℕ, zero, suc, ◌+◌, ◌<◌, ◌≤◌, Bool, true, false, cond, List, [], ◌∷◌, ◌++◌, map, refl, ap, sym, ◌∙◌, arith, zero-add, Some, None}
 use Rattle.std.specs.List.{range_with_len, slice_get}
 use Rattle.std.specs.declared.option.Option.{Option}
-use Rattle.duct_base.specs.declared.system.Fault.{Fault}
-use Rattle.duct_base.specs.declared.system.Said.{Said}
-use Rattle.duct_base.specs.declared.system.Said.TheVariants as said
-use Rattle.duct_base.specs.declared.system.Side.TheVariants as side
-use Rattle.duct_base.specs.declared.status.Drains.{Drains}
-use Rattle.duct_base.specs.Latest.{latest_of_command, latest_of_input, latest_of_drain}
-use Rattle.duct_base.specs.Notice.{Notice}
-use Rattle.duct_base.specs.Outline.{Outline, command, pipe, input, unchecked, command_count, input_count}
+use Rattle.duct_system.specs.declared.system.Fault.{Fault}
+use Rattle.duct_system.specs.declared.system.Said.{Said}
+use Rattle.duct_system.specs.declared.system.Said.TheVariants as said
+use Rattle.duct_system.specs.declared.system.Side.TheVariants as side
+use Rattle.duct_status.specs.declared.status.Drains.{Drains}
+use Rattle.duct_status.specs.Latest.{latest_of_command, latest_of_input, latest_of_drain, latest_told}
+use Rattle.duct_status.specs.EventView.{EventView}
+use Rattle.duct_status.specs.ShapeView.{ShapeView, command, pipe, input, unchecked, command_count, input_count}
 use Rattle.duct_plain.specs.TreeOrder.{told_in_order}
-use Rattle.duct_base.specs.Verdict.{Verdict, command_said, input_said, in_tree_order, first_fault, some_runs, finished, captured, with_bytes, ended, verdict}
-use Rattle.duct_base.specs.Words.{words_told}
+use Rattle.duct_status.specs.Outcome.{OutcomeView, command_said, input_said, in_tree_order, first_fault, some_runs, finished, captured, with_bytes, ended, outcome}
 
 got_at : {T : Type 0} (f : ℕ → T) (a n k : ℕ) → k < n → slice_get (map f (range_with_len a n)) k ≡ Some (f (a + k))
 got_at f a zero k low = absurd (omega arith)
@@ -22,7 +21,7 @@ got_at f a (suc n) (suc k) low = let e : a + 1 + k ≡ a + suc k = omega arith i
 got : {T : Type 0} (f : ℕ → T) (n k : ℕ) → k < n → slice_get (map f (range_with_len 0 n)) k ≡ Some (f k)
 got f n k low = got_at f 0 n k low ∙ ap (λ j. Some (f j)) (zero-add k)
 
-order_same : (t : Outline) (c i n m : ℕ) (told : List Notice) → c + command_count t ≤ n → i + input_count t ≤ m → in_tree_order t c i (map (λ k. latest_of_command k told) (range_with_len 0 n)) (map (λ k. latest_of_input k told) (range_with_len 0 m)) ≡ told_in_order t c i told
+order_same : (t : ShapeView) (c i n m : ℕ) (told : List EventView) → c + command_count t ≤ n → i + input_count t ≤ m → in_tree_order t c i (map (λ k. latest_of_command k told) (range_with_len 0 n)) (map (λ k. latest_of_input k told) (range_with_len 0 m)) ≡ told_in_order t c i told
 order_same (command texts) c i n m told low less = ap (λ o. command_said o ∷ []) (got (λ k. latest_of_command k told) n c (omega arith))
 order_same (pipe l r) c i n m told low less =
     ap (λ xs. xs ++ in_tree_order r (c + command_count l) (i + input_count l) (map (λ k. latest_of_command k told) (range_with_len 0 n)) (map (λ k. latest_of_input k told) (range_with_len 0 m))) (order_same l c i n m told (omega arith) (omega arith))
@@ -37,8 +36,8 @@ captured_there true heard = refl
 captured_there false heard = refl
 
 -- what the events come to
-pub verdict_told : (t : Outline) (drains : Drains) (told : List Notice) (fault : Option Fault) (runs : Bool) (out err : Said (List ℕ)) (v : Verdict) → fault ≡ first_fault (told_in_order t 0 0 told) → runs ≡ some_runs (told_in_order t 0 0 told) → out ≡ cond drains.out (latest_of_drain side.Out told) (said.Done []) → err ≡ cond drains.err (latest_of_drain side.Err told) (said.Done []) → v ≡ ended fault runs (with_bytes out (λ o. with_bytes err (λ e. finished o e))) → v ≡ verdict t (words_told t drains told)
-verdict_told t drains told fault runs out err v e f g h is =
+pub outcome_told : (t : ShapeView) (drains : Drains) (told : List EventView) (fault : Option Fault) (runs : Bool) (out err : Said (List ℕ)) (v : OutcomeView) → fault ≡ first_fault (told_in_order t 0 0 told) → runs ≡ some_runs (told_in_order t 0 0 told) → out ≡ cond drains.out (latest_of_drain side.Out told) (said.Done []) → err ≡ cond drains.err (latest_of_drain side.Err told) (said.Done []) → v ≡ ended fault runs (with_bytes out (λ o. with_bytes err (λ e. finished o e))) → v ≡ outcome t (latest_told t drains told)
+outcome_told t drains told fault runs out err v e f g h is =
     let order = order_same t 0 0 (command_count t) (input_count t) told (omega arith) (omega arith) in
     let one = e ∙ ap first_fault (sym order) in
     let two = f ∙ ap some_runs (sym order) in
@@ -46,6 +45,6 @@ verdict_told t drains told fault runs out err v e f g h is =
     let four = h ∙ sym (captured_there drains.err (latest_of_drain side.Err told)) in
     is
     ∙ ap (λ x. ended x runs (with_bytes out (λ o. with_bytes err (λ e. finished o e)))) one
-    ∙ ap (λ x. ended (first_fault (in_tree_order t 0 0 (words_told t drains told).commands (words_told t drains told).inputs)) x (with_bytes out (λ o. with_bytes err (λ e. finished o e)))) two
-    ∙ ap (λ x. ended (first_fault (in_tree_order t 0 0 (words_told t drains told).commands (words_told t drains told).inputs)) (some_runs (in_tree_order t 0 0 (words_told t drains told).commands (words_told t drains told).inputs)) (with_bytes x (λ o. with_bytes err (λ e. finished o e)))) three
-    ∙ ap (λ x. ended (first_fault (in_tree_order t 0 0 (words_told t drains told).commands (words_told t drains told).inputs)) (some_runs (in_tree_order t 0 0 (words_told t drains told).commands (words_told t drains told).inputs)) (with_bytes (captured (words_told t drains told).output) (λ o. with_bytes x (λ e. finished o e)))) four
+    ∙ ap (λ x. ended (first_fault (in_tree_order t 0 0 (latest_told t drains told).commands (latest_told t drains told).inputs)) x (with_bytes out (λ o. with_bytes err (λ e. finished o e)))) two
+    ∙ ap (λ x. ended (first_fault (in_tree_order t 0 0 (latest_told t drains told).commands (latest_told t drains told).inputs)) (some_runs (in_tree_order t 0 0 (latest_told t drains told).commands (latest_told t drains told).inputs)) (with_bytes x (λ o. with_bytes err (λ e. finished o e)))) three
+    ∙ ap (λ x. ended (first_fault (in_tree_order t 0 0 (latest_told t drains told).commands (latest_told t drains told).inputs)) (some_runs (in_tree_order t 0 0 (latest_told t drains told).commands (latest_told t drains told).inputs)) (with_bytes (captured (latest_told t drains told).output) (λ o. with_bytes x (λ e. finished o e)))) four

@@ -1,6 +1,6 @@
 -- When the numbers that were got and those that were spent balance.
 use Rattle.std.specs.Prelude.{ℕ, ◌≤◌, List, [], ◌∷◌, ◌≡◌}
-use Rattle.duct_base.specs.Ledger.{count_of}
+use Rattle.duct_system.specs.Ledger.{count_of}
 
 -- a number stands as often in both lists, and not twice
 abbrev pub BalancesAt : List ℕ → List ℕ → ℕ → Type 0

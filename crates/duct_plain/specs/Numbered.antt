@@ -1,8 +1,8 @@
 -- The commands of a tree that have ended, by their numbers.
 use Rattle.std.specs.Prelude.{◌≢◌, ℕ, ◌+◌, ◌-◌, ◌<◌, Bool, MatchBool, nat_lt, if◌then◌else◌}
 use Rattle.std.proofs.Common.{inl, inr}
-use Rattle.duct_base.specs.Endings.{Endings, ending, pipe, unchecked, Way}
-use Rattle.duct_base.specs.Winner.{Beats}
+use Rattle.duct_status.specs.Endings.{Endings, ending, pipe, unchecked, Way}
+use Rattle.duct_status.specs.Winner.{Beats}
 
 -- how many commands there are
 abbrev pub ending_count : Endings → ℕ

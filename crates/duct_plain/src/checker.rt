@@ -1,11 +1,11 @@
 //! What a journal says, read by plain functions: the numbers that were got and spent, whether they balance, the trace, and
 //! where an end comes from.
 ghost use Rattle.std.specs.Prelude.{◌≡◌, ◌++◌, ◌↔◌, ◌≤◌, map, IfOk, OnOk, IsTrue};
-ghost use Rattle.duct_base.specs.Entry.{line_of};
-ghost use Rattle.duct_base.specs.Trace.{trace, is_traced};
-ghost use Rattle.duct_base.specs.Ledger.{got, got_by, spent, spent_by, count_of, IsBalanced, held};
-ghost use Rattle.duct_base.specs.Origin.{origin};
-ghost use Rattle.duct_base.specs.Streams.{end_of, ends_of};
+ghost use Rattle.duct_system.specs.EntryView.{entry_view};
+ghost use Rattle.duct_system.specs.Trace.{trace, is_traced};
+ghost use Rattle.duct_system.specs.Ledger.{got, got_by, spent, spent_by, count_of, IsBalanced, held};
+ghost use Rattle.duct_system.specs.Origin.{origin};
+ghost use Rattle.duct_system.specs.Streams.{end_of, ends_of};
 ghost use Rattle.duct_plain.specs.Balance.{Balances, BalancesAt, AllBalance};
 ghost use Rattle.duct_plain.specs.Source.{origin_of, Steps};
 
@@ -25,7 +25,7 @@ pub enum Source {
 
 /// The numbers of the ends that were got, in order.
 pub fn got(alloc: Global, entries: &[Entry]) -> Result<Vec<u64>, AllocError>
-    ensures { IfOk result (λ numbers. numbers.items ≡ got (map line_of entries.now)) }
+    ensures { IfOk result (λ numbers. numbers.items ≡ got (map entry_view entries.now)) }
 {
     let mut numbers = Vec::new(alloc);
     for entry in entries {
@@ -36,7 +36,7 @@ pub fn got(alloc: Global, entries: &[Entry]) -> Result<Vec<u64>, AllocError>
 
 /// The numbers of the ends that were spent, in order.
 pub fn spent(alloc: Global, entries: &[Entry]) -> Result<Vec<u64>, AllocError>
-    ensures { IfOk result (λ numbers. numbers.items ≡ spent (map line_of entries.now)) }
+    ensures { IfOk result (λ numbers. numbers.items ≡ spent (map entry_view entries.now)) }
 {
     let mut numbers = Vec::new(alloc);
     for entry in entries {
@@ -47,7 +47,7 @@ pub fn spent(alloc: Global, entries: &[Entry]) -> Result<Vec<u64>, AllocError>
 
 /// Whether the numbers that were spent are those that were got, in some order, each number once.
 pub fn is_balanced(alloc: Global, entries: &[Entry]) -> Result<bool, AllocError>
-    ensures { IfOk result (λ balanced. IsTrue balanced ↔ IsBalanced (map line_of entries.now)) }
+    ensures { IfOk result (λ balanced. IsTrue balanced ↔ IsBalanced (map entry_view entries.now)) }
 {
     let got = got(alloc, entries)?;
     let spent = spent(alloc, entries)?;
@@ -56,7 +56,7 @@ pub fn is_balanced(alloc: Global, entries: &[Entry]) -> Result<bool, AllocError>
 
 /// How many ends were got and are not spent yet.
 pub fn held(alloc: Global, entries: &[Entry]) -> Result<usize, AllocError>
-    ensures { IfOk result (λ count. count ≡ held (map line_of entries.now)) }
+    ensures { IfOk result (λ count. count ≡ held (map entry_view entries.now)) }
 {
     let got = got(alloc, entries)?.len();
     let spent = spent(alloc, entries)?.len();
@@ -65,7 +65,7 @@ pub fn held(alloc: Global, entries: &[Entry]) -> Result<usize, AllocError>
 
 /// The entries of which a plan speaks: all but duplicates, ends of the parent's streams, and closes.
 pub fn trace(alloc: Global, entries: &[Entry]) -> Result<Vec<&Entry>, AllocError>
-    ensures { IfOk result (λ traced. map (λ e. line_of e.now) traced.items ≡ trace (map line_of entries.now)) }
+    ensures { IfOk result (λ traced. map (λ e. entry_view e.now) traced.items ≡ trace (map entry_view entries.now)) }
 {
     let mut traced = Vec::new(alloc);
     for entry in entries {
@@ -78,7 +78,7 @@ pub fn trace(alloc: Global, entries: &[Entry]) -> Result<Vec<&Entry>, AllocError
 
 /// Whether a plan speaks of this entry.
 pub fn in_trace(entry: &Entry) -> bool
-    ensures { result ≡ is_traced (line_of entry.now) }
+    ensures { result ≡ is_traced (entry_view entry.now) }
 {
     !matches!(
         entry,
@@ -88,7 +88,7 @@ pub fn in_trace(entry: &Entry) -> bool
 
 /// Where the end of a number comes from.
 pub fn origin(entries: &[Entry], number: u64) -> Source
-    ensures { origin_of result ≡ origin (map line_of entries.now) number }
+    ensures { origin_of result ≡ origin (map entry_view entries.now) number }
 {
     let mut number = number;
     let mut left = entries;
@@ -113,7 +113,7 @@ enum Step {
 
 /// What an entry says of where the end of a number comes from.
 fn step_back(entry: &Entry, number: u64) -> Step
-    ensures { Steps (line_of entry.now) number result }
+    ensures { Steps (entry_view entry.now) number result }
 {
     match entry {
         Entry::Pipe(Ok((reader, writer))) if number == *reader || number == *writer => {
@@ -163,7 +163,7 @@ fn count_of(number: u64, numbers: &[u64]) -> usize
 
 /// Adds the numbers of the ends that an entry answered.
 fn push_got(numbers: &mut Vec<u64>, entry: &Entry) -> Result<(), AllocError>
-    ensures { OnOk result (numbers.new.items ≡ numbers.old.items ++ got_by (line_of entry.now)) }
+    ensures { OnOk result (numbers.new.items ≡ numbers.old.items ++ got_by (entry_view entry.now)) }
 {
     match entry {
         Entry::Pipe(Ok((reader, writer))) => {
@@ -181,7 +181,7 @@ fn push_got(numbers: &mut Vec<u64>, entry: &Entry) -> Result<(), AllocError>
 
 /// Adds the numbers of the ends that an entry's request was given.
 fn push_spent(numbers: &mut Vec<u64>, entry: &Entry) -> Result<(), AllocError>
-    ensures { OnOk result (numbers.new.items ≡ numbers.old.items ++ spent_by (line_of entry.now)) }
+    ensures { OnOk result (numbers.new.items ≡ numbers.old.items ++ spent_by (entry_view entry.now)) }
 {
     match entry {
         Entry::Spawn(_, io, _) => push_ends(numbers, io),

@@ -1,14 +1,13 @@
 //! How many commands and input workers a shape has.
 ghost use Rattle.std.specs.Prelude.{◌≡◌, ◌+◌, ◌^◌, ◌<◌, IfSome, IsSome};
-ghost use Rattle.duct_base.specs.Outline.{command_count, input_count};
-ghost use Rattle.duct_base.specs.Shapes.{outline_of};
+ghost use Rattle.duct_status.specs.ShapeView.{command_count, input_count, shape_view};
 
 use duct_base::status::Shape;
 
 /// The number of commands.
 pub(crate) fn count_commands(shape: &Shape) -> usize
-    requires { command_count (outline_of shape.now) < 2 ^ 64 }
-    ensures { result ≡ command_count (outline_of shape.now) }
+    requires { command_count (shape_view shape.now) < 2 ^ 64 }
+    ensures { result ≡ command_count (shape_view shape.now) }
 {
     match shape {
         Shape::Command(_) => 1,
@@ -20,8 +19,8 @@ pub(crate) fn count_commands(shape: &Shape) -> usize
 
 /// The number of input workers.
 pub(crate) fn count_inputs(shape: &Shape) -> usize
-    requires { input_count (outline_of shape.now) < 2 ^ 64 }
-    ensures { result ≡ input_count (outline_of shape.now) }
+    requires { input_count (shape_view shape.now) < 2 ^ 64 }
+    ensures { result ≡ input_count (shape_view shape.now) }
 {
     match shape {
         Shape::Command(_) => 0,
@@ -33,8 +32,8 @@ pub(crate) fn count_inputs(shape: &Shape) -> usize
 
 /// The number of commands, if it is a `usize`.
 pub fn commands_in(shape: &Shape) -> Option<usize>
-    ensures value { IfSome result (λ n. n ≡ command_count (outline_of shape.now)) }
-    ensures succeeds { command_count (outline_of shape.now) < 2 ^ 64 → IsSome result }
+    ensures value { IfSome result (λ n. n ≡ command_count (shape_view shape.now)) }
+    ensures succeeds { command_count (shape_view shape.now) < 2 ^ 64 → IsSome result }
 {
     match shape {
         Shape::Command(_) => Some(1),
@@ -46,8 +45,8 @@ pub fn commands_in(shape: &Shape) -> Option<usize>
 
 /// The number of input workers, if it is a `usize`.
 pub fn inputs_in(shape: &Shape) -> Option<usize>
-    ensures value { IfSome result (λ n. n ≡ input_count (outline_of shape.now)) }
-    ensures succeeds { input_count (outline_of shape.now) < 2 ^ 64 → IsSome result }
+    ensures value { IfSome result (λ n. n ≡ input_count (shape_view shape.now)) }
+    ensures succeeds { input_count (shape_view shape.now) < 2 ^ 64 → IsSome result }
 {
     match shape {
         Shape::Command(_) => Some(0),

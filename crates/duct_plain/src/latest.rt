@@ -1,16 +1,16 @@
 //! The latest word of a command and of a worker, read off the whole list of events.
 ghost use Rattle.std.specs.Prelude.{◌≡◌, map};
-ghost use Rattle.duct_base.specs.Bytes.{lent_bytes};
-ghost use Rattle.duct_base.specs.Latest.{first_ending, last_or, words_of_command, words_of_input, words_of_drain, latest_of_command, latest_of_input, latest_of_drain};
-ghost use Rattle.duct_base.specs.Notice.{notice_of};
-ghost use Rattle.duct_base.specs.declared.status.Word.TheVariants as word;
+ghost use Rattle.duct_status.specs.Bytes.{lent_bytes};
+ghost use Rattle.duct_status.specs.Latest.{first_ending, last_or, words_of_command, words_of_input, words_of_drain, latest_of_command, latest_of_input, latest_of_drain};
+ghost use Rattle.duct_status.specs.EventView.{event_view};
+ghost use Rattle.duct_status.specs.declared.status.Word.TheVariants as word;
 
 use duct_base::status::{Event, Word};
 use duct_base::system::{ExitStatus, Said, Side};
 
 /// The first ending that was told of a command.
 fn first_ending(command: usize, events: &[Event]) -> Option<ExitStatus>
-    ensures { result ≡ first_ending (words_of_command command (map notice_of events.now)) }
+    ensures { result ≡ first_ending (words_of_command command (map event_view events.now)) }
 {
     for event in events {
         if let Event::Command(at, Word::Ended(status)) = event
@@ -24,7 +24,7 @@ fn first_ending(command: usize, events: &[Event]) -> Option<ExitStatus>
 
 /// The last word that was told of a command, and `Running` where there was none.
 fn last_word(command: usize, events: &[Event]) -> Word
-    ensures { result ≡ last_or word.Running (words_of_command command (map notice_of events.now)) }
+    ensures { result ≡ last_or word.Running (words_of_command command (map event_view events.now)) }
 {
     let mut last = Word::Running;
     for event in events {
@@ -39,7 +39,7 @@ fn last_word(command: usize, events: &[Event]) -> Word
 
 /// The latest word of a command: its first ending, else its last word, else `Running`.
 pub fn latest_of_command(command: usize, events: &[Event]) -> Word
-    ensures { result ≡ latest_of_command command (map notice_of events.now) }
+    ensures { result ≡ latest_of_command command (map event_view events.now) }
 {
     match first_ending(command, events) {
         Some(status) => Word::Ended(status),
@@ -49,7 +49,7 @@ pub fn latest_of_command(command: usize, events: &[Event]) -> Word
 
 /// The latest word of an input worker: its first `Done` or `Fault`, else `Running`.
 pub fn latest_of_input(input: usize, events: &[Event]) -> Said<()>
-    ensures { result ≡ latest_of_input input (map notice_of events.now) }
+    ensures { result ≡ latest_of_input input (map event_view events.now) }
 {
     for event in events {
         if let Event::Input(at, said) = event
@@ -67,7 +67,7 @@ pub fn latest_of_input(input: usize, events: &[Event]) -> Said<()>
 
 /// The latest word of the capture worker of a stream: its first `Done` or `Fault`, else `Running`.
 pub fn latest_of_drain(side: Side, events: &[Event]) -> Said<&[u8]>
-    ensures { lent_bytes result ≡ latest_of_drain side (map notice_of events.now) }
+    ensures { lent_bytes result ≡ latest_of_drain side (map event_view events.now) }
 {
     for event in events {
         if let Event::Drain(of, said) = event

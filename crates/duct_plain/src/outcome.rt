@@ -1,14 +1,12 @@
 //! What a list of events comes to.
 ghost use Rattle.std.specs.Prelude.{◌≡◌, ◌+◌, ◌^◌, ◌<◌, [], ◌∷◌, map, if◌then◌else◌, Some};
-ghost use Rattle.duct_base.specs.Bytes.{lent_bytes};
-ghost use Rattle.duct_base.specs.Latest.{latest_of_command, latest_of_drain};
-ghost use Rattle.duct_base.specs.Notice.{notice_of};
-ghost use Rattle.duct_base.specs.Outline.{command_count, input_count};
-ghost use Rattle.duct_base.specs.Shapes.{outline_of};
-ghost use Rattle.duct_base.specs.Verdict.{command_said, first_fault, some_runs, ended, finished, verdict, with_bytes};
-ghost use Rattle.duct_base.specs.Words.{words_told};
-ghost use Rattle.duct_base.specs.declared.system.Said.TheVariants as said;
-ghost use Rattle.duct_plain.specs.Outcome.{outcome_of};
+ghost use Rattle.duct_status.specs.Bytes.{lent_bytes};
+ghost use Rattle.duct_status.specs.Latest.{latest_of_command, latest_of_drain, latest_told};
+ghost use Rattle.duct_status.specs.EventView.{event_view};
+ghost use Rattle.duct_status.specs.ShapeView.{command_count, input_count, shape_view};
+ghost use Rattle.duct_status.specs.Outcome.{command_said, first_fault, some_runs, ended, finished, outcome, with_bytes};
+ghost use Rattle.duct_system.specs.declared.system.Said.TheVariants as said;
+ghost use Rattle.duct_plain.specs.Outcome.{outcome_view};
 ghost use Rattle.duct_plain.specs.TreeOrder.{told_in_order};
 
 use crate::count::{count_commands, count_inputs};
@@ -26,7 +24,7 @@ pub enum Outcome<'a> {
 
 /// The latest word of a command as that of a worker.
 fn said_by(command: usize, events: &[Event]) -> Said<()>
-    ensures { result ≡ command_said (Some (latest_of_command command (map notice_of events.now))) }
+    ensures { result ≡ command_said (Some (latest_of_command command (map event_view events.now))) }
 {
     match latest_of_command(command, events) {
         Word::Running => Said::Running,
@@ -53,11 +51,11 @@ fn runs(said: Said<()>) -> bool
 }
 
 /// The first fault in tree order, of a part of a shape whose first command and first input worker have these numbers.
-#[tactic(auto, using(duct_base::proofs::Looks::fault_append))]
+#[tactic(auto, using(duct_status::proofs::Looks::fault_append))]
 fn first_fault(shape: &Shape, command: usize, input: usize, events: &[Event]) -> Option<Fault>
-    requires commands { command + command_count (outline_of shape.now) < 2 ^ 64 }
-    requires inputs { input + input_count (outline_of shape.now) < 2 ^ 64 }
-    ensures { result ≡ first_fault (told_in_order (outline_of shape.now) command input (map notice_of events.now)) }
+    requires commands { command + command_count (shape_view shape.now) < 2 ^ 64 }
+    requires inputs { input + input_count (shape_view shape.now) < 2 ^ 64 }
+    ensures { result ≡ first_fault (told_in_order (shape_view shape.now) command input (map event_view events.now)) }
 {
     match shape {
         Shape::Command(_) => fault_of(said_by(command, events)),
@@ -76,11 +74,11 @@ fn first_fault(shape: &Shape, command: usize, input: usize, events: &[Event]) ->
 }
 
 /// Whether something runs, in a part of a shape whose first command and first input worker have these numbers.
-#[tactic(auto, using(duct_base::proofs::Looks::runs_append))]
+#[tactic(auto, using(duct_status::proofs::Looks::runs_append))]
 fn some_runs(shape: &Shape, command: usize, input: usize, events: &[Event]) -> bool
-    requires commands { command + command_count (outline_of shape.now) < 2 ^ 64 }
-    requires inputs { input + input_count (outline_of shape.now) < 2 ^ 64 }
-    ensures { result ≡ some_runs (told_in_order (outline_of shape.now) command input (map notice_of events.now)) }
+    requires commands { command + command_count (shape_view shape.now) < 2 ^ 64 }
+    requires inputs { input + input_count (shape_view shape.now) < 2 ^ 64 }
+    ensures { result ≡ some_runs (told_in_order (shape_view shape.now) command input (map event_view events.now)) }
 {
     match shape {
         Shape::Command(_) => runs(said_by(command, events)),
@@ -102,7 +100,7 @@ fn some_runs(shape: &Shape, command: usize, input: usize, events: &[Event]) -> b
 
 /// The word of the capture worker of a stream; without one no bytes are captured.
 fn captured(is_there: bool, side: Side, events: &[Event]) -> Said<&[u8]>
-    ensures { lent_bytes result ≡ (if is_there then latest_of_drain side (map notice_of events.now) else said.Done []) }
+    ensures { lent_bytes result ≡ (if is_there then latest_of_drain side (map event_view events.now) else said.Done []) }
 {
     if is_there {
         latest_of_drain(side, events)
@@ -118,7 +116,7 @@ fn decide<'a>(
     output: Said<&'a [u8]>,
     error: Said<&'a [u8]>,
 ) -> Outcome<'a>
-    ensures { outcome_of result ≡ ended fault runs (with_bytes (lent_bytes output.entry) (λ out. with_bytes (lent_bytes error.entry) (λ err. finished out err))) }
+    ensures { outcome_view result ≡ ended fault runs (with_bytes (lent_bytes output.entry) (λ out. with_bytes (lent_bytes error.entry) (λ err. finished out err))) }
 {
     if let Some(fault) = fault {
         return Outcome::Fault(fault);
@@ -138,9 +136,9 @@ fn decide<'a>(
 /// What the events come to: the first fault in tree order, else whether something runs, else what stdout's capture worker
 /// says, then stderr's.
 pub fn outcome_of_events<'a>(shape: &Shape, drains: Drains, events: &'a [Event]) -> Outcome<'a>
-    requires commands { command_count (outline_of shape.now) < 2 ^ 64 }
-    requires inputs { input_count (outline_of shape.now) < 2 ^ 64 }
-    ensures { outcome_of result ≡ verdict (outline_of shape.now) (words_told (outline_of shape.now) drains (map notice_of events.now)) }
+    requires commands { command_count (shape_view shape.now) < 2 ^ 64 }
+    requires inputs { input_count (shape_view shape.now) < 2 ^ 64 }
+    ensures { outcome_view result ≡ outcome (shape_view shape.now) (latest_told (shape_view shape.now) drains (map event_view events.now)) }
 {
     let fault = first_fault(shape, 0, 0, events);
     let runs = some_runs(shape, 0, 0, events);

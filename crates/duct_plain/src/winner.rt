@@ -1,9 +1,8 @@
 //! The command whose status stands for the whole, found by comparing each two.
 ghost use Rattle.std.specs.Prelude.{◌≡◌, ◌+◌, ◌<◌, ◌≤◌, length, slice_get};
-ghost use Rattle.duct_base.specs.Endings.{Way, endings_of, status_of};
-ghost use Rattle.duct_base.specs.Outline.{command_count};
-ghost use Rattle.duct_base.specs.Shapes.{outline_of};
-ghost use Rattle.duct_base.specs.Winner.{Beats, IsWinner, LeftBeats, RightBeats, level};
+ghost use Rattle.duct_status.specs.Endings.{Way, endings_of, status_of};
+ghost use Rattle.duct_status.specs.ShapeView.{command_count, shape_view};
+ghost use Rattle.duct_status.specs.Winner.{Beats, IsWinner, LeftBeats, RightBeats, level};
 ghost use Rattle.duct_plain.specs.Numbered.{BeatsAll, Tells, number_at, way_at};
 
 use crate::count::count_commands;
@@ -25,8 +24,8 @@ fn status_by(words: &[Word], command: usize) -> ExitStatus
 /// for any other failure. The part's first command has the word `first`, and its commands are counted from there.
 #[tactic(auto, using(crate::proofs::Numbers::level_left, crate::proofs::Numbers::level_right))]
 fn level(shape: &Shape, words: &[Word], first: usize, at: usize) -> u8
-    requires { first + command_count (outline_of shape.now) ≤ length words.now }
-    ensures { let t = endings_of (outline_of shape.now) first words.now in result ≡ level t (way_at t at) }
+    requires { first + command_count (shape_view shape.now) ≤ length words.now }
+    ensures { let t = endings_of (shape_view shape.now) first words.now in result ≡ level t (way_at t at) }
 {
     match shape {
         Shape::Command(_) => {
@@ -65,8 +64,8 @@ fn right_beats(b: u8, a: u8) -> bool
 
 /// Whether one command beats another, of a part of a shape: decided at the pipe where they part, by their levels below it.
 fn beats(shape: &Shape, words: &[Word], first: usize, one: usize, other: usize) -> bool
-    requires { first + command_count (outline_of shape.now) ≤ length words.now }
-    ensures { let t = endings_of (outline_of shape.now) first words.now in Tells result (Beats t (way_at t one) (way_at t other)) }
+    requires { first + command_count (shape_view shape.now) ≤ length words.now }
+    ensures { let t = endings_of (shape_view shape.now) first words.now in Tells result (Beats t (way_at t one) (way_at t other)) }
 {
     match shape {
         Shape::Command(_) => false,
@@ -93,9 +92,9 @@ fn beats(shape: &Shape, words: &[Word], first: usize, one: usize, other: usize) 
 
 /// Whether a command beats each other one, of a shape with so many commands.
 fn beats_all(shape: &Shape, words: &[Word], count: usize, one: usize) -> bool
-    requires fits { command_count (outline_of shape.now) ≤ length words.now }
-    requires count { count ≡ command_count (outline_of shape.now) }
-    ensures { Tells result (BeatsAll (endings_of (outline_of shape.now) 0 words.now) one) }
+    requires fits { command_count (shape_view shape.now) ≤ length words.now }
+    requires count { count ≡ command_count (shape_view shape.now) }
+    ensures { Tells result (BeatsAll (endings_of (shape_view shape.now) 0 words.now) one) }
 {
     for other in 0..count {
         if other != one && !beats(shape, words, 0, one, other) {
@@ -107,8 +106,8 @@ fn beats_all(shape: &Shape, words: &[Word], count: usize, one: usize) -> bool
 
 /// The number of the winning command of a shape whose commands ended by these words: it beats each other one.
 pub fn winner(shape: &Shape, words: &[Word]) -> usize
-    requires { command_count (outline_of shape.now) ≤ length words.now }
-    ensures { let t = endings_of (outline_of shape.now) 0 words.now in (way : Way t) × (number_at t way ≡ result) × IsWinner t way }
+    requires { command_count (shape_view shape.now) ≤ length words.now }
+    ensures { let t = endings_of (shape_view shape.now) 0 words.now in (way : Way t) × (number_at t way ≡ result) × IsWinner t way }
 {
     let count = count_commands(shape);
     for one in 0..count {

@@ -1,10 +1,10 @@
 -- What the tree asks for a command, put together of its spec and its streams.
 use Rattle.std.specs.Prelude.{ℕ, List, map}
 use Rattle.std.proofs.Common.{◌≡◌, refl, sym, subst}
-use Rattle.duct_base.specs.Line.{Line}
-use Rattle.duct_base.specs.Spec.{Vars}
-use Rattle.duct_base.specs.Streams.{stream_of}
-use Rattle.duct_base.specs.declared.spec.Stream.TheVariants.{In, Out, Err}
+use Rattle.duct_system.specs.EntryView.{EntryView}
+use Rattle.duct_system.specs.SpecView.{Vars}
+use Rattle.duct_system.specs.Streams.{stream_of}
+use Rattle.duct_system.specs.declared.spec.Stream.TheVariants.{In, Out, Err}
 use Rattle.duct.specs.Asked.{IsAsked, stream_to, streams_to}
 use Rattle.duct.specs.Follows.{pairs_in, program_at}
 use Rattle.duct.specs.Found.{Found}
@@ -12,18 +12,18 @@ use Rattle.duct_plan.specs.AskedOf.{IsAskedThere}
 use Rattle.duct_plan.specs.declared.asked.Wired.{Wired}
 use Rattle.duct_plain.specs.Source.{origin_of}
 
-pub asked_there : {E H : Type 0} (lines : List Line) (number_of : E → ℕ) (place : ℕ) (found : Found E H) (words : List (List ℕ)) (pairs : Vars) (program : List ℕ) (answer : Wired) →
-    pairs ≡ pairs_in lines → program ≡ program_at lines place found words → IsAsked pairs program found words answer.spec →
-    map (stream_of origin_of) answer.streams ≡ streams_to lines number_of found → IsAskedThere lines number_of place found words answer
-asked_there lines number_of place found words pairs program answer pairs_are program_is spec_is streams_are = (
+pub asked_there : {E H : Type 0} (entries : List EntryView) (number_of : E → ℕ) (place : ℕ) (found : Found E H) (words : List (List ℕ)) (pairs : Vars) (program : List ℕ) (answer : Wired) →
+    pairs ≡ pairs_in entries → program ≡ program_at entries place found words → IsAsked pairs program found words answer.spec →
+    map (stream_of origin_of) answer.streams ≡ streams_to entries number_of found → IsAskedThere entries number_of place found words answer
+asked_there entries number_of place found words pairs program answer pairs_are program_is spec_is streams_are = (
   record {
     spec = answer.spec;
-    input = stream_to lines number_of In found.input;
-    output = stream_to lines number_of Out found.output;
-    error = stream_to lines number_of Err found.error;
+    input = stream_to entries number_of In found.input;
+    output = stream_to entries number_of Out found.output;
+    error = stream_to entries number_of Err found.error;
   },
   record {
-    spec_is = subst (λ (ps : Vars). IsAsked ps (program_at lines place found words) found words answer.spec) pairs_are
+    spec_is = subst (λ (ps : Vars). IsAsked ps (program_at entries place found words) found words answer.spec) pairs_are
         (subst (λ (p : List ℕ). IsAsked pairs p found words answer.spec) program_is spec_is);
     streams_are = refl;
   },

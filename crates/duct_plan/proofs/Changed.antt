@@ -12,8 +12,8 @@ use Rattle.std.specs.Ordering.{nat_cmp, is_eq}
 use Rattle.std.specs.String.{string_cmp}
 use Rattle.std.proofs.Common.{◌≡◌, ◌+◌, ◌<◌, ◌++◌, length, take, get_or, refl, ap, sym, ◌∙◌, subst}
 use Rattle.std.proofs.lemmas.List.{map-append, take_more}
-use Rattle.duct_base.proofs.Entries.{insert_texts, remove_texts}
-use Rattle.duct_base.specs.Spec.{Vars, pair_text, same_name, value_of, without_var}
+use Rattle.duct_system.proofs.Entries.{insert_texts, remove_texts}
+use Rattle.duct_system.specs.SpecView.{Vars, pair_text, same_name, value_of, without_var}
 use Rattle.duct.proofs.Environments.{same_name-is, same_name-refl, value_of-insert, names_ascend, last_values-more}
 use Rattle.duct.specs.LastValues.{last_values}
 use Rattle.duct.specs.Found.{Sets, Removes, Replaces}

@@ -1,7 +1,7 @@
 -- What the code answers of the spec and the streams that a tree asks for a command.
 use Rattle.std.specs.Prelude.{ℕ, ◌<◌, ◌≤◌, List, [], ◌∷◌, ◌≡◌, length, map, slice_get, Some}
-use Rattle.duct_base.specs.Line.{Line}
-use Rattle.duct_base.specs.Streams.{stream_of}
+use Rattle.duct_system.specs.EntryView.{EntryView}
+use Rattle.duct_system.specs.Streams.{stream_of}
 use Rattle.duct.specs.Chain.{Wired}
 use Rattle.duct.specs.Follows.{IsAskedAt}
 use Rattle.duct.specs.Found.{Found}
@@ -19,16 +19,16 @@ pub record IsAnswered (wired : Wired) (asked : answer.Wired) : Type 0 where
   pub streams_are : wired.input ∷ wired.output ∷ wired.error ∷ [] ≡ map (stream_of origin_of) asked.streams
 
 -- the answer is what the tree asks for the command whose spawn stands at this place, with this found outwards and these words
-abbrev pub IsAskedThere : {E H : Type 0} → List Line → (E → ℕ) → ℕ → Found E H → List (List ℕ) → answer.Wired → Type 0
-IsAskedThere lines number_of place found words asked = (wired : Wired) × IsAskedAt lines number_of place found words wired × IsAnswered wired asked
+abbrev pub IsAskedThere : {E H : Type 0} → List EntryView → (E → ℕ) → ℕ → Found E H → List (List ℕ) → answer.Wired → Type 0
+IsAskedThere entries number_of place found words asked = (wired : Wired) × IsAskedAt entries number_of place found words wired × IsAnswered wired asked
 
 -- the answer is what the tree asks for the i-th command of the plan, up to whose spawn the trace comes
-abbrev pub IsAskedOf : {E H : Type 0} → List Line → Plan E H → (E → ℕ) → ℕ → answer.Wired → Type 0
-IsAskedOf {E} {H} lines plan number_of i asked =
+abbrev pub IsAskedOf : {E H : Type 0} → List EntryView → Plan E H → (E → ℕ) → ℕ → answer.Wired → Type 0
+IsAskedOf {E} {H} entries plan number_of i asked =
     (place : ℕ) × (found : Found E H) × (words : List (List ℕ)) × IsCommandAt i plan.items place × (slice_get plan.items place ≡ Some (AskSpawn found words))
-    × (place ≤ length lines) × IsAskedThere lines number_of place found words asked
+    × (place ≤ length entries) × IsAskedThere entries number_of place found words asked
 
 -- an error that is no want of memory comes where the trace ends before the spawn of the i-th command
-abbrev pub EndsBefore : {E H : Type 0} → List Line → Plan E H → ℕ → AskedError → Type 0
-EndsBefore lines plan i TraceTooShort = (place : ℕ) × IsCommandAt i plan.items place × (length lines < place)
-EndsBefore lines plan i Memory = Unit {0}
+abbrev pub EndsBefore : {E H : Type 0} → List EntryView → Plan E H → ℕ → AskedError → Type 0
+EndsBefore entries plan i TraceTooShort = (place : ℕ) × IsCommandAt i plan.items place × (length entries < place)
+EndsBefore entries plan i Memory = Unit {0}

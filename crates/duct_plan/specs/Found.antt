@@ -2,7 +2,7 @@
 use Rattle.std.specs.Prelude.{ℕ, List, ◌∷◌, ◌≡◌, map, Some, None}
 use Rattle.std.specs.Borrow.{Bor}
 use Rattle.std.specs.Option.{option_copied}
-use Rattle.duct_base.specs.Spec.{Vars, pair_text}
+use Rattle.duct_system.specs.SpecView.{Vars, pair_text}
 use Rattle.duct.specs.Found as outwards
 use Rattle.duct.specs.Found.{variable}
 use Rattle.duct_plan.specs.declared.found.Change.{Change}

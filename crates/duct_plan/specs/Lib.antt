@@ -1,7 +1,7 @@
 pub mod AskedOf
 pub mod Commands
+pub mod EntryViews
 pub mod Found
-pub mod Lines
 pub mod PlanView
 pub mod Step
 pub mod Variables

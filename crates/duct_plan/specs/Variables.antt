@@ -3,7 +3,7 @@ use Rattle.std.specs.Prelude.{ℕ, List, ◌∷◌, ◌≡◌, map}
 use Rattle.std.specs.Cmp.Lexicographic.{slice_cmp}
 use Rattle.std.specs.List.Sorted.{IsStrictlySortedBy}
 use Rattle.std.specs.Ordering.{nat_cmp}
-use Rattle.duct_base.specs.Spec.{Vars, value_of}
+use Rattle.duct_system.specs.SpecView.{Vars, value_of}
 use Rattle.duct.specs.Found.{Change, variable}
 
 -- each name has the value that is found outwards, and stands there once and in order

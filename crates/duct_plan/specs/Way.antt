@@ -2,8 +2,7 @@
 use Rattle.std.specs.Prelude.{List, map}
 use Rattle.duct.specs.Path as path
 use Rattle.duct.specs.Path.{Path}
-use Rattle.duct.specs.Tree.{stdout_capture}
-use Rattle.duct.specs.TreeOf.{layer_of}
+use Rattle.duct.specs.TreeView.{stdout_capture, modifier_view}
 use Rattle.duct_plan.specs.declared.way.Crumb.{Crumb}
 use Rattle.duct_plan.specs.declared.way.Crumb.TheVariants.{LeftOf, RightOf, Within, Captured}
 
@@ -11,7 +10,7 @@ use Rattle.duct_plan.specs.declared.way.Crumb.TheVariants.{LeftOf, RightOf, With
 abbrev pub crumb_of : {E H : Type 0} → Crumb E H → path.Crumb E H
 crumb_of (LeftOf place) = path.left_of place
 crumb_of (RightOf place) = path.right_of place
-crumb_of (Within place modifier) = path.within place (layer_of modifier.now)
+crumb_of (Within place modifier) = path.within place (modifier_view modifier.now)
 crumb_of (Captured place) = path.within place stdout_capture
 
 -- the nodes round a command, the nearest first

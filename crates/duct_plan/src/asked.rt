@@ -1,13 +1,13 @@
 //! The spec and the streams that a tree asks for a command, before its hooks.
 ghost use Rattle.std.specs.Prelude.{◌≡◌, ◌≤◌, ◌↔◌, length, IsNone, IfOk, IfErr, IfSome, map, string_bytes, count_by, ◌∷◌};
 ghost use Rattle.std.specs.Option.{option_copied, option_map};
-ghost use Rattle.duct_base.specs.Spec.{pair_text};
+ghost use Rattle.duct_system.specs.SpecView.{pair_text};
 ghost use Rattle.duct.specs.Asked.{with_program, IsAsked};
 ghost use Rattle.duct.specs.Follows.{program_at};
 ghost use Rattle.duct_plan.specs.AskedOf.{IsAskedThere, IsAskedOf, EndsBefore};
 ghost use Rattle.duct_plan.specs.Commands.{is_spawn};
 ghost use Rattle.duct_plan.specs.Found.{found_of};
-ghost use Rattle.duct_plan.specs.Lines.{lines_of};
+ghost use Rattle.duct_plan.specs.EntryViews.{entry_views};
 ghost use Rattle.duct_plan.specs.PlanView.{plan_view};
 
 use crate::found::Found;
@@ -58,8 +58,8 @@ pub fn asked<E: Numbered, H>(
     i: usize,
 ) -> Result<Option<Wired>, AskedError>
     ensures none { IfOk result (λ asked. IsNone asked ↔ (count_by is_spawn (plan_view plan.now).items ≤ i)) }
-    ensures some { IfOk result (λ asked. IfSome asked (IsAskedOf (lines_of trace.now) (plan_view plan.now) E.number_of i)) }
-    ensures short { IfErr result (EndsBefore (lines_of trace.now) (plan_view plan.now) i) }
+    ensures some { IfOk result (λ asked. IfSome asked (IsAskedOf (entry_views trace.now) (plan_view plan.now) E.number_of i)) }
+    ensures short { IfErr result (EndsBefore (entry_views trace.now) (plan_view plan.now) i) }
 {
     let Some(place) = plan.command(i) else {
         return Ok(None);
@@ -83,7 +83,7 @@ pub fn asked_at<E: Numbered, H>(
     words: &[String],
 ) -> Result<Wired, AllocError>
     requires { place ≤ length trace.now }
-    ensures { IfOk result (IsAskedThere (lines_of trace.now) E.number_of place (found_of found.now) (map string_bytes words.now)) }
+    ensures { IfOk result (IsAskedThere (entry_views trace.now) E.number_of place (found_of found.now) (map string_bytes words.now)) }
 {
     let program = program_at(trace, place, found, words);
     let spec = spec(alloc, pairs_in(trace), program, found, words)?;
@@ -98,7 +98,7 @@ fn program_at<'t, E, H>(
     found: &Found<'_, E, H>,
     words: &'t [String],
 ) -> &'t str
-    ensures { result.now ≡ program_at (lines_of trace.now) place (found_of found.now) (map string_bytes words.now) }
+    ensures { result.now ≡ program_at (entry_views trace.now) place (found_of found.now) (map string_bytes words.now) }
 {
     if is_canonical(found, words) {
         text_at(trace, place.saturating_sub(1))

@@ -1,7 +1,7 @@
 //! What a command finds on its way outwards: its folder, the changes of variables, where its streams go, and its hooks.
 ghost use Rattle.std.specs.Prelude.{◌≡◌, map, reverse};
 ghost use Rattle.std.specs.Option.{option_copied};
-ghost use Rattle.duct_base.specs.Spec.{pair_text, same_name, value_of};
+ghost use Rattle.duct_system.specs.SpecView.{pair_text, same_name, value_of};
 ghost use Rattle.duct.specs.Found.{variable};
 ghost use Rattle.duct_plan.specs.Found.{change_of, Decides};
 

@@ -1,7 +1,7 @@
 //! What a start asks of the system, made from the tree alone.
 ghost use Rattle.std.specs.Prelude.{◌≡◌, IfOk, map, string_bytes};
 ghost use Rattle.duct.specs.Plan.{asks, captures_out, captures_err, opened, place_for, closed, program_of, is_canonical, commanded, planned, begun, drains, reads, plan_of, plan_of_reader};
-ghost use Rattle.duct.specs.TreeOf.{tree_of_node, tree_of};
+ghost use Rattle.duct.specs.TreeView.{node_view, tree_view};
 ghost use Rattle.duct_plan.specs.Found.{found_of};
 ghost use Rattle.duct_plan.specs.PlanView.{item_of, plan_view};
 ghost use Rattle.duct_plan.specs.Step.{opening_of, closing_of};
@@ -22,7 +22,7 @@ pub fn plan<'t, E: Drop, H: Drop>(
     alloc: Global,
     expression: &'t Expression<E, H>,
 ) -> Result<Plan<'t, E, H>, AllocError>
-    ensures { IfOk result (λ plan. plan_view plan ≡ plan_of (tree_of expression.now)) }
+    ensures { IfOk result (λ plan. plan_view plan ≡ plan_of (tree_view expression.now)) }
 {
     let plan = planned(alloc, &[], expression.root(), begun(alloc)?)?;
     let (out, err) = (plan.out, plan.err);
@@ -35,7 +35,7 @@ pub fn plan_of_reader<'t, E: Drop, H: Drop>(
     alloc: Global,
     expression: &'t Expression<E, H>,
 ) -> Result<Plan<'t, E, H>, AllocError>
-    ensures { IfOk result (λ plan. plan_view plan ≡ plan_of_reader (tree_of expression.now)) }
+    ensures { IfOk result (λ plan. plan_view plan ≡ plan_of_reader (tree_view expression.now)) }
 {
     let begun = begun(alloc)?;
     let place = begun.items.len();
@@ -150,7 +150,7 @@ fn planned<'t, E: Drop, H: Drop>(
     node: &'t Node<E, H>,
     plan: Plan<'t, E, H>,
 ) -> Result<Plan<'t, E, H>, AllocError>
-    ensures { IfOk result (λ after. plan_view after ≡ planned (way_of way.now) (tree_of_node node.now) (plan_view plan.entry)) }
+    ensures { IfOk result (λ after. plan_view after ≡ planned (way_of way.now) (node_view node.now) (plan_view plan.entry)) }
 {
     match node {
         Node::Cmd(words) => commanded(found_on(alloc, way)?, words.as_slice(), plan),

@@ -1,7 +1,7 @@
 //! What one node of a tree does: what it asks, how it turns streams, and what it says of folder, variables and hooks.
 ghost use Rattle.std.specs.Prelude.{◌≡◌, Some};
 ghost use Rattle.duct.specs.Step.{step};
-ghost use Rattle.duct.specs.TreeOf.{layer_of};
+ghost use Rattle.duct.specs.TreeView.{modifier_view};
 ghost use Rattle.duct_plan.specs.Step.{idle, IsStep};
 
 use crate::found::Change;
@@ -113,7 +113,7 @@ fn changing<'t, E, H>(change: Change<'t>) -> Step<'t, E, H>
 
 /// Each kind of node round one expression.
 pub(crate) fn modifier_step<'t, E, H>(modifier: &'t Modifier<E, H>) -> Step<'t, E, H>
-    ensures { IsStep (step (layer_of modifier.now)) result }
+    ensures { IsStep (step (modifier_view modifier.now)) result }
 {
     match modifier {
         Modifier::StdinBytes(bytes) => Step {

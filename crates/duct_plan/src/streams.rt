@@ -1,9 +1,9 @@
 //! Where the streams of a command come from.
 ghost use Rattle.std.specs.Prelude.{◌≡◌, map};
-ghost use Rattle.duct_base.specs.Streams.{stream_of};
+ghost use Rattle.duct_system.specs.Streams.{stream_of};
 ghost use Rattle.duct.specs.Asked.{port_to, stream_to, streams_to};
 ghost use Rattle.duct_plan.specs.Found.{target_of, found_of};
-ghost use Rattle.duct_plan.specs.Lines.{lines_of};
+ghost use Rattle.duct_plan.specs.EntryViews.{entry_views};
 ghost use Rattle.duct_plain.specs.Source.{origin_of};
 
 use crate::found::{Found, Target};
@@ -32,7 +32,7 @@ pub(crate) fn port_to<E>(stream: Stream, target: Target<'_, E>) -> Port
 
 /// Where a stream that goes there comes from.
 fn stream_to<E: Numbered>(trace: &[&Entry], stream: Stream, target: Target<'_, E>) -> Stdio<Source>
-    ensures { stream_of origin_of result ≡ stream_to (lines_of trace.now) E.number_of stream (target_of target.entry) }
+    ensures { stream_of origin_of result ≡ stream_to (entry_views trace.now) E.number_of stream (target_of target.entry) }
 {
     match target {
         Target::Parents(parents) => match (stream, parents) {
@@ -56,7 +56,7 @@ pub(crate) fn streams_to<E: Numbered, H>(
     trace: &[&Entry],
     found: &Found<'_, E, H>,
 ) -> [Stdio<Source>; 3]
-    ensures { map (stream_of origin_of) result ≡ streams_to (lines_of trace.now) E.number_of (found_of found.now) }
+    ensures { map (stream_of origin_of) result ≡ streams_to (entry_views trace.now) E.number_of (found_of found.now) }
 {
     [
         stream_to(trace, Stream::In, found.input),

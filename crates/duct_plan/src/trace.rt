@@ -1,17 +1,17 @@
 //! What the trace of a start says: the variables that the system answered, the texts of canonical names, and the numbers of ends.
 ghost use Rattle.std.specs.Prelude.{◌≡◌, [], ◌∷◌, map, Some, slice_get, slice_index};
-ghost use Rattle.duct_base.specs.Entry.{line_of};
-ghost use Rattle.duct_base.specs.Ledger.{got_by};
-ghost use Rattle.duct_base.specs.Spec.{pair_text};
+ghost use Rattle.duct_system.specs.EntryView.{entry_view};
+ghost use Rattle.duct_system.specs.Ledger.{got_by};
+ghost use Rattle.duct_system.specs.SpecView.{pair_text};
 ghost use Rattle.duct.specs.Asked.{end_at};
 ghost use Rattle.duct.specs.Follows.{pairs_in, text_in};
-ghost use Rattle.duct_plan.specs.Lines.{lines_of};
+ghost use Rattle.duct_plan.specs.EntryViews.{entry_views};
 
 use duct::Entry;
 
 /// The variables that the system answered, at the front of the trace.
 pub(crate) fn pairs_in<'t>(trace: &[&'t Entry]) -> &'t [(String, String)]
-    ensures { map pair_text result.now ≡ pairs_in (lines_of trace.now) }
+    ensures { map pair_text result.now ≡ pairs_in (entry_views trace.now) }
 {
     match trace.split_first() {
         None => &[],
@@ -21,7 +21,7 @@ pub(crate) fn pairs_in<'t>(trace: &[&'t Entry]) -> &'t [(String, String)]
 
 /// The variables that an entry answered.
 fn pairs_of(entry: &Entry) -> &[(String, String)]
-    ensures { map pair_text result.now ≡ pairs_in (line_of entry.now ∷ []) }
+    ensures { map pair_text result.now ≡ pairs_in (entry_view entry.now ∷ []) }
 {
     match entry {
         Entry::Environment(Ok(pairs)) => pairs.as_slice(),
@@ -31,7 +31,7 @@ fn pairs_of(entry: &Entry) -> &[(String, String)]
 
 /// The text that the entry at this place answered a canonical name with.
 pub(crate) fn text_at<'t>(trace: &[&'t Entry], place: usize) -> &'t str
-    ensures { result.now ≡ text_in (slice_get (lines_of trace.now) place) }
+    ensures { result.now ≡ text_in (slice_get (entry_views trace.now) place) }
 {
     match trace.get(place) {
         None => "",
@@ -41,7 +41,7 @@ pub(crate) fn text_at<'t>(trace: &[&'t Entry], place: usize) -> &'t str
 
 /// The text that an entry answered a canonical name with.
 fn text_of(entry: &Entry) -> &str
-    ensures { result.now ≡ text_in (Some (line_of entry.now)) }
+    ensures { result.now ≡ text_in (Some (entry_view entry.now)) }
 {
     match entry {
         Entry::Canonicalize(_, Ok(text)) => text.as_str(),
@@ -51,7 +51,7 @@ fn text_of(entry: &Entry) -> &str
 
 /// The number of the first end that the entry at this place got: of a pipe the read end. It is 0 where no such end was got.
 pub fn first_end(trace: &[&Entry], place: usize) -> u64
-    ensures { result ≡ end_at (lines_of trace.now) place 0 }
+    ensures { result ≡ end_at (entry_views trace.now) place 0 }
 {
     match trace.get(place) {
         None => 0,
@@ -61,7 +61,7 @@ pub fn first_end(trace: &[&Entry], place: usize) -> u64
 
 /// The number of the second end that the entry at this place got: of a pipe the write end. It is 0 where no such end was got.
 pub fn second_end(trace: &[&Entry], place: usize) -> u64
-    ensures { result ≡ end_at (lines_of trace.now) place 1 }
+    ensures { result ≡ end_at (entry_views trace.now) place 1 }
 {
     match trace.get(place) {
         None => 0,
@@ -71,7 +71,7 @@ pub fn second_end(trace: &[&Entry], place: usize) -> u64
 
 /// The number of the first end that an entry got, or 0.
 fn first_of(entry: &Entry) -> u64
-    ensures { result ≡ slice_index (got_by (line_of entry.now)) 0 }
+    ensures { result ≡ slice_index (got_by (entry_view entry.now)) 0 }
 {
     match entry {
         Entry::Pipe(Ok((reader, _))) => *reader,
@@ -85,7 +85,7 @@ fn first_of(entry: &Entry) -> u64
 
 /// The number of the second end that an entry got, or 0.
 fn second_of(entry: &Entry) -> u64
-    ensures { result ≡ slice_index (got_by (line_of entry.now)) 1 }
+    ensures { result ≡ slice_index (got_by (entry_view entry.now)) 1 }
 {
     match entry {
         Entry::Pipe(Ok((_, writer))) => *writer,

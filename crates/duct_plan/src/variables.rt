@@ -5,7 +5,7 @@ ghost use Rattle.std.specs.Cmp.Lexicographic.{slice_cmp};
 ghost use Rattle.std.specs.List.Sorted.{IsStrictlySortedBy};
 ghost use Rattle.std.specs.Ordering.{nat_cmp};
 ghost use Rattle.std.specs.String.{string_cmp};
-ghost use Rattle.duct_base.specs.Spec.{pair_text, value_of};
+ghost use Rattle.duct_system.specs.SpecView.{pair_text, value_of};
 ghost use Rattle.duct_plan.specs.Found.{change_of};
 ghost use Rattle.duct_plan.specs.Variables.{AreFound, Changes};
 

@@ -10,5 +10,5 @@ pub mod rows;
 mod streams;
 pub mod texts;
 mod traces;
-pub mod verdicts;
+pub mod checks;
 mod words;

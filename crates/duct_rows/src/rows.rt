@@ -18,7 +18,7 @@ use crate::expressions::{Tree, written};
 use crate::journals::journal;
 use crate::texts::{Find, TestPlan, found_text, items_text, places_text, plan_text};
 use crate::traces::entries;
-use crate::verdicts::{answered, caused, followed};
+use crate::checks::{answered, caused, followed};
 use crate::words::owned_pairs;
 use duct::Entry;
 use duct_plan::plan::{plan, plan_of_reader};

@@ -1,9 +1,9 @@
 -- No change of a hook gives a stream an end.
 use Rattle.std.proofs.Common.{List, [], ◌∷◌, ◌≡◌, refl}
-use Rattle.duct_base.specs.declared.spec.Port.TheVariants.{Given}
-use Rattle.duct_base.specs.declared.spec.Stream.{Stream}
-use Rattle.duct_base.specs.declared.spec.Stream.TheVariants.{In, Out, Err}
-use Rattle.duct_base.specs.Spec.{Spec, GivesNothing}
+use Rattle.duct_system.specs.declared.spec.Port.TheVariants.{Given}
+use Rattle.duct_system.specs.declared.spec.Stream.{Stream}
+use Rattle.duct_system.specs.declared.spec.Stream.TheVariants.{In, Out, Err}
+use Rattle.duct_system.specs.SpecView.{SpecView, GivesNothing}
 use Rattle.duct_script.specs.declared.hook.Target.{Target}
 use Rattle.duct_script.specs.declared.hook.Target.TheVariants.{Inherit, Null, Place}
 use Rattle.duct_script.specs.declared.hook.Change.{Change}
@@ -17,7 +17,7 @@ target_not_given Null is = cc
 target_not_given (Place place) is = cc
 
 -- a stream that goes to a target
-with_port_gives_nothing : (stream : Stream) (to : Target) (spec : Spec) → GivesNothing spec (with_port stream (port_to to) spec)
+with_port_gives_nothing : (stream : Stream) (to : Target) (spec : SpecView) → GivesNothing spec (with_port stream (port_to to) spec)
 with_port_gives_nothing In to spec In is = absurd (target_not_given to is)
 with_port_gives_nothing In to spec Out is = is
 with_port_gives_nothing In to spec Err is = is
@@ -29,13 +29,13 @@ with_port_gives_nothing Err to spec Out is = is
 with_port_gives_nothing Err to spec Err is = absurd (target_not_given to is)
 
 -- the streams of two specs are the same
-same_ports : (before after : Spec) → after.input ≡ before.input → after.output ≡ before.output → after.error ≡ before.error → GivesNothing before after
+same_ports : (before after : SpecView) → after.input ≡ before.input → after.output ≡ before.output → after.error ≡ before.error → GivesNothing before after
 same_ports before after input output error In is = cc
 same_ports before after input output error Out is = cc
 same_ports before after input output error Err is = cc
 
 -- one change
-change_gives_nothing : (change : Change) (spec : Spec) → GivesNothing spec (changed_by change spec)
+change_gives_nothing : (change : Change) (spec : SpecView) → GivesNothing spec (changed_by change spec)
 change_gives_nothing (Word word) spec = same_ports spec (changed_by (Word word) spec) refl refl refl
 change_gives_nothing (Var name value) spec = same_ports spec (changed_by (Var name value) spec) refl refl refl
 change_gives_nothing (NoVar name) spec = same_ports spec (changed_by (NoVar name) spec) refl refl refl
@@ -44,7 +44,7 @@ change_gives_nothing (Folder folder) spec = same_ports spec (changed_by (Folder 
 change_gives_nothing (Port stream to) spec = with_port_gives_nothing stream to spec
 
 -- all changes
-pub changes_give_nothing : (changes : List Change) (spec : Spec) → GivesNothing spec (changed changes spec)
+pub changes_give_nothing : (changes : List Change) (spec : SpecView) → GivesNothing spec (changed changes spec)
 changes_give_nothing [] spec = λ stream is. is
 changes_give_nothing (first ∷ rest) spec =
     λ stream is. change_gives_nothing first spec stream (changes_give_nothing rest (changed_by first spec) stream is)

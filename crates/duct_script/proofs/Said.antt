@@ -2,9 +2,9 @@
 use Rattle.std.specs.Prelude.{ℕ, List, ◌≡◌, IfSome, IfNone, Some, None}
 use Rattle.std.specs.Option.{unwrap_or}
 use Rattle.std.specs.declared.option.Option.{Option}
-use Rattle.duct_base.specs.Job.{SaysAgain}
-use Rattle.duct_base.specs.declared.system.Said.{Said}
-use Rattle.duct_base.specs.declared.system.Said.TheVariants.{Running, Done, Fault}
+use Rattle.duct_system.specs.Job.{SaysAgain}
+use Rattle.duct_system.specs.declared.system.Said.{Said}
+use Rattle.duct_system.specs.declared.system.Said.TheVariants.{Running, Done, Fault}
 use Rattle.duct_script.specs.Said.{Shared, SameBytes, word_of}
 
 -- one more owner of what is kept says it again, and where it was refused Running is said, which happens at bytes alone

@@ -1,7 +1,7 @@
 -- Which fault a test has set for a request.
 use Rattle.std.specs.Prelude.{ℕ, Bool, ◌==◌, ◌&&◌, List, [], ◌∷◌, Some, None, if◌then◌else◌}
 use Rattle.std.specs.declared.option.Option.{Option}
-use Rattle.duct_base.specs.declared.system.Fault.{Fault}
+use Rattle.duct_system.specs.declared.system.Fault.{Fault}
 use Rattle.duct_script.specs.declared.requests.Sort.{Sort}
 use Rattle.duct_script.specs.declared.requests.Sort.TheVariants.{Environment, Pipe, OpenRead, Create, Duplicate, Parent, Canonicalize, Spawn, Feed, Drain, Reader, Close}
 use Rattle.duct_script.specs.declared.requests.Refusal.{Refusal}

@@ -4,8 +4,8 @@ use Rattle.std.specs.declared.alloc.Global.{Global}
 use Rattle.std.specs.declared.sync.Arc.{Arc}
 use Rattle.std.specs.declared.vec.Vec.{Vec}
 use Rattle.std.specs.Arc.{arc_value}
-use Rattle.duct_base.specs.declared.system.Said.{Said}
-use Rattle.duct_base.specs.declared.system.Said.TheVariants.{Running, Done, Fault}
+use Rattle.duct_system.specs.declared.system.Said.{Said}
+use Rattle.duct_system.specs.declared.system.Said.TheVariants.{Running, Done, Fault}
 
 -- an owner of bytes that others may own too
 abbrev pub Shared : Type 0

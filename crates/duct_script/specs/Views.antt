@@ -1,7 +1,7 @@
 -- What contracts see of a scripted child, feed and drain.
 use Rattle.std.specs.Prelude.{ℕ, ◌+◌, ◌-◌, ◌^◌, min}
-use Rattle.duct_base.specs.Child.{ChildView}
-use Rattle.duct_base.specs.Job.{JobView}
+use Rattle.duct_system.specs.Child.{ChildView}
+use Rattle.duct_system.specs.Job.{JobView}
 use Rattle.duct_script.specs.Said.{Shared}
 use Rattle.duct_script.specs.declared.child.ScriptChild.{ScriptChild}
 use Rattle.duct_script.specs.declared.job.ScriptDrain.{ScriptDrain}

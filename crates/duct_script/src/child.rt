@@ -1,6 +1,6 @@
 //! The children of a scripted system.
 ghost use Rattle.std.specs.Prelude.{◌≡◌, []};
-ghost use Rattle.duct_base.specs.Child.{OrdersChild, IsUnasked};
+ghost use Rattle.duct_system.specs.Child.{OrdersChild, IsUnasked};
 ghost use Rattle.duct_script.specs.Obeying.{IsObeying};
 
 use crate::answers::Answers;

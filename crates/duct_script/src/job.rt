@@ -1,7 +1,7 @@
 //! The feeds and drains of a scripted system.
 ghost use Rattle.std.specs.Prelude.{◌≡◌, ℕ, List, IfSome, IfNone, IsTrue, ◌↔◌};
-ghost use Rattle.duct_base.specs.Job.{unpolled_job};
-ghost use Rattle.duct_base.specs.declared.system.Said.TheVariants.{Running, Done};
+ghost use Rattle.duct_system.specs.Job.{unpolled_job};
+ghost use Rattle.duct_system.specs.declared.system.Said.TheVariants.{Running, Done};
 ghost use Rattle.duct_script.specs.Said.{word_of, SameBytes};
 
 use crate::answers::Answers;

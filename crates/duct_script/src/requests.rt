@@ -1,6 +1,6 @@
 //! The requests that a scripted system was asked, counted, and the faults that a test set for some of them.
 ghost use Rattle.std.specs.Prelude.{◌≡◌, ◌<◌, ◌++◌, ◌∷◌, [], replicate, slice_index, slice_set, OnOk, OnErr};
-ghost use Rattle.duct_base.specs.Child.{one_more};
+ghost use Rattle.duct_system.specs.Child.{one_more};
 ghost use Rattle.duct_script.specs.Refusals.{place_of, fault_for};
 
 use duct_base::system::Fault;

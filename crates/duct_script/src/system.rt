@@ -1,11 +1,11 @@
 //! The scripted system.
 ghost use Rattle.std.specs.Prelude.{◌≡◌, ℕ, ◌+◌, ◌-◌, ◌^◌, ◌<◌, ◌≤◌, max, length, map, string_bytes, unwrap_or, IfOk, IfErr, IfSome, OnOk, OnErr, Ok, Err, Some, None, [], ◌∷◌, ◌++◌};
-ghost use Rattle.duct_base.specs.declared.system.Kind.TheVariants.{OutOfMemory, Other};
-ghost use Rattle.duct_base.specs.Spec.{pair_text, value_of, with_var};
+ghost use Rattle.duct_system.specs.declared.system.Kind.TheVariants.{OutOfMemory, Other};
+ghost use Rattle.duct_system.specs.SpecView.{pair_text, value_of, with_var};
 ghost use Rattle.duct_script.specs.Obeying.{IsObeying};
 ghost use Rattle.duct_script.specs.declared.child.ChildScript.{ChildScript};
-ghost use Rattle.duct_base.specs.Streams.{stream_of, end_of, ends_of};
-ghost use Rattle.duct_base.specs.Child.{one_more};
+ghost use Rattle.duct_system.specs.Streams.{stream_of, end_of, ends_of};
+ghost use Rattle.duct_system.specs.Child.{one_more};
 
 use crate::answers::Answers;
 use crate::calls::{Call, CallLog};
@@ -51,8 +51,8 @@ pub struct Script {
 }
 
 impl Script {
-    ghost use Rattle.duct_base.specs.Child.{IsUnasked};
-    ghost use Rattle.duct_base.specs.Job.{unpolled_job};
+    ghost use Rattle.duct_system.specs.Child.{IsUnasked};
+    ghost use Rattle.duct_system.specs.Job.{unpolled_job};
     ghost use Rattle.duct_script.specs.Views.{child_view, feed_view, drain_view};
 
     /// A system with no variables, whose requests are all answered Ok, and whose next number is 1.
@@ -420,10 +420,10 @@ fn numbered_streams(io: [Stdio<ScriptEnd>; 3]) -> ([Stdio<u64>; 3], usize)
 
 impl System for Script {
     ghost use Rattle.std.specs.Prelude.{◌≤◌, min, length, map, Ok, Err, IfOk, IfErr};
-    ghost use Rattle.duct_base.specs.Child.{IsUnasked};
-    ghost use Rattle.duct_base.specs.Journal.{GivesEnds, IsNew, IsRefused};
-    ghost use Rattle.duct_base.specs.Line.{Spawn};
-    ghost use Rattle.duct_base.specs.Streams.{stream_of, ends_of};
+    ghost use Rattle.duct_system.specs.Child.{IsUnasked};
+    ghost use Rattle.duct_system.specs.Journal.{GivesEnds, IsNew, IsRefused};
+    ghost use Rattle.duct_system.specs.EntryView.{Spawn};
+    ghost use Rattle.duct_system.specs.Streams.{stream_of, ends_of};
     ghost use Rattle.duct_script.specs.Views.{child_view};
     ghost use Rattle.duct_script.specs.Said.{SameBytes};
     ghost use Rattle.std.proofs.Common.{lit<};

@@ -1,11 +1,10 @@
 //! The calls that make an expression of an old one. Each adds one node, outermost, and leaves the old expression as it
 //! was. Each is refused, by `Error::Memory`, only for want of memory; what was handed in is then dropped.
 ghost use Rattle.std.specs.Prelude.{◌≡◌, map, IfOk, IsOkUnless};
-ghost use Rattle.duct_base.specs.Spec.{pair_text};
+ghost use Rattle.duct_system.specs.SpecView.{pair_text};
 ghost use Rattle.duct.specs.LastValues.{last_values};
 ghost use Rattle.duct.specs.Pairs.{pairs_of};
-ghost use Rattle.duct.specs.Tree.{pipe, around, stdin_bytes, stdin_path, stdin_file, stdin_null, stdout_path, stdout_file, stdout_null, stdout_capture, stdout_to_stderr, stderr_path, stderr_file, stderr_null, stderr_capture, stderr_to_stdout, stdout_stderr_swap, dir, env, env_remove, full_env, unchecked, before_spawn};
-ghost use Rattle.duct.specs.TreeOf.{layer_of, tree_of};
+ghost use Rattle.duct.specs.TreeView.{pipe, around, stdin_bytes, stdin_path, stdin_file, stdin_null, stdout_path, stdout_file, stdout_null, stdout_capture, stdout_to_stderr, stderr_path, stderr_file, stderr_null, stderr_capture, stderr_to_stdout, stdout_stderr_swap, dir, env, env_remove, full_env, unchecked, before_spawn, modifier_view, tree_view};
 
 use super::{Expression, Modifier, Node};
 use duct_base::error::Error;
@@ -16,7 +15,7 @@ use std::sync::Arc;
 impl<E: Drop, H: Drop> Expression<E, H> {
     // The modifier round this expression.
     fn around(&self, modifier: Modifier<E, H>) -> Result<Expression<E, H>, Error>
-        ensures tree { IfOk result (λ made. tree_of made ≡ around (layer_of modifier) (tree_of self.now)) }
+        ensures tree { IfOk result (λ made. tree_view made ≡ around (modifier_view modifier) (tree_view self.now)) }
         ensures memory { IsOkUnless result Error.Memory }
     {
         let inner = Arc::try_clone(&self.root)?;
@@ -29,7 +28,7 @@ impl<E: Drop, H: Drop> Expression<E, H> {
 
     /// A pipe: this expression's stdout goes to the stdin of the right one.
     pub fn pipe(&self, right: &Expression<E, H>) -> Result<Expression<E, H>, Error>
-        ensures tree { IfOk result (λ made. tree_of made ≡ pipe (tree_of self.now) (tree_of right.now)) }
+        ensures tree { IfOk result (λ made. tree_view made ≡ pipe (tree_view self.now) (tree_view right.now)) }
         ensures memory { IsOkUnless result Error.Memory }
     {
         let left = Arc::try_clone(&self.root)?;
@@ -43,7 +42,7 @@ impl<E: Drop, H: Drop> Expression<E, H> {
 
     /// Stdin gets these bytes, and then ends. They are written while the commands run.
     pub fn stdin_bytes(&self, bytes: Vec<u8>) -> Result<Expression<E, H>, Error>
-        ensures tree { IfOk result (λ made. tree_of made ≡ around (stdin_bytes bytes.items) (tree_of self.now)) }
+        ensures tree { IfOk result (λ made. tree_view made ≡ around (stdin_bytes bytes.items) (tree_view self.now)) }
         ensures memory { IsOkUnless result Error.Memory }
     {
         let bytes = Arc::new(self.alloc, bytes)?;
@@ -52,7 +51,7 @@ impl<E: Drop, H: Drop> Expression<E, H> {
 
     /// Stdin reads the file of this path.
     pub fn stdin_path(&self, path: &str) -> Result<Expression<E, H>, Error>
-        ensures tree { IfOk result (λ made. tree_of made ≡ around (stdin_path path.now) (tree_of self.now)) }
+        ensures tree { IfOk result (λ made. tree_view made ≡ around (stdin_path path.now) (tree_view self.now)) }
         ensures memory { IsOkUnless result Error.Memory }
     {
         let path = String::from_str(self.alloc, path)?;
@@ -61,7 +60,7 @@ impl<E: Drop, H: Drop> Expression<E, H> {
 
     /// Stdin reads this end. Each start duplicates it.
     pub fn stdin_file(&self, end: E) -> Result<Expression<E, H>, Error>
-        ensures tree { IfOk result (λ made. tree_of made ≡ around (stdin_file end) (tree_of self.now)) }
+        ensures tree { IfOk result (λ made. tree_view made ≡ around (stdin_file end) (tree_view self.now)) }
         ensures memory { IsOkUnless result Error.Memory }
     {
         self.around(Modifier::StdinFile(end))
@@ -69,7 +68,7 @@ impl<E: Drop, H: Drop> Expression<E, H> {
 
     /// Stdin is empty.
     pub fn stdin_null(&self) -> Result<Expression<E, H>, Error>
-        ensures tree { IfOk result (λ made. tree_of made ≡ around stdin_null (tree_of self.now)) }
+        ensures tree { IfOk result (λ made. tree_view made ≡ around stdin_null (tree_view self.now)) }
         ensures memory { IsOkUnless result Error.Memory }
     {
         self.around(Modifier::StdinNull)
@@ -77,7 +76,7 @@ impl<E: Drop, H: Drop> Expression<E, H> {
 
     /// Stdout writes to the file of this path, which is made or emptied.
     pub fn stdout_path(&self, path: &str) -> Result<Expression<E, H>, Error>
-        ensures tree { IfOk result (λ made. tree_of made ≡ around (stdout_path path.now) (tree_of self.now)) }
+        ensures tree { IfOk result (λ made. tree_view made ≡ around (stdout_path path.now) (tree_view self.now)) }
         ensures memory { IsOkUnless result Error.Memory }
     {
         let path = String::from_str(self.alloc, path)?;
@@ -86,7 +85,7 @@ impl<E: Drop, H: Drop> Expression<E, H> {
 
     /// Stdout writes to this end. Each start duplicates it.
     pub fn stdout_file(&self, end: E) -> Result<Expression<E, H>, Error>
-        ensures tree { IfOk result (λ made. tree_of made ≡ around (stdout_file end) (tree_of self.now)) }
+        ensures tree { IfOk result (λ made. tree_view made ≡ around (stdout_file end) (tree_view self.now)) }
         ensures memory { IsOkUnless result Error.Memory }
     {
         self.around(Modifier::StdoutFile(end))
@@ -94,7 +93,7 @@ impl<E: Drop, H: Drop> Expression<E, H> {
 
     /// What stdout writes is thrown away.
     pub fn stdout_null(&self) -> Result<Expression<E, H>, Error>
-        ensures tree { IfOk result (λ made. tree_of made ≡ around stdout_null (tree_of self.now)) }
+        ensures tree { IfOk result (λ made. tree_view made ≡ around stdout_null (tree_view self.now)) }
         ensures memory { IsOkUnless result Error.Memory }
     {
         self.around(Modifier::StdoutNull)
@@ -102,7 +101,7 @@ impl<E: Drop, H: Drop> Expression<E, H> {
 
     /// What stdout writes is kept for the caller.
     pub fn stdout_capture(&self) -> Result<Expression<E, H>, Error>
-        ensures tree { IfOk result (λ made. tree_of made ≡ around stdout_capture (tree_of self.now)) }
+        ensures tree { IfOk result (λ made. tree_view made ≡ around stdout_capture (tree_view self.now)) }
         ensures memory { IsOkUnless result Error.Memory }
     {
         self.around(Modifier::StdoutCapture)
@@ -110,7 +109,7 @@ impl<E: Drop, H: Drop> Expression<E, H> {
 
     /// Stdout goes where stderr goes outside this node.
     pub fn stdout_to_stderr(&self) -> Result<Expression<E, H>, Error>
-        ensures tree { IfOk result (λ made. tree_of made ≡ around stdout_to_stderr (tree_of self.now)) }
+        ensures tree { IfOk result (λ made. tree_view made ≡ around stdout_to_stderr (tree_view self.now)) }
         ensures memory { IsOkUnless result Error.Memory }
     {
         self.around(Modifier::StdoutToStderr)
@@ -118,7 +117,7 @@ impl<E: Drop, H: Drop> Expression<E, H> {
 
     /// Stderr writes to the file of this path, which is made or emptied.
     pub fn stderr_path(&self, path: &str) -> Result<Expression<E, H>, Error>
-        ensures tree { IfOk result (λ made. tree_of made ≡ around (stderr_path path.now) (tree_of self.now)) }
+        ensures tree { IfOk result (λ made. tree_view made ≡ around (stderr_path path.now) (tree_view self.now)) }
         ensures memory { IsOkUnless result Error.Memory }
     {
         let path = String::from_str(self.alloc, path)?;
@@ -127,7 +126,7 @@ impl<E: Drop, H: Drop> Expression<E, H> {
 
     /// Stderr writes to this end. Each start duplicates it.
     pub fn stderr_file(&self, end: E) -> Result<Expression<E, H>, Error>
-        ensures tree { IfOk result (λ made. tree_of made ≡ around (stderr_file end) (tree_of self.now)) }
+        ensures tree { IfOk result (λ made. tree_view made ≡ around (stderr_file end) (tree_view self.now)) }
         ensures memory { IsOkUnless result Error.Memory }
     {
         self.around(Modifier::StderrFile(end))
@@ -135,7 +134,7 @@ impl<E: Drop, H: Drop> Expression<E, H> {
 
     /// What stderr writes is thrown away.
     pub fn stderr_null(&self) -> Result<Expression<E, H>, Error>
-        ensures tree { IfOk result (λ made. tree_of made ≡ around stderr_null (tree_of self.now)) }
+        ensures tree { IfOk result (λ made. tree_view made ≡ around stderr_null (tree_view self.now)) }
         ensures memory { IsOkUnless result Error.Memory }
     {
         self.around(Modifier::StderrNull)
@@ -143,7 +142,7 @@ impl<E: Drop, H: Drop> Expression<E, H> {
 
     /// What stderr writes is kept for the caller.
     pub fn stderr_capture(&self) -> Result<Expression<E, H>, Error>
-        ensures tree { IfOk result (λ made. tree_of made ≡ around stderr_capture (tree_of self.now)) }
+        ensures tree { IfOk result (λ made. tree_view made ≡ around stderr_capture (tree_view self.now)) }
         ensures memory { IsOkUnless result Error.Memory }
     {
         self.around(Modifier::StderrCapture)
@@ -151,7 +150,7 @@ impl<E: Drop, H: Drop> Expression<E, H> {
 
     /// Stderr goes where stdout goes outside this node.
     pub fn stderr_to_stdout(&self) -> Result<Expression<E, H>, Error>
-        ensures tree { IfOk result (λ made. tree_of made ≡ around stderr_to_stdout (tree_of self.now)) }
+        ensures tree { IfOk result (λ made. tree_view made ≡ around stderr_to_stdout (tree_view self.now)) }
         ensures memory { IsOkUnless result Error.Memory }
     {
         self.around(Modifier::StderrToStdout)
@@ -159,7 +158,7 @@ impl<E: Drop, H: Drop> Expression<E, H> {
 
     /// Stdout and stderr change places.
     pub fn stdout_stderr_swap(&self) -> Result<Expression<E, H>, Error>
-        ensures tree { IfOk result (λ made. tree_of made ≡ around stdout_stderr_swap (tree_of self.now)) }
+        ensures tree { IfOk result (λ made. tree_view made ≡ around stdout_stderr_swap (tree_view self.now)) }
         ensures memory { IsOkUnless result Error.Memory }
     {
         self.around(Modifier::StdoutStderrSwap)
@@ -167,7 +166,7 @@ impl<E: Drop, H: Drop> Expression<E, H> {
 
     /// The commands start in this folder. Of two the inner one counts.
     pub fn dir(&self, path: &str) -> Result<Expression<E, H>, Error>
-        ensures tree { IfOk result (λ made. tree_of made ≡ around (dir path.now) (tree_of self.now)) }
+        ensures tree { IfOk result (λ made. tree_view made ≡ around (dir path.now) (tree_view self.now)) }
         ensures memory { IsOkUnless result Error.Memory }
     {
         let path = String::from_str(self.alloc, path)?;
@@ -176,7 +175,7 @@ impl<E: Drop, H: Drop> Expression<E, H> {
 
     /// The commands have this variable, whatever is said of it outside.
     pub fn env(&self, name: &str, value: &str) -> Result<Expression<E, H>, Error>
-        ensures tree { IfOk result (λ made. tree_of made ≡ around (env name.now value.now) (tree_of self.now)) }
+        ensures tree { IfOk result (λ made. tree_view made ≡ around (env name.now value.now) (tree_view self.now)) }
         ensures memory { IsOkUnless result Error.Memory }
     {
         let name = String::from_str(self.alloc, name)?;
@@ -186,7 +185,7 @@ impl<E: Drop, H: Drop> Expression<E, H> {
 
     /// The commands don't have this variable, whatever is said of it outside.
     pub fn env_remove(&self, name: &str) -> Result<Expression<E, H>, Error>
-        ensures tree { IfOk result (λ made. tree_of made ≡ around (env_remove name.now) (tree_of self.now)) }
+        ensures tree { IfOk result (λ made. tree_view made ≡ around (env_remove name.now) (tree_view self.now)) }
         ensures memory { IsOkUnless result Error.Memory }
     {
         let name = String::from_str(self.alloc, name)?;
@@ -195,7 +194,7 @@ impl<E: Drop, H: Drop> Expression<E, H> {
 
     /// The commands have these variables alone, whatever is said outside. Of a name given twice the last value counts.
     pub fn full_env(&self, pairs: &[(&str, &str)]) -> Result<Expression<E, H>, Error>
-        ensures tree { IfOk result (λ made. tree_of made ≡ around (full_env (last_values (pairs_of pairs.now))) (tree_of self.now)) }
+        ensures tree { IfOk result (λ made. tree_view made ≡ around (full_env (last_values (pairs_of pairs.now))) (tree_view self.now)) }
         ensures memory { IsOkUnless result Error.Memory }
     {
         let vars = vars(self.alloc, pairs)?;
@@ -204,7 +203,7 @@ impl<E: Drop, H: Drop> Expression<E, H> {
 
     /// A command that fails is no error of the whole. Its status stays as it is.
     pub fn unchecked(&self) -> Result<Expression<E, H>, Error>
-        ensures tree { IfOk result (λ made. tree_of made ≡ around unchecked (tree_of self.now)) }
+        ensures tree { IfOk result (λ made. tree_view made ≡ around unchecked (tree_view self.now)) }
         ensures memory { IsOkUnless result Error.Memory }
     {
         self.around(Modifier::Unchecked)
@@ -212,7 +211,7 @@ impl<E: Drop, H: Drop> Expression<E, H> {
 
     /// Before each command is started the hook changes its spec. A hook may name the ends beside it by their places.
     pub fn before_spawn(&self, hook: H, ends: Vec<E>) -> Result<Expression<E, H>, Error>
-        ensures tree { IfOk result (λ made. tree_of made ≡ around (before_spawn hook ends.items) (tree_of self.now)) }
+        ensures tree { IfOk result (λ made. tree_view made ≡ around (before_spawn hook ends.items) (tree_view self.now)) }
         ensures memory { IsOkUnless result Error.Memory }
     {
         self.around(Modifier::BeforeSpawn(hook, ends))

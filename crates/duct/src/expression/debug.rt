@@ -1,7 +1,7 @@
 //! The debug text of an expression.
 ghost use Rattle.std.specs.Prelude.{map, string_bytes};
 ghost use Rattle.std.specs.Fmt.{DisplaysOnOk};
-ghost use Rattle.duct_base.specs.Spec.{pair_text};
+ghost use Rattle.duct_system.specs.SpecView.{pair_text};
 ghost use Rattle.duct.specs.Printed.{printed_vars, printed_words};
 
 use super::{Expression, Modifier, Node};
@@ -10,9 +10,9 @@ use std::fmt;
 
 impl<E, H> fmt::Debug for Expression<E, H> {
     ghost use Rattle.duct.specs.Shown.{shown};
-    ghost use Rattle.duct.specs.TreeOf.{tree_of};
+    ghost use Rattle.duct.specs.TreeView.{tree_view};
 
-    ghost debug_output = { λ expression. shown (tree_of expression) };
+    ghost debug_output = { λ expression. shown (tree_view expression) };
 
     /// `Cmd(["a", "b"])` of a command, `Pipe(L, R)` of a pipe, `Io(Modifier, X)` of a modifier round X. An end shows as
     /// `<end>` and a hook as `<closure>`. The text is promised where all words, paths, names and values are printable ASCII.
@@ -23,9 +23,9 @@ impl<E, H> fmt::Debug for Expression<E, H> {
 
 impl<E, H> fmt::Debug for Node<E, H> {
     ghost use Rattle.duct.specs.Printed.{printed};
-    ghost use Rattle.duct.specs.TreeOf.{tree_of_node};
+    ghost use Rattle.duct.specs.TreeView.{node_view};
 
-    ghost debug_output = { λ node. printed (tree_of_node node) };
+    ghost debug_output = { λ node. printed (node_view node) };
 
     fn fmt<W: fmt::Write>(&self, f: &mut fmt::Formatter<W>) -> fmt::Result {
         match self {
@@ -47,10 +47,10 @@ impl<E, H> fmt::Debug for Node<E, H> {
 }
 
 impl<E, H> fmt::Debug for Modifier<E, H> {
-    ghost use Rattle.duct.specs.Printed.{printed_layer};
-    ghost use Rattle.duct.specs.TreeOf.{layer_of};
+    ghost use Rattle.duct.specs.Printed.{printed_modifier};
+    ghost use Rattle.duct.specs.TreeView.{modifier_view};
 
-    ghost debug_output = { λ modifier. printed_layer (layer_of modifier) };
+    ghost debug_output = { λ modifier. printed_modifier (modifier_view modifier) };
 
     fn fmt<W: fmt::Write>(&self, f: &mut fmt::Formatter<W>) -> fmt::Result {
         match self {

@@ -1,5 +1,5 @@
 use Rattle.std.proofs.Common.{map}
-use Rattle.duct_base.specs.Spec.{pair_text}
+use Rattle.duct_system.specs.SpecView.{pair_text}
 use Rattle.duct.proofs.OneCommand.{plainly_asked}
 use Rattle.duct.proofs.start.spec_for.Goals as goal
 

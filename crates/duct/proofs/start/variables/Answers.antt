@@ -1,5 +1,5 @@
 use Rattle.std.proofs.Common.{ap, ◌∙◌, map, reverse}
-use Rattle.duct_base.specs.Spec.{pair_text, value_of}
+use Rattle.duct_system.specs.SpecView.{pair_text, value_of}
 use Rattle.duct.proofs.Environments.{last_values-more, left_more, length_left, left_none, value_of-last_values, names_ascend}
 use Rattle.duct.proofs.start.variables.Goals as goal
 

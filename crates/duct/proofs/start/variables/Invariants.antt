@@ -2,7 +2,7 @@ use Rattle.std.proofs.Common.{map, length, ◌≡◌, ◌++◌}
 use Rattle.std.specs.Vec.Iter.{into_iter_items, into_iter_len}
 use Rattle.std.specs.BTreeMap.{IsOrdered}
 use Rattle.std.specs.String.{string_cmp}
-use Rattle.duct_base.specs.Spec.{pair_text}
+use Rattle.duct_system.specs.SpecView.{pair_text}
 use Rattle.duct.specs.LastValues.{last_values}
 use Rattle.duct.proofs.start.variables.Given as goal
 

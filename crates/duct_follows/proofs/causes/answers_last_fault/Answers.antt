@@ -1,6 +1,6 @@
 use Rattle.std.proofs.Common.{refl, sym, ◌∙◌, ap}
 use Rattle.std.proofs.lemmas.Option.{none-some, same_Some}
-use Rattle.duct_base.specs.declared.error.Error.TheVariants.{System}
+use Rattle.duct_system.specs.declared.error.Error.TheVariants.{System}
 use Rattle.duct_follows.proofs.causes.answers_last_fault.Goals as goal
 
 pub returns-in-None : goal.returns-in-None

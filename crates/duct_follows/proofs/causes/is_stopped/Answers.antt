@@ -1,26 +1,25 @@
 use Rattle.std.proofs.Common.{◌≡◌, List, ap, ◌∙◌, map, string_bytes, subst}
 use Rattle.std.proofs.lemmas.Result.{IfOk-weaker}
-use Rattle.duct_base.specs.Entry.{line_of}
-use Rattle.duct_base.specs.Line.{Line}
-use Rattle.duct_base.specs.Trace.{trace}
+use Rattle.duct_system.specs.EntryView.{entry_view, EntryView}
+use Rattle.duct_system.specs.Trace.{trace}
 use Rattle.duct_follows.specs.Cause.{Tells}
 use Rattle.duct_follows.proofs.Stopped.{stopped_is}
 use Rattle.duct_follows.proofs.causes.is_stopped.Goals as goal
 use Rattle.duct_plan.specs.AskedOf.{IsAskedThere}
 use Rattle.duct_plan.specs.Found.{found_of}
-use Rattle.duct_plan.specs.Lines.{lines_of}
+use Rattle.duct_plan.specs.EntryViews.{entry_views}
 
 pub returns : goal.returns
 returns g c =
-    let lines = trace (map line_of c.args.added.now) in
+    let entries = trace (map entry_view c.args.added.now) in
     let number_of = g.E.Numbered.number_of in
     let found = found_of c.args.found.now in
     let words = map string_bytes c.args.words.now in
-    let traced : lines_of c.as_slice.result.now ≡ lines = ap lines_of c.as_slice.ensures.value ∙ c.in_ok-trace.ensures in
-    let there : IsAskedThere lines number_of c.args.place found words c.in_ok-asked.asked =
-    subst (λ (lines : List Line). IsAskedThere lines number_of c.args.place found words c.in_ok-asked.asked) traced c.in_ok-asked.ensures in
+    let traced : entry_views c.as_slice.result.now ≡ entries = ap entry_views c.as_slice.ensures.value ∙ c.in_ok-trace.ensures in
+    let there : IsAskedThere entries number_of c.args.place found words c.in_ok-asked.asked =
+    subst (λ (entries : List EntryView). IsAskedThere entries number_of c.args.place found words c.in_ok-asked.asked) traced c.in_ok-asked.ensures in
     let made = rw c.as_slice-hooks.ensures.value at c.wired.ensures in
     let some = rw c.as_slice-hooks.ensures.value at c.is_some_hook.ensures in
     IfOk-weaker c.stops_with.result (Tells c.wired.result c.is_some_hook.result c.args.error.now) _
-    (λ told tells. stopped_is lines number_of c.args.place found words c.in_ok-asked.asked there c.wired.result c.args.error.now c.is_some_hook.result told some made.ok made.err tells)
+    (λ told tells. stopped_is entries number_of c.args.place found words c.in_ok-asked.asked there c.wired.result c.args.error.now c.is_some_hook.result told some made.ok made.err tells)
     c.stops_with.ensures

@@ -1,10 +1,10 @@
 use Rattle.std.proofs.Common.{◌≡◌, map, length}
-use Rattle.duct_base.specs.Entry.{line_of}
-use Rattle.duct_base.specs.Origin.{origin}
+use Rattle.duct_system.specs.EntryView.{entry_view}
+use Rattle.duct_system.specs.Origin.{origin}
 use Rattle.duct_plain.proofs.checker.origin.Given as goal
 
 abbrev pub invariant-loop-last : goal.invariant-loop-last
-invariant-loop-last l = origin (map line_of l.left) l.number ≡ origin (map line_of l.entries) l.fn.number
+invariant-loop-last l = origin (map entry_view l.left) l.number ≡ origin (map entry_view l.entries) l.fn.number
 
 abbrev pub decreases-loop-last : goal.decreases-loop-last
 decreases-loop-last l = length l.left

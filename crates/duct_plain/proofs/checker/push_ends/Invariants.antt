@@ -1,5 +1,5 @@
 use Rattle.std.proofs.Common.{◌≡◌, ◌++◌, drop}
-use Rattle.duct_base.specs.Streams.{ends_of}
+use Rattle.duct_system.specs.Streams.{ends_of}
 use Rattle.duct_plain.proofs.checker.push_ends.Given as goal
 
 abbrev pub invariant-loop-stream : goal.invariant-loop-stream

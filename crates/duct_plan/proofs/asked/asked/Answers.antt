@@ -1,7 +1,7 @@
 -- The item at the command's place is its spawn.
 use Rattle.std.proofs.Common.{map, string_bytes, ap, ◌∙◌, Some, arith}
 use Rattle.std.proofs.lemmas.List.{length-map}
-use Rattle.duct_base.specs.Entry.{line_of}
+use Rattle.duct_system.specs.EntryView.{entry_view}
 use Rattle.duct_plan.proofs.Counted.{item_at}
 use Rattle.duct_plan.specs.Commands.{is_spawn}
 use Rattle.duct_plan.specs.Found.{found_of}
@@ -17,6 +17,6 @@ returns-clause-some g c =
       map string_bytes c.in-Spawn.words.now,
       at,
       item_at item_of is_spawn items c.in-Some.place c.index.result.now at.asks_child c.index.ensures ∙ ap (λ i. Some (item_of i)) c.in-Spawn.is,
-      omega (arith, length-map c.args.trace.now (λ entry. line_of entry.now)),
+      omega (arith, length-map c.args.trace.now (λ entry. entry_view entry.now)),
       c.in_ok-asked_at-in-Spawn.ensures,
     )

@@ -1,7 +1,7 @@
 -- What the map answers is the value among its texts.
 use Rattle.std.proofs.Common.{ap, ◌∙◌, refl}
 use Rattle.std.specs.Prelude.{Some}
-use Rattle.duct_base.proofs.Variables.{value_of-found}
+use Rattle.duct_system.proofs.Variables.{value_of-found}
 use Rattle.duct_plan.proofs.found.value_in.Goals as goal
 
 pub returns-in-Some : goal.returns-in-Some

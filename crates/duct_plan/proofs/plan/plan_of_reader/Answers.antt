@@ -5,8 +5,7 @@ use Rattle.std.proofs.lemmas.Result.{IfOk-weaker}
 use Rattle.duct.specs.Path.{within}
 use Rattle.duct.specs.Plan.{Plan, planned, closed, captures_out, begun, drains, reads, plan_of_reader}
 use Rattle.duct.specs.Step.{Item}
-use Rattle.duct.specs.Tree.{Tree, stdout_capture}
-use Rattle.duct.specs.TreeOf.{tree_of}
+use Rattle.duct.specs.TreeView.{TreeView, stdout_capture, tree_view}
 use Rattle.duct_plan.specs.PlanView.{item_of, plan_view}
 use Rattle.duct_plan.proofs.plan.plan_of_reader.Goals as goal
 
@@ -16,7 +15,7 @@ closed_by_nothing {E} {H} plan = ap (λ items. closed_with items) (append-nil pl
     closed_with : List (Item E H) → Plan E H
     closed_with items = record plan { items = items }
 
-reader_is : {E H : Type 0} (tree : Tree E H) (place : ℕ) (first after : Plan E H) → place ≡ 1 → first ≡ captures_out begun →
+reader_is : {E H : Type 0} (tree : TreeView E H) (place : ℕ) (first after : Plan E H) → place ≡ 1 → first ≡ captures_out begun →
     after ≡ planned (within place stdout_capture ∷ []) tree first → reads after.out (drains after.err after) ≡ plan_of_reader tree
 reader_is {E} {H} tree place first after place_is first_is after_is =
     let same : after ≡ closed [] (planned (within 1 stdout_capture ∷ []) tree (captures_out begun)) =
@@ -32,4 +31,4 @@ returns g c =
     let after = rw c.root.ensures at c.in_ok-plan-2.ensures in
     IfOk-weaker c.reads.result _ _
     (λ plan is. is ∙ ap (λ drained. reads c.in_ok-plan-2.plan.out drained) c.in_ok-drains.ensures
-    ∙ reader_is (tree_of c.args.expression.now) c.len-place.result (plan_view c.in_ok-plan.plan) (plan_view c.in_ok-plan-2.plan) place first after) c.reads.ensures
+    ∙ reader_is (tree_view c.args.expression.now) c.len-place.result (plan_view c.in_ok-plan.plan) (plan_view c.in_ok-plan-2.plan) place first after) c.reads.ensures

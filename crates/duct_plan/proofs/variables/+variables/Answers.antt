@@ -1,7 +1,7 @@
 -- One change further in.
 use Rattle.std.proofs.Common.{map}
 use Rattle.std.proofs.lemmas.Result.{IfOk-weaker}
-use Rattle.duct_base.specs.Spec.{pair_text}
+use Rattle.duct_system.specs.SpecView.{pair_text}
 use Rattle.duct_plan.specs.Found.{change_of}
 use Rattle.duct_plan.proofs.variables.+variables.Goals as goal
 

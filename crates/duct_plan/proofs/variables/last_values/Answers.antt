@@ -1,7 +1,7 @@
 -- One more pair is put in, and in the end all are.
 use Rattle.std.proofs.Common.{ap, ◌∙◌, map, reverse, take}
 use Rattle.std.proofs.lemmas.List.{take_all}
-use Rattle.duct_base.specs.Spec.{pair_text, value_of}
+use Rattle.duct_system.specs.SpecView.{pair_text, value_of}
 use Rattle.duct.proofs.Environments.{value_of-last_values, names_ascend}
 use Rattle.duct_plan.proofs.Changed.{last_more}
 use Rattle.duct_plan.proofs.variables.last_values.Goals as goal

@@ -2,7 +2,7 @@
 use Rattle.std.proofs.Common.{map, ◌≡◌, take}
 use Rattle.std.specs.BTreeMap.{IsOrdered}
 use Rattle.std.specs.String.{string_cmp}
-use Rattle.duct_base.specs.Spec.{pair_text}
+use Rattle.duct_system.specs.SpecView.{pair_text}
 use Rattle.duct.specs.LastValues.{last_values}
 use Rattle.duct_plan.proofs.variables.last_values.Given as goal
 

@@ -1,5 +1,5 @@
 use Rattle.std.proofs.Common.{◌≡◌, map, take}
-use Rattle.duct_base.specs.Spec.{pair_text}
+use Rattle.duct_system.specs.SpecView.{pair_text}
 use Rattle.duct_script.proofs.system.copies_of.Given as goal
 
 abbrev pub invariant-loop-name : goal.invariant-loop-name

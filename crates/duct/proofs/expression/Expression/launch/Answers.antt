@@ -1,7 +1,7 @@
 use Rattle.std.proofs.Common.{rules, sym, ap, ◌∙◌}
-use Rattle.duct_base.specs.Trace.{segment}
+use Rattle.duct_system.specs.Trace.{segment}
 use Rattle.duct.proofs.OneCommand.{on_err, pool_of_none, pool_untouched, alone_running}
-use Rattle.duct.specs.TreeOf.{tree_of_node}
+use Rattle.duct.specs.TreeView.{node_view}
 use Rattle.duct.proofs.expression.Expression.launch.Goals as goal
 
 pub returns-in_err-seat-clause-pool_given : goal.returns-in_err-seat-clause-pool_given
@@ -26,5 +26,5 @@ returns-in_err-command-clause-pool_given g c =
 
 pub returns-clause-running : goal.returns-clause-running
 returns-clause-running g c =
-    rw c.of_command.ensures (alone_running g.S.Child.Child.child_view g.S.Feed.Job.job_view g.S.Drain.Job.job_view _ _ _ _ c.in_ok-command.field-0 _ _ (sym c.root.ensures ∙ ap (λ n. tree_of_node n) c.in-Cmd.is) (search rules) (search rules) (g.met.S.Child.Child.has_number _)
+    rw c.of_command.ensures (alone_running g.S.Child.Child.child_view g.S.Feed.Job.job_view g.S.Drain.Job.job_view _ _ _ _ c.in_ok-command.field-0 _ _ (sym c.root.ensures ∙ ap (λ n. node_view n) c.in-Cmd.is) (search rules) (search rules) (g.met.S.Child.Child.has_number _)
     c.in_ok-command.ensures.unasked c.in_ok-command.ensures.child)

@@ -2,7 +2,7 @@
 use Rattle.std.proofs.Common.{arith}
 use Rattle.std.proofs.lemmas.List.Sums.{fold_more}
 use Rattle.std.proofs.lemmas.Grind.{common_steps}
-use Rattle.duct_base.proofs.Entries.{insert_texts}
+use Rattle.duct_system.proofs.Entries.{insert_texts}
 use Rattle.duct.proofs.expression.builders.vars.Goals as goal
 
 pub loop-name-preserved : goal.loop-name-preserved

@@ -1,6 +1,6 @@
 -- The map so far has the last values of the pairs so far.
 use Rattle.std.proofs.Common.{map, ◌≡◌, take}
-use Rattle.duct_base.specs.Spec.{pair_text}
+use Rattle.duct_system.specs.SpecView.{pair_text}
 use Rattle.duct.specs.LastValues.{last_values}
 use Rattle.duct.specs.Pairs.{pairs_of}
 use Rattle.duct.proofs.expression.builders.vars.Given as goal

@@ -1,5 +1,5 @@
 use Rattle.std.proofs.Common.{ap, sym, ◌∙◌}
-use Rattle.duct_base.specs.Shapes.{outline_of}
+use Rattle.duct_status.specs.ShapeView.{shape_view}
 use Rattle.duct.specs.Running.{RunningView}
 use Rattle.duct.proofs.Polls.{not_asked_in, asked_in, words_in_step}
 use Rattle.duct.proofs.running.Running.ask.Goals as goal
@@ -15,8 +15,8 @@ invariant_of-self g c =
     c.self.inside.children.items c.args.self.now.children c.args.at c.index_mut.result.now c.poll.new.self c.poll.result _ _ c.word-heard.result (ap (λ (r : RunningView _ _ _). r.children) c.self.view_is)
     c.self.invariant c.requires (sym c.if-not-is_due.ensures) c.index_mut.ensures.value c.poll.ensures c.word-heard.ensures c.step.ensures.words
 
-pub returns-clause-outline : goal.returns-clause-outline
-returns-clause-outline g c = c.step.ensures.shape ∙ ap (λ (r : RunningView _ _ _). outline_of r.shape) c.self.view_is
+pub returns-clause-shape : goal.returns-clause-shape
+returns-clause-shape g c = c.step.ensures.shape ∙ ap (λ (r : RunningView _ _ _). shape_view r.shape) c.self.view_is
 
 pub returns-clause-asked : goal.returns-clause-asked
 returns-clause-asked g c =

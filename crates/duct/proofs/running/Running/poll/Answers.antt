@@ -9,7 +9,7 @@ loop-at-preserved g c =
     let i = c.loop-at.invariant in
     let same = asked_length g.S.Child.Child.may_answer c.loop-at.at _ _ c.ask.ensures.asked in
     record {
-      outline = c.ask.ensures.outline ∙ i.outline;
+      shape = c.ask.ensures.shape ∙ i.shape;
       asked = asked_more g.S.Child.Child.may_answer c.loop-at.at _ _ _ i.asked c.ask.ensures.asked;
       count = sym (length-map c.ask.new.self.children view) ∙ same ∙ length-map c.loop-at.self.children view ∙ i.count;
       kept = i.kept;

@@ -1,6 +1,6 @@
 -- The canonical name of a path is looked up by its text.
 use Rattle.std.proofs.Common.{ap, ◌∙◌, refl, unwrap_or}
-use Rattle.duct_base.proofs.Variables.{value_of-found}
+use Rattle.duct_system.proofs.Variables.{value_of-found}
 use Rattle.duct_script.proofs.system.Script.canonical_text.Goals as goal
 
 pub returns-in-Some : goal.returns-in-Some

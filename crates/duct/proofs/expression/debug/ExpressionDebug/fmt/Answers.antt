@@ -1,5 +1,5 @@
 -- What the root prints is the text that is promised.
-use Rattle.duct.specs.TreeOf.{tree_of_node}
+use Rattle.duct.specs.TreeView.{node_view}
 use Rattle.duct.specs.Printed.{printed}
 use Rattle.duct.specs.Text.{text}
 use Rattle.duct.specs.Shown.{is_tree_printable}
@@ -8,6 +8,6 @@ use Rattle.duct.proofs.expression.debug.ExpressionDebug.fmt.Goals as goal
 
 pub returns : goal.returns
 returns g c =
-    let tree = tree_of_node c.root.result.now in
+    let tree = node_view c.root.result.now in
     let writes = displays_if _ _ _ _ (is_tree_printable tree) (printed tree) (text tree) (tree_prints tree) c.fmt.ensures.writes in
     record { writes = rw (← c.root.ensures) writes }

@@ -1,6 +1,0 @@
-use Rattle.std.proofs.Common.{◌≡◌, ◌++◌, map}
-use Rattle.duct_base.specs.Spec.{pair_text}
-use Rattle.duct_base.proofs.spec.CommandSpec.vars.Given as goal
-
-abbrev pub invariant-loop-name : goal.invariant-loop-name
-invariant-loop-name l = map (λ p. (p.0.now, p.1.now)) l.pairs.items ++ map pair_text l.name-iterator ≡ l.self.vars

@@ -1,0 +1,12 @@
+pub mod Begins
+pub mod Changes
+pub mod Concluded
+pub mod Latest
+pub mod Looks
+pub mod Messages
+pub mod Order
+pub mod Quotes
+pub mod Ran
+pub mod Settled
+pub mod Shown
+pub mod Stays

@@ -1,0 +1,15 @@
+pub mod Bytes
+pub mod Choice
+pub mod CoreView
+pub mod Endings
+pub mod EventView
+pub mod Fits
+pub mod Latest
+pub mod Laws
+pub mod Message
+pub mod Outcome
+pub mod Quoted
+pub mod ReplyView
+pub mod ShapeView
+pub mod Standing
+pub mod Winner

@@ -1,0 +1,359 @@
+//! How an expression ended, by what its commands and its workers said, over lists of events.
+ghost use Rattle.std.specs.Prelude.{◌≡◌, vec_len};
+ghost use Rattle.std.specs.Arc.{arc_value};
+ghost use Rattle.std.specs.Option.{ForSome};
+ghost use Rattle.duct_status.specs.Fits.{latest_of, FitsAnswer, FitsMessage};
+ghost use Rattle.duct_status.specs.ShapeView.{command_count, input_count, shape_view};
+
+mod answer;
+mod begin;
+mod choose;
+mod copy;
+mod keep;
+pub mod law;
+mod look;
+mod message;
+mod outcome;
+
+use duct_system::error::Error;
+use crate::status::answer::{answer, failure};
+use crate::status::begin::{begin, first_word};
+use crate::status::choose::choose;
+use crate::status::copy::copy;
+use crate::status::keep::{keep_at, keep_bytes, tell_at};
+use crate::status::look::look;
+use crate::status::outcome::{Outcome, judge};
+use duct_system::system::{ExitStatus, Fault, Output, Said, Side};
+use std::alloc::Global;
+use std::sync::Arc;
+
+/// The tree of an expression's commands, each with its words as the expression has them. Commands are numbered from 0,
+/// left to right. Each input has a worker; these are numbered from 0, left before right and an inner one before the
+/// one round it.
+#[derive(Drop)]
+pub enum Shape {
+    Command(Arc<Vec<String>>),
+    Pipe(Box<Shape>, Box<Shape>),
+    Input(Box<Shape>),
+    Unchecked(Box<Shape>),
+}
+
+/// Which of the two output streams a worker captures.
+#[derive(Clone, Copy, Debug, PartialEq, Eq)]
+pub struct Drains {
+    pub out: bool,
+    pub err: bool,
+}
+
+/// What a command says.
+#[derive(Clone, Copy, Debug, PartialEq, Eq)]
+pub enum Word {
+    Running,
+    Ended(ExitStatus),
+    Fault(Fault),
+}
+
+/// What the core is told, or asked.
+#[derive(Drop)]
+pub enum Event {
+    /// The command of this number said this.
+    Command(usize, Word),
+    /// The input worker of this number said this.
+    Input(usize, Said<()>),
+    /// The capture worker of this stream said this.
+    Drain(Side, Said<Arc<Vec<u8>>>),
+    /// How has the expression ended?
+    Conclude,
+}
+
+/// What the core replies.
+#[derive(Drop)]
+pub enum Reply {
+    /// The word is kept.
+    Noted,
+    /// The event names no command and no worker that is there. It has changed nothing.
+    Unknown,
+    /// Something still runs.
+    Pending,
+    /// A command or a worker said this fault.
+    Fault(Fault),
+    /// All have ended. The status is that of the winning command.
+    Answer(Arc<Output>),
+    /// All have ended, and the winning command failed and is not unchecked. The text is the message.
+    Failed(Arc<String>),
+    /// There was no memory for the answer, or for one more owner of it.
+    Memory,
+}
+
+/// What an expression's commands and workers said so far, and the answer once there is one. Each command and each worker
+/// counts as running before its first word. An ended command keeps its first ending, a worker its first `Done` or
+/// `Fault`; a command's fault lasts until its next word.
+#[derive(Drop)]
+pub struct Core {
+    alloc: Global,
+    shape: Shape,
+    commands: Vec<Word>,
+    inputs: Vec<Said<()>>,
+    output: Option<Said<Arc<Vec<u8>>>>,
+    error: Option<Said<Arc<Vec<u8>>>>,
+    answer: Option<Arc<Output>>,
+    failure: Option<Arc<String>>,
+    pub ghost commands_fit: { vec_len commands ≡ command_count (shape_view shape) },
+    pub ghost inputs_fit: { vec_len inputs ≡ input_count (shape_view shape) },
+    pub ghost answer_fits: { ForSome answer (λ a. FitsAnswer (shape_view shape) (latest_of commands.items inputs.items output error) (arc_value a)) },
+    pub ghost failure_fits: { ForSome failure (λ a. FitsMessage (shape_view shape) (latest_of commands.items inputs.items output error) (arc_value a)) },
+}
+
+impl Core {
+    ghost use Rattle.std.specs.Prelude.{◌≡◌, IfNone, IfSome, IsSomeAnd, None};
+    ghost use Rattle.duct_status.specs.Outcome.{Concludes, Responds, finished, outcome};
+    ghost use Rattle.duct_status.specs.Fits.{Fits};
+    ghost use Rattle.duct_status.specs.EventView.{event_view, conclude};
+    ghost use Rattle.duct_status.specs.ShapeView.{command_count, input_count};
+    ghost use Rattle.duct_status.specs.ReplyView.{reply_view};
+    ghost use Rattle.duct_status.specs.Standing.{Again, Repeats, standing_after};
+    ghost use Rattle.duct_status.specs.CoreView.{shape_in, latest_in, standing_in};
+    ghost use Rattle.duct_status.specs.Latest.{is_due, latest_after};
+
+    /// Keeps what a command said.
+    fn tell(&mut self, at: usize, word: Word) -> Reply
+        ensures shape { shape_in self.new ≡ shape_in self.old }
+        ensures words { latest_in self.new ≡ latest_after (latest_in self.old) (event_view (Event.Command at word)) }
+        ensures standing { standing_in self.new ≡ standing_in self.old }
+        ensures reply { Responds (shape_in self.old) (latest_in self.old) (event_view (Event.Command at word)) (reply_view result) }
+    {
+        if tell_at(&mut self.commands, at, word) {
+            Reply::Noted
+        } else {
+            Reply::Unknown
+        }
+    }
+
+    /// Keeps what an input worker said.
+    fn hear(&mut self, at: usize, said: Said<()>) -> Reply
+        ensures shape { shape_in self.new ≡ shape_in self.old }
+        ensures words { latest_in self.new ≡ latest_after (latest_in self.old) (event_view (Event.Input at said)) }
+        ensures standing { standing_in self.new ≡ standing_in self.old }
+        ensures reply { Responds (shape_in self.old) (latest_in self.old) (event_view (Event.Input at said)) (reply_view result) }
+    {
+        if keep_at(&mut self.inputs, at, said) {
+            Reply::Noted
+        } else {
+            Reply::Unknown
+        }
+    }
+
+    /// Keeps what stdout's capture worker said.
+    fn hear_output(&mut self, said: Said<Arc<Vec<u8>>>) -> Reply
+        ensures shape { shape_in self.new ≡ shape_in self.old }
+        ensures words { latest_in self.new ≡ latest_after (latest_in self.old) (event_view (Event.Drain Side.Out said)) }
+        ensures standing { standing_in self.new ≡ standing_in self.old }
+        ensures reply { Responds (shape_in self.old) (latest_in self.old) (event_view (Event.Drain Side.Out said)) (reply_view result) }
+    {
+        if keep_bytes(&mut self.output, said) {
+            Reply::Noted
+        } else {
+            Reply::Unknown
+        }
+    }
+
+    /// Keeps what stderr's capture worker said.
+    fn hear_error(&mut self, said: Said<Arc<Vec<u8>>>) -> Reply
+        ensures shape { shape_in self.new ≡ shape_in self.old }
+        ensures words { latest_in self.new ≡ latest_after (latest_in self.old) (event_view (Event.Drain Side.Err said)) }
+        ensures standing { standing_in self.new ≡ standing_in self.old }
+        ensures reply { Responds (shape_in self.old) (latest_in self.old) (event_view (Event.Drain Side.Err said)) (reply_view result) }
+    {
+        if keep_bytes(&mut self.error, said) {
+            Reply::Noted
+        } else {
+            Reply::Unknown
+        }
+    }
+
+    /// The answer or the message of the command that wins, with these captured bytes.
+    fn answer_with(&self, output: &[u8], error: &[u8]) -> Reply
+        requires { outcome (shape_in self.now) (latest_in self.now) ≡ finished output.now error.now }
+        ensures { Fits (shape_in self.now) (latest_in self.now) result }
+    {
+        let winner = choose(&self.shape, self.commands.as_slice(), 0);
+        if winner.is_checked_failure() {
+            match failure(self.alloc, winner.words, winner.status) {
+                Ok(text) => Reply::Failed(text),
+                Err(_) => Reply::Memory,
+            }
+        } else {
+            match answer(self.alloc, winner.status, output, error) {
+                Ok(output) => Reply::Answer(output),
+                Err(_) => Reply::Memory,
+            }
+        }
+    }
+
+    /// What the latest words come to.
+    fn outcome(&self) -> Reply
+        ensures { Fits (shape_in self.now) (latest_in self.now) result }
+    {
+        let found = look(
+            &self.shape,
+            self.commands.as_slice(),
+            self.inputs.as_slice(),
+            0,
+            0,
+        );
+        match judge(found, &self.output, &self.error) {
+            Outcome::Waits => Reply::Pending,
+            Outcome::Faults(fault) => Reply::Fault(fault),
+            Outcome::Finished(output, error) => self.answer_with(output, error),
+        }
+    }
+
+    /// One more owner of the answer that stands.
+    fn again(&self) -> Option<Reply>
+        ensures none { IfNone result (standing_in self.now ≡ None) }
+        ensures fits { IfSome result (λ reply. Fits (shape_in self.now) (latest_in self.now) reply) }
+        ensures again { IfSome result (λ reply. IsSomeAnd (standing_in self.now) (λ answer. Again answer (reply_view reply))) }
+    {
+        if let Some(output) = &self.answer {
+            return Some(match output.clone() {
+                Ok(output) => Reply::Answer(output),
+                Err(_) => Reply::Memory,
+            });
+        }
+        if let Some(text) = &self.failure {
+            return Some(match text.clone() {
+                Ok(text) => Reply::Failed(text),
+                Err(_) => Reply::Memory,
+            });
+        }
+        None
+    }
+
+    /// Lets an answer stand from now on, where it is one.
+    fn stand(&mut self, reply: Reply) -> Reply
+        requires fits { Fits (shape_in self.old) (latest_in self.old) reply }
+        requires first { standing_in self.old ≡ None }
+        ensures shape { shape_in self.new ≡ shape_in self.old }
+        ensures words { latest_in self.new ≡ latest_in self.old }
+        ensures fits { Fits (shape_in self.old) (latest_in self.old) result }
+        ensures standing { standing_in self.new ≡ standing_after None (reply_view result) }
+    {
+        match reply {
+            Reply::Answer(output) => match output.clone() {
+                Ok(kept) => {
+                    self.answer = Some(kept);
+                    Reply::Answer(output)
+                }
+                Err(_) => Reply::Memory,
+            },
+            Reply::Failed(text) => match text.clone() {
+                Ok(kept) => {
+                    self.failure = Some(kept);
+                    Reply::Failed(text)
+                }
+                Err(_) => Reply::Memory,
+            },
+            reply => reply,
+        }
+    }
+
+    /// The answer that stands, and else what the latest words come to.
+    fn conclude(&mut self) -> Reply
+        ensures shape { shape_in self.new ≡ shape_in self.old }
+        ensures words { latest_in self.new ≡ latest_in self.old }
+        ensures reply { Concludes (shape_in self.old) (latest_in self.old) (reply_view result) }
+        ensures repeats { Repeats (standing_in self.old) conclude (reply_view result) }
+        ensures standing { standing_in self.new ≡ standing_after (standing_in self.old) (reply_view result) }
+    {
+        if let Some(reply) = self.again() {
+            return reply;
+        }
+        let reply = self.outcome();
+        self.stand(reply)
+    }
+
+    /// Keeps what was told and replies `Noted`, or `Unknown` where the event names nothing that is there. `Conclude` gives
+    /// the outcome of what was told so far: the first fault in tree order, else `Pending` while something runs, else what
+    /// stdout's capture worker and then stderr's says, else the answer. The answer stands from then on. `Memory` comes
+    /// only in its place; nothing is lost by it, and the next `Conclude` tries again.
+    pub fn step(&mut self, event: Event) -> Reply
+        ensures shape { shape_in self.new ≡ shape_in self.old }
+        ensures words { latest_in self.new ≡ latest_after (latest_in self.old) (event_view event) }
+        ensures reply { Responds (shape_in self.old) (latest_in self.old) (event_view event) (reply_view result) }
+        ensures repeats { Repeats (standing_in self.old) (event_view event) (reply_view result) }
+        ensures standing { standing_in self.new ≡ standing_after (standing_in self.old) (reply_view result) }
+    {
+        match event {
+            Event::Command(at, word) => self.tell(at, word),
+            Event::Input(at, said) => self.hear(at, said),
+            Event::Drain(Side::Out, said) => self.hear_output(said),
+            Event::Drain(Side::Err, said) => self.hear_error(said),
+            Event::Conclude => self.conclude(),
+        }
+    }
+
+    /// Whether this command is there and has not ended.
+    pub fn is_due(&self, i: usize) -> bool
+        ensures { result ≡ is_due (latest_in self.now) i }
+    {
+        match self.commands.get(i) {
+            Some(Word::Running | Word::Fault(_)) => true,
+            Some(Word::Ended(_)) | None => false,
+        }
+    }
+}
+
+impl Core {
+    ghost use Rattle.std.specs.Prelude.{◌≡◌, [], map, IfOk, IfErr, None};
+    ghost use Rattle.duct_system.specs.declared.error.Error.TheVariants.{Memory};
+    ghost use Rattle.duct_status.specs.Outcome.{RespondsToAll};
+    ghost use Rattle.duct_status.specs.EventView.{event_view};
+    ghost use Rattle.duct_status.specs.ReplyView.{reply_view};
+    ghost use Rattle.duct_status.specs.ShapeView.{shape_view};
+    ghost use Rattle.duct_status.specs.Standing.{AllRepeated};
+    ghost use Rattle.duct_status.specs.CoreView.{shape_in, latest_in, standing_in};
+    ghost use Rattle.duct_status.specs.Latest.{latest_told};
+
+    /// A core that was told nothing, or `Memory`.
+    pub fn new(alloc: Global, shape: Shape, drains: Drains) -> Result<Core, Error>
+        ensures shape { IfOk result (λ core. shape_in core ≡ shape_view shape) }
+        ensures words { IfOk result (λ core. latest_in core ≡ latest_told (shape_view shape) drains []) }
+        ensures standing { IfOk result (λ core. standing_in core ≡ None) }
+        ensures err { IfErr result (λ error. error ≡ Memory) }
+    {
+        let mut commands = Vec::new(alloc);
+        let mut inputs = Vec::new(alloc);
+        begin(&shape, &mut commands, &mut inputs)?;
+        Ok(Core {
+            alloc,
+            shape,
+            commands,
+            inputs,
+            output: first_word(drains.out),
+            error: first_word(drains.err),
+            answer: None,
+            failure: None,
+        })
+    }
+
+    /// The replies to the events, one for each, by a core that was told nothing before; or `Memory`, where there is none for
+    /// the core or the replies, or std refuses one more owner of captured bytes.
+    pub fn run(
+        alloc: Global,
+        shape: Shape,
+        drains: Drains,
+        events: &[Event],
+    ) -> Result<Vec<Reply>, Error>
+        ensures replies { IfOk result (λ replies. RespondsToAll (shape_view shape) drains [] (map event_view events.now) (map reply_view replies.items)) }
+        ensures repeated { IfOk result (λ replies. AllRepeated (map event_view events.now) (map reply_view replies.items)) }
+        ensures err { IfErr result (λ error. error ≡ Memory) }
+    {
+        let mut core = Core::new(alloc, shape, drains)?;
+        let mut replies = Vec::new(alloc);
+        for event in events {
+            let event = copy(event)?;
+            replies.push(core.step(event))?;
+        }
+        Ok(replies)
+    }
+}

@@ -1,0 +1,53 @@
+//! What the latest words come to.
+ghost use Rattle.std.specs.Prelude.{◌≡◌};
+ghost use Rattle.std.specs.Option.{option_map};
+ghost use Rattle.duct_status.specs.Bytes.{lent_bytes, outcome_view};
+ghost use Rattle.duct_status.specs.EventView.{bytes_said};
+ghost use Rattle.duct_status.specs.Outcome.{captured, ended, finished, with_bytes};
+
+use crate::status::look::Found;
+use duct_system::system::{Fault, Said};
+use std::sync::Arc;
+
+/// A fault, something that still runs, or that all have ended, with the bytes of stdout and of stderr.
+#[derive(Clone, Copy)]
+pub(crate) enum Outcome<'a> {
+    Waits,
+    Faults(Fault),
+    Finished(&'a [u8], &'a [u8]),
+}
+
+/// The word of a capture worker. Without one no bytes are captured.
+fn bytes_of(drain: &Option<Said<Arc<Vec<u8>>>>) -> Said<&[u8]>
+    ensures { lent_bytes result ≡ captured (option_map bytes_said drain.now) }
+{
+    match drain {
+        None => Said::Done(&[]),
+        Some(Said::Running) => Said::Running,
+        Some(Said::Fault(fault)) => Said::Fault(*fault),
+        Some(Said::Done(bytes)) => Said::Done(bytes.as_slice()),
+    }
+}
+
+/// A fault that was found, else whether something runs, else what stdout's capture worker said, then stderr's.
+pub(crate) fn judge<'a>(
+    found: Found,
+    output: &'a Option<Said<Arc<Vec<u8>>>>,
+    error: &'a Option<Said<Arc<Vec<u8>>>>,
+) -> Outcome<'a>
+    ensures { outcome_view result ≡ ended found.fault found.runs (with_bytes (captured (option_map bytes_said output.now)) (λ out. with_bytes (captured (option_map bytes_said error.now)) (λ err. finished out err))) }
+{
+    if let Some(fault) = found.fault {
+        return Outcome::Faults(fault);
+    }
+    if found.runs {
+        return Outcome::Waits;
+    }
+    match (bytes_of(output), bytes_of(error)) {
+        (Said::Running, _) => Outcome::Waits,
+        (Said::Fault(fault), _) => Outcome::Faults(fault),
+        (Said::Done(_), Said::Running) => Outcome::Waits,
+        (Said::Done(_), Said::Fault(fault)) => Outcome::Faults(fault),
+        (Said::Done(output), Said::Done(error)) => Outcome::Finished(output, error),
+    }
+}

@@ -1,0 +1,42 @@
+-- The numbers that the entries of a journal got and spent.
+use Rattle.std.specs.Prelude.{ℕ, ◌-◌, ◌≤◌, List, [], ◌∷◌, ◌≡◌, ◌==◌, length, flat_map, count_by, Ok}
+use Rattle.duct_system.specs.EntryView.{EntryView, Pipe, OpenRead, Create, Duplicate, Parent, Spawn, Feed, Drain, Reader, Close}
+use Rattle.duct_system.specs.Streams.{ends_of}
+
+-- the numbers of the ends that an entry answered
+abbrev pub got_by : EntryView → List ℕ
+got_by (Pipe (Ok (reader, writer))) = reader ∷ writer ∷ []
+got_by (OpenRead path (Ok number)) = number ∷ []
+got_by (Create path (Ok number)) = number ∷ []
+got_by (Duplicate lent (Ok number)) = number ∷ []
+got_by (Parent side (Ok number)) = number ∷ []
+got_by _ = []
+
+-- the numbers of the ends that an entry's request was given, whatever it answered
+abbrev pub spent_by : EntryView → List ℕ
+spent_by (Spawn spec io answer) = ends_of io
+spent_by (Feed number bytes answer) = number ∷ []
+spent_by (Drain number answer) = number ∷ []
+spent_by (Reader number) = number ∷ []
+spent_by (Close number) = number ∷ []
+spent_by _ = []
+
+-- all numbers got, in order
+abbrev pub got : List EntryView → List ℕ
+got entries = flat_map got_by entries
+
+-- all numbers spent, in order
+abbrev pub spent : List EntryView → List ℕ
+spent entries = flat_map spent_by entries
+
+-- how often a number stands in a list
+abbrev pub count_of : ℕ → List ℕ → ℕ
+count_of number numbers = count_by (λ other. other == number) numbers
+
+-- the numbers spent are the numbers got, in some order, each number once
+abbrev pub IsBalanced : List EntryView → Type 0
+IsBalanced entries = (number : ℕ) → (count_of number (spent entries) ≡ count_of number (got entries)) × (count_of number (got entries) ≤ 1)
+
+-- how many ends were got and are not spent yet
+abbrev pub held : List EntryView → ℕ
+held entries = length (got entries) - length (spent entries)

@@ -1,0 +1,12 @@
+pub mod Child
+pub mod EntryView
+pub mod Job
+pub mod Journal
+pub mod Ledger
+pub mod Name
+pub mod Origin
+pub mod SpecView
+pub mod Started
+pub mod Status
+pub mod Streams
+pub mod Trace

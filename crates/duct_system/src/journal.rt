@@ -1,0 +1,149 @@
+//! The journal that a system keeps: its entries, the room for more of them, and the count of numbers.
+ghost use Rattle.std.specs.Prelude.{◌≡◌, ◌+◌, ◌-◌, ◌^◌, ◌<◌, ◌≤◌, [], ◌∷◌, ◌++◌, map, IfSome, IfNone, OnSome, OnOk, OnErr, IfErr};
+ghost use Rattle.duct_system.specs.EntryView.{entry_view};
+ghost use Rattle.duct_system.specs.declared.system.Kind.TheVariants.{OutOfMemory};
+
+use crate::system::{Entry, Fault, Kind};
+use std::alloc::Global;
+use std::marker::Model;
+
+/// The entries of a system, in the order in which they were added. Room is made before the machine is asked, so that an
+/// entry is never lost: `prepare` makes it, `add` uses it, and `give_back` says that some of it isn't wanted.
+#[derive(Drop)]
+pub struct Journal {
+    entries: Vec<Entry>,
+    added: u64,
+    next: u64,
+    room: usize,
+}
+
+impl Model for Journal {
+    ghost use Rattle.std.specs.Prelude.{◌+◌, ◌<◌, ◌≤◌, ◌^◌, map, vec_len, vec_capacity};
+    ghost use Rattle.duct_system.specs.EntryView.{entry_view};
+    ghost use Rattle.duct_system.specs.Journal.{JournalView};
+
+    ghost Value = { JournalView };
+
+    ghost view = { λ j. record {
+      entries = map entry_view j.entries.items;
+      added = j.added;
+      next = j.next;
+      room = j.room;
+    } };
+
+    ghost invariant = { λ j.
+        (vec_len j.entries + j.room ≤ vec_capacity j.entries) × (j.added + j.room < 2 ^ 64) };
+}
+
+impl Journal {
+    /// An empty journal with no room, whose first number is 1.
+    pub fn new(alloc: Global) -> Journal
+        ensures { result ≡ record { entries = []; added = 0; next = 1; room = 0 } }
+    {
+        Journal {
+            entries: Vec::new(alloc),
+            added: 0,
+            next: 1,
+            room: 0,
+        }
+    }
+
+    /// The allocator of the entries.
+    pub fn allocator(&self) -> Global {
+        *self.entries.allocator()
+    }
+
+    /// How many entries were ever added, also those that were cleared away.
+    pub fn added(&self) -> u64
+        ensures { result ≡ self.now.added }
+    {
+        self.added
+    }
+
+    /// How many more entries go in without memory.
+    pub fn room(&self) -> usize
+        ensures { result ≡ self.now.room }
+    {
+        self.room
+    }
+
+    /// Makes room for one entry and for this many after it. Where there is no memory the answer is `OutOfMemory` and the
+    /// journal is as it was.
+    pub fn prepare(&mut self, ends: usize) -> Result<(), Fault>
+        ensures ok { OnOk result (self.new ≡ record self.old { room = self.old.room + ends + 1 }) }
+        ensures err { IfErr result (λ fault. fault.kind ≡ OutOfMemory) }
+        ensures unchanged { OnErr result (self.new ≡ self.old) }
+    {
+        match self.room_with(ends) {
+            Some(room) if self.entries.reserve(room).is_ok() => {
+                self.room = room;
+                Ok(())
+            }
+            _ => Err(Fault::new(Kind::OutOfMemory)),
+        }
+    }
+
+    // The room with that of one entry more and of this many ends, where so many entries can still be counted.
+    fn room_with(&self, ends: usize) -> Option<usize>
+        ensures { IfSome result (λ room. (room ≡ self.now.room + ends + 1) × (self.now.added + room < 2 ^ 64)) }
+    {
+        let room = self.room.checked_add(ends)?.checked_add(1)?;
+        let _ = self.added.checked_add(room as u64)?;
+        Some(room)
+    }
+
+    /// Adds an entry in the room that was made for it.
+    pub fn add(&mut self, entry: Entry)
+        requires { 0 < self.old.room }
+        ensures { self.new ≡ record self.old {
+          entries = self.old.entries ++ entry_view entry ∷ [];
+          added = self.old.added + 1;
+          room = self.old.room - 1;
+        } }
+    {
+        self.room -= 1;
+        self.added += 1;
+        self.entries.push_reserved(entry);
+    }
+
+    /// Says that room for this many entries is not wanted after all.
+    pub fn give_back(&mut self, ends: usize)
+        requires { ends ≤ self.old.room }
+        ensures { self.new ≡ record self.old { room = self.old.room - ends } }
+    {
+        self.room -= ends;
+    }
+
+    /// The number that is given next.
+    pub fn next(&self) -> u64
+        ensures { result ≡ self.now.next }
+    {
+        self.next
+    }
+
+    /// Takes this many numbers in a row and answers the first of them, or none where so many are not left.
+    pub fn take_numbers(&mut self, count: u64) -> Option<u64>
+        ensures some { IfSome result (λ first.
+            (first ≡ self.old.next) × (self.new ≡ record self.old { next = self.old.next + count })) }
+        ensures fits { OnSome result (self.new.next < 2 ^ 64) }
+        ensures none { IfNone result ((self.new ≡ self.old) × (2 ^ 64 ≤ self.old.next + count)) }
+    {
+        let first = self.next;
+        self.next = first.checked_add(count)?;
+        Some(first)
+    }
+
+    /// The entries so far, the oldest first.
+    pub fn entries(&self) -> &[Entry]
+        ensures { map entry_view result.now ≡ self.now.entries }
+    {
+        self.entries.as_slice()
+    }
+
+    /// Takes all entries away. The room and the numbers stay.
+    pub fn clear(&mut self)
+        ensures { self.new ≡ record self.old { entries = [] } }
+    {
+        self.entries.clear();
+    }
+}

@@ -1,0 +1,8 @@
+//! The interface to the operating system, its journal, the spec of a command and the errors.
+#![tactic(auto)]
+
+pub mod error;
+pub mod journal;
+pub mod names;
+pub mod spec;
+pub mod system;

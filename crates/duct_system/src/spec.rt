@@ -1,0 +1,279 @@
+//! The spec of a command: the words, the folder, the variables and the streams that its child is started with.
+ghost use Rattle.std.specs.Prelude.{◌≡◌, ◌≢◌, [], ◌∷◌, ◌++◌, map, string_bytes, Some, IfOk, IfErr, IsOkUnless, OnOk, OnErr};
+ghost use Rattle.std.specs.Option.{option_copied, option_map};
+ghost use Rattle.duct_system.specs.SpecView.{SpecView, value_of, with_var, without_var, pair_text, texts_of, port_of, gives, GivesNothing};
+ghost use Rattle.duct_system.specs.declared.system.Fault.{Fault};
+
+use crate::error::Error;
+use crate::system::Fault;
+use std::alloc::Global;
+use std::collections::BTreeMap;
+use std::marker::Model;
+
+/// Where one of the three streams of a child goes.
+#[derive(Clone, Copy, Debug, PartialEq, Eq)]
+pub enum Port {
+    /// To the parent's own stream.
+    Inherit,
+    /// To nothing.
+    Null,
+    /// To an end that the start found for it.
+    Given,
+    /// To the end at this place of those that stand beside the hook which says so, from 0.
+    Place(usize),
+}
+
+/// One of the three streams of a child.
+#[derive(Clone, Copy, Debug, PartialEq, Eq)]
+pub enum Stream {
+    In,
+    Out,
+    Err,
+}
+
+/// What a child is to be started with. A start makes it, its hooks may change it, and `System::spawn` is given it.
+#[derive(Debug, Drop)]
+pub struct CommandSpec {
+    words: Vec<String>,
+    folder: Option<String>,
+    vars: BTreeMap<String, String>,
+    stdin: Port,
+    stdout: Port,
+    stderr: Port,
+}
+
+impl Model for CommandSpec {
+    ghost use Rattle.std.specs.Prelude.{map, string_bytes};
+    ghost use Rattle.std.specs.Option.{option_map};
+    ghost use Rattle.duct_system.specs.SpecView.{SpecView, pair_text};
+
+    ghost Value = { SpecView };
+
+    ghost view = { λ s. record {
+      words = map string_bytes s.words.items;
+      folder = option_map string_bytes s.folder;
+      vars = map pair_text s.vars.entries;
+      input = s.stdin;
+      output = s.stdout;
+      error = s.stderr;
+    } };
+}
+
+/// The spec of these parts: the program and its arguments, the folder if one is set, the whole environment of the
+/// child, and its streams. For a start alone.
+pub fn spec_of(
+    words: Vec<String>,
+    folder: Option<String>,
+    vars: BTreeMap<String, String>,
+    stdin: Port,
+    stdout: Port,
+    stderr: Port,
+) -> CommandSpec
+    ensures { result ≡ record {
+      words = map string_bytes words.items;
+      folder = option_map string_bytes folder;
+      vars = map pair_text vars.entries;
+      input = stdin;
+      output = stdout;
+      error = stderr;
+    } }
+{
+    CommandSpec {
+        words,
+        folder,
+        vars,
+        stdin,
+        stdout,
+        stderr,
+    }
+}
+
+impl CommandSpec {
+    /// The program and its arguments.
+    pub fn words(&self) -> &[String]
+        ensures { map string_bytes result.now ≡ self.now.words }
+    {
+        self.words.as_slice()
+    }
+
+    /// The folder that the child starts in, if it is not the parent's.
+    pub fn folder(&self) -> Option<&str>
+        ensures { option_copied result ≡ self.now.folder }
+    {
+        match &self.folder {
+            Some(folder) => Some(folder.as_str()),
+            None => None,
+        }
+    }
+
+    /// The value of a variable of the child, if it has one of that name.
+    pub fn var(&self, name: &str) -> Option<&str>
+        ensures { option_copied result ≡ value_of name.now self.now.vars }
+    {
+        match self.vars.get(name) {
+            Some(value) => Some(value.as_str()),
+            None => None,
+        }
+    }
+
+    /// All variables of the child, in order of name. Refused, by `Error::Memory`, only for want of memory.
+    pub fn vars(&self) -> Result<Vec<(&str, &str)>, Error>
+        ensures vars { IfOk result (λ pairs. map (λ p. (p.0.now, p.1.now)) pairs.items ≡ self.now.vars) }
+        ensures memory { IsOkUnless result Error.Memory }
+    {
+        let mut pairs = Vec::new(*self.words.allocator());
+        for (name, value) in self.vars.iter() {
+            pairs.push((name.as_str(), value.as_str()))?;
+        }
+        Ok(pairs)
+    }
+
+    /// Where a stream of the child goes.
+    pub fn port(&self, stream: Stream) -> Port
+        ensures { result ≡ port_of stream self.now }
+    {
+        match stream {
+            Stream::In => self.stdin,
+            Stream::Out => self.stdout,
+            Stream::Err => self.stderr,
+        }
+    }
+}
+
+impl CommandSpec {
+    /// Adds an argument at the end. Refused, by `Error::Memory`, only for want of memory; the spec is then as it was.
+    pub fn arg(&mut self, arg: &str) -> Result<(), Error>
+        ensures ok { OnOk result (self.new ≡ record self.old { words = self.old.words ++ arg.now ∷ [] }) }
+        ensures err { OnErr result (self.new ≡ self.old) }
+        ensures memory { IsOkUnless result Error.Memory }
+    {
+        let arg = String::from_str(*self.words.allocator(), arg)?;
+        self.words.push(arg)?;
+        Ok(())
+    }
+
+    /// Adds arguments at the end. Refused, by `Error::Memory`, only for want of memory; the spec is then as it was.
+    pub fn args(&mut self, args: &[&str]) -> Result<(), Error>
+        ensures ok { OnOk result (self.new ≡ record self.old { words = self.old.words ++ texts_of args.now }) }
+        ensures err { OnErr result (self.new ≡ self.old) }
+        ensures memory { IsOkUnless result Error.Memory }
+    {
+        let mut more = texts(*self.words.allocator(), args)?;
+        self.words.append(&mut more)?;
+        Ok(())
+    }
+
+    /// Gives a variable a value, in place of the one that it had. Refused, by `Error::Memory`, only for want of memory; the
+    /// spec is then as it was.
+    pub fn env(&mut self, name: &str, value: &str) -> Result<(), Error>
+        ensures ok { OnOk result (self.new ≡ record self.old { vars = with_var name.now value.now self.old.vars }) }
+        ensures err { OnErr result (self.new ≡ self.old) }
+        ensures memory { IsOkUnless result Error.Memory }
+    {
+        let alloc = *self.words.allocator();
+        let name = String::from_str(alloc, name)?;
+        let value = String::from_str(alloc, value)?;
+        self.vars.insert(name, value)?;
+        Ok(())
+    }
+
+    /// Takes a variable away, if the child has one of that name.
+    pub fn env_remove(&mut self, name: &str)
+        ensures { self.new ≡ record self.old { vars = without_var name.now self.old.vars } }
+    {
+        let _ = self.vars.remove(name);
+    }
+
+    /// Takes all variables away.
+    pub fn env_clear(&mut self)
+        ensures { self.new ≡ record self.old { vars = [] } }
+    {
+        self.vars.clear();
+    }
+
+    /// Sets the folder that the child starts in. Refused, by `Error::Memory`, only for want of memory; the spec is then as
+    /// it was.
+    pub fn current_dir(&mut self, folder: &str) -> Result<(), Error>
+        ensures ok { OnOk result (self.new ≡ record self.old { folder = Some folder.now }) }
+        ensures err { OnErr result (self.new ≡ self.old) }
+        ensures memory { IsOkUnless result Error.Memory }
+    {
+        self.folder = Some(String::from_str(*self.words.allocator(), folder)?);
+        Ok(())
+    }
+
+    /// Sets where the child's stdin comes from: the parent's, nothing, or an end that stands beside the hook.
+    pub fn stdin(&mut self, port: Port)
+        requires { port ≢ Port.Given }
+        ensures { self.new ≡ record self.old { input = port } }
+    {
+        self.stdin = port;
+    }
+
+    /// Sets where the child's stdout goes: to the parent's, to nothing, or to an end that stands beside the hook.
+    pub fn stdout(&mut self, port: Port)
+        requires { port ≢ Port.Given }
+        ensures { self.new ≡ record self.old { output = port } }
+    {
+        self.stdout = port;
+    }
+
+    /// Sets where the child's stderr goes: to the parent's, to nothing, or to an end that stands beside the hook.
+    pub fn stderr(&mut self, port: Port)
+        requires { port ≢ Port.Given }
+        ensures { self.new ≡ record self.old { error = port } }
+    {
+        self.stderr = port;
+    }
+}
+
+// The texts as words.
+fn texts(alloc: Global, texts: &[&str]) -> Result<Vec<String>, Error>
+    ensures words { IfOk result (λ words. map string_bytes words.items ≡ texts_of texts.now) }
+    ensures memory { IsOkUnless result Error.Memory }
+{
+    let mut words = Vec::new(alloc);
+    for text in texts {
+        words.push(String::from_str(alloc, text)?)?;
+    }
+    Ok(words)
+}
+
+/// Makes a stream one that is given an end. For a start alone: a hook that calls this breaks its promise.
+pub fn give(spec: &mut CommandSpec, stream: Stream)
+    ensures { spec.new ≡ gives stream spec.old }
+{
+    match stream {
+        Stream::In => spec.stdin = Port::Given,
+        Stream::Out => spec.stdout = Port::Given,
+        Stream::Err => spec.stderr = Port::Given,
+    }
+}
+
+/// What changes the spec of a command before its child is started.
+pub trait Hook: Drop {
+    /// The specs that it may make of a spec.
+    ghost allows: { Self → SpecView → SpecView → Type 0 };
+
+    /// The faults by which it may refuse a spec.
+    ghost refuses: { Self → SpecView → Fault → Type 0 };
+
+    /// Changes the spec, or refuses it: the child is then not started. It makes no stream `Given` that was not.
+    fn change(&self, spec: &mut CommandSpec) -> Result<(), Fault>
+        ensures ok { OnOk result (allows self.now spec.old spec.new) }
+        ensures err { IfErr result (refuses self.now spec.old) }
+        ensures given { OnOk result (GivesNothing spec.old spec.new) };
+}
+
+/// A hook of any type, as an expression keeps it.
+pub type HookBox = Box<dyn Hook + Send + Sync>;
+
+impl Hook for HookBox {
+    ghost allows = { λ hook. (Hook-box hook).allows hook.value };
+
+    ghost refuses = { λ hook. (Hook-box hook).refuses hook.value };
+
+    fn change(&self, spec: &mut CommandSpec) -> Result<(), Fault> {
+        (**self).change(spec)
+    }
+}
