@@ -70,7 +70,9 @@ insert_case name k v e es Greater is rest =
     (λ p q. let same = same_name-refl k e.0 (sym (same_name-is name k p) ∙ same_name-is name e.0 q) in let greater = ap is_eq is in cc)
 
 -- a pair that is put in is found by its name, and each other name finds what it found
-pub value_of-insert : (name : List ℕ) (es : Vars) (k v : List ℕ) → value_of name (insert_entry (slice_cmp nat_cmp) es k v) ≡ cond (same_name name k) (Some v) (value_of name es)
+pub value_of-insert : (name : List ℕ) (es : Vars) (k v : List ℕ)
+    → value_of name (insert_entry (slice_cmp nat_cmp) es k v)
+    ≡ cond (same_name name k) (Some v) (value_of name es)
 value_of-insert name [] k v = refl
 value_of-insert name (e ∷ es) k v = insert_case name k v e es (slice_cmp nat_cmp k e.0) refl (value_of-insert name es k v)
 
@@ -89,11 +91,14 @@ value_of-fold name (p ∷ ps) vars =
     one_more false v rest = refl
 
 -- the value of a name among variables that were put in one after the other is that of the last pair of the name
-pub value_of-last_values : (name : List ℕ) (pairs : Vars) → value_of name (last_values pairs) ≡ value_of name (reverse pairs)
+pub value_of-last_values : (name : List ℕ) (pairs : Vars)
+    → value_of name (last_values pairs) ≡ value_of name (reverse pairs)
 value_of-last_values name pairs = value_of-fold name pairs [] ∙ or_else-none (value_of name (reverse pairs))
 
 -- the names of a map's texts ascend as its names do
-pub names_ascend : {Z : Type 0} (es : List (String Z × String Z)) → IsStrictlySortedBy string_cmp (keys_of es) → IsStrictlySortedBy (slice_cmp nat_cmp) (map (λ pair. pair.0) (map pair_text es))
+pub names_ascend : {Z : Type 0} (es : List (String Z × String Z))
+    → IsStrictlySortedBy string_cmp (keys_of es)
+    → IsStrictlySortedBy (slice_cmp nat_cmp) (map (λ pair. pair.0) (map pair_text es))
 unfolding IsStrictlySortedBy
 names_ascend {Z} [] sorted = tt
 names_ascend {Z} (e ∷ es) sorted = (above es sorted.0, names_ascend es sorted.1)
@@ -110,12 +115,15 @@ last_values-more es new pairs k v so_far is =
     ∙ sym (ap last_values (map-append pair_text pairs ((k, v) ∷ [])) ∙ fold-append (λ vars pair. insert_entry (slice_cmp nat_cmp) vars pair.0 pair.1) [] (map pair_text pairs) ((string_bytes k, string_bytes v) ∷ []))
 
 -- what is left of a list, after one more of its items
-pub left_more : {X : Type 0} (all so_far rest left : List X) (x : X) → all ≡ so_far ++ rest → rest ≡ x ∷ left → all ≡ (so_far ++ x ∷ []) ++ left
+pub left_more : {X : Type 0} (all so_far rest left : List X) (x : X) → all ≡ so_far ++ rest
+    → rest ≡ x ∷ left → all ≡ (so_far ++ x ∷ []) ++ left
 left_more all so_far rest left x is next = is ∙ ap (λ xs. so_far ++ xs) next ∙ sym (append_assoc so_far (x ∷ []) left)
 
-pub length_left : {X : Type 0} (rest left : List X) (x : X) (count less : ℕ) → rest ≡ x ∷ left → count ≡ length rest → less + 1 ≡ count → less ≡ length left
+pub length_left : {X : Type 0} (rest left : List X) (x : X) (count less : ℕ) → rest ≡ x ∷ left
+    → count ≡ length rest → less + 1 ≡ count → less ≡ length left
 length_left rest left x count less next is one = let e : length rest ≡ suc (length left) = ap length next in omega arith
 
-pub left_none : {X : Type 0} (all so_far rest : List X) (count : ℕ) → all ≡ so_far ++ rest → count ≡ length rest → count ≡ 0 → so_far ≡ all
+pub left_none : {X : Type 0} (all so_far rest : List X) (count : ℕ) → all ≡ so_far ++ rest
+    → count ≡ length rest → count ≡ 0 → so_far ≡ all
 left_none all so_far [] count is len none = sym (is ∙ append-nil so_far)
 left_none all so_far (x ∷ rest) count is len none = absurd (omega arith)

@@ -124,7 +124,8 @@ sieves_all : (may : ChildView → Answer → Type 0) (children : List ChildView)
 sieves_all may [] = (refl, refl, refl)
 sieves_all may (child ∷ children) = inl (child, children, record { number_is = refl; process_is = refl; orders_are = refl }, refl, sieves_all may children)
 
-pub pool_untouched : {C : Type 0} (may : ℕ → Answer → Type 0) (view : C → ChildView) (added : List EntryView) (pool : PoolView C) → children_in added ≡ [] →
+pub pool_untouched : {C : Type 0} (may : ℕ → Answer → Type 0) (view : C → ChildView)
+    (added : List EntryView) (pool : PoolView C) → children_in added ≡ [] →
     LeavesStarted may view added pool pool
 pool_untouched may view added pool none = (
   [],
@@ -146,12 +147,15 @@ pool_untouched may view added pool none = (
   },
 )
 
-pub pool_of_none : {C : Type 0} (may : ℕ → Answer → Type 0) (view : C → ChildView) (entries : List EntryView) (pool : PoolView C) →
+pub pool_of_none : {C : Type 0} (may : ℕ → Answer → Type 0) (view : C → ChildView)
+    (entries : List EntryView) (pool : PoolView C) →
     LeavesStarted may view (segment entries entries) pool pool
 pool_of_none may view entries pool = pool_untouched may view (segment entries entries) pool (ap (λ l. children_in l) (segment-none entries))
 
 -- one child that runs, and no worker
-pub alone_running : {E H C F D V W : Type 0} (child : C → ChildView) (feed : F → JobView V) (drain : D → JobView W) (tree : TreeView E H) (words : List (List ℕ)) (added : List EntryView) (number : ℕ) (place : C)
+pub alone_running : {E H C F D V W : Type 0} (child : C → ChildView) (feed : F → JobView V)
+    (drain : D → JobView W) (tree : TreeView E H) (words : List (List ℕ)) (added : List EntryView)
+    (number : ℕ) (place : C)
     (shape : Shape) (children : List C) → tree ≡ command words → shape_view shape ≡ shape_of_tree tree → children ≡ place ∷ [] → (child place).number ≡ number → IsUnasked (child place) → StartsOne number added →
     IsRunning child feed drain tree (plan_of tree) added (record { shape = shape; children = children; feeds = []; output = None; error = None })
 alone_running child feed drain tree words added number place shape children same shape_seen one numbered unasked starts = record {
@@ -209,13 +213,15 @@ module _ {E H : Type 0} (allows : Allows H) (refuses : Refuses H) (number_of : E
       }
 
   -- nothing was asked, for want of memory
-  pub nothing_asked : (old : JournalView) → StartRefused allows refuses number_of tree plan old old error.Memory
+  pub nothing_asked : (old : JournalView)
+      → StartRefused allows refuses number_of tree plan old old error.Memory
   nothing_asked old =
       let added : Added [] old old = record { entries_are = sym (append-nil old.entries); added_is = omega arith; next_grows = omega arith; room_grows = omega arith } in
       refused_with old old [] error.Memory added nothing_follows tt (λ fault e. absurd (cc)) refl refl
 
   -- the environment was refused, or there was no memory to ask for it
-  pub environment_refused : (old new : JournalView) (fault : Fault) → IsRefused (Environment (Err fault)) 0 fault old new →
+  pub environment_refused : (old new : JournalView) (fault : Fault)
+      → IsRefused (Environment (Err fault)) 0 fault old new →
       StartRefused allows refuses number_of tree plan old new (error.System fault)
   environment_refused old new fault (inl asks) =
       refused_with old new (Environment (Err fault) ∷ []) (error.System fault) (added_one _ old new asks) (environment_follows (Err fault)) (inr refl) (λ other e. ap error.System (some_is fault other e)) refl refl
@@ -223,13 +229,15 @@ module _ {E H : Type 0} (allows : Allows H) (refuses : Refuses H) (number_of : E
       refused_with old new [] (error.System fault) (added_none old new none.1) nothing_follows (inl none.2) (λ other e. absurd (cc)) refl refl
 
   -- the environment was answered, and then there was no memory
-  pub memory_refused : (old new : JournalView) (pairs : Vars) → Asks (Environment (Ok pairs)) old new →
+  pub memory_refused : (old new : JournalView) (pairs : Vars)
+      → Asks (Environment (Ok pairs)) old new →
       StartRefused allows refuses number_of tree plan old new error.Memory
   memory_refused old new pairs asks =
       refused_with old new (Environment (Ok pairs) ∷ []) error.Memory (added_one _ old new asks) (environment_follows (Ok pairs)) tt (λ other e. absurd (cc)) refl refl
 
   -- the spawn was refused, or there was no memory to ask for it
-  pub spawn_refused : (old mid new : JournalView) (pairs : Vars) (spec : SpecView) (fault : Fault) → Asks (Environment (Ok pairs)) old mid →
+  pub spawn_refused : (old mid new : JournalView) (pairs : Vars) (spec : SpecView) (fault : Fault)
+      → Asks (Environment (Ok pairs)) old mid →
       IsRefused (Spawn spec inherited (Err fault)) 0 fault mid new → IsAsked {E = E} {H = H} pairs (program_of words) plain words spec →
       StartRefused allows refuses number_of tree plan old new (error.System fault)
   spawn_refused old mid new pairs spec fault first (inl asks) asked =
@@ -241,7 +249,8 @@ module _ {E H : Type 0} (allows : Allows H) (refuses : Refuses H) (number_of : E
       (environment_follows (Ok pairs)) (inl none.2) (λ other e. absurd (cc)) refl refl
 
   -- the child was started
-  pub spawn_succeeds : (old mid new : JournalView) (pairs : Vars) (spec : SpecView) (number : ℕ) → Asks (Environment (Ok pairs)) old mid →
+  pub spawn_succeeds : (old mid new : JournalView) (pairs : Vars) (spec : SpecView) (number : ℕ)
+      → Asks (Environment (Ok pairs)) old mid →
       GivesEnds (Spawn spec inherited (Ok number)) 0 mid new → IsAsked {E = E} {H = H} pairs (program_of words) plain words spec →
       StartSucceeds allows number_of tree plan old new
   spawn_succeeds old mid new pairs spec number first gives asked =
@@ -255,7 +264,8 @@ module _ {E H : Type 0} (allows : Allows H) (refuses : Refuses H) (number_of : E
       }
 
 -- the children and workers of these segments
-pub one_started : (old mid new : JournalView) (pairs : Vars) (spec : SpecView) (number : ℕ) → Asks (Environment (Ok pairs)) old mid →
+pub one_started : (old mid new : JournalView) (pairs : Vars) (spec : SpecView) (number : ℕ)
+    → Asks (Environment (Ok pairs)) old mid →
     GivesEnds (Spawn spec inherited (Ok number)) 0 mid new → StartsOne number (segment old.entries new.entries)
 one_started old mid new pairs spec number first gives =
     let added = added_more (_ ∷ []) (_ ∷ []) old mid new (added_one _ old mid first) (added_one _ mid new gives) in
@@ -264,14 +274,18 @@ one_started old mid new pairs spec number first gives =
 none_started : (xs : List EntryView) (old new : JournalView) → Added xs old new → StartsNone xs → StartsNone (segment old.entries new.entries)
 none_started xs old new added none = subst StartsNone (sym (segment_is xs old new added)) none
 
-pub none_by_environment : (old new : JournalView) (fault : Fault) → IsRefused (Environment (Err fault)) 0 fault old new → StartsNone (segment old.entries new.entries)
+pub none_by_environment : (old new : JournalView) (fault : Fault)
+    → IsRefused (Environment (Err fault)) 0 fault old new
+    → StartsNone (segment old.entries new.entries)
 none_by_environment old new fault (inl asks) = none_started _ old new (added_one _ old new asks) (record { no_children = refl; no_feeds = refl; no_drains = refl })
 none_by_environment old new fault (inr none) = none_started _ old new (added_none old new none.1) (record { no_children = refl; no_feeds = refl; no_drains = refl })
 
-pub none_by_memory : (old new : JournalView) (pairs : Vars) → Asks (Environment (Ok pairs)) old new → StartsNone (segment old.entries new.entries)
+pub none_by_memory : (old new : JournalView) (pairs : Vars) → Asks (Environment (Ok pairs)) old new
+    → StartsNone (segment old.entries new.entries)
 none_by_memory old new pairs asks = none_started _ old new (added_one _ old new asks) (record { no_children = refl; no_feeds = refl; no_drains = refl })
 
-pub none_by_spawn : (old mid new : JournalView) (pairs : Vars) (spec : SpecView) (fault : Fault) → Asks (Environment (Ok pairs)) old mid →
+pub none_by_spawn : (old mid new : JournalView) (pairs : Vars) (spec : SpecView) (fault : Fault)
+    → Asks (Environment (Ok pairs)) old mid →
     IsRefused (Spawn spec inherited (Err fault)) 0 fault mid new → StartsNone (segment old.entries new.entries)
 none_by_spawn old mid new pairs spec fault first (inl asks) =
     none_started _ old new (added_more (_ ∷ []) (_ ∷ []) old mid new (added_one _ old mid first) (added_one _ mid new asks)) (record { no_children = refl; no_feeds = refl; no_drains = refl })
@@ -283,7 +297,8 @@ with_own_program [] = refl
 with_own_program (word ∷ words) = refl
 
 -- the spec of a command with nothing round it is the one that its tree asks for
-pub plainly_asked : {E H : Type 0} (pairs vars : Vars) (words copy : List (List ℕ)) (spec : SpecView) →
+pub plainly_asked : {E H : Type 0} (pairs vars : Vars) (words copy : List (List ℕ))
+    (spec : SpecView) →
     spec ≡ record { words = copy; folder = None; vars = vars; input = port.Inherit; output = port.Inherit; error = port.Inherit } → copy ≡ words →
     ((name : List ℕ) → value_of name vars ≡ value_of name (reverse pairs)) → IsStrictlySortedBy (slice_cmp nat_cmp) (map (λ pair. pair.0) vars) →
     IsAsked {E = E} {H = H} pairs (program_of words) plain words spec

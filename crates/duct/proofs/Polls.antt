@@ -77,7 +77,8 @@ module _ {C : Type 0} (view : C → ChildView) (may : ℕ → Answer → Type 0)
   words_changed (child ∷ children) (suc at) before after answer low is polls due = ap (λ ws. said (view child) ∷ ws) (words_changed children at before after answer (omega arith) is polls due)
 
   -- the same, by the words that a core keeps of the children
-  pub not_asked_in : (items children : List C) (at : ℕ) (kept : Latest) → items ≡ children → kept ≡ stored_latest (map view items) → at < length children → is_due kept at ≡ false →
+  pub not_asked_in : (items children : List C) (at : ℕ) (kept : Latest) → items ≡ children
+      → kept ≡ stored_latest (map view items) → at < length children → is_due kept at ≡ false →
       AskedAt may at (map view children) (map view children)
   not_asked_in items children at kept same is low over =
       not_asked children at low (ap (λ cs. is_word_due (slice_get (words cs) at)) (sym same) ∙ ap (λ (w : Latest). is_due w at) (sym is) ∙ over)
@@ -88,14 +89,18 @@ module _ {C : Type 0} (view : C → ChildView) (may : ℕ → Answer → Type 0)
   within : (items children : List C) (at : ℕ) → items ≡ children → at < length children → at < length items
   within items children at same low = subst (λ (cs : List C). at < length cs) (sym same) low
 
-  pub asked_in : (items children : List C) (at : ℕ) (before after : C) (answer : Answer) (kept : Latest) → items ≡ children → kept ≡ stored_latest (map view items) → at < length children →
+  pub asked_in : (items children : List C) (at : ℕ) (before after : C) (answer : Answer)
+      (kept : Latest) → items ≡ children → kept ≡ stored_latest (map view items)
+      → at < length children →
       is_due kept at ≡ true → before ≡ get_or items at before → PollsChild may (view before) answer (view after) → AskedAt may at (map view children) (map view (set items at after))
   asked_in items children at before after answer kept same is low due found polls =
       subst (λ (cs : List C). AskedAt may at (map view cs) (map view (set items at after))) same
       (asked items at before after answer (within items children at same low) found polls (due_in items at kept is due))
 
   -- a core that was told what the child answered keeps the words that the children store
-  pub words_in_step : (items children : List C) (at : ℕ) (before after : C) (answer : Answer) (kept later : Latest) (heard : Word) → items ≡ children → kept ≡ stored_latest (map view items) → at < length children →
+  pub words_in_step : (items children : List C) (at : ℕ) (before after : C) (answer : Answer)
+      (kept later : Latest) (heard : Word) → items ≡ children
+      → kept ≡ stored_latest (map view items) → at < length children →
       is_due kept at ≡ true → before ≡ get_or items at before → PollsChild may (view before) answer (view after) → heard ≡ word_of answer → later ≡ latest_after kept (from_command at heard) →
       later ≡ stored_latest (map view (set items at after))
   words_in_step items children at before after answer kept later heard same is low due found polls hears told =
@@ -125,11 +130,14 @@ asked_next may (suc count) (before ∷ befores) (b ∷ between) (after ∷ after
     (subst (λ (l : ChildView). AskedIfDue may before l) (sym asked.0) so_far.0, asked_next may count befores between afters so_far.1 asked.1)
 
 -- one more was polled or had ended
-pub asked_more : (may : ℕ → Answer → Type 0) (count : ℕ) (befores between afters : List ChildView) → AskedTo may count befores between → AskedAt may count between afters → AskedTo may (count + 1) befores afters
+pub asked_more : (may : ℕ → Answer → Type 0) (count : ℕ) (befores between afters : List ChildView)
+    → AskedTo may count befores between → AskedAt may count between afters
+    → AskedTo may (count + 1) befores afters
 asked_more may count befores between afters so_far asked = rw add-one (asked_next may count befores between afters so_far asked)
 
 -- all of them were
-pub asked_all : (may : ℕ → Answer → Type 0) (count : ℕ) (befores afters : List ChildView) → length befores ≤ count → AskedTo may count befores afters → AllAsked may befores afters
+pub asked_all : (may : ℕ → Answer → Type 0) (count : ℕ) (befores afters : List ChildView)
+    → length befores ≤ count → AskedTo may count befores afters → AllAsked may befores afters
 asked_all may zero [] afters few asked = subst (λ (ls : List ChildView). AllAsked may [] ls) (sym asked) tt
 asked_all may zero (before ∷ befores) afters few asked = absurd (omega arith)
 asked_all may (suc count) [] [] few asked = tt
@@ -138,7 +146,8 @@ asked_all may (suc count) (before ∷ befores) [] few asked = absurd asked
 asked_all may (suc count) (before ∷ befores) (after ∷ afters) few asked = (asked.0, asked_all may count befores afters (omega arith) asked.1)
 
 -- as many are there as before
-pub asked_length : (may : ℕ → Answer → Type 0) (at : ℕ) (befores afters : List ChildView) → AskedAt may at befores afters → length afters ≡ length befores
+pub asked_length : (may : ℕ → Answer → Type 0) (at : ℕ) (befores afters : List ChildView)
+    → AskedAt may at befores afters → length afters ≡ length befores
 asked_length may at [] afters asked = absurd asked
 asked_length may zero (before ∷ befores) [] asked = absurd asked
 asked_length may zero (before ∷ befores) (after ∷ afters) asked = ap (λ (ls : List ChildView). suc (length ls)) asked.1

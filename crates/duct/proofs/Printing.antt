@@ -83,7 +83,8 @@ modifier_prints unchecked is = refl
 modifier_prints (before_spawn hook ends) is = refl
 
 -- a printable tree prints its text
-pub tree_prints : {E H : Type 0} (tree : TreeView E H) → is_tree_printable tree ≡ true → printed tree ≡ Some (text tree)
+pub tree_prints : {E H : Type 0} (tree : TreeView E H) → is_tree_printable tree ≡ true
+    → printed tree ≡ Some (text tree)
 tree_prints (command words) is = rw (debug_list-printable words is) refl
 tree_prints (pipe left right) is =
     let both = and_parts (is_tree_printable left) (is_tree_printable right) is in
@@ -93,6 +94,9 @@ tree_prints (around modifier inner) is =
     rw (modifier_prints modifier both.0, tree_prints inner both.1) (ap Some (joined_five (codes "Io(") (modifier_text modifier) (codes ", ") (text inner) (codes ")")))
 
 -- what is promised where a test holds, of what is printed then
-pub displays_if : {W : Type 0} (took : W → List ℕ → W → Type 0) (f : Formatter W) (r : Result (Unit {0}) Error) (g : Formatter W) (b : Bool) (o : Option (List ℕ)) (bytes : List ℕ) → (b ≡ true → o ≡ Some bytes) → DisplaysOnOk took f r o g → DisplaysOnOk took f r (if b then Some bytes else None) g
+pub displays_if : {W : Type 0} (took : W → List ℕ → W → Type 0) (f : Formatter W)
+    (r : Result (Unit {0}) Error) (g : Formatter W) (b : Bool) (o : Option (List ℕ))
+    (bytes : List ℕ) → (b ≡ true → o ≡ Some bytes) → DisplaysOnOk took f r o g
+    → DisplaysOnOk took f r (if b then Some bytes else None) g
 displays_if took f r g true o bytes at writes = subst (λ (v : Option (List ℕ)). DisplaysOnOk took f r v g) (at refl) writes
 displays_if took f r g false o bytes at writes = tt

@@ -32,7 +32,8 @@ with_program program (word ∷ words) = program ∷ words
 
 -- the spec has these words with this program, the folder and the variables that are found outwards, each name once and in
 -- order, and for each stream the port of where it goes
-pub record IsAsked {E H : Type 0} (pairs : Vars) (program : List ℕ) (found : Found E H) (words : List (List ℕ)) (spec : SpecView) : Type 0 where
+pub record IsAsked {E H : Type 0} (pairs : Vars) (program : List ℕ) (found : Found E H)
+    (words : List (List ℕ)) (spec : SpecView) : Type 0 where
   pub words_are : spec.words ≡ with_program program words
   pub folder_is : spec.folder ≡ found.folder
   pub vars_are : (name : List ℕ) → value_of name spec.vars ≡ variable pairs found.changes name
@@ -41,7 +42,8 @@ pub record IsAsked {E H : Type 0} (pairs : Vars) (program : List ℕ) (found : F
 
 -- the number of an end that the entry at a place of the trace got: of a pipe the read end is the first, the write end the second
 abbrev pub end_at : List EntryView → ℕ → ℕ → ℕ
-end_at entries place which = slice_index (flat_map got_by (option_to_list (slice_get entries place))) which
+end_at entries place which =
+    slice_index (flat_map got_by (option_to_list (slice_get entries place))) which
 
 -- where a stream that goes there comes from, by the trace and the numbers of the caller's ends
 abbrev pub stream_to : {E : Type 0} → List EntryView → (E → ℕ) → Stream → Target E → Stdio Origin
@@ -60,4 +62,5 @@ stream_to entries number_of stream (Lends end) = End (Lent (number_of end))
 -- the three streams of a command, in the order stdin, stdout, stderr
 abbrev pub streams_to : {E H : Type 0} → List EntryView → (E → ℕ) → Found E H → List (Stdio Origin)
 streams_to entries number_of found =
-    stream_to entries number_of In found.input ∷ stream_to entries number_of Out found.output ∷ stream_to entries number_of Err found.error ∷ []
+    stream_to entries number_of In found.input ∷ stream_to entries number_of Out found.output
+    ∷ stream_to entries number_of Err found.error ∷ []

@@ -19,29 +19,38 @@ asked_in added = filter (λ entry. not (is_close entry)) added
 
 -- the fault of the last entry that is no close, if it was refused
 abbrev pub last_fault : List EntryView → Option Fault
-last_fault added = option_and_then fault_of (slice_get (asked_in added) (length (asked_in added) - 1))
+last_fault added =
+    option_and_then fault_of (slice_get (asked_in added) (length (asked_in added) - 1))
 
 -- the item is a spawn, and the hooks of its command stop the start with this error
-abbrev pub StoppedBy : {E H : Type 0} → Allows H → Refuses H → (E → ℕ) → List EntryView → ℕ → Option (Item E H) → Error → Type 0
+abbrev pub StoppedBy : {E H : Type 0} → Allows H → Refuses H → (E → ℕ) → List EntryView → ℕ
+    → Option (Item E H) → Error → Type 0
 StoppedBy allows refuses number_of entries place (Some (AskSpawn found words)) error =
-    (before : Wired) × IsAskedAt entries number_of place found words before × ChainStops allows refuses (lent number_of found.hooks) before error
+    (before : Wired) × IsAskedAt entries number_of place found words before
+    × ChainStops allows refuses (lent number_of found.hooks) before error
 StoppedBy allows refuses number_of entries place other error = ⊥
 
 -- the hooks of the command whose spawn is the next item of the plan stop the start with this error
-abbrev pub StoppedNext : {E H : Type 0} → Allows H → Refuses H → (E → ℕ) → Plan E H → List EntryView → Error → Type 0
+abbrev pub StoppedNext : {E H : Type 0} → Allows H → Refuses H → (E → ℕ) → Plan E H → List EntryView
+    → Error → Type 0
 StoppedNext allows refuses number_of plan added error =
     let place = length (trace added) in
     StoppedBy allows refuses number_of (trace added) place (slice_get plan.items place) error
 
 -- the error has a cause: a system's fault but want of memory is that of the last entry which is no close; a hook's is that of the
 -- next command; a start answers no other but want of memory
-abbrev pub HasCause : {E H : Type 0} → Allows H → Refuses H → (E → ℕ) → Plan E H → List EntryView → Error → Type 0
-HasCause allows refuses number_of plan added (System fault) = (fault.kind ≡ OutOfMemory) ⊎ (last_fault added ≡ Some fault)
-HasCause allows refuses number_of plan added (Hook fault) = StoppedNext allows refuses number_of plan added (Hook fault)
-HasCause allows refuses number_of plan added (HookEnd place) = StoppedNext allows refuses number_of plan added (HookEnd place)
+abbrev pub HasCause : {E H : Type 0} → Allows H → Refuses H → (E → ℕ) → Plan E H → List EntryView
+    → Error → Type 0
+HasCause allows refuses number_of plan added (System fault) =
+    (fault.kind ≡ OutOfMemory) ⊎ (last_fault added ≡ Some fault)
+HasCause allows refuses number_of plan added (Hook fault) =
+    StoppedNext allows refuses number_of plan added (Hook fault)
+HasCause allows refuses number_of plan added (HookEnd place) =
+    StoppedNext allows refuses number_of plan added (HookEnd place)
 HasCause allows refuses number_of plan added Memory = Unit {0}
 HasCause allows refuses number_of plan added other = ⊥
 
 -- a fault of the last entry that is no close is the answer, and no other
 abbrev pub AnswersLastFault : List EntryView → Error → Type 0
-AnswersLastFault added error = (fault : Fault) → last_fault added ≡ Some fault → error ≡ System fault
+AnswersLastFault added error =
+    (fault : Fault) → last_fault added ≡ Some fault → error ≡ System fault

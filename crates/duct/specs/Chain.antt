@@ -38,7 +38,9 @@ either None other = other
 
 -- the first place of a spec that is not there, in the order stdin, stdout, stderr
 abbrev pub missing : ℕ → SpecView → Option ℕ
-missing count spec = either (missing_at count spec.input) (either (missing_at count spec.output) (missing_at count spec.error))
+missing count spec =
+    either (missing_at count spec.input)
+    (either (missing_at count spec.output) (missing_at count spec.error))
 
 -- a place that was found is given
 abbrev pub found : Port → Port
@@ -60,7 +62,12 @@ settled ends (port.Place place) stream = end_of_place (slice_get ends place)
 -- a spec that a hook made, with its places found among the ends beside the hook
 abbrev pub settle : List Origin → SpecView → Wired → Wired
 settle ends made before = record {
-  spec = record made { input = found made.input; output = found made.output; error = found made.error };
+  spec =
+      record made {
+        input = found made.input;
+        output = found made.output;
+        error = found made.error;
+      };
   input = settled ends made.input before.input;
   output = settled ends made.output before.output;
   error = settled ends made.error before.error;
@@ -74,25 +81,32 @@ pub record Makes {H : Type 0} (allows : Allows H) (hook : H) (before made : Spec
 -- one hook leads from one to the other
 abbrev pub Changes : {H : Type 0} → Allows H → H → List Origin → Wired → Wired → Type 0
 Changes allows hook ends before after =
-    (made : SpecView) × Makes allows hook before.spec made × (missing (length ends) made ≡ None) × (after ≡ settle ends made before)
+    (made : SpecView) × Makes allows hook before.spec made × (missing (length ends) made ≡ None)
+    × (after ≡ settle ends made before)
 
 -- the hooks lead from one to the other, each with the ends beside it
 abbrev pub Chain : {H : Type 0} → Allows H → List (H × List Origin) → Wired → Wired → Type 0
 Chain allows [] before after = after ≡ before
-Chain allows (hook ∷ hooks) before after = (between : Wired) × Changes allows hook.0 hook.1 before between × Chain allows hooks between after
+Chain allows (hook ∷ hooks) before after =
+    (between : Wired) × Changes allows hook.0 hook.1 before between
+    × Chain allows hooks between after
 
 -- one hook stops the start with this error: by a fault of its own, or by the first place that is not there
 abbrev pub Stops : {H : Type 0} → Allows H → Refuses H → H → List Origin → Wired → Error → Type 0
 Stops allows refuses hook ends before (Hook fault) = refuses hook before.spec fault
-Stops allows refuses hook ends before (HookEnd place) = (made : SpecView) × Makes allows hook before.spec made × (missing (length ends) made ≡ Some place)
+Stops allows refuses hook ends before (HookEnd place) =
+    (made : SpecView) × Makes allows hook before.spec made
+    × (missing (length ends) made ≡ Some place)
 Stops allows refuses hook ends before other = ⊥
 
 -- one of the hooks stops the start with this error
-abbrev pub ChainStops : {H : Type 0} → Allows H → Refuses H → List (H × List Origin) → Wired → Error → Type 0
+abbrev pub ChainStops : {H : Type 0} → Allows H → Refuses H → List (H × List Origin) → Wired → Error
+    → Type 0
 ChainStops allows refuses [] before error = ⊥
 ChainStops allows refuses (hook ∷ hooks) before error =
     Stops allows refuses hook.0 hook.1 before error
-    ⊎ ((between : Wired) × Changes allows hook.0 hook.1 before between × ChainStops allows refuses hooks between error)
+    ⊎ ((between : Wired) × Changes allows hook.0 hook.1 before between
+    × ChainStops allows refuses hooks between error)
 
 -- the hooks with where the ends beside them come from: these are the caller's own
 abbrev pub lent : {E H : Type 0} → (E → ℕ) → List (H × List E) → List (H × List Origin)

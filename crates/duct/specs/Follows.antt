@@ -25,47 +25,63 @@ text_in _ = []
 
 -- the program of the command whose spawn stands at this place: as it was made canonical by the entry before, or as it stands
 abbrev pub program_at : {E H : Type 0} → List EntryView → ℕ → Found E H → List (List ℕ) → List ℕ
-program_at entries place found words = if is_canonical found words then text_in (slice_get entries (place - 1)) else program_of words
+program_at entries place found words =
+    if is_canonical found words then text_in (slice_get entries (place - 1)) else program_of words
 
 -- what the tree asks for the command whose spawn stands at this place
-pub record IsAskedAt {E H : Type 0} (entries : List EntryView) (number_of : E → ℕ) (place : ℕ) (found : Found E H) (words : List (List ℕ)) (wired : Wired) : Type 0 where
-  pub spec_is : IsAsked (pairs_in entries) (program_at entries place found words) found words wired.spec
-  pub streams_are : wired.input ∷ wired.output ∷ wired.error ∷ [] ≡ streams_to entries number_of found
+pub record IsAskedAt {E H : Type 0} (entries : List EntryView) (number_of : E → ℕ) (place : ℕ)
+    (found : Found E H) (words : List (List ℕ)) (wired : Wired) : Type 0 where
+  pub spec_is : IsAsked (pairs_in entries)
+      (program_at entries place found words) found words wired.spec
+  pub streams_are : wired.input ∷ wired.output ∷ wired.error ∷ []
+      ≡ streams_to entries number_of found
 
 -- a spawn is given what the hooks of the command make of what the tree asks for it
-abbrev pub IsGiven : {E H : Type 0} → Allows H → (E → ℕ) → List EntryView → ℕ → Found E H → List (List ℕ) → SpecView → List (Stdio Origin) → Type 0
+abbrev pub IsGiven : {E H : Type 0} → Allows H → (E → ℕ) → List EntryView → ℕ → Found E H
+    → List (List ℕ) → SpecView → List (Stdio Origin) → Type 0
 IsGiven allows number_of entries place found words spec streams =
-    (before : Wired) × (after : Wired) × IsAskedAt entries number_of place found words before × Chain allows (lent number_of found.hooks) before after
+    (before : Wired) × (after : Wired) × IsAskedAt entries number_of place found words before
+    × Chain allows (lent number_of found.hooks) before after
     × (spec ≡ after.spec) × (streams ≡ after.input ∷ after.output ∷ after.error ∷ [])
 
 -- an entry of the trace answers the item at its place; a worker and the reader get an end of their own pipe
-abbrev pub Answers : {E H : Type 0} → Allows H → (E → ℕ) → List EntryView → ℕ → Item E H → EntryView → Type 0
+abbrev pub Answers : {E H : Type 0} → Allows H → (E → ℕ) → List EntryView → ℕ → Item E H → EntryView
+    → Type 0
 Answers allows number_of added place AskEnvironment (Environment answer) = Unit {0}
 Answers allows number_of added place AskPipe (Pipe answer) = Unit {0}
 Answers allows number_of added place (AskOpenRead path) (OpenRead opened answer) = opened ≡ path
 Answers allows number_of added place (AskCreate path) (Create made answer) = made ≡ path
-Answers allows number_of added place (AskCanonicalize program) (Canonicalize path answer) = path ≡ program
+Answers allows number_of added place (AskCanonicalize program) (Canonicalize path answer) =
+    path ≡ program
 Answers allows number_of added place (AskSpawn found words) (Spawn spec io answer) =
-    IsGiven allows number_of (trace added) place found words spec (map (stream_of (origin added)) io)
-Answers allows number_of added place (AskFeed pipe bytes) (Feed end fed answer) = (fed ≡ bytes) × (origin added end ≡ Opened (end_at (trace added) pipe 1))
-Answers allows number_of added place (AskDrain pipe) (Drain end answer) = origin added end ≡ Opened (end_at (trace added) pipe 0)
-Answers allows number_of added place (AskReader pipe) (Reader end) = origin added end ≡ Opened (end_at (trace added) pipe 0)
+    IsGiven allows number_of (trace added) place found words spec
+    (map (stream_of (origin added)) io)
+Answers allows number_of added place (AskFeed pipe bytes) (Feed end fed answer) =
+    (fed ≡ bytes) × (origin added end ≡ Opened (end_at (trace added) pipe 1))
+Answers allows number_of added place (AskDrain pipe) (Drain end answer) =
+    origin added end ≡ Opened (end_at (trace added) pipe 0)
+Answers allows number_of added place (AskReader pipe) (Reader end) =
+    origin added end ≡ Opened (end_at (trace added) pipe 0)
 Answers allows number_of added place item entry = ⊥
 
 -- the entries from this place on answer the items from there on, as far as they go
-abbrev pub AnswersFrom : {E H : Type 0} → Allows H → (E → ℕ) → List EntryView → ℕ → List (Item E H) → List EntryView → Type 0
+abbrev pub AnswersFrom : {E H : Type 0} → Allows H → (E → ℕ) → List EntryView → ℕ → List (Item E H)
+    → List EntryView → Type 0
 AnswersFrom allows number_of added place items [] = Unit {0}
 AnswersFrom allows number_of added place [] (entry ∷ entries) = ⊥
 AnswersFrom allows number_of added place (item ∷ items) (entry ∷ entries) =
-    Answers allows number_of added place item entry × AnswersFrom allows number_of added (place + 1) items entries
+    Answers allows number_of added place item entry
+    × AnswersFrom allows number_of added (place + 1) items entries
 
 -- what was added follows a front of the plan
-pub record Follows {E H : Type 0} (allows : Allows H) (number_of : E → ℕ) (plan : Plan E H) (added : List EntryView) : Type 0 where
+pub record Follows {E H : Type 0} (allows : Allows H) (number_of : E → ℕ) (plan : Plan E H)
+    (added : List EntryView) : Type 0 where
   pub answers : AnswersFrom allows number_of added 0 plan.items (trace added)
   pub stops : StopsAtFault added
 
 -- what was added follows the whole plan, without a fault
-pub record FollowsWhole {E H : Type 0} (allows : Allows H) (number_of : E → ℕ) (plan : Plan E H) (added : List EntryView) : Type 0 where
+pub record FollowsWhole {E H : Type 0} (allows : Allows H) (number_of : E → ℕ) (plan : Plan E H)
+    (added : List EntryView) : Type 0 where
   pub follows : Follows allows number_of plan added
   pub whole : length (trace added) ≡ length plan.items
   pub clean : IsClean added

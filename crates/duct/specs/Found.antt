@@ -41,10 +41,21 @@ target_of found Err = found.error
 -- name that the system answered
 abbrev pub variable : Vars → List Change → List ℕ → Option (List ℕ)
 variable pairs [] name = value_of name (reverse pairs)
-variable pairs (Sets other value ∷ changes) name = if same_name name other then Some value else variable pairs changes name
-variable pairs (Removes other ∷ changes) name = if same_name name other then None else variable pairs changes name
+variable pairs (Sets other value ∷ changes) name =
+    if same_name name other then Some value else variable pairs changes name
+variable pairs (Removes other ∷ changes) name =
+    if same_name name other then None else variable pairs changes name
 variable pairs (Replaces vars ∷ changes) name = value_of name vars
 
 -- what a command finds with nothing round it
 abbrev pub plain : {E H : Type 0} → Found E H
-plain = record { folder = None; changes = []; input = Parents In; output = Parents Out; error = Parents Err; hooks = [] }
+plain =
+    record {
+      folder = None;
+      changes = [];
+      input = Parents In;
+      output = Parents Out;
+      error = Parents
+          Err;
+      hooks = [];
+    }

@@ -13,7 +13,8 @@ pub record StaysInPool (before after : ChildView) : Type 0 where
 
 -- of the pool's old children some are left, in order, and behind them those of these children that said Running as they were given
 -- to it, polled once; each other one was counted as reaped or lost, by an answer that it may give
-pub record Leaves (may : ℕ → Answer → Type 0) (given : List ChildView) (before after : PoolView ChildView) : Type 0 where
+pub record Leaves (may : ℕ → Answer → Type 0) (given : List ChildView)
+    (before after : PoolView ChildView) : Type 0 where
   pub old : List ChildView
   pub new : List ChildView
   pub reaped : ℕ
@@ -22,17 +23,27 @@ pub record Leaves (may : ℕ → Answer → Type 0) (given : List ChildView) (be
   pub lost_new : ℕ
   pub children_are : after.children ≡ old ++ new
   pub old_are : Sieves (λ child. may child.number) StaysInPool before.children old reaped lost
-  pub new_are : Sieves (λ child. may child.number) (λ child kept. PollsChild may child (Ok None) kept) given new reaped_new lost_new
+  pub new_are : Sieves (λ child. may child.number)
+      (λ child kept. PollsChild may child (Ok None) kept) given new reaped_new lost_new
   pub given_is : after.given ≡ counted before.given (length given)
   pub reaped_is : after.reaped ≡ counted before.reaped (reaped + reaped_new)
   pub lost_is : after.lost ≡ counted before.lost (lost + lost_new)
 
 -- a pool with its children by their views
 abbrev pub pool_view : {C : Type 0} → (C → ChildView) → PoolView C → PoolView ChildView
-pool_view view pool = record { children = map view pool.children; given = pool.given; reaped = pool.reaped; lost = pool.lost }
+pool_view view pool =
+    record {
+      children = map view pool.children;
+      given = pool.given;
+      reaped = pool.reaped;
+      lost =
+          pool.lost;
+    }
 
 -- the pool after a refused start: it was given each child that the start had started, which nobody had asked before
-abbrev pub LeavesStarted : {C : Type 0} → (ℕ → Answer → Type 0) → (C → ChildView) → List EntryView → PoolView C → PoolView C → Type 0
+abbrev pub LeavesStarted : {C : Type 0} → (ℕ → Answer → Type 0) → (C → ChildView) → List EntryView
+    → PoolView C → PoolView C → Type 0
 LeavesStarted may view added before after =
-    (started : List ChildView) × (map (λ child. child.number) started ≡ children_in added) × All IsUnasked started
+    (started : List ChildView) × (map (λ child. child.number) started ≡ children_in added)
+    × All IsUnasked started
     × Leaves may started (pool_view view before) (pool_view view after)

@@ -16,7 +16,8 @@ turned (Follows stream) outer = outer stream
 -- the first node outwards that decides a stream says where it goes; one that turns it only changes which stream is followed
 abbrev pub goes : {E H : Type 0} → Path E H → Stream → Target E
 goes [] stream = Parents stream
-goes (crumb ∷ up) stream = turned ((step_of crumb).turn (place_of crumb) stream) (λ outer. goes up outer)
+goes (crumb ∷ up) stream =
+    turned ((step_of crumb).turn (place_of crumb) stream) (λ outer. goes up outer)
 
 -- the folder of the nearest node that sets one
 abbrev pub folder : {E H : Type 0} → Path E H → Option (List ℕ)

@@ -20,11 +20,13 @@ asks item plan = record plan { items = plan.items ++ item ∷ [] }
 
 -- a plan in which stdout's capture pipe is open
 abbrev pub captures_out : {E H : Type 0} → Plan E H → Plan E H
-captures_out plan = if is_some plan.out then plan else record (asks AskPipe plan) { out = Some (length plan.items) }
+captures_out plan =
+    if is_some plan.out then plan else record (asks AskPipe plan) { out = Some (length plan.items) }
 
 -- a plan in which stderr's capture pipe is open
 abbrev pub captures_err : {E H : Type 0} → Plan E H → Plan E H
-captures_err plan = if is_some plan.err then plan else record (asks AskPipe plan) { err = Some (length plan.items) }
+captures_err plan =
+    if is_some plan.err then plan else record (asks AskPipe plan) { err = Some (length plan.items) }
 
 -- the plan once a node has asked what it asks before what it wraps
 abbrev pub opened : {E H : Type 0} → Opening E H → Plan E H → Plan E H
@@ -55,7 +57,8 @@ is_canonical found words = asks_canonical (program_of words) (is_some found.fold
 -- the plan with a command that finds this outwards
 abbrev pub commanded : {E H : Type 0} → Found E H → List (List ℕ) → Plan E H → Plan E H
 commanded found words plan =
-    asks (AskSpawn found words) (if is_canonical found words then asks (AskCanonicalize (program_of words)) plan else plan)
+    asks (AskSpawn found words)
+    (if is_canonical found words then asks (AskCanonicalize (program_of words)) plan else plan)
 
 -- the plan after a tree that stands below this way outwards: each node before what it wraps, the left side before the right
 abbrev pub planned : {E H : Type 0} → Path E H → TreeView E H → Plan E H → Plan E H
@@ -65,7 +68,8 @@ planned up (pipe left right) plan =
     planned (right_of place ∷ up) right (planned (left_of place ∷ up) left (asks AskPipe plan))
 planned up (around modifier inner) plan =
     let place = place_for (step modifier).opening plan in
-    closed ((step modifier).closing place) (planned (within place modifier ∷ up) inner (opened (step modifier).opening plan))
+    closed ((step modifier).closing place)
+    (planned (within place modifier ∷ up) inner (opened (step modifier).opening plan))
 
 -- a plan before its tree: the environment is asked first
 abbrev pub begun : {E H : Type 0} → Plan E H
@@ -87,4 +91,6 @@ plan_of tree = let plan = planned [] tree begun in drains plan.err (drains plan.
 
 -- the plan of a reader's start: that of the tree inside one stdout capture, with the reader as its last item in place of stdout's worker
 abbrev pub plan_of_reader : {E H : Type 0} → TreeView E H → Plan E H
-plan_of_reader tree = let plan = planned [] (around stdout_capture tree) begun in reads plan.out (drains plan.err plan)
+plan_of_reader tree =
+    let plan = planned [] (around stdout_capture tree) begun
+    in reads plan.out (drains plan.err plan)

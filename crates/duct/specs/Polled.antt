@@ -22,7 +22,8 @@ Polled = Result (Option (Arc Output Global)) Error
 
 -- the output has this status and these bytes
 abbrev pub IsOutput : ExitStatus → List ℕ → List ℕ → Output → Type 0
-IsOutput status out err output = (output.status ≡ status) × (output.stdout.items ≡ out) × (output.stderr.items ≡ err)
+IsOutput status out err output =
+    (output.status ≡ status) × (output.stdout.items ≡ out) × (output.stderr.items ≡ err)
 
 -- the error is that of a checked failure with this message
 abbrev pub IsChecked : List ℕ → Error → Type 0
@@ -33,7 +34,8 @@ IsChecked text other = ⊥
 abbrev pub Gives : ReplyView → Polled → Type 0
 Gives pending polled = polled ≡ Ok None
 Gives (faulted fault) polled = polled ≡ Err (error.System fault)
-Gives (answered status out err) polled = IsOkAnd polled (λ found. IsSomeAnd found (λ output. IsOutput status out err (arc_value output)))
+Gives (answered status out err) polled =
+    IsOkAnd polled (λ found. IsSomeAnd found (λ output. IsOutput status out err (arc_value output)))
 Gives (failed text) polled = IsErrAnd polled (IsChecked text)
 Gives no_memory polled = polled ≡ Err error.Memory
 Gives noted polled = ⊥
@@ -51,12 +53,14 @@ IsConclusion no_memory = Unit {0}
 
 -- the answer is the outcome of these words
 abbrev pub IsOutcome : ShapeView → Latest → Polled → Type 0
-IsOutcome shape words polled = (reply : ReplyView) × Concludes shape words reply × Gives reply polled
+IsOutcome shape words polled =
+    (reply : ReplyView) × Concludes shape words reply × Gives reply polled
 
 -- a child was polled once, or had ended and is as before
 abbrev pub AskedIfDue : (ℕ → Answer → Type 0) → ChildView → ChildView → Type 0
 AskedIfDue may before after =
-    MatchOption before.ending ((answer : Answer) × PollsChild may before answer after) (λ status. after ≡ before)
+    MatchOption before.ending ((answer : Answer) × PollsChild may before answer after)
+    (λ status. after ≡ before)
 
 -- each of them was polled once, or had ended and is as before
 abbrev pub AllAsked : (ℕ → Answer → Type 0) → List ChildView → List ChildView → Type 0
@@ -66,6 +70,8 @@ AllAsked may = AllZip (AskedIfDue may)
 abbrev pub AskedAt : (ℕ → Answer → Type 0) → ℕ → List ChildView → List ChildView → Type 0
 AskedAt may at [] afters = ⊥
 AskedAt may zero (before ∷ befores) [] = ⊥
-AskedAt may zero (before ∷ befores) (after ∷ afters) = AskedIfDue may before after × (afters ≡ befores)
+AskedAt may zero (before ∷ befores) (after ∷ afters) =
+    AskedIfDue may before after × (afters ≡ befores)
 AskedAt may (suc at) (before ∷ befores) [] = ⊥
-AskedAt may (suc at) (before ∷ befores) (after ∷ afters) = (after ≡ before) × AskedAt may at befores afters
+AskedAt may (suc at) (before ∷ befores) (after ∷ afters) =
+    (after ≡ before) × AskedAt may at befores afters

@@ -8,7 +8,9 @@ use Rattle.duct.specs.TreeView.{ModifierView, TreeView, command, pipe, around, s
 -- some variables, the first after the lead and each other one after a comma
 abbrev pub printed_vars : List ℕ → Vars → Option (List ℕ)
 printed_vars lead [] = Some []
-printed_vars lead (variable ∷ vars) = Some lead ++? debug_str variable.0 ++? Some (codes ": ") ++? debug_str variable.1 ++? printed_vars (codes ", ") vars
+printed_vars lead (variable ∷ vars) =
+    Some lead ++? debug_str variable.0 ++? Some
+    (codes ": ") ++? debug_str variable.1 ++? printed_vars (codes ", ") vars
 
 -- a name, and a text in parentheses
 abbrev pub printed_text : List ℕ → List ℕ → Option (List ℕ)
@@ -16,7 +18,8 @@ printed_text name text = Some name ++? debug_str text ++? Some (codes ")")
 
 -- what a modifier prints
 abbrev pub printed_modifier : {E H : Type 0} → ModifierView E H → Option (List ℕ)
-printed_modifier (stdin_bytes bytes) = Some (codes "StdinBytes(") ++? debug_list (λ b. Some (decimal b)) bytes ++? Some (codes ")")
+printed_modifier (stdin_bytes bytes) =
+    Some (codes "StdinBytes(") ++? debug_list (λ b. Some (decimal b)) bytes ++? Some (codes ")")
 printed_modifier (stdin_path path) = printed_text (codes "StdinPath(") path
 printed_modifier (stdin_file end) = Some (codes "StdinFile(<end>)")
 printed_modifier stdin_null = Some (codes "StdinNull")
@@ -32,9 +35,12 @@ printed_modifier stderr_capture = Some (codes "StderrCapture")
 printed_modifier stderr_to_stdout = Some (codes "StderrToStdout")
 printed_modifier stdout_stderr_swap = Some (codes "StdoutStderrSwap")
 printed_modifier (dir path) = printed_text (codes "Dir(") path
-printed_modifier (env name value) = Some (codes "Env(") ++? debug_str name ++? Some (codes ", ") ++? debug_str value ++? Some (codes ")")
+printed_modifier (env name value) =
+    Some (codes "Env(") ++? debug_str name ++? Some (codes ", ") ++? debug_str value ++? Some
+    (codes ")")
 printed_modifier (env_remove name) = printed_text (codes "EnvRemove(") name
-printed_modifier (full_env vars) = Some (codes "FullEnv({") ++? printed_vars [] vars ++? Some (codes "})")
+printed_modifier (full_env vars) =
+    Some (codes "FullEnv({") ++? printed_vars [] vars ++? Some (codes "})")
 printed_modifier unchecked = Some (codes "Unchecked")
 printed_modifier (before_spawn hook ends) = Some (codes "BeforeSpawn(<closure>)")
 
@@ -45,5 +51,9 @@ printed_words words = Some (codes "Cmd(") ++? debug_list debug_str words ++? Som
 -- what a tree prints
 abbrev pub printed : {E H : Type 0} → TreeView E H → Option (List ℕ)
 printed (command words) = printed_words words
-printed (pipe left right) = Some (codes "Pipe(") ++? printed left ++? Some (codes ", ") ++? printed right ++? Some (codes ")")
-printed (around modifier inner) = Some (codes "Io(") ++? printed_modifier modifier ++? Some (codes ", ") ++? printed inner ++? Some (codes ")")
+printed (pipe left right) =
+    Some (codes "Pipe(") ++? printed left ++? Some (codes ", ") ++? printed right ++? Some
+    (codes ")")
+printed (around modifier inner) =
+    Some (codes "Io(") ++? printed_modifier modifier ++? Some
+    (codes ", ") ++? printed inner ++? Some (codes ")")

@@ -22,12 +22,15 @@ pub record RunningView (C F D : Type 0) : Type 0 where
 
 -- the shape of this tree, with the children and the workers that were added to the journal, each by its number in its place and
 -- nobody asked yet; stdout and stderr have a worker where the plan opened their capture pipes
-pub record IsRunning {E H C F D V W : Type 0} (child : C → ChildView) (feed : F → JobView V) (drain : D → JobView W)
-    (tree : TreeView E H) (plan : Plan E H) (added : List EntryView) (running : RunningView C F D) : Type 0 where
+pub record IsRunning {E H C F D V W : Type 0} (child : C → ChildView) (feed : F → JobView V)
+    (drain : D → JobView W)
+    (tree : TreeView E H) (plan : Plan E H) (added : List EntryView)
+    (running : RunningView C F D) : Type 0 where
   pub shape_is : shape_view running.shape ≡ shape_of_tree tree
   pub children_are : map (λ c. (child c).number) running.children ≡ children_in added
   pub unasked : All (λ c. IsUnasked (child c)) running.children
   pub feeds_are : map feed running.feeds ≡ map (λ number. unpolled_job number) (feeds_in added)
-  pub drains_are : map drain (option_to_list running.output ++ option_to_list running.error) ≡ map (λ number. unpolled_job number) (drains_in added)
+  pub drains_are : map drain (option_to_list running.output ++ option_to_list running.error)
+      ≡ map (λ number. unpolled_job number) (drains_in added)
   pub output_is : is_some running.output ≡ is_some plan.out
   pub error_is : is_some running.error ≡ is_some plan.err

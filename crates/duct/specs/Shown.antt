@@ -26,7 +26,8 @@ is_modifier_printable stdout_stderr_swap = true
 is_modifier_printable (dir path) = is_printable path
 is_modifier_printable (env name value) = is_printable name && is_printable value
 is_modifier_printable (env_remove name) = is_printable name
-is_modifier_printable (full_env vars) = list_all (λ variable. is_printable variable.0 && is_printable variable.1) vars
+is_modifier_printable (full_env vars) =
+    list_all (λ variable. is_printable variable.0 && is_printable variable.1) vars
 is_modifier_printable unchecked = true
 is_modifier_printable (before_spawn hook ends) = true
 
@@ -34,7 +35,8 @@ is_modifier_printable (before_spawn hook ends) = true
 abbrev pub is_tree_printable : {E H : Type 0} → TreeView E H → Bool
 is_tree_printable (command words) = list_all is_printable words
 is_tree_printable (pipe left right) = is_tree_printable left && is_tree_printable right
-is_tree_printable (around modifier inner) = is_modifier_printable modifier && is_tree_printable inner
+is_tree_printable (around modifier inner) =
+    is_modifier_printable modifier && is_tree_printable inner
 
 -- the text of a tree, or no promise
 abbrev pub shown : {E H : Type 0} → TreeView E H → Option (List ℕ)

@@ -87,19 +87,24 @@ pub record Grows (old new : JournalView) : Type 0 where
   pub room_grows : old.room ≤ new.room
 
 -- a start that succeeds: the journal has grown, by what follows the whole plan; each end got was spent
-pub record StartSucceeds {E H : Type 0} (allows : Allows H) (number_of : E → ℕ) (tree : TreeView E H) (plan : Plan E H) (old new : JournalView) : Type 0 where
+pub record StartSucceeds {E H : Type 0} (allows : Allows H) (number_of : E → ℕ)
+    (tree : TreeView E H) (plan : Plan E H) (old new : JournalView) : Type 0 where
   pub grows : Grows old new
-  pub whole : AreEarlier number_of old tree → FollowsWhole allows number_of plan (segment old.entries new.entries)
+  pub whole : AreEarlier number_of old tree
+      → FollowsWhole allows number_of plan (segment old.entries new.entries)
   pub balanced : IsBalanced (segment old.entries new.entries)
   pub few : HoldsFew tree (segment old.entries new.entries)
 
 -- a start that is refused: the journal has grown, by what follows the plan up to the refusal, where the error has its cause; each end
 -- got was spent
-pub record StartRefused {E H : Type 0} (allows : Allows H) (refuses : Refuses H) (number_of : E → ℕ) (tree : TreeView E H) (plan : Plan E H)
+pub record StartRefused {E H : Type 0} (allows : Allows H) (refuses : Refuses H) (number_of : E → ℕ)
+    (tree : TreeView E H) (plan : Plan E H)
     (old new : JournalView) (error : Error) : Type 0 where
   pub grows : Grows old new
-  pub follows : AreEarlier number_of old tree → Follows allows number_of plan (segment old.entries new.entries)
-  pub cause : AreEarlier number_of old tree → HasCause allows refuses number_of plan (segment old.entries new.entries) error
+  pub follows : AreEarlier number_of old tree
+      → Follows allows number_of plan (segment old.entries new.entries)
+  pub cause : AreEarlier number_of old tree
+      → HasCause allows refuses number_of plan (segment old.entries new.entries) error
   pub last_fault : AnswersLastFault (segment old.entries new.entries) error
   pub balanced : IsBalanced (segment old.entries new.entries)
   pub few : HoldsFew tree (segment old.entries new.entries)

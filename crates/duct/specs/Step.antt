@@ -87,18 +87,35 @@ step (stdin_bytes bytes) = record idle {
   closing = λ place. AskFeed place bytes ∷ [];
   turn = λ place. at_stdin (Decides (ReaderAt place));
 }
-step (stdin_path path) = record idle { opening = Opens (AskOpenRead path); turn = λ place. at_stdin (Decides (FileAt place)) }
+step (stdin_path path) =
+    record idle {
+      opening = Opens (AskOpenRead path);
+      turn =
+          λ place. at_stdin (Decides (FileAt place));
+    }
 step (stdin_file end) = record idle { turn = λ place. at_stdin (Decides (Lends end)) }
 step stdin_null = record idle { turn = λ place. at_stdin (Decides Nothing) }
-step (stdout_path path) = record idle { opening = Opens (AskCreate path); turn = λ place. at_stdout (Decides (FileAt place)) }
+step (stdout_path path) =
+    record idle {
+      opening = Opens (AskCreate path);
+      turn =
+          λ place. at_stdout (Decides (FileAt place));
+    }
 step (stdout_file end) = record idle { turn = λ place. at_stdout (Decides (Lends end)) }
 step stdout_null = record idle { turn = λ place. at_stdout (Decides Nothing) }
-step stdout_capture = record idle { opening = CapturesOut; turn = λ place. at_stdout (Decides (WriterAt place)) }
+step stdout_capture =
+    record idle { opening = CapturesOut; turn = λ place. at_stdout (Decides (WriterAt place)) }
 step stdout_to_stderr = record idle { turn = λ place. at_stdout (Follows Err) }
-step (stderr_path path) = record idle { opening = Opens (AskCreate path); turn = λ place. at_stderr (Decides (FileAt place)) }
+step (stderr_path path) =
+    record idle {
+      opening = Opens (AskCreate path);
+      turn =
+          λ place. at_stderr (Decides (FileAt place));
+    }
 step (stderr_file end) = record idle { turn = λ place. at_stderr (Decides (Lends end)) }
 step stderr_null = record idle { turn = λ place. at_stderr (Decides Nothing) }
-step stderr_capture = record idle { opening = CapturesErr; turn = λ place. at_stderr (Decides (WriterAt place)) }
+step stderr_capture =
+    record idle { opening = CapturesErr; turn = λ place. at_stderr (Decides (WriterAt place)) }
 step stderr_to_stdout = record idle { turn = λ place. at_stderr (Follows Out) }
 step stdout_stderr_swap = record idle { turn = λ place. exchanged }
 step (dir path) = record idle { folder = Some path }

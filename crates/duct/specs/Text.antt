@@ -26,7 +26,8 @@ modifier_text stderr_capture = codes "StderrCapture"
 modifier_text stderr_to_stdout = codes "StderrToStdout"
 modifier_text stdout_stderr_swap = codes "StdoutStderrSwap"
 modifier_text (dir path) = codes "Dir(" ++ quoted path ++ codes ")"
-modifier_text (env name value) = codes "Env(" ++ quoted name ++ codes ", " ++ quoted value ++ codes ")"
+modifier_text (env name value) =
+    codes "Env(" ++ quoted name ++ codes ", " ++ quoted value ++ codes ")"
 modifier_text (env_remove name) = codes "EnvRemove(" ++ quoted name ++ codes ")"
 modifier_text (full_env vars) = codes "FullEnv({" ++ listed (map variable_text vars) ++ codes "})"
 modifier_text unchecked = codes "Unchecked"
@@ -36,4 +37,5 @@ modifier_text (before_spawn hook ends) = codes "BeforeSpawn(<closure>)"
 abbrev pub text : {E H : Type 0} → TreeView E H → List ℕ
 text (command words) = codes "Cmd(" ++ quoted_list words ++ codes ")"
 text (pipe left right) = codes "Pipe(" ++ text left ++ codes ", " ++ text right ++ codes ")"
-text (around modifier inner) = codes "Io(" ++ modifier_text modifier ++ codes ", " ++ text inner ++ codes ")"
+text (around modifier inner) =
+    codes "Io(" ++ modifier_text modifier ++ codes ", " ++ text inner ++ codes ")"

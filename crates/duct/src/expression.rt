@@ -90,7 +90,8 @@ pub fn cmd<E: Drop, P: IntoExecutablePath, H: Drop>(
     program: P,
     args: &[&str],
 ) -> Result<Expression<E, H>, Error>
-    ensures tree { IfOk result (λ made. tree_view made ≡ command (P.executable program ∷ texts_of args.now)) }
+    ensures tree { IfOk result
+        (λ made. tree_view made ≡ command (P.executable program ∷ texts_of args.now)) }
     ensures memory { IsOkUnless result Error.Memory }
 {
     let words = words(alloc, program.to_executable(alloc)?, args)?;
@@ -101,7 +102,8 @@ pub fn cmd<E: Drop, P: IntoExecutablePath, H: Drop>(
 
 // The words of a command, the program first.
 fn words(alloc: Global, program: String, args: &[&str]) -> Result<Vec<String>, Error>
-    ensures words { IfOk result (λ words. map string_bytes words.items ≡ string_bytes program ∷ texts_of args.now) }
+    ensures words { IfOk result
+        (λ words. map string_bytes words.items ≡ string_bytes program ∷ texts_of args.now) }
     ensures memory { IsOkUnless result Error.Memory }
 {
     let mut words = Vec::new(alloc);

@@ -40,7 +40,8 @@ impl<S: System> Model for Running<S> {
       error = None;
     } };
 
-    ghost invariant = { λ r. latest_in r.core ≡ stored_latest (map S.Child.child_view r.children.items) };
+    ghost invariant = { λ r. latest_in r.core
+        ≡ stored_latest (map S.Child.child_view r.children.items) };
 }
 
 // The word of a child's answer.
@@ -85,7 +86,8 @@ impl<S: System> Running<S> {
     fn ask(&mut self, at: usize)
         requires { at < length self.old.children }
         ensures shape { shape_view self.new.shape ≡ shape_view self.old.shape }
-        ensures asked { AskedAt S.Child.may_answer at (map S.Child.child_view self.old.children) (map S.Child.child_view self.new.children) }
+        ensures asked { AskedAt S.Child.may_answer at (map S.Child.child_view self.old.children)
+            (map S.Child.child_view self.new.children) }
     {
         if !self.core.is_due(at) {
             return;
@@ -100,8 +102,10 @@ impl<S: System> Running<S> {
     /// tries again.
     pub fn poll(&mut self) -> Result<Option<Arc<Output>>, Error>
         ensures shape { shape_view self.new.shape ≡ shape_view self.old.shape }
-        ensures asked { AllAsked S.Child.may_answer (map S.Child.child_view self.old.children) (map S.Child.child_view self.new.children) }
-        ensures outcome { IsOutcome (shape_view self.new.shape) (stored_latest (map S.Child.child_view self.new.children)) result }
+        ensures asked { AllAsked S.Child.may_answer (map S.Child.child_view self.old.children)
+            (map S.Child.child_view self.new.children) }
+        ensures outcome { IsOutcome (shape_view self.new.shape)
+            (stored_latest (map S.Child.child_view self.new.children)) result }
     {
         for at in 0..self.children.len() {
             self.ask(at);
@@ -113,7 +117,8 @@ impl<S: System> Running<S> {
     fn conclude(&mut self) -> Result<Option<Arc<Output>>, Error>
         ensures shape { shape_view self.new.shape ≡ shape_view self.old.shape }
         ensures children { self.new.children ≡ self.old.children }
-        ensures outcome { IsOutcome (shape_view self.new.shape) (stored_latest (map S.Child.child_view self.new.children)) result }
+        ensures outcome { IsOutcome (shape_view self.new.shape)
+            (stored_latest (map S.Child.child_view self.new.children)) result }
     {
         answer(self.core.step(Event::Conclude))
     }

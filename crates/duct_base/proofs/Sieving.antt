@@ -9,7 +9,8 @@ use Rattle.duct_system.specs.declared.system.ExitStatus.{ExitStatus}
 use Rattle.duct_system.specs.declared.system.Fault.{Fault}
 
 -- two lists of children, one behind the other
-pub sieves-append : {A B : Type 0} (may : A → Answer → Type 0) (keeps : A → B → Type 0) (xs others : List A) (ls more : List B) (r l r' l' : ℕ) →
+pub sieves-append : {A B : Type 0} (may : A → Answer → Type 0) (keeps : A → B → Type 0)
+    (xs others : List A) (ls more : List B) (r l r' l' : ℕ) →
     Sieves may keeps xs ls r l → Sieves may keeps others more r' l' → Sieves may keeps (xs ++ others) (ls ++ more) (r + r') (l + l')
 sieves-append {A} {B} may keeps [] others ls more r l r' l' first second =
     let at_left : Sieves may keeps others (ls ++ more) r' l' = subst (λ (z : List B). Sieves may keeps others (z ++ more) r' l') (sym first.0) second in
@@ -100,7 +101,8 @@ module _ {C : Type 0} (may : ℕ → Answer → Type 0) (view : C → ChildView)
   behind : (kept : List C) → after.children ≡ seated rest ++ kept → after.children ≡ drop 1 before.children ++ kept
   behind kept is = is ∙ ap (λ (l : List C). drop 1 l ++ kept) (sym children_are)
 
-  pub sweeps_kept : (filled : List (Option C)) (kept : C) → PollsChild may (view child) (Ok None) (view kept) → filled ≡ Some kept ∷ [] →
+  pub sweeps_kept : (filled : List (Option C)) (kept : C)
+      → PollsChild may (view child) (Ok None) (view kept) → filled ≡ Some kept ∷ [] →
       after ≡ record by_seats { children = seated (rest ++ filled) } → Sweeps may view 1 before after
   sweeps_kept filled kept polls full is = record {
     kept = kept ∷ [];
@@ -148,7 +150,8 @@ next_of {C} (x ∷ xs) (suc i) within =
     let n = next_of xs i less in
     (n.0, n.1, ap (λ (l : List C). x ∷ l) n.2)
 
-pub sweep_begins : {C : Type 0} (may : ℕ → Answer → Type 0) (view : C → ChildView) (before : PoolView C) → Sweeps may view 0 before before
+pub sweep_begins : {C : Type 0} (may : ℕ → Answer → Type 0) (view : C → ChildView)
+    (before : PoolView C) → Sweeps may view 0 before before
 sweep_begins may view before = record {
   kept = [];
   reaped = 0;
@@ -167,7 +170,8 @@ module _ {C : Type 0} (may : ℕ → Answer → Type 0) (view : C → ChildView)
   pub some_left : 0 < length now.children
   some_left = omega (arith, ap (λ (l : List C). length l) now_is)
 
-  pub sweep_goes_on : (next : PoolView C) → Sweeps may view 1 now next → Sweeps may view (i + 1) before next
+  pub sweep_goes_on : (next : PoolView C) → Sweeps may view 1 now next
+      → Sweeps may view (i + 1) before next
   sweep_goes_on next one =
       let n = next_of before.children i within in
       let first : take 1 now.children ≡ n.0 ∷ [] = ap (λ (l : List C). take 1 l) now_is in
@@ -189,7 +193,8 @@ module _ {C : Type 0} (may : ℕ → Answer → Type 0) (view : C → ChildView)
         lost_is = one.lost_is ∙ ap (λ (n : ℕ). counted n one.lost) s.lost_is ∙ counted_more before.lost s.lost one.lost;
       }
 
-pub sweep_ends : {C : Type 0} (may : ℕ → Answer → Type 0) (view : C → ChildView) (i : ℕ) (before now : PoolView C) →
+pub sweep_ends : {C : Type 0} (may : ℕ → Answer → Type 0) (view : C → ChildView) (i : ℕ)
+    (before now : PoolView C) →
     Sweeps may view i before now → length before.children ≤ i → IsSwept may view before now
 sweep_ends {C} may view i before now s done = record {
   reaped = s.reaped;
@@ -206,7 +211,8 @@ pub seated_somes : {C : Type 0} (xs : List C) → seated (map Some xs) ≡ xs
 seated_somes [] = refl
 seated_somes {C} (x ∷ xs) = ap (λ (l : List C). x ∷ l) (seated_somes xs)
 
-pub one_seat : {C : Type 0} (seats one rest : List (Option C)) → seats ≡ map Some (seated seats) → seats ≡ one ++ rest → length one ≡ 1 →
+pub one_seat : {C : Type 0} (seats one rest : List (Option C)) → seats ≡ map Some (seated seats)
+    → seats ≡ one ++ rest → length one ≡ 1 →
     (child : C) × (one ≡ Some child ∷ [])
 one_seat seats [] rest full whole long = absurd (omega (arith, long))
 one_seat seats (Some child ∷ []) rest full whole long = (child, refl)
@@ -218,7 +224,8 @@ one_seat {C} seats (None ∷ []) rest full whole long = no_none (seated seats) r
 one_seat seats (o ∷ p ∷ one) rest full whole long = absurd (omega (arith, long))
 
 -- a pool keeps no more children than it was given
-pub few_by_given : {C : Type 0} (view pool : PoolView C) → view ≡ pool → AddsUp view → pool.given + 1 < 2 ^ 63 → length pool.children + 1 < 2 ^ 63
+pub few_by_given : {C : Type 0} (view pool : PoolView C) → view ≡ pool → AddsUp view
+    → pool.given + 1 < 2 ^ 63 → length pool.children + 1 < 2 ^ 63
 few_by_given {C} view pool is adds fits =
     let a : AddsUp pool = subst (λ (p : PoolView C). AddsUp p) is adds in
     let below : pool.given < greatest = omega (arith, fits) in

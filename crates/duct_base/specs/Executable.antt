@@ -17,4 +17,5 @@ dotted path = if begins_with_slash path then path else 46 ∷ slash ∷ path
 
 -- whether a program is made canonical before it is started: a folder is set, and the program has a `/`, not at its front
 abbrev pub asks_canonical : List ℕ → Bool → Bool
-asks_canonical program folder_is_set = folder_is_set && list_any (λ b. b == slash) program && not (begins_with_slash program)
+asks_canonical program folder_is_set =
+    folder_is_set && list_any (λ b. b == slash) program && not (begins_with_slash program)

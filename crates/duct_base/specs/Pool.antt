@@ -32,19 +32,27 @@ AddsUp pool = pool.given < greatest → pool.given ≡ length pool.children + po
 
 -- of some children, asked once each, those that are left as they are kept, and how many were found ended and how many lost, each by
 -- an answer that it may give
-abbrev pub Sieves : {A B : Type 0} → (A → Answer → Type 0) → (A → B → Type 0) → List A → List B → ℕ → ℕ → Type 0
+abbrev pub Sieves : {A B : Type 0} → (A → Answer → Type 0) → (A → B → Type 0) → List A → List B → ℕ
+    → ℕ → Type 0
 Sieves may keeps [] left reaped lost = (left ≡ []) × (reaped ≡ 0) × (lost ≡ 0)
 Sieves {A} {B} may keeps (child ∷ children) left reaped lost =
-    ((kept : B) × (rest : List B) × keeps child kept × (left ≡ kept ∷ rest) × Sieves may keeps children rest reaped lost)
-    ⊎ ((status : ExitStatus) × (fewer : ℕ) × may child (Ok (Some status)) × (reaped ≡ fewer + 1) × Sieves may keeps children left fewer lost)
-    ⊎ ((fault : Fault) × (fewer : ℕ) × may child (Err fault) × (lost ≡ fewer + 1) × Sieves may keeps children left reaped fewer)
+    ((kept : B) × (rest : List B) × keeps child kept × (left ≡ kept ∷ rest)
+    × Sieves may keeps children rest reaped lost)
+    ⊎ ((status : ExitStatus) × (fewer : ℕ) × may child (Ok (Some status)) × (reaped ≡ fewer + 1)
+    × Sieves may keeps children left fewer lost)
+    ⊎ ((fault : Fault) × (fewer : ℕ) × may child (Err fault) × (lost ≡ fewer + 1)
+    × Sieves may keeps children left reaped fewer)
 
 -- some children were asked once each: those that said Running are left, with nothing else of them changed
-abbrev pub AsksAll : {C : Type 0} → (ℕ → Answer → Type 0) → (C → ChildView) → List C → List C → ℕ → ℕ → Type 0
-AsksAll may view = Sieves (λ child. may (view child).number) (λ child kept. PollsChild may (view child) (Ok None) (view kept))
+abbrev pub AsksAll : {C : Type 0} → (ℕ → Answer → Type 0) → (C → ChildView) → List C → List C → ℕ
+    → ℕ → Type 0
+AsksAll may view =
+    Sieves (λ child. may (view child).number)
+    (λ child kept. PollsChild may (view child) (Ok None) (view kept))
 
 -- the pool after its first children were asked: those that said Running stand behind the others
-pub record Sweeps {C : Type 0} (may : ℕ → Answer → Type 0) (view : C → ChildView) (many : ℕ) (before after : PoolView C) : Type 0 where
+pub record Sweeps {C : Type 0} (may : ℕ → Answer → Type 0) (view : C → ChildView) (many : ℕ)
+    (before after : PoolView C) : Type 0 where
   pub kept : List C
   pub reaped : ℕ
   pub lost : ℕ
@@ -55,7 +63,8 @@ pub record Sweeps {C : Type 0} (may : ℕ → Answer → Type 0) (view : C → C
   pub lost_is : after.lost ≡ counted before.lost lost
 
 -- the pool after each of its children was asked: those that said Running stay, in order
-pub record IsSwept {C : Type 0} (may : ℕ → Answer → Type 0) (view : C → ChildView) (before after : PoolView C) : Type 0 where
+pub record IsSwept {C : Type 0} (may : ℕ → Answer → Type 0) (view : C → ChildView)
+    (before after : PoolView C) : Type 0 where
   pub reaped : ℕ
   pub lost : ℕ
   pub asked : AsksAll may view before.children after.children reaped lost
@@ -64,7 +73,8 @@ pub record IsSwept {C : Type 0} (may : ℕ → Answer → Type 0) (view : C → 
   pub lost_is : after.lost ≡ counted before.lost lost
 
 -- the pool after these children were given to it, and asked: those that said Running stand behind the old ones, in order
-pub record Takes {C : Type 0} (may : ℕ → Answer → Type 0) (view : C → ChildView) (taken : List C) (before after : PoolView C) : Type 0 where
+pub record Takes {C : Type 0} (may : ℕ → Answer → Type 0) (view : C → ChildView) (taken : List C)
+    (before after : PoolView C) : Type 0 where
   pub kept : List C
   pub reaped : ℕ
   pub lost : ℕ

@@ -3,11 +3,7 @@
 #![tactic(auto)]
 
 pub use duct_status::status;
-pub use duct_system::error;
-pub use duct_system::journal;
-pub use duct_system::names;
-pub use duct_system::spec;
-pub use duct_system::system;
+pub use duct_system::{error, journal, names, spec, system};
 
 pub mod exe;
 pub mod pool;

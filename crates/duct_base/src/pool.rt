@@ -241,7 +241,8 @@ impl<C: Child> Pool<C> {
 /// Gives a child to a pool. It is asked once: one that runs goes behind the others, one that ended counts as reaped, and one
 /// that answered a fault as lost. It takes no memory. For a start and a handle alone.
 pub fn pool_take<C: Child>(pool: &mut Pool<C>, place: Place<C>)
-    ensures { pool.old.given + 1 < 2 ^ 63 → Takes C.may_answer C.child_view (place ∷ []) pool.old pool.new }
+    ensures { pool.old.given + 1 < 2 ^ 63
+        → Takes C.may_answer C.child_view (place ∷ []) pool.old pool.new }
 {
     let _ = &pool.seats;
     let Place { mut child, seat } = place;

@@ -19,13 +19,15 @@ abbrev pub MakesNone : {H : Type 0} → Allows H → Refuses H → Type 0
 MakesNone {H} allows refuses = (hook : H) (before made : SpecView) (fault : Fault) → refuses hook before fault → ¬ (fault.kind ≡ OutOfMemory) → ¬ (allows hook before made)
 
 -- one hook
-pub changes_one : {H : Type 0} (allows : Allows H) → MakesOne allows → (hook : H) (ends : List Origin) (before one other : Wired) →
+pub changes_one : {H : Type 0} (allows : Allows H) → MakesOne allows
+    → (hook : H) (ends : List Origin) (before one other : Wired) →
     Changes allows hook ends before one → Changes allows hook ends before other → one ≡ other
 changes_one allows makes_one hook ends before one other is also =
     is.3 ∙ ap (λ made. settle ends made before) (makes_one hook before.spec is.0 also.0 is.1.allowed also.1.allowed) ∙ sym also.3
 
 -- all hooks
-pub chain_one : {H : Type 0} (allows : Allows H) → MakesOne allows → (hooks : List (H × List Origin)) (before one other : Wired) →
+pub chain_one : {H : Type 0} (allows : Allows H) → MakesOne allows
+    → (hooks : List (H × List Origin)) (before one other : Wired) →
     Chain allows hooks before one → Chain allows hooks before other → one ≡ other
 chain_one allows makes_one [] before one other is also = is ∙ sym also
 chain_one allows makes_one (hook ∷ hooks) before one other is also =
@@ -33,7 +35,8 @@ chain_one allows makes_one (hook ∷ hooks) before one other is also =
     chain_one allows makes_one hooks also.0 one other (subst (λ (between : Wired). Chain allows hooks between one) same is.2) also.2
 
 -- one hook that stops the start makes nothing
-pub stops_none : {H : Type 0} (allows : Allows H) (refuses : Refuses H) → MakesOne allows → MakesNone allows refuses →
+pub stops_none : {H : Type 0} (allows : Allows H) (refuses : Refuses H) → MakesOne allows
+    → MakesNone allows refuses →
     (hook : H) (ends : List Origin) (before after : Wired) (error : Error) → ¬ (FoundNoMemory error) → Stops allows refuses hook ends before error → ¬ (Changes allows hook ends before after)
 stops_none allows refuses makes_one makes_none hook ends before after (Hook fault) decided stops = λ is. makes_none hook before.spec is.0 fault stops decided is.1.allowed
 stops_none allows refuses makes_one makes_none hook ends before after (HookEnd place) decided stops =
@@ -45,7 +48,8 @@ stops_none allows refuses makes_one makes_none hook ends before after Deadline d
 stops_none allows refuses makes_one makes_none hook ends before after Memory decided stops = absurd stops
 
 -- hooks of which one stops the start make nothing
-pub chain_none : {H : Type 0} (allows : Allows H) (refuses : Refuses H) → MakesOne allows → MakesNone allows refuses →
+pub chain_none : {H : Type 0} (allows : Allows H) (refuses : Refuses H) → MakesOne allows
+    → MakesNone allows refuses →
     (hooks : List (H × List Origin)) (before after : Wired) (error : Error) → ¬ (FoundNoMemory error) → ChainStops allows refuses hooks before error → ¬ (Chain allows hooks before after)
 chain_none allows refuses makes_one makes_none [] before after error decided stops = absurd stops
 chain_none allows refuses makes_one makes_none (hook ∷ hooks) before after error decided (inl stops) =

@@ -41,11 +41,14 @@ module _ {E : Type 0} (entries : List EntryView) (number_of : E → ℕ) (place 
   IsGivenHere spec streams = IsGiven allows number_of entries place found words spec streams
 
   -- what the answer stands for is asked for
-  pub answer_is_asked : (asked : answer.Wired) → IsAskedThere entries number_of place found words asked → IsAskedHere (wired_of asked)
+  pub answer_is_asked : (asked : answer.Wired)
+      → IsAskedThere entries number_of place found words asked → IsAskedHere (wired_of asked)
   answer_is_asked asked there = subst IsAskedHere (answered_is there.0 asked there.2) there.1
 
   -- and nothing else
-  pub only_the_answer : (asked : answer.Wired) (wired : Wired) → IsAskedThere entries number_of place found words asked → IsAskedHere wired → wired ≡ wired_of asked
+  pub only_the_answer : (asked : answer.Wired) (wired : Wired)
+      → IsAskedThere entries number_of place found words asked → IsAskedHere wired
+      → wired ≡ wired_of asked
   only_the_answer asked wired there is = same_asked_at entries number_of place found words wired (wired_of asked) is (answer_is_asked asked there)
 
   given_these : (asked given : answer.Wired) → IsAskedThere entries number_of place found words asked →
@@ -72,7 +75,8 @@ module _ {E : Type 0} (entries : List EntryView) (number_of : E → ℕ) (place 
       (to, λ never. absurd never)
 
   -- what the hooks made of it is to be given, or nothing where they stopped the start and that is no want of memory
-  pub given_is : (asked : answer.Wired) (made : Result answer.Wired Error) (given : Option answer.Wired) → IsAskedThere entries number_of place found words asked →
+  pub given_is : (asked : answer.Wired) (made : Result answer.Wired Error)
+      (given : Option answer.Wired) → IsAskedThere entries number_of place found words asked →
       IfOk made (λ after. Chain allows (lent number_of found.hooks) (wired_of asked) (wired_of after)) →
       IfOk made (λ after. IsAnswered (wired_of after) after) →
       IfErr made (λ error. ChainStops allows refuses (lent number_of found.hooks) (wired_of asked) error) →

@@ -16,7 +16,8 @@ last-push entries entry =
     (omega (arith, length-append entries (entry ∷ []))) (sym (get_or-append_seam entries entry [] entry)))
 
 -- an entry that is no close is the last of those
-pub last_fault-push : (entries : List EntryView) (entry : EntryView) → is_close entry ≡ false → last_fault (entries ++ entry ∷ []) ≡ fault_of entry
+pub last_fault-push : (entries : List EntryView) (entry : EntryView) → is_close entry ≡ false
+    → last_fault (entries ++ entry ∷ []) ≡ fault_of entry
 last_fault-push entries entry open_is =
     let kept : asked_in (entry ∷ []) ≡ entry ∷ [] = rw open_is refl in
     let asked : asked_in (entries ++ entry ∷ []) ≡ asked_in entries ++ entry ∷ [] = filter-append (λ entry. not (is_close entry)) entries (entry ∷ []) ∙ ap (λ more. asked_in entries ++ more) kept in

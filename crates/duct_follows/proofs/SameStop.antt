@@ -64,7 +64,8 @@ module _ {H : Type 0} (allows : Allows H) (refuses : Refuses H) (makes_one : Mak
   stops_same hook ends before Memory other decided also stops again = absurd stops
 
   -- all hooks
-  pub chain_stops_same : (hooks : List (H × List Origin)) (before : Wired) (one other : Error) → ¬ (FoundNoMemory one) → ¬ (FoundNoMemory other) →
+  pub chain_stops_same : (hooks : List (H × List Origin)) (before : Wired) (one other : Error)
+      → ¬ (FoundNoMemory one) → ¬ (FoundNoMemory other) →
       ChainStops allows refuses hooks before one → ChainStops allows refuses hooks before other → IsSameStop one other
   chain_stops_same [] before one other decided also stops again = absurd stops
   chain_stops_same (hook ∷ hooks) before one other decided also (inl stops) (inl again) = stops_same hook.0 hook.1 before one other decided also stops again

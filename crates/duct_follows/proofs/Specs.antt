@@ -22,13 +22,15 @@ abbrev wired_of : SpecView → Stdio Origin → Stdio Origin → Stdio Origin �
 wired_of spec input output error = record { spec = spec; input = input; output = output; error = error }
 
 -- specs with the same parts
-pub same_spec : (one other : SpecView) → one.words ≡ other.words → one.folder ≡ other.folder → one.vars ≡ other.vars →
+pub same_spec : (one other : SpecView) → one.words ≡ other.words → one.folder ≡ other.folder
+    → one.vars ≡ other.vars →
     one.input ≡ other.input → one.output ≡ other.output → one.error ≡ other.error → one ≡ other
 same_spec one other words folder vars input output error =
     let same : spec_of one.words one.folder one.vars one.input one.output one.error ≡ spec_of other.words other.folder other.vars other.input other.output other.error = cc in same
 
 -- specs that are asked for the same
-pub same_asked : {E H : Type 0} (pairs : Vars) (program : List ℕ) (found : Found E H) (words : List (List ℕ)) (one other : SpecView) →
+pub same_asked : {E H : Type 0} (pairs : Vars) (program : List ℕ) (found : Found E H)
+    (words : List (List ℕ)) (one other : SpecView) →
     IsAsked pairs program found words one → IsAsked pairs program found words other → one ≡ other
 same_asked pairs program found words one other is also =
     same_spec one other
@@ -40,12 +42,15 @@ same_asked pairs program found words one other is also =
     (is.ports_are Err ∙ sym (also.ports_are Err))
 
 -- specs with their streams
-pub same_wired : (one other : Wired) → one.spec ≡ other.spec → one.input ∷ one.output ∷ one.error ∷ [] ≡ other.input ∷ other.output ∷ other.error ∷ [] → one ≡ other
+pub same_wired : (one other : Wired) → one.spec ≡ other.spec
+    → one.input ∷ one.output ∷ one.error ∷ [] ≡ other.input ∷ other.output ∷ other.error ∷ []
+    → one ≡ other
 same_wired one other spec streams =
     let same : wired_of one.spec one.input one.output one.error ≡ wired_of other.spec other.input other.output other.error = cc in same
 
 -- so what is asked for a command is one
-pub same_asked_at : {E H : Type 0} (entries : List EntryView) (number_of : E → ℕ) (place : ℕ) (found : Found E H) (words : List (List ℕ)) (one other : Wired) →
+pub same_asked_at : {E H : Type 0} (entries : List EntryView) (number_of : E → ℕ) (place : ℕ)
+    (found : Found E H) (words : List (List ℕ)) (one other : Wired) →
     IsAskedAt entries number_of place found words one → IsAskedAt entries number_of place found words other → one ≡ other
 same_asked_at entries number_of place found words one other is also =
     same_wired one other (same_asked _ _ found words one.spec other.spec is.spec_is also.spec_is) (is.streams_are ∙ sym also.streams_are)

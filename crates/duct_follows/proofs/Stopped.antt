@@ -82,7 +82,8 @@ module _ {E : Type 0} (entries : List EntryView) (number_of : E → ℕ) (place 
   stopped_is made error some_hook told some chain stops (inr decided) = stopped_as_told made error told chain stops decided.0 decided.1
 
 -- the next item stands at the place after the trace
-pub next_is : {E : Type 0} (number_of : E → ℕ) (plan : Plan E ScriptHook) (added : List EntryView) (place : ℕ) (item : Option (Item E ScriptHook)) (error : Error) (told : Bool) →
+pub next_is : {E : Type 0} (number_of : E → ℕ) (plan : Plan E ScriptHook) (added : List EntryView)
+    (place : ℕ) (item : Option (Item E ScriptHook)) (error : Error) (told : Bool) →
     place ≡ length (trace added) → slice_get plan.items place ≡ item → IsTrue told ↔ StoppedBy allows refuses number_of (trace added) place item error →
     IsTrue told ↔ StoppedNext allows refuses number_of plan added error
 next_is {E} number_of plan added place item error told next at_place tells =

@@ -54,7 +54,8 @@ tails_at name x y xs ys one other first values true is =
 tails_at name x y xs ys one other first values false is =
     sym (lookup_tail (same_name name) x xs is) ∙ values ∙ lookup_tail (same_name name) y ys (ap (same_name name) (sym first) ∙ is)
 
-pub same_vars : (one other : Vars) → AreOrdered one → AreOrdered other → ((name : List ℕ) → value_of name one ≡ value_of name other) → one ≡ other
+pub same_vars : (one other : Vars) → AreOrdered one → AreOrdered other
+    → ((name : List ℕ) → value_of name one ≡ value_of name other) → one ≡ other
 same_vars [] [] one other values = refl
 same_vars [] (y ∷ ys) one other values = let there = at_head y ys in let same = values y.0 in cc
 same_vars (x ∷ xs) [] one other values = let there = at_head x xs in let same = values x.0 in cc

@@ -15,11 +15,13 @@ abbrev pub streams_in : Wired → List (Stdio Origin)
 streams_in wired = wired.input ∷ wired.output ∷ wired.error ∷ []
 
 -- a list that stands for three streams has three
-pub three_streams : (input output error : Stdio Origin) (streams : List (Stdio Source)) → input ∷ output ∷ error ∷ [] ≡ map (stream_of origin_of) streams → length streams ≡ 3
+pub three_streams : (input output error : Stdio Origin) (streams : List (Stdio Source))
+    → input ∷ output ∷ error ∷ [] ≡ map (stream_of origin_of) streams → length streams ≡ 3
 three_streams input output error streams are = omega (arith, simp length-map at (ap length are))
 
 -- three streams are the list of the three
-pub wired-streams : (spec : SpecView) (streams : List (Stdio Source)) → length streams ≡ 3 → streams_in (wired_with spec streams) ≡ map (stream_of origin_of) streams
+pub wired-streams : (spec : SpecView) (streams : List (Stdio Source)) → length streams ≡ 3
+    → streams_in (wired_with spec streams) ≡ map (stream_of origin_of) streams
 wired-streams spec [] three = absurd (omega arith)
 wired-streams spec (input ∷ []) three = absurd (omega arith)
 wired-streams spec (input ∷ output ∷ []) three = absurd (omega arith)

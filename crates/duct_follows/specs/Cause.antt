@@ -19,4 +19,6 @@ TellsStop (Err stop) error told = ¬ (FoundNoMemory stop) × (IsTrue told ↔ Is
 
 -- whether the hooks, if there are any, stopped the start with an error: each may find no memory, and else what they made tells it
 abbrev pub Tells : Result Wired Error → Bool → Error → Bool → Type 0
-Tells made some_hook error told = (FoundNoMemory error × (told ≡ some_hook)) ⊎ (¬ (FoundNoMemory error) × TellsStop made error told)
+Tells made some_hook error told =
+    (FoundNoMemory error × (told ≡ some_hook))
+    ⊎ (¬ (FoundNoMemory error) × TellsStop made error told)

@@ -7,8 +7,10 @@ use Rattle.duct_script.specs.declared.hook.ScriptHook.{ScriptHook}
 
 -- it does not refuse the spec, and makes the changes of its list
 abbrev pub allows : Allows ScriptHook
-allows hook before after = (refusal_of hook.answer before ≡ None) × (after ≡ changed hook.changes.items before)
+allows hook before after =
+    (refusal_of hook.answer before ≡ None) × (after ≡ changed hook.changes.items before)
 
 -- it refuses the spec by this fault, or finds no memory
 abbrev pub refuses : Refuses ScriptHook
-refuses hook before fault = (refusal_of hook.answer before ≡ Some fault) ⊎ (fault.kind ≡ OutOfMemory)
+refuses hook before fault =
+    (refusal_of hook.answer before ≡ Some fault) ⊎ (fault.kind ≡ OutOfMemory)

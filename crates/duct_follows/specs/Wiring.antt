@@ -22,7 +22,14 @@ from None = Inherit
 
 -- a spec with the three streams in the order stdin, stdout, stderr
 abbrev pub wired_with : SpecView → List (Stdio Source) → Wired
-wired_with spec streams = record { spec = spec; input = from (slice_get streams 0); output = from (slice_get streams 1); error = from (slice_get streams 2) }
+wired_with spec streams =
+    record {
+      spec = spec;
+      input = from (slice_get streams 0);
+      output = from
+          (slice_get streams 1);
+      error = from (slice_get streams 2);
+    }
 
 -- the spec of a command and where its streams come from
 abbrev pub wired_of : answer.Wired → Wired

@@ -35,7 +35,9 @@ pub fn has_cause<E: Numbered>(
     added: &[Entry],
     error: &Error,
 ) -> Result<bool, Untold>
-    ensures { IfOk result (λ yes. IsTrue yes ↔ HasCause ⟦<ScriptHook as Hook>⟧.allows ⟦<ScriptHook as Hook>⟧.refuses E.number_of (plan_view plan.now) (map entry_view added.now) error.now) }
+    ensures { IfOk result
+        (λ yes. IsTrue yes ↔ HasCause ⟦<ScriptHook as Hook>⟧.allows ⟦<ScriptHook as Hook>⟧.refuses
+        E.number_of (plan_view plan.now) (map entry_view added.now) error.now) }
 {
     match error {
         Error::System(fault) => Ok(is_last_fault(added, *fault)),
@@ -48,7 +50,8 @@ pub fn has_cause<E: Numbered>(
 
 /// Whether a fault is want of memory, or that of the last entry which is no close.
 fn is_last_fault(added: &[Entry], fault: Fault) -> bool
-    ensures { IsTrue result ↔ ((fault.kind ≡ OutOfMemory) ⊎ (last_fault (map entry_view added.now) ≡ Some fault)) }
+    ensures { IsTrue result ↔
+        ((fault.kind ≡ OutOfMemory) ⊎ (last_fault (map entry_view added.now) ≡ Some fault)) }
 {
     fault.kind == Kind::OutOfMemory || last_fault(added) == Some(fault)
 }
@@ -96,7 +99,9 @@ fn is_stopped_next<E: Numbered>(
     added: &[Entry],
     error: &Error,
 ) -> Result<bool, Untold>
-    ensures { IfOk result (λ yes. IsTrue yes ↔ StoppedNext allows refuses E.number_of (plan_view plan.now) (map entry_view added.now) error.now) }
+    ensures { IfOk result
+        (λ yes. IsTrue yes ↔ StoppedNext allows refuses E.number_of (plan_view plan.now)
+        (map entry_view added.now) error.now) }
 {
     let place = trace(alloc, added)?.len();
     match item_at(plan.items.as_slice(), place) {

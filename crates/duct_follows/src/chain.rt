@@ -16,9 +16,13 @@ use duct_plan::asked::Wired;
 /// streams come from then. The places that a hook names are looked for among the ends beside it, in the order stdin, stdout,
 /// stderr. Refused by the error with which the first hook that refuses, or names a place that is not there, stops a start.
 pub fn wired<E: Numbered, H: Hook>(asked: Wired, hooks: &[(&H, &[E])]) -> Result<Wired, Error>
-    ensures ok { IfOk result (λ after. Chain H.allows (lent E.number_of (hooks_of hooks.now)) (wired_of asked) (wired_of after)) }
+    ensures ok { IfOk result
+        (λ after. Chain H.allows (lent E.number_of (hooks_of hooks.now)) (wired_of asked)
+        (wired_of after)) }
     ensures streams { IfOk result (λ after. IsAnswered (wired_of after) after) }
-    ensures err { IfErr result (λ error. ChainStops H.allows H.refuses (lent E.number_of (hooks_of hooks.now)) (wired_of asked) error) }
+    ensures err { IfErr result
+        (λ error. ChainStops H.allows H.refuses (lent E.number_of (hooks_of hooks.now))
+        (wired_of asked) error) }
 {
     let mut after = asked;
     run(&mut after.spec, &mut after.streams, hooks)?;
@@ -32,8 +36,12 @@ fn run<E: Numbered, H: Hook>(
     hooks: &[(&H, &[E])],
 ) -> Result<(), Error>
     ensures three { length streams.new ≡ 3 }
-    ensures ok { OnOk result (Chain H.allows (lent E.number_of (hooks_of hooks.now)) (wired_with spec.old streams.old) (wired_with spec.new streams.new)) }
-    ensures err { IfErr result (λ error. ChainStops H.allows H.refuses (lent E.number_of (hooks_of hooks.now)) (wired_with spec.old streams.old) error) }
+    ensures ok { OnOk result
+        (Chain H.allows (lent E.number_of (hooks_of hooks.now)) (wired_with spec.old streams.old)
+        (wired_with spec.new streams.new)) }
+    ensures err { IfErr result
+        (λ error. ChainStops H.allows H.refuses (lent E.number_of (hooks_of hooks.now))
+        (wired_with spec.old streams.old) error) }
 {
     match hooks.split_first() {
         None => Ok(()),
@@ -51,8 +59,12 @@ fn change<E: Numbered, H: Hook>(
     spec: &mut CommandSpec,
     streams: &mut [Stdio<Source>; 3],
 ) -> Result<(), Error>
-    ensures ok { OnOk result (Changes H.allows hook.now (lent_ends E.number_of ends.now) (wired_with spec.old streams.old) (wired_with spec.new streams.new)) }
-    ensures err { IfErr result (λ error. Stops H.allows H.refuses hook.now (lent_ends E.number_of ends.now) (wired_with spec.old streams.old) error) }
+    ensures ok { OnOk result
+        (Changes H.allows hook.now (lent_ends E.number_of ends.now)
+        (wired_with spec.old streams.old) (wired_with spec.new streams.new)) }
+    ensures err { IfErr result
+        (λ error. Stops H.allows H.refuses hook.now (lent_ends E.number_of ends.now)
+        (wired_with spec.old streams.old) error) }
 {
     if let Err(fault) = hook.change(spec) {
         return Err(Error::Hook(fault));
@@ -85,7 +97,8 @@ fn missing_at(count: usize, port: Port) -> Option<usize>
 
 /// Finds the places of a spec among the ends beside its hook.
 fn settle<E: Numbered>(ends: &[E], spec: &mut CommandSpec, streams: &mut [Stdio<Source>; 3])
-    ensures { wired_with spec.new streams.new ≡ settle (lent_ends E.number_of ends.now) spec.old (wired_with spec.old streams.old) }
+    ensures { wired_with spec.new streams.new
+        ≡ settle (lent_ends E.number_of ends.now) spec.old (wired_with spec.old streams.old) }
 {
     let [input, output, error] = *streams;
     *streams = [
@@ -100,7 +113,8 @@ fn settle<E: Numbered>(ends: &[E], spec: &mut CommandSpec, streams: &mut [Stdio<
 
 /// What a port makes of a stream.
 fn settled<E: Numbered>(ends: &[E], port: Port, stream: Stdio<Source>) -> Stdio<Source>
-    ensures { stream_of origin_of result ≡ settled (lent_ends E.number_of ends.now) port (stream_of origin_of stream) }
+    ensures { stream_of origin_of result
+        ≡ settled (lent_ends E.number_of ends.now) port (stream_of origin_of stream) }
 {
     match port {
         Port::Inherit => Stdio::Inherit,

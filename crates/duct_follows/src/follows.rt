@@ -37,7 +37,9 @@ pub fn follows<E: Numbered>(
     plan: &Plan<'_, E, ScriptHook>,
     added: &[Entry],
 ) -> Result<bool, Untold>
-    ensures { IfOk result (λ yes. IsTrue yes ↔ Follows ⟦<ScriptHook as Hook>⟧.allows E.number_of (plan_view plan.now) (map entry_view added.now)) }
+    ensures { IfOk result
+        (λ yes. IsTrue yes ↔ Follows ⟦<ScriptHook as Hook>⟧.allows E.number_of (plan_view plan.now)
+        (map entry_view added.now)) }
 {
     let trace = trace(alloc, added)?;
     let items = plan.items.as_slice();
@@ -52,7 +54,9 @@ pub fn follows_whole<E: Numbered>(
     plan: &Plan<'_, E, ScriptHook>,
     added: &[Entry],
 ) -> Result<bool, Untold>
-    ensures { IfOk result (λ yes. IsTrue yes ↔ FollowsWhole ⟦<ScriptHook as Hook>⟧.allows E.number_of (plan_view plan.now) (map entry_view added.now)) }
+    ensures { IfOk result
+        (λ yes. IsTrue yes ↔ FollowsWhole ⟦<ScriptHook as Hook>⟧.allows E.number_of
+        (plan_view plan.now) (map entry_view added.now)) }
 {
     let trace = trace(alloc, added)?;
     Ok(trace.len() == plan.items.len() && is_clean(added) && follows(alloc, plan, added)?)
@@ -115,7 +119,10 @@ fn answers<E: Numbered>(
 
 /// Whether an end comes from the read end of the pipe that the entry at this place of the trace got.
 fn is_reader(alloc: Global, added: &[Entry], pipe: usize, end: u64) -> Result<bool, AllocError>
-    ensures { IfOk result (λ yes. IsTrue yes ↔ (origin (map entry_view added.now) end ≡ Opened (end_at (trace (map entry_view added.now)) pipe 0))) }
+    ensures { IfOk result
+        (λ yes. IsTrue yes ↔
+        (origin (map entry_view added.now) end
+        ≡ Opened (end_at (trace (map entry_view added.now)) pipe 0))) }
 {
     let trace = trace(alloc, added)?;
     Ok(origin(added, end) == Source::Opened(first_end(trace.as_slice(), pipe)))
@@ -123,7 +130,10 @@ fn is_reader(alloc: Global, added: &[Entry], pipe: usize, end: u64) -> Result<bo
 
 /// Whether an end comes from the write end of the pipe that the entry at this place of the trace got.
 fn is_writer(alloc: Global, added: &[Entry], pipe: usize, end: u64) -> Result<bool, AllocError>
-    ensures { IfOk result (λ yes. IsTrue yes ↔ (origin (map entry_view added.now) end ≡ Opened (end_at (trace (map entry_view added.now)) pipe 1))) }
+    ensures { IfOk result
+        (λ yes. IsTrue yes ↔
+        (origin (map entry_view added.now) end
+        ≡ Opened (end_at (trace (map entry_view added.now)) pipe 1))) }
 {
     let trace = trace(alloc, added)?;
     Ok(origin(added, end) == Source::Opened(second_end(trace.as_slice(), pipe)))
@@ -136,7 +146,9 @@ fn is_answered(
     io: &[Stdio<u64>; 3],
     given: Option<Wired>,
 ) -> Result<bool, AllocError>
-    ensures { IfOk result (λ yes. IsTrue yes ↔ AreAnswered given spec.now (map (stream_of (origin (map entry_view added.now))) io.now)) }
+    ensures { IfOk result
+        (λ yes. IsTrue yes ↔ AreAnswered given spec.now
+        (map (stream_of (origin (map entry_view added.now))) io.now)) }
 {
     match given {
         None => Ok(false),

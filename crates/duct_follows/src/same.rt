@@ -75,7 +75,9 @@ fn same_port(one: Port, other: Port) -> bool
 
 /// Whether the ends of three streams come from these places, by what the entries say.
 pub fn same_streams(entries: &[Entry], io: &[Stdio<u64>; 3], streams: &[Stdio<Source>; 3]) -> bool
-    ensures { IsTrue result ↔ (map (stream_of (origin (map entry_view entries.now))) io.now ≡ map (stream_of origin_of) streams.now) }
+    ensures { IsTrue result ↔
+        (map (stream_of (origin (map entry_view entries.now))) io.now
+        ≡ map (stream_of origin_of) streams.now) }
 {
     let [input, output, error] = *io;
     let [from_input, from_output, from_error] = *streams;
@@ -86,7 +88,8 @@ pub fn same_streams(entries: &[Entry], io: &[Stdio<u64>; 3], streams: &[Stdio<So
 
 /// Whether the end of a stream comes from this place.
 fn same_stream(entries: &[Entry], stream: Stdio<u64>, source: Stdio<Source>) -> bool
-    ensures { IsTrue result ↔ (stream_of (origin (map entry_view entries.now)) stream ≡ stream_of origin_of source) }
+    ensures { IsTrue result ↔
+        (stream_of (origin (map entry_view entries.now)) stream ≡ stream_of origin_of source) }
 {
     match (stream, source) {
         (Stdio::Inherit, Stdio::Inherit) => true,

@@ -18,7 +18,8 @@ pub value_set_behind : (name : List ℕ) (vars : Vars) (key value : List ℕ) �
 value_set_behind name vars key value = fold-append (λ said var. if bytes_eq var.0 name then Some var.1 else said) None vars ((key, value) ∷ [])
 
 -- what a command says of a name after one more variable was set, by whether that is the variable's name
-pub said_by_one_more : (b : Bool) (name : List ℕ) (vars : Vars) (key value : List ℕ) (old new : Command Global) →
+pub said_by_one_more : (b : Bool) (name : List ℕ) (vars : Vars) (key value : List ℕ)
+    (old new : Command Global) →
     bytes_eq key name ≡ b → command_var old name ≡ option_map Some (value_set name vars) → Sets key value old new →
     command_var new name ≡ option_map Some (if b then Some value else value_set name vars)
 said_by_one_more true name vars key value old new is before sets =
@@ -36,7 +37,8 @@ whole_with_one_more old new vars key value whole sets = (
 )
 
 -- a variable of a list behind those before it
-pub whole_up_to : {X : Type 0} (variable : X → List ℕ × List ℕ) (xs : List X) (i : ℕ) (d : X) (old new : Command Global) →
+pub whole_up_to : {X : Type 0} (variable : X → List ℕ × List ℕ) (xs : List X) (i : ℕ) (d : X)
+    (old new : Command Global) →
     i < length xs → IsWholeEnvironment (take i (map variable xs)) old →
     Sets (variable (get_or xs i d)).0 (variable (get_or xs i d)).1 old new → IsWholeEnvironment (take (i + 1) (map variable xs)) new
 whole_up_to variable xs i d old new below whole sets =

@@ -13,4 +13,5 @@ signals = pos 1 ∷ pos 2 ∷ pos 3 ∷ pos 6 ∷ pos 9 ∷ pos 14 ∷ pos 15 �
 -- a signal that is none of them is answered InvalidInput; nothing more is said of what the machine answers
 abbrev pub ObeysIfServed : Order → Result (Unit {0}) Fault → Type 0
 ObeysIfServed Kill answer = Unit {0}
-ObeysIfServed (Signal number) answer = (Contains signals number → ⊥) → answer ≡ Err (record { kind = InvalidInput })
+ObeysIfServed (Signal number) answer =
+    (Contains signals number → ⊥) → answer ≡ Err (record { kind = InvalidInput })

@@ -18,4 +18,6 @@ IsWholeEnvironment vars command = (clears_env command ≡ true)
 
 -- one more variable is set, and nothing else of the environment has changed
 abbrev pub Sets : List ℕ → List ℕ → Command Global → Command Global → Type 0
-Sets name value old new = (clears_env new ≡ clears_env old) × (command_var new name ≡ Some (Some value)) × SameOtherVars old new name
+Sets name value old new =
+    (clears_env new ≡ clears_env old) × (command_var new name ≡ Some (Some value))
+    × SameOtherVars old new name

@@ -20,7 +20,8 @@ absent_or_balances got spent number (first ∷ rest) =
     absent_or_balances-cons got spent number first rest (first == number) refl (absent_or_balances got spent number rest)
 
 -- where the numbers of both lists balance, each number does
-pub balances_everywhere : (got spent : List ℕ) → AllBalance got spent got → AllBalance got spent spent → Balances got spent
+pub balances_everywhere : (got spent : List ℕ) → AllBalance got spent got
+    → AllBalance got spent spent → Balances got spent
 balances_everywhere got spent in_got in_spent number =
     elim (absent_or_balances got spent number got) [
       | inr held ↦ held in_got

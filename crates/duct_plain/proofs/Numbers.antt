@@ -8,7 +8,8 @@ use Rattle.duct_status.specs.ShapeView.{ShapeView, command_count}
 use Rattle.duct_status.specs.Winner.{level, LeftBeats, RightBeats, Beats, IsWinner}
 use Rattle.duct_plain.specs.Numbered.{ending_count, number_at, way_at, BeatsAll, Tells}
 
-pub counts : (o : ShapeView) (first : ℕ) (words : List Word) → ending_count (endings_of o first words) ≡ command_count o
+pub counts : (o : ShapeView) (first : ℕ) (words : List Word)
+    → ending_count (endings_of o first words) ≡ command_count o
 counts (shape.command texts) first words = refl
 counts (shape.pipe l r) first words = ap (λ n. n + ending_count (endings_of r (first + command_count l) words)) (counts l first words) ∙ ap (λ n. command_count l + n) (counts r (first + command_count l) words)
 counts (shape.input t) first words = counts t first words
@@ -17,13 +18,16 @@ counts (shape.unchecked t) first words = counts t first words
 pub way_left : (l r : Endings) (k : ℕ) → k < ending_count l → way_at (pipe l r) k ≡ inl (way_at l k)
 way_left l r k low = let e : nat_lt k (ending_count l) ≡ true = grind (arith, nat_tests) in ap (λ b. cond {A = Way (pipe l r)} b (inl (way_at l k)) (inr (way_at r (k - ending_count l)))) e
 
-pub way_right : (l r : Endings) (k : ℕ) → ending_count l ≤ k → way_at (pipe l r) k ≡ inr (way_at r (k - ending_count l))
+pub way_right : (l r : Endings) (k : ℕ) → ending_count l ≤ k
+    → way_at (pipe l r) k ≡ inr (way_at r (k - ending_count l))
 way_right l r k high = let e : nat_lt k (ending_count l) ≡ false = grind (arith, nat_tests) in ap (λ b. cond {A = Way (pipe l r)} b (inl (way_at l k)) (inr (way_at r (k - ending_count l)))) e
 
-pub level_left : (l r : Endings) (k : ℕ) → k < ending_count l → level (pipe l r) (way_at (pipe l r) k) ≡ level l (way_at l k)
+pub level_left : (l r : Endings) (k : ℕ) → k < ending_count l
+    → level (pipe l r) (way_at (pipe l r) k) ≡ level l (way_at l k)
 level_left l r k low = ap (level (pipe l r)) (way_left l r k low)
 
-pub level_right : (l r : Endings) (k n : ℕ) → n ≡ ending_count l → n ≤ k → level (pipe l r) (way_at (pipe l r) k) ≡ level r (way_at r (k - n))
+pub level_right : (l r : Endings) (k n : ℕ) → n ≡ ending_count l → n ≤ k
+    → level (pipe l r) (way_at (pipe l r) k) ≡ level r (way_at r (k - n))
 level_right l r k n same high = ap (level (pipe l r)) (way_right l r k (omega arith)) ∙ ap (λ m. level r (way_at r (k - m))) (sym same)
 
 pub number_low : (t : Endings) (v : Way t) → number_at t v < ending_count t
@@ -64,7 +68,8 @@ wins_by_number t i all w =
     ]
 
 -- a winner beats the command of each other number
-pub winner_beats_all : (t : Endings) (winner : Way t) → IsWinner t winner → BeatsAll t (number_at t winner)
+pub winner_beats_all : (t : Endings) (winner : Way t) → IsWinner t winner
+    → BeatsAll t (number_at t winner)
 winner_beats_all t winner wins k low other =
     let P : Way t → Type 0 = λ v. Beats t v (way_at t k) in
     elim (wins (way_at t k)) [
@@ -73,28 +78,38 @@ winner_beats_all t winner wins k low other =
     ]
 
 -- a test that tells of two ways tells of the same two ways
-pub tells_same : (t : Endings) (test : Bool) (v w x y : Way t) → x ≡ v → y ≡ w → Tells test (Beats t v w) → Tells test (Beats t x y)
+pub tells_same : (t : Endings) (test : Bool) (v w x y : Way t) → x ≡ v → y ≡ w
+    → Tells test (Beats t v w) → Tells test (Beats t x y)
 tells_same t test v w x y e f told =
     let P : Way t → Type 0 = λ z. Tells test (Beats t z w) in
     let Q : Way t → Type 0 = λ z. Tells test (Beats t x z) in
     subst Q (sym f) (subst P (sym e) told)
 
 -- at a pipe, by numbers: both on the left, both on the right, and one on each side
-pub tells_left : (l r : Endings) (test : Bool) (j k n : ℕ) → n ≡ ending_count l → j < n → k < n → Tells test (Beats l (way_at l j) (way_at l k)) → Tells test (Beats (pipe l r) (way_at (pipe l r) j) (way_at (pipe l r) k))
+pub tells_left : (l r : Endings) (test : Bool) (j k n : ℕ) → n ≡ ending_count l → j < n → k < n
+    → Tells test (Beats l (way_at l j) (way_at l k))
+    → Tells test (Beats (pipe l r) (way_at (pipe l r) j) (way_at (pipe l r) k))
 tells_left l r test j k n same low less told =
     tells_same (pipe l r) test (inl (way_at l j)) (inl (way_at l k)) (way_at (pipe l r) j) (way_at (pipe l r) k) (way_left l r j (omega arith)) (way_left l r k (omega arith)) told
 
-pub tells_right : (l r : Endings) (test : Bool) (j k n : ℕ) → n ≡ ending_count l → n ≤ j → n ≤ k → Tells test (Beats r (way_at r (j - n)) (way_at r (k - n))) → Tells test (Beats (pipe l r) (way_at (pipe l r) j) (way_at (pipe l r) k))
+pub tells_right : (l r : Endings) (test : Bool) (j k n : ℕ) → n ≡ ending_count l → n ≤ j → n ≤ k
+    → Tells test (Beats r (way_at r (j - n)) (way_at r (k - n)))
+    → Tells test (Beats (pipe l r) (way_at (pipe l r) j) (way_at (pipe l r) k))
 tells_right l r test j k n same low less told =
     tells_same (pipe l r) test (inr (way_at r (j - n))) (inr (way_at r (k - n))) (way_at (pipe l r) j) (way_at (pipe l r) k) (way_right l r j (omega arith) ∙ ap (λ m. inr (way_at r (j - m))) (sym same)) (way_right l r k (omega arith) ∙ ap (λ m. inr (way_at r (k - m))) (sym same)) told
 
-pub tells_left_right : (l r : Endings) (test : Bool) (a b j k n : ℕ) → n ≡ ending_count l → j < n → n ≤ k → a ≡ level l (way_at l j) → b ≡ level r (way_at r (k - n)) → Tells test (LeftBeats a b) → Tells test (Beats (pipe l r) (way_at (pipe l r) j) (way_at (pipe l r) k))
+pub tells_left_right : (l r : Endings) (test : Bool) (a b j k n : ℕ) → n ≡ ending_count l → j < n
+    → n ≤ k → a ≡ level l (way_at l j) → b ≡ level r (way_at r (k - n)) → Tells test (LeftBeats a b)
+    → Tells test (Beats (pipe l r) (way_at (pipe l r) j) (way_at (pipe l r) k))
 tells_left_right l r test a b j k n same low less e f told =
     let P : ℕ → Type 0 = λ x. Tells test (LeftBeats x b) in
     let Q : ℕ → Type 0 = λ y. Tells test (LeftBeats (level l (way_at l j)) y) in
     tells_same (pipe l r) test (inl (way_at l j)) (inr (way_at r (k - n))) (way_at (pipe l r) j) (way_at (pipe l r) k) (way_left l r j (omega arith)) (way_right l r k (omega arith) ∙ ap (λ m. inr (way_at r (k - m))) (sym same)) (subst Q f (subst P e told))
 
-pub tells_right_left : (l r : Endings) (test : Bool) (b a j k n : ℕ) → n ≡ ending_count l → n ≤ j → k < n → b ≡ level r (way_at r (j - n)) → a ≡ level l (way_at l k) → Tells test (RightBeats b a) → Tells test (Beats (pipe l r) (way_at (pipe l r) j) (way_at (pipe l r) k))
+pub tells_right_left : (l r : Endings) (test : Bool) (b a j k n : ℕ) → n ≡ ending_count l → n ≤ j
+    → k < n → b ≡ level r (way_at r (j - n)) → a ≡ level l (way_at l k)
+    → Tells test (RightBeats b a)
+    → Tells test (Beats (pipe l r) (way_at (pipe l r) j) (way_at (pipe l r) k))
 tells_right_left l r test b a j k n same low less e f told =
     let P : ℕ → Type 0 = λ x. Tells test (RightBeats x a) in
     let Q : ℕ → Type 0 = λ y. Tells test (RightBeats (level r (way_at r (j - n))) y) in

@@ -36,7 +36,13 @@ captured_there true heard = refl
 captured_there false heard = refl
 
 -- what the events come to
-pub outcome_told : (t : ShapeView) (drains : Drains) (told : List EventView) (fault : Option Fault) (runs : Bool) (out err : Said (List ℕ)) (v : OutcomeView) → fault ≡ first_fault (told_in_order t 0 0 told) → runs ≡ some_runs (told_in_order t 0 0 told) → out ≡ cond drains.out (latest_of_drain side.Out told) (said.Done []) → err ≡ cond drains.err (latest_of_drain side.Err told) (said.Done []) → v ≡ ended fault runs (with_bytes out (λ o. with_bytes err (λ e. finished o e))) → v ≡ outcome t (latest_told t drains told)
+pub outcome_told : (t : ShapeView) (drains : Drains) (told : List EventView) (fault : Option Fault)
+    (runs : Bool) (out err : Said (List ℕ)) (v : OutcomeView)
+    → fault ≡ first_fault (told_in_order t 0 0 told) → runs ≡ some_runs (told_in_order t 0 0 told)
+    → out ≡ cond drains.out (latest_of_drain side.Out told) (said.Done [])
+    → err ≡ cond drains.err (latest_of_drain side.Err told) (said.Done [])
+    → v ≡ ended fault runs (with_bytes out (λ o. with_bytes err (λ e. finished o e)))
+    → v ≡ outcome t (latest_told t drains told)
 outcome_told t drains told fault runs out err v e f g h is =
     let order = order_same t 0 0 (command_count t) (input_count t) told (omega arith) (omega arith) in
     let one = e ∙ ap first_fault (sym order) in

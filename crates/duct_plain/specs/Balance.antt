@@ -4,7 +4,8 @@ use Rattle.duct_system.specs.Ledger.{count_of}
 
 -- a number stands as often in both lists, and not twice
 abbrev pub BalancesAt : List ℕ → List ℕ → ℕ → Type 0
-BalancesAt got spent number = (count_of number spent ≡ count_of number got) × (count_of number got ≤ 1)
+BalancesAt got spent number =
+    (count_of number spent ≡ count_of number got) × (count_of number got ≤ 1)
 
 -- so does each of these numbers
 abbrev pub AllBalance : List ℕ → List ℕ → List ℕ → Type 0

@@ -20,7 +20,8 @@ number_at (unchecked t) way = number_at t way
 -- the way to the command of a number; past the last one it is the last one
 abbrev pub way_at : (t : Endings) → ℕ → Way t
 way_at (ending texts status) k = tt
-way_at (pipe l r) k = if nat_lt k (ending_count l) then inl (way_at l k) else inr (way_at r (k - ending_count l))
+way_at (pipe l r) k =
+    if nat_lt k (ending_count l) then inl (way_at l k) else inr (way_at r (k - ending_count l))
 way_at (unchecked t) k = way_at t k
 
 -- the command of this number beats that of each other number

@@ -16,5 +16,7 @@ origin_of (Lent number) = origin.Lent number
 
 -- where an end comes from, one entry further back: it is found there, or it is that of another number before
 abbrev pub Steps : EntryView → ℕ → Step → Type 0
-Steps entry number (Found source) = (entries : List EntryView) → origin_before (entry ∷ entries) number ≡ origin_of source
-Steps entry number (From lent) = (entries : List EntryView) → origin_before (entry ∷ entries) number ≡ origin_before entries lent
+Steps entry number (Found source) =
+    (entries : List EntryView) → origin_before (entry ∷ entries) number ≡ origin_of source
+Steps entry number (From lent) =
+    (entries : List EntryView) → origin_before (entry ∷ entries) number ≡ origin_before entries lent

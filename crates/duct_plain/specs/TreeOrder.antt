@@ -10,6 +10,8 @@ use Rattle.duct_status.specs.Outcome.{command_said}
 -- the worker round it
 abbrev pub told_in_order : ShapeView → ℕ → ℕ → List EventView → List (Said (Unit {0}))
 told_in_order (command texts) c i told = command_said (Some (latest_of_command c told)) ∷ []
-told_in_order (pipe l r) c i told = told_in_order l c i told ++ told_in_order r (c + command_count l) (i + input_count l) told
-told_in_order (input t) c i told = told_in_order t c i told ++ latest_of_input (i + input_count t) told ∷ []
+told_in_order (pipe l r) c i told =
+    told_in_order l c i told ++ told_in_order r (c + command_count l) (i + input_count l) told
+told_in_order (input t) c i told =
+    told_in_order t c i told ++ latest_of_input (i + input_count t) told ∷ []
 told_in_order (unchecked t) c i told = told_in_order t c i told

@@ -65,7 +65,8 @@ pub fn held(alloc: Global, entries: &[Entry]) -> Result<usize, AllocError>
 
 /// The entries of which a plan speaks: all but duplicates, ends of the parent's streams, and closes.
 pub fn trace(alloc: Global, entries: &[Entry]) -> Result<Vec<&Entry>, AllocError>
-    ensures { IfOk result (λ traced. map (λ e. entry_view e.now) traced.items ≡ trace (map entry_view entries.now)) }
+    ensures { IfOk result
+        (λ traced. map (λ e. entry_view e.now) traced.items ≡ trace (map entry_view entries.now)) }
 {
     let mut traced = Vec::new(alloc);
     for entry in entries {
@@ -181,7 +182,8 @@ fn push_got(numbers: &mut Vec<u64>, entry: &Entry) -> Result<(), AllocError>
 
 /// Adds the numbers of the ends that an entry's request was given.
 fn push_spent(numbers: &mut Vec<u64>, entry: &Entry) -> Result<(), AllocError>
-    ensures { OnOk result (numbers.new.items ≡ numbers.old.items ++ spent_by (entry_view entry.now)) }
+    ensures { OnOk result
+        (numbers.new.items ≡ numbers.old.items ++ spent_by (entry_view entry.now)) }
 {
     match entry {
         Entry::Spawn(_, io, _) => push_ends(numbers, io),

@@ -55,7 +55,8 @@ fn runs(said: Said<()>) -> bool
 fn first_fault(shape: &Shape, command: usize, input: usize, events: &[Event]) -> Option<Fault>
     requires commands { command + command_count (shape_view shape.now) < 2 ^ 64 }
     requires inputs { input + input_count (shape_view shape.now) < 2 ^ 64 }
-    ensures { result ≡ first_fault (told_in_order (shape_view shape.now) command input (map event_view events.now)) }
+    ensures { result ≡ first_fault
+        (told_in_order (shape_view shape.now) command input (map event_view events.now)) }
 {
     match shape {
         Shape::Command(_) => fault_of(said_by(command, events)),
@@ -78,7 +79,8 @@ fn first_fault(shape: &Shape, command: usize, input: usize, events: &[Event]) ->
 fn some_runs(shape: &Shape, command: usize, input: usize, events: &[Event]) -> bool
     requires commands { command + command_count (shape_view shape.now) < 2 ^ 64 }
     requires inputs { input + input_count (shape_view shape.now) < 2 ^ 64 }
-    ensures { result ≡ some_runs (told_in_order (shape_view shape.now) command input (map event_view events.now)) }
+    ensures { result ≡ some_runs
+        (told_in_order (shape_view shape.now) command input (map event_view events.now)) }
 {
     match shape {
         Shape::Command(_) => runs(said_by(command, events)),
@@ -100,7 +102,8 @@ fn some_runs(shape: &Shape, command: usize, input: usize, events: &[Event]) -> b
 
 /// The word of the capture worker of a stream; without one no bytes are captured.
 fn captured(is_there: bool, side: Side, events: &[Event]) -> Said<&[u8]>
-    ensures { lent_bytes result ≡ (if is_there then latest_of_drain side (map event_view events.now) else said.Done []) }
+    ensures { lent_bytes result
+        ≡ (if is_there then latest_of_drain side (map event_view events.now) else said.Done []) }
 {
     if is_there {
         latest_of_drain(side, events)
@@ -116,7 +119,10 @@ fn decide<'a>(
     output: Said<&'a [u8]>,
     error: Said<&'a [u8]>,
 ) -> Outcome<'a>
-    ensures { outcome_view result ≡ ended fault runs (with_bytes (lent_bytes output.entry) (λ out. with_bytes (lent_bytes error.entry) (λ err. finished out err))) }
+    ensures { outcome_view result
+        ≡ ended fault runs
+        (with_bytes (lent_bytes output.entry)
+        (λ out. with_bytes (lent_bytes error.entry) (λ err. finished out err))) }
 {
     if let Some(fault) = fault {
         return Outcome::Fault(fault);
@@ -138,7 +144,9 @@ fn decide<'a>(
 pub fn outcome_of_events<'a>(shape: &Shape, drains: Drains, events: &'a [Event]) -> Outcome<'a>
     requires commands { command_count (shape_view shape.now) < 2 ^ 64 }
     requires inputs { input_count (shape_view shape.now) < 2 ^ 64 }
-    ensures { outcome_view result ≡ outcome (shape_view shape.now) (latest_told (shape_view shape.now) drains (map event_view events.now)) }
+    ensures { outcome_view result
+        ≡ outcome (shape_view shape.now)
+        (latest_told (shape_view shape.now) drains (map event_view events.now)) }
 {
     let fault = first_fault(shape, 0, 0, events);
     let runs = some_runs(shape, 0, 0, events);

@@ -25,7 +25,8 @@ fn status_by(words: &[Word], command: usize) -> ExitStatus
 #[tactic(auto, using(crate::proofs::Numbers::level_left, crate::proofs::Numbers::level_right))]
 fn level(shape: &Shape, words: &[Word], first: usize, at: usize) -> u8
     requires { first + command_count (shape_view shape.now) ≤ length words.now }
-    ensures { let t = endings_of (shape_view shape.now) first words.now in result ≡ level t (way_at t at) }
+    ensures { let t = endings_of (shape_view shape.now) first words.now in result
+        ≡ level t (way_at t at) }
 {
     match shape {
         Shape::Command(_) => {
@@ -65,7 +66,8 @@ fn right_beats(b: u8, a: u8) -> bool
 /// Whether one command beats another, of a part of a shape: decided at the pipe where they part, by their levels below it.
 fn beats(shape: &Shape, words: &[Word], first: usize, one: usize, other: usize) -> bool
     requires { first + command_count (shape_view shape.now) ≤ length words.now }
-    ensures { let t = endings_of (shape_view shape.now) first words.now in Tells result (Beats t (way_at t one) (way_at t other)) }
+    ensures { let t = endings_of (shape_view shape.now) first words.now
+        in Tells result (Beats t (way_at t one) (way_at t other)) }
 {
     match shape {
         Shape::Command(_) => false,
@@ -107,7 +109,8 @@ fn beats_all(shape: &Shape, words: &[Word], count: usize, one: usize) -> bool
 /// The number of the winning command of a shape whose commands ended by these words: it beats each other one.
 pub fn winner(shape: &Shape, words: &[Word]) -> usize
     requires { command_count (shape_view shape.now) ≤ length words.now }
-    ensures { let t = endings_of (shape_view shape.now) 0 words.now in (way : Way t) × (number_at t way ≡ result) × IsWinner t way }
+    ensures { let t = endings_of (shape_view shape.now) 0 words.now in (way : Way t)
+        × (number_at t way ≡ result) × IsWinner t way }
 {
     let count = count_commands(shape);
     for one in 0..count {

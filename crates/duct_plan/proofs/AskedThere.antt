@@ -12,7 +12,8 @@ use Rattle.duct_plan.specs.AskedOf.{IsAskedThere}
 use Rattle.duct_plan.specs.declared.asked.Wired.{Wired}
 use Rattle.duct_plain.specs.Source.{origin_of}
 
-pub asked_there : {E H : Type 0} (entries : List EntryView) (number_of : E → ℕ) (place : ℕ) (found : Found E H) (words : List (List ℕ)) (pairs : Vars) (program : List ℕ) (answer : Wired) →
+pub asked_there : {E H : Type 0} (entries : List EntryView) (number_of : E → ℕ) (place : ℕ)
+    (found : Found E H) (words : List (List ℕ)) (pairs : Vars) (program : List ℕ) (answer : Wired) →
     pairs ≡ pairs_in entries → program ≡ program_at entries place found words → IsAsked pairs program found words answer.spec →
     map (stream_of origin_of) answer.streams ≡ streams_to entries number_of found → IsAskedThere entries number_of place found words answer
 asked_there entries number_of place found words pairs program answer pairs_are program_is spec_is streams_are = (

@@ -52,7 +52,9 @@ gone_case name gone e es false same all rest =
     ∙ later name gone e.0 (same_name name gone) (same_name name e.0) e.1 (value_of name es) refl refl same
 
 -- a name that is taken away is not found, and each other name finds what it found
-pub value_of-without : (name gone : List ℕ) (vars : Vars) → IsStrictlySortedBy (slice_cmp nat_cmp) (names vars) → value_of name (without_var gone vars) ≡ cond (same_name name gone) None (value_of name vars)
+pub value_of-without : (name gone : List ℕ) (vars : Vars)
+    → IsStrictlySortedBy (slice_cmp nat_cmp) (names vars)
+    → value_of name (without_var gone vars) ≡ cond (same_name name gone) None (value_of name vars)
 unfolding IsStrictlySortedBy
 value_of-without name gone [] sorted = either_way (same_name name gone) None
   where
@@ -62,7 +64,9 @@ value_of-without name gone [] sorted = either_way (same_name name gone) None
 value_of-without name gone (e ∷ es) sorted = gone_case name gone e es (same_name gone e.0) refl sorted.0 (value_of-without name gone es sorted.1)
 
 -- a copy has the texts of what was copied
-pub copied_texts : {Z : Type 0} (es copy : List (String Z × String Z)) → AllZip (λ p q. (string_bytes q.0 ≡ string_bytes p.0) × (string_bytes q.1 ≡ string_bytes p.1)) es copy → map pair_text copy ≡ map pair_text es
+pub copied_texts : {Z : Type 0} (es copy : List (String Z × String Z))
+    → AllZip (λ p q. (string_bytes q.0 ≡ string_bytes p.0)
+    × (string_bytes q.1 ≡ string_bytes p.1)) es copy → map pair_text copy ≡ map pair_text es
 copied_texts [] [] same = refl
 copied_texts [] (c ∷ copy) same = absurd same
 copied_texts (e ∷ es) [] same = absurd same
@@ -72,7 +76,8 @@ copied_texts {Z} (e ∷ es) (c ∷ copy) same =
     let value : string_bytes c.1 ≡ string_bytes e.1 = same.0.1 in cc
 
 -- one more pair of a list is put in
-pub last_more : {Z : Type 0} (es new pairs : List (String Z × String Z)) (i : ℕ) (item : String Z × String Z) (name value : String Z) →
+pub last_more : {Z : Type 0} (es new pairs : List (String Z × String Z)) (i : ℕ)
+    (item : String Z × String Z) (name value : String Z) →
     i < length pairs → item ≡ get_or pairs i item → string_bytes name ≡ string_bytes item.0 → string_bytes value ≡ string_bytes item.1 →
     map pair_text es ≡ last_values (map pair_text (take i pairs)) → new ≡ insert_entry string_cmp es name value → map pair_text new ≡ last_values (map pair_text (take (i + 1) pairs))
 last_more es new pairs i item name value low is same_name same_value so_far put =
@@ -85,7 +90,8 @@ last_more es new pairs i item name value low is same_name same_value so_far put 
 
 module _ {Z : Type 0} (es new : List (String Z × String Z)) where
   -- a pair that was put in
-  pub put_in : (copied_name copied_value : String Z) (name value : List ℕ) → string_bytes copied_name ≡ name → string_bytes copied_value ≡ value →
+  pub put_in : (copied_name copied_value : String Z) (name value : List ℕ)
+      → string_bytes copied_name ≡ name → string_bytes copied_value ≡ value →
       new ≡ insert_entry string_cmp es copied_name copied_value → IsStrictlySortedBy string_cmp (keys_of new) →
       Changes (Sets name value) (map pair_text es) (map pair_text new)
   put_in copied_name copied_value name value name_is value_is is sorted = λ pairs further before. record {
@@ -98,7 +104,9 @@ module _ {Z : Type 0} (es new : List (String Z × String Z)) where
   }
 
   -- a name that was taken away
-  pub taken_away : (asked name : List ℕ) → asked ≡ name → new ≡ remove_entry (is_at (λ k. slice_cmp nat_cmp asked (string_bytes k))) es → IsStrictlySortedBy string_cmp (keys_of new) →
+  pub taken_away : (asked name : List ℕ) → asked ≡ name
+      → new ≡ remove_entry (is_at (λ k. slice_cmp nat_cmp asked (string_bytes k))) es
+      → IsStrictlySortedBy string_cmp (keys_of new) →
       Changes (Removes name) (map pair_text es) (map pair_text new)
   taken_away asked name same is sorted = λ pairs further before. record {
     values = λ other. ap (λ xs. value_of other (map pair_text xs)) is ∙ ap (λ xs. value_of other xs) (remove_texts asked es)
@@ -109,7 +117,8 @@ module _ {Z : Type 0} (es new : List (String Z × String Z)) where
   }
 
   -- variables that came in place of all
-  pub replaced : (texts before : Vars) → map pair_text new ≡ texts → IsStrictlySortedBy string_cmp (keys_of new) →
+  pub replaced : (texts before : Vars) → map pair_text new ≡ texts
+      → IsStrictlySortedBy string_cmp (keys_of new) →
       Changes (Replaces texts) before (map pair_text new)
   replaced texts before is sorted = λ pairs further found. record {
     values = λ other. ap (λ xs. value_of other xs) is;

@@ -7,23 +7,29 @@ use Rattle.std.proofs.lemmas.List.Sums.{count_by_more_yes, sum_by-take-le}
 
 module _ {X Y : Type 0} (f : X → Y) (p : Y → Bool) where
   -- the item at a place passes
-  pub passes_at : (xs : List X) (place : ℕ) (x : X) → place < length xs → x ≡ get_or xs place x → p (f x) ≡ true → option_map p (slice_get (map f xs) place) ≡ Some true
+  pub passes_at : (xs : List X) (place : ℕ) (x : X) → place < length xs → x ≡ get_or xs place x
+      → p (f x) ≡ true → option_map p (slice_get (map f xs) place) ≡ Some true
   passes_at [] place x low is passes = absurd (omega arith)
   passes_at (y ∷ xs) zero x low is passes = ap Some (subst (λ (v : X). p (f v) ≡ true) is passes)
   passes_at (y ∷ xs) (suc place) x low is passes = passes_at xs place x (omega arith) is passes
 
   -- a place at which an item passes has that item, and it passes
-  pub item_at : (xs : List X) (place : ℕ) (x : X) → option_map p (slice_get (map f xs) place) ≡ Some true → x ≡ get_or xs place x → slice_get (map f xs) place ≡ Some (f x)
+  pub item_at : (xs : List X) (place : ℕ) (x : X)
+      → option_map p (slice_get (map f xs) place) ≡ Some true → x ≡ get_or xs place x
+      → slice_get (map f xs) place ≡ Some (f x)
   item_at [] place x passes is = absurd (cc)
   item_at (y ∷ xs) zero x passes is = ap (λ v. Some (f v)) (sym is)
   item_at (y ∷ xs) (suc place) x passes is = item_at xs place x passes is
 
   -- a front may be cut before or after
-  pub count_front : (xs : List X) (place : ℕ) → count_by p (take place (map f xs)) ≡ count_by p (map f (take place xs))
+  pub count_front : (xs : List X) (place : ℕ)
+      → count_by p (take place (map f xs)) ≡ count_by p (map f (take place xs))
   count_front xs place = ap (λ ys. count_by p ys) (take-map f place xs)
 
   -- where the item at a place passes, there are more than before it
-  pub more_than_before : (xs : List X) (place : ℕ) (x : X) → place < length xs → x ≡ get_or xs place x → p (f x) ≡ true → count_by p (map f (take place xs)) < count_by p (map f xs)
+  pub more_than_before : (xs : List X) (place : ℕ) (x : X) → place < length xs
+      → x ≡ get_or xs place x → p (f x) ≡ true
+      → count_by p (map f (take place xs)) < count_by p (map f xs)
   more_than_before xs place x low is passes =
       let within : place < length (map f xs) = omega (arith, length-map xs f) in
       let here : p (get_or (map f xs) place (f x)) ≡ true = ap p (get_or-map f xs place x (f x) low ∙ ap f (sym is)) ∙ passes in

@@ -16,19 +16,25 @@ use Rattle.duct_plain.specs.Source.{origin_of}
 -- the answer has this spec and these streams
 pub record IsAnswered (wired : Wired) (asked : answer.Wired) : Type 0 where
   pub spec_is : wired.spec ≡ asked.spec
-  pub streams_are : wired.input ∷ wired.output ∷ wired.error ∷ [] ≡ map (stream_of origin_of) asked.streams
+  pub streams_are : wired.input ∷ wired.output ∷ wired.error ∷ []
+      ≡ map (stream_of origin_of) asked.streams
 
 -- the answer is what the tree asks for the command whose spawn stands at this place, with this found outwards and these words
-abbrev pub IsAskedThere : {E H : Type 0} → List EntryView → (E → ℕ) → ℕ → Found E H → List (List ℕ) → answer.Wired → Type 0
-IsAskedThere entries number_of place found words asked = (wired : Wired) × IsAskedAt entries number_of place found words wired × IsAnswered wired asked
+abbrev pub IsAskedThere : {E H : Type 0} → List EntryView → (E → ℕ) → ℕ → Found E H → List (List ℕ)
+    → answer.Wired → Type 0
+IsAskedThere entries number_of place found words asked =
+    (wired : Wired) × IsAskedAt entries number_of place found words wired × IsAnswered wired asked
 
 -- the answer is what the tree asks for the i-th command of the plan, up to whose spawn the trace comes
-abbrev pub IsAskedOf : {E H : Type 0} → List EntryView → Plan E H → (E → ℕ) → ℕ → answer.Wired → Type 0
+abbrev pub IsAskedOf : {E H : Type 0} → List EntryView → Plan E H → (E → ℕ) → ℕ → answer.Wired
+    → Type 0
 IsAskedOf {E} {H} entries plan number_of i asked =
-    (place : ℕ) × (found : Found E H) × (words : List (List ℕ)) × IsCommandAt i plan.items place × (slice_get plan.items place ≡ Some (AskSpawn found words))
+    (place : ℕ) × (found : Found E H) × (words : List (List ℕ)) × IsCommandAt i plan.items place
+    × (slice_get plan.items place ≡ Some (AskSpawn found words))
     × (place ≤ length entries) × IsAskedThere entries number_of place found words asked
 
 -- an error that is no want of memory comes where the trace ends before the spawn of the i-th command
 abbrev pub EndsBefore : {E H : Type 0} → List EntryView → Plan E H → ℕ → AskedError → Type 0
-EndsBefore entries plan i TraceTooShort = (place : ℕ) × IsCommandAt i plan.items place × (length entries < place)
+EndsBefore entries plan i TraceTooShort =
+    (place : ℕ) × IsCommandAt i plan.items place × (length entries < place)
 EndsBefore entries plan i Memory = Unit {0}

@@ -45,6 +45,11 @@ found_of found = record {
 
 -- the change gives the variable this value or none, or leaves it to the changes further out
 abbrev pub Decides : outwards.Change → List ℕ → Decision → Type 0
-Decides change name (Value value) = (pairs : Vars) (further : List outwards.Change) → variable pairs (change ∷ further) name ≡ Some value.now
-Decides change name Gone = (pairs : Vars) (further : List outwards.Change) → variable pairs (change ∷ further) name ≡ None
-Decides change name Further = (pairs : Vars) (further : List outwards.Change) → variable pairs (change ∷ further) name ≡ variable pairs further name
+Decides change name (Value value) =
+    (pairs : Vars) (further : List outwards.Change)
+    → variable pairs (change ∷ further) name ≡ Some value.now
+Decides change name Gone =
+    (pairs : Vars) (further : List outwards.Change) → variable pairs (change ∷ further) name ≡ None
+Decides change name Further =
+    (pairs : Vars) (further : List outwards.Change)
+    → variable pairs (change ∷ further) name ≡ variable pairs further name

@@ -13,4 +13,6 @@ pub record AreFound (pairs : Vars) (changes : List Change) (vars : Vars) : Type 
 
 -- what is found from the change on is made of what is found behind it
 abbrev pub Changes : Change → Vars → Vars → Type 0
-Changes change before after = (pairs : Vars) (further : List Change) → AreFound pairs further before → AreFound pairs (change ∷ further) after
+Changes change before after =
+    (pairs : Vars) (further : List Change) → AreFound pairs further before
+    → AreFound pairs (change ∷ further) after

@@ -57,8 +57,11 @@ pub fn asked<E: Numbered, H>(
     trace: &[&Entry],
     i: usize,
 ) -> Result<Option<Wired>, AskedError>
-    ensures none { IfOk result (λ asked. IsNone asked ↔ (count_by is_spawn (plan_view plan.now).items ≤ i)) }
-    ensures some { IfOk result (λ asked. IfSome asked (IsAskedOf (entry_views trace.now) (plan_view plan.now) E.number_of i)) }
+    ensures none { IfOk result
+        (λ asked. IsNone asked ↔ (count_by is_spawn (plan_view plan.now).items ≤ i)) }
+    ensures some { IfOk result
+        (λ asked. IfSome asked
+        (IsAskedOf (entry_views trace.now) (plan_view plan.now) E.number_of i)) }
     ensures short { IfErr result (EndsBefore (entry_views trace.now) (plan_view plan.now) i) }
 {
     let Some(place) = plan.command(i) else {
@@ -83,7 +86,9 @@ pub fn asked_at<E: Numbered, H>(
     words: &[String],
 ) -> Result<Wired, AllocError>
     requires { place ≤ length trace.now }
-    ensures { IfOk result (IsAskedThere (entry_views trace.now) E.number_of place (found_of found.now) (map string_bytes words.now)) }
+    ensures { IfOk result
+        (IsAskedThere (entry_views trace.now) E.number_of place (found_of found.now)
+        (map string_bytes words.now)) }
 {
     let program = program_at(trace, place, found, words);
     let spec = spec(alloc, pairs_in(trace), program, found, words)?;
@@ -98,7 +103,8 @@ fn program_at<'t, E, H>(
     found: &Found<'_, E, H>,
     words: &'t [String],
 ) -> &'t str
-    ensures { result.now ≡ program_at (entry_views trace.now) place (found_of found.now) (map string_bytes words.now) }
+    ensures { result.now ≡ program_at (entry_views trace.now) place (found_of found.now)
+        (map string_bytes words.now) }
 {
     if is_canonical(found, words) {
         text_at(trace, place.saturating_sub(1))
@@ -115,7 +121,9 @@ fn spec<E, H>(
     found: &Found<'_, E, H>,
     words: &[String],
 ) -> Result<CommandSpec, AllocError>
-    ensures { IfOk result (IsAsked (map pair_text pairs.now) program.now (found_of found.now) (map string_bytes words.now)) }
+    ensures { IfOk result
+        (IsAsked (map pair_text pairs.now) program.now (found_of found.now)
+        (map string_bytes words.now)) }
 {
     let words = with_program(alloc, program, words)?;
     let folder = copied(alloc, found.folder)?;
@@ -128,7 +136,9 @@ fn spec<E, H>(
 
 /// A copy of the words with this program in place of the first.
 fn with_program(alloc: Global, program: &str, words: &[String]) -> Result<Vec<String>, AllocError>
-    ensures { IfOk result (λ copy. map string_bytes copy.items ≡ with_program program.now (map string_bytes words.now)) }
+    ensures { IfOk result
+        (λ copy. map string_bytes copy.items
+        ≡ with_program program.now (map string_bytes words.now)) }
 {
     match words.split_first() {
         None => Ok(Vec::new(alloc)),
@@ -142,7 +152,8 @@ fn with_arguments(
     program: &str,
     arguments: &[String],
 ) -> Result<Vec<String>, AllocError>
-    ensures { IfOk result (λ copy. map string_bytes copy.items ≡ program.now ∷ map string_bytes arguments.now) }
+    ensures { IfOk result
+        (λ copy. map string_bytes copy.items ≡ program.now ∷ map string_bytes arguments.now) }
 {
     let mut words = Vec::new(alloc);
     words.push(String::from_str(alloc, program)?)?;

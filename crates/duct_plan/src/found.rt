@@ -70,7 +70,8 @@ pub fn variable<'t>(
     changes: &[Change<'t>],
     name: &str,
 ) -> Option<&'t str>
-    ensures { option_copied result ≡ variable (map pair_text pairs.now) (map change_of changes.now) name.now }
+    ensures { option_copied result
+        ≡ variable (map pair_text pairs.now) (map change_of changes.now) name.now }
 {
     match changes.split_first() {
         None => last_value(pairs, name),

@@ -51,7 +51,8 @@ fn goes<'t, E, H>(way: &[Crumb<'t, E, H>], stream: Stream) -> Target<'t, E>
 
 /// What a node says of a stream.
 fn turn_at<'t, E, H>(crumb: &Crumb<'t, E, H>, stream: Stream) -> Turn<'t, E>
-    ensures { let crumb = crumb_of crumb.now in turn_of result (place_of crumb) ≡ (step_of crumb).turn (place_of crumb) stream }
+    ensures { let crumb = crumb_of crumb.now in turn_of result (place_of crumb)
+        ≡ (step_of crumb).turn (place_of crumb) stream }
 {
     let step = step_of(crumb);
     match stream {

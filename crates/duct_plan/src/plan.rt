@@ -63,7 +63,8 @@ fn asks<'t, E: Drop, H: Drop>(
     item: Item<'t, E, H>,
     plan: Plan<'t, E, H>,
 ) -> Result<Plan<'t, E, H>, AllocError>
-    ensures { IfOk result (λ more. plan_view more ≡ asks (item_of item.entry) (plan_view plan.entry)) }
+    ensures { IfOk result
+        (λ more. plan_view more ≡ asks (item_of item.entry) (plan_view plan.entry)) }
 {
     let Plan {
         mut items,
@@ -150,7 +151,9 @@ fn planned<'t, E: Drop, H: Drop>(
     node: &'t Node<E, H>,
     plan: Plan<'t, E, H>,
 ) -> Result<Plan<'t, E, H>, AllocError>
-    ensures { IfOk result (λ after. plan_view after ≡ planned (way_of way.now) (node_view node.now) (plan_view plan.entry)) }
+    ensures { IfOk result
+        (λ after. plan_view after
+        ≡ planned (way_of way.now) (node_view node.now) (plan_view plan.entry)) }
 {
     match node {
         Node::Cmd(words) => commanded(found_on(alloc, way)?, words.as_slice(), plan),
@@ -179,7 +182,9 @@ fn commanded<'t, E: Drop, H: Drop>(
     words: &'t [String],
     plan: Plan<'t, E, H>,
 ) -> Result<Plan<'t, E, H>, AllocError>
-    ensures { IfOk result (λ after. plan_view after ≡ commanded (found_of found.entry) (map string_bytes words.now) (plan_view plan.entry)) }
+    ensures { IfOk result
+        (λ after. plan_view after
+        ≡ commanded (found_of found.entry) (map string_bytes words.now) (plan_view plan.entry)) }
 {
     let plan = if is_canonical(&found, words) {
         asks(Item::Canonicalize(program_of(words)), plan)?
@@ -194,7 +199,8 @@ fn opened<'t, E: Drop, H: Drop>(
     opening: Opening<'t>,
     plan: Plan<'t, E, H>,
 ) -> Result<Plan<'t, E, H>, AllocError>
-    ensures { IfOk result (λ more. plan_view more ≡ opened (opening_of opening.entry) (plan_view plan.entry)) }
+    ensures { IfOk result
+        (λ more. plan_view more ≡ opened (opening_of opening.entry) (plan_view plan.entry)) }
 {
     match opening {
         Opening::Nothing => Ok(plan),
@@ -224,7 +230,8 @@ fn closed<'t, E: Drop, H: Drop>(
     place: usize,
     plan: Plan<'t, E, H>,
 ) -> Result<Plan<'t, E, H>, AllocError>
-    ensures { IfOk result (λ more. plan_view more ≡ closed (closing_of feed.entry place) (plan_view plan.entry)) }
+    ensures { IfOk result
+        (λ more. plan_view more ≡ closed (closing_of feed.entry place) (plan_view plan.entry)) }
 {
     match feed {
         None => Ok(plan),

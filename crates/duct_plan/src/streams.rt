@@ -32,7 +32,8 @@ pub(crate) fn port_to<E>(stream: Stream, target: Target<'_, E>) -> Port
 
 /// Where a stream that goes there comes from.
 fn stream_to<E: Numbered>(trace: &[&Entry], stream: Stream, target: Target<'_, E>) -> Stdio<Source>
-    ensures { stream_of origin_of result ≡ stream_to (entry_views trace.now) E.number_of stream (target_of target.entry) }
+    ensures { stream_of origin_of result
+        ≡ stream_to (entry_views trace.now) E.number_of stream (target_of target.entry) }
 {
     match target {
         Target::Parents(parents) => match (stream, parents) {
@@ -56,7 +57,8 @@ pub(crate) fn streams_to<E: Numbered, H>(
     trace: &[&Entry],
     found: &Found<'_, E, H>,
 ) -> [Stdio<Source>; 3]
-    ensures { map (stream_of origin_of) result ≡ streams_to (entry_views trace.now) E.number_of (found_of found.now) }
+    ensures { map (stream_of origin_of) result
+        ≡ streams_to (entry_views trace.now) E.number_of (found_of found.now) }
 {
     [
         stream_to(trace, Stream::In, found.input),

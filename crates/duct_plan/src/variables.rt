@@ -19,7 +19,9 @@ pub(crate) fn variables(
     pairs: &[(String, String)],
     changes: &[Change<'_>],
 ) -> Result<BTreeMap<String, String>, AllocError>
-    ensures { IfOk result (λ vars. AreFound (map pair_text pairs.now) (map change_of changes.now) (map pair_text vars.entries)) }
+    ensures { IfOk result
+        (λ vars. AreFound (map pair_text pairs.now) (map change_of changes.now)
+        (map pair_text vars.entries)) }
 {
     match changes.split_first() {
         None => last_values(alloc, pairs),
@@ -35,8 +37,13 @@ fn last_values(
     alloc: Global,
     pairs: &[(String, String)],
 ) -> Result<BTreeMap<String, String>, AllocError>
-    ensures values { IfOk result (λ vars. (name : List ℕ) → value_of name (map pair_text vars.entries) ≡ value_of name (reverse (map pair_text pairs.now))) }
-    ensures ordered { IfOk result (λ vars. IsStrictlySortedBy (slice_cmp nat_cmp) (map (λ pair. pair.0) (map pair_text vars.entries))) }
+    ensures values { IfOk result
+        (λ vars. (name : List ℕ)
+        → value_of name (map pair_text vars.entries)
+        ≡ value_of name (reverse (map pair_text pairs.now))) }
+    ensures ordered { IfOk result
+        (λ vars. IsStrictlySortedBy (slice_cmp nat_cmp)
+        (map (λ pair. pair.0) (map pair_text vars.entries))) }
 {
     let mut vars = BTreeMap::new(alloc);
     for (name, value) in pairs {
@@ -51,7 +58,9 @@ fn changed(
     change: Change<'_>,
     vars: BTreeMap<String, String>,
 ) -> Result<BTreeMap<String, String>, AllocError>
-    ensures { IfOk result (λ after. Changes (change_of change.entry) (map pair_text vars.entries) (map pair_text after.entries)) }
+    ensures { IfOk result
+        (λ after. Changes (change_of change.entry) (map pair_text vars.entries)
+        (map pair_text after.entries)) }
 {
     let mut vars = vars;
     match change {
@@ -75,7 +84,8 @@ fn changed(
 
 /// A copy of some variables.
 fn copied(vars: &BTreeMap<String, String>) -> Result<BTreeMap<String, String>, AllocError>
-    ensures values { IfOk result (λ copy. map pair_text copy.entries ≡ map pair_text vars.now.entries) }
+    ensures values { IfOk result
+        (λ copy. map pair_text copy.entries ≡ map pair_text vars.now.entries) }
     ensures ordered { IfOk result (λ copy. IsOrdered string_cmp copy) }
 {
     let copy = vars.clone()?;

@@ -2,6 +2,7 @@
 //! Test support: nothing here is proved but that it is safe and ends.
 #![tactic(auto)]
 
+pub mod checks;
 mod children;
 pub mod expressions;
 mod hooks;
@@ -10,5 +11,4 @@ pub mod rows;
 mod streams;
 pub mod texts;
 mod traces;
-pub mod checks;
 mod words;

@@ -13,12 +13,12 @@
 //! - The `message` of the one command where it fails.
 //! - A journal's text behind what is said of it: `whole`, `front`, `neither` or `no memory`.
 //! - An error's text behind what is said of it: `cause` or `no cause`, `answer` or `no answer`.
+use crate::checks::{answered, caused, followed};
 use crate::children::{Look, asked_text, child_text, known_text, message_text};
 use crate::expressions::{Tree, written};
 use crate::journals::journal;
 use crate::texts::{Find, TestPlan, found_text, items_text, places_text, plan_text};
 use crate::traces::entries;
-use crate::checks::{answered, caused, followed};
 use crate::words::owned_pairs;
 use duct::Entry;
 use duct_plan::plan::{plan, plan_of_reader};

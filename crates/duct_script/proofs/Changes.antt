@@ -44,7 +44,8 @@ change_gives_nothing (Folder folder) spec = same_ports spec (changed_by (Folder 
 change_gives_nothing (Port stream to) spec = with_port_gives_nothing stream to spec
 
 -- all changes
-pub changes_give_nothing : (changes : List Change) (spec : SpecView) → GivesNothing spec (changed changes spec)
+pub changes_give_nothing : (changes : List Change) (spec : SpecView)
+    → GivesNothing spec (changed changes spec)
 changes_give_nothing [] spec = λ stream is. is
 changes_give_nothing (first ∷ rest) spec =
     λ stream is. change_gives_nothing first spec stream (changes_give_nothing rest (changed_by first spec) stream is)

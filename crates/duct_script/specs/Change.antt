@@ -30,8 +30,10 @@ with_port Err to spec = record spec { error = to }
 -- the spec after one change
 abbrev pub changed_by : Change → SpecView → SpecView
 changed_by (change.Word word) spec = record spec { words = spec.words ++ string_bytes word ∷ [] }
-changed_by (change.Var name value) spec = record spec { vars = with_var (string_bytes name) (string_bytes value) spec.vars }
-changed_by (change.NoVar name) spec = record spec { vars = without_var (string_bytes name) spec.vars }
+changed_by (change.Var name value) spec =
+    record spec { vars = with_var (string_bytes name) (string_bytes value) spec.vars }
+changed_by (change.NoVar name) spec =
+    record spec { vars = without_var (string_bytes name) spec.vars }
 changed_by change.NoVars spec = record spec { vars = [] }
 changed_by (change.Folder folder) spec = record spec { folder = Some (string_bytes folder) }
 changed_by (change.Port stream to) spec = with_port stream (port_to to) spec
@@ -50,4 +52,5 @@ has_word word (first ∷ rest) = pointwise nat_eq first word || has_word word re
 abbrev pub refusal_of : HookAnswer → SpecView → Option Fault
 refusal_of Obey spec = None
 refusal_of (Refuse fault) spec = Some fault
-refusal_of (RefuseWord word fault) spec = if has_word (string_bytes word) spec.words then Some fault else None
+refusal_of (RefuseWord word fault) spec =
+    if has_word (string_bytes word) spec.words then Some fault else None

@@ -23,9 +23,16 @@ place_of Close = 11
 
 -- whether a refusal is for the request of this number among all, and of this number among those of the sort at this place
 abbrev pub is_for : ℕ → ℕ → ℕ → Refusal → Bool
-is_for place among_all among_sort refusal = elim refusal.sort [ None ↦ refusal.request == among_all | Some sort ↦ place_of sort == place && refusal.request == among_sort ]
+is_for place among_all among_sort refusal =
+    elim refusal.sort [
+      | None ↦ refusal.request == among_all
+      | Some sort ↦ place_of sort == place
+          && refusal.request == among_sort
+    ]
 
 -- the fault of the first refusal that is for this request
 abbrev pub fault_for : ℕ → ℕ → ℕ → List Refusal → Option Fault
 fault_for place among_all among_sort [] = None
-fault_for place among_all among_sort (refusal ∷ refusals) = if is_for place among_all among_sort refusal then Some refusal.fault else fault_for place among_all among_sort refusals
+fault_for place among_all among_sort (refusal ∷ refusals) =
+    if is_for place among_all among_sort refusal then Some refusal.fault
+    else fault_for place among_all among_sort refusals

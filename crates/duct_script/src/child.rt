@@ -98,7 +98,8 @@ impl ScriptChild {
 
     /// Notes an order with the answer that a list has for it, where there is memory.
     fn order(&mut self, order: Order) -> Result<(), Fault>
-        ensures { OrdersChild (λ _ _ _. Unit {0}) order (child_view self.old) result (child_view self.new) }
+        ensures { OrdersChild
+            (λ _ _ _. Unit {0}) order (child_view self.old) result (child_view self.new) }
     {
         if self.orders.reserve(1).is_err() {
             return Err(Fault::new(Kind::OutOfMemory));

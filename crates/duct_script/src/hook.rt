@@ -81,9 +81,11 @@ impl Hook for ScriptHook {
     ghost use Rattle.duct_system.specs.declared.system.Kind.TheVariants.{OutOfMemory};
     ghost use Rattle.duct_script.specs.Change.{changed, refusal_of};
 
-    ghost allows = { λ hook before after. (refusal_of hook.answer before ≡ None) × (after ≡ changed hook.changes.items before) };
+    ghost allows = { λ hook before after. (refusal_of hook.answer before ≡ None)
+        × (after ≡ changed hook.changes.items before) };
 
-    ghost refuses = { λ hook before fault. (refusal_of hook.answer before ≡ Some fault) ⊎ (fault.kind ≡ OutOfMemory) };
+    ghost refuses = { λ hook before fault. (refusal_of hook.answer before ≡ Some fault)
+        ⊎ (fault.kind ≡ OutOfMemory) };
 
     fn change(&self, spec: &mut CommandSpec) -> Result<(), Fault> {
         if let Some(calls) = &self.calls {

@@ -90,8 +90,10 @@ impl ScriptReader {
         requires { 0 < most }
         ensures count { result ≤ length buf.new }
         ensures most { result ≤ most }
-        ensures bytes { drop self.old.given self.old.bytes.items ≡ take result buf.new ++ drop self.new.given self.new.bytes.items }
-        ensures end { result ≡ 0 → 0 < length buf.new → drop self.new.given self.new.bytes.items ≡ [] }
+        ensures bytes { drop self.old.given self.old.bytes.items ≡ take result buf.new
+            ++ drop self.new.given self.new.bytes.items }
+        ensures end { result ≡ 0 → 0 < length buf.new
+            → drop self.new.given self.new.bytes.items ≡ [] }
     {
         let bytes = &self.bytes.as_slice()[self.given..];
         let count = most.min(buf.len().min(bytes.len()));

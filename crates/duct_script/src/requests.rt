@@ -122,7 +122,9 @@ impl Requests {
         request: u64,
         fault: Fault,
     ) -> Result<(), AllocError>
-        ensures ok { OnOk result (self.new.refusals.items ≡ self.old.refusals.items ++ record { sort = sort; request = request; fault = fault } ∷ []) }
+        ensures ok { OnOk result
+            (self.new.refusals.items ≡ self.old.refusals.items
+            ++ record { sort = sort; request = request; fault = fault } ∷ []) }
         ensures err { OnErr result (self.new.refusals.items ≡ self.old.refusals.items) }
         ensures asked { self.new.asked ≡ self.old.asked }
         ensures of_sort { self.new.of_sort ≡ self.old.of_sort }
@@ -145,9 +147,12 @@ impl Requests {
 
     /// Counts a request of this sort, and answers the fault that is set for it.
     pub fn count(&mut self, sort: Sort) -> Option<Fault>
-        ensures fault { result ≡ fault_for (place_of sort) (one_more self.old.asked) (one_more (slice_index self.old.of_sort (place_of sort))) self.old.refusals.items }
+        ensures fault { result ≡ fault_for (place_of sort) (one_more self.old.asked)
+            (one_more (slice_index self.old.of_sort (place_of sort))) self.old.refusals.items }
         ensures asked { self.new.asked ≡ one_more self.old.asked }
-        ensures of_sort { self.new.of_sort ≡ slice_set self.old.of_sort (place_of sort) (one_more (slice_index self.old.of_sort (place_of sort))) }
+        ensures of_sort { self.new.of_sort
+            ≡ slice_set self.old.of_sort (place_of sort)
+            (one_more (slice_index self.old.of_sort (place_of sort))) }
         ensures refusals { self.new.refusals.items ≡ self.old.refusals.items }
     {
         self.asked = self.asked.saturating_add(1);

@@ -57,7 +57,8 @@ impl Script {
 
     /// A system with no variables, whose requests are all answered Ok, and whose next number is 1.
     pub fn new(alloc: Global) -> Result<Script, AllocError>
-        ensures journal { IfOk result (λ sys. sys.journal ≡ record { entries = []; added = 0; next = 1; room = 0 }) }
+        ensures journal { IfOk result
+            (λ sys. sys.journal ≡ record { entries = []; added = 0; next = 1; room = 0 }) }
         ensures asked { IfOk result (λ sys. sys.requests.asked ≡ 0) }
         ensures refusals { IfOk result (λ sys. sys.requests.refusals.items ≡ []) }
     {
@@ -78,8 +79,11 @@ impl Script {
 
     /// Sets a fault for the request of this number, counted from 1 among all. For a Close or a Reader it is ignored.
     pub fn refuse(&mut self, request: u64, fault: Fault) -> Result<(), AllocError>
-        ensures ok { OnOk result (self.new.requests.refusals.items ≡ self.old.requests.refusals.items ++ record { sort = None; request = request; fault = fault } ∷ []) }
-        ensures err { OnErr result (self.new.requests.refusals.items ≡ self.old.requests.refusals.items) }
+        ensures ok { OnOk result
+            (self.new.requests.refusals.items ≡ self.old.requests.refusals.items
+            ++ record { sort = None; request = request; fault = fault } ∷ []) }
+        ensures err { OnErr result
+            (self.new.requests.refusals.items ≡ self.old.requests.refusals.items) }
         ensures journal { self.new.journal ≡ self.old.journal }
     {
         self.requests.refuse(None, request, fault)
@@ -87,8 +91,11 @@ impl Script {
 
     /// Sets a fault for the request of this number, counted from 1 among those of its sort.
     pub fn refuse_sort(&mut self, sort: Sort, request: u64, fault: Fault) -> Result<(), AllocError>
-        ensures ok { OnOk result (self.new.requests.refusals.items ≡ self.old.requests.refusals.items ++ record { sort = Some sort; request = request; fault = fault } ∷ []) }
-        ensures err { OnErr result (self.new.requests.refusals.items ≡ self.old.requests.refusals.items) }
+        ensures ok { OnOk result
+            (self.new.requests.refusals.items ≡ self.old.requests.refusals.items
+            ++ record { sort = Some sort; request = request; fault = fault } ∷ []) }
+        ensures err { OnErr result
+            (self.new.requests.refusals.items ≡ self.old.requests.refusals.items) }
         ensures journal { self.new.journal ≡ self.old.journal }
     {
         self.requests.refuse(Some(sort), request, fault)
@@ -96,7 +103,9 @@ impl Script {
 
     /// Sets one more variable of the environment, behind those that are set. A name may be set twice.
     pub fn variable(&mut self, name: &str, value: &str) -> Result<(), AllocError>
-        ensures ok { OnOk result (map pair_text self.new.variables.items ≡ map pair_text self.old.variables.items ++ (name.now, value.now) ∷ []) }
+        ensures ok { OnOk result
+            (map pair_text self.new.variables.items ≡ map pair_text self.old.variables.items
+            ++ (name.now, value.now) ∷ []) }
         ensures err { OnErr result (self.new.variables.items ≡ self.old.variables.items) }
         ensures journal { self.new.journal ≡ self.old.journal }
     {
@@ -111,7 +120,9 @@ impl Script {
 
     /// Sets the canonical name of a path. Each other path is its own.
     pub fn canonical(&mut self, path: &str, text: &str) -> Result<(), AllocError>
-        ensures ok { OnOk result (map pair_text self.new.canonical.entries ≡ with_var path.now text.now (map pair_text self.old.canonical.entries)) }
+        ensures ok { OnOk result
+            (map pair_text self.new.canonical.entries
+            ≡ with_var path.now text.now (map pair_text self.old.canonical.entries)) }
         ensures err { OnErr result (self.new.canonical.entries ≡ self.old.canonical.entries) }
         ensures journal { self.new.journal ≡ self.old.journal }
     {
@@ -125,7 +136,8 @@ impl Script {
     /// Sets what the next child says for which nothing is set yet: the first is that of the first spawn that is Ok. A child
     /// for which nothing is set says Running and obeys.
     pub fn child(&mut self, script: ChildScript) -> Result<(), AllocError>
-        ensures ok { OnOk result (self.new.children.items ≡ self.old.children.items ++ script ∷ []) }
+        ensures ok { OnOk result
+            (self.new.children.items ≡ self.old.children.items ++ script ∷ []) }
         ensures err { OnErr result (self.new.children.items ≡ self.old.children.items) }
         ensures journal { self.new.journal ≡ self.old.journal }
     {
@@ -135,7 +147,10 @@ impl Script {
 
     /// The same by a list of answers to polls, for a child that obeys.
     pub fn polls(&mut self, answers: &[PollAnswer]) -> Result<(), AllocError>
-        ensures ok { OnOk result ((script : ChildScript) × (self.new.children.items ≡ self.old.children.items ++ script ∷ []) × IsObeying answers.now script) }
+        ensures ok { OnOk result
+            ((script : ChildScript)
+            × (self.new.children.items ≡ self.old.children.items ++ script ∷ [])
+            × IsObeying answers.now script) }
         ensures err { OnErr result (self.new.children.items ≡ self.old.children.items) }
         ensures journal { self.new.journal ≡ self.old.journal }
     {
@@ -194,7 +209,8 @@ impl Script {
 
     /// Passes over the numbers below this one.
     pub fn skip_numbers_below(&mut self, number: u64)
-        ensures { self.new.journal ≡ record self.old.journal { next = max self.old.journal.next number } }
+        ensures { self.new.journal
+            ≡ record self.old.journal { next = max self.old.journal.next number } }
     {
         let next = self.journal.next();
         let _ = self.journal.take_numbers(number.saturating_sub(next));
@@ -203,8 +219,12 @@ impl Script {
     /// An end of somebody else, with the next number. No entry is added, and no room is made: such an end is to be lent
     /// alone. Refused by `Other` where no number is left.
     pub fn adopt(&mut self) -> Result<ScriptEnd, Fault>
-        ensures number { IfOk result (λ end. (end.number ≡ self.old.journal.next) × (self.new.journal ≡ record self.old.journal { next = self.old.journal.next + 1 })) }
-        ensures none_left { IfErr result (λ fault. (fault.kind ≡ Other) × (self.new.journal ≡ self.old.journal) × (2 ^ 64 ≤ self.old.journal.next + 1)) }
+        ensures number { IfOk result
+            (λ end. (end.number ≡ self.old.journal.next)
+            × (self.new.journal ≡ record self.old.journal { next = self.old.journal.next + 1 })) }
+        ensures none_left { IfErr result
+            (λ fault. (fault.kind ≡ Other) × (self.new.journal ≡ self.old.journal)
+            × (2 ^ 64 ≤ self.old.journal.next + 1)) }
     {
         match self.journal.take_numbers(1) {
             Some(number) => Ok(ScriptEnd { number }),
@@ -239,7 +259,9 @@ impl Script {
 
     /// Makes room for an entry and for this many after it.
     fn prepare(&mut self, ends: usize) -> Result<(), Fault>
-        ensures ok { OnOk result (self.new.journal ≡ record self.old.journal { room = self.old.journal.room + ends + 1 }) }
+        ensures ok { OnOk result
+            (self.new.journal
+            ≡ record self.old.journal { room = self.old.journal.room + ends + 1 }) }
         ensures err { IfErr result (λ fault. fault.kind ≡ OutOfMemory) }
         ensures unchanged { OnErr result (self.new.journal ≡ self.old.journal) }
         ensures requests { self.new.requests ≡ self.old.requests }
@@ -253,7 +275,9 @@ impl Script {
     /// Makes room for the entry of a request and for the ends that it would get, and only then counts the request and
     /// answers the fault that is set for it. Where there is no memory nothing is counted.
     fn begin(&mut self, sort: Sort, ends: usize) -> Result<Option<Fault>, Fault>
-        ensures room { OnOk result (self.new.journal ≡ record self.old.journal { room = self.old.journal.room + ends + 1 }) }
+        ensures room { OnOk result
+            (self.new.journal
+            ≡ record self.old.journal { room = self.old.journal.room + ends + 1 }) }
         ensures asked { OnOk result (self.new.requests.asked ≡ one_more self.old.requests.asked) }
         ensures err { IfErr result (λ fault. fault.kind ≡ OutOfMemory) }
         ensures unchanged { OnErr result (self.new.journal ≡ self.old.journal) }
@@ -285,7 +309,8 @@ impl Script {
         ensures ok { IfOk result (λ end. answer ≡ Ok end.number) }
         ensures err { IfErr result (λ fault. answer ≡ Err fault) }
         ensures made { OnOk result (self.new.journal ≡ self.old.journal) }
-        ensures given_back { OnErr result (self.new.journal ≡ record self.old.journal { room = self.old.journal.room - 1 }) }
+        ensures given_back { OnErr result
+            (self.new.journal ≡ record self.old.journal { room = self.old.journal.room - 1 }) }
     {
         match answer {
             Ok(number) => Ok(ScriptEnd { number }),
@@ -298,7 +323,8 @@ impl Script {
 
     /// Says that the room of these ends isn't wanted any more. One of them had its room used by the entry that spent them.
     fn spent(&mut self, ends: usize)
-        ensures journal { self.new.journal ≡ record self.old.journal { room = self.new.journal.room } }
+        ensures journal { self.new.journal
+            ≡ record self.old.journal { room = self.new.journal.room } }
         ensures room { self.old.journal.room ≤ self.new.journal.room + (ends - 1) }
     {
         let others = ends.saturating_sub(1);
@@ -308,7 +334,8 @@ impl Script {
 
     /// What a path is answered as its canonical name: the text that was set for it, or the path itself.
     fn canonical_text<'a>(&'a self, path: &'a str) -> &'a str
-        ensures { result.now ≡ unwrap_or (value_of path.now (map pair_text self.now.canonical.entries)) path.now }
+        ensures { result.now
+            ≡ unwrap_or (value_of path.now (map pair_text self.now.canonical.entries)) path.now }
     {
         match self.canonical.get(path) {
             Some(text) => text.as_str(),

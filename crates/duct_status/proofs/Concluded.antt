@@ -18,7 +18,8 @@ for_outcome waits t r over h = absurd (cc)
 for_outcome (faults fault) t r over h = absurd (cc)
 
 -- what fits the words is their outcome
-pub fits_concludes : (shape : ShapeView) (words : Latest) (made : Reply) → Fits shape words made → Concludes shape words (reply_view made)
+pub fits_concludes : (shape : ShapeView) (words : Latest) (made : Reply) → Fits shape words made
+    → Concludes shape words (reply_view made)
 fits_concludes shape words reply.Pending fits = let P : OutcomeView → Type 0 = λ v. AnswersOutcome v (endings_of shape 0 words.commands) (reply_view reply.Pending) in subst P (sym fits) refl
 fits_concludes shape words (reply.Fault fault) fits = let P : OutcomeView → Type 0 = λ v. AnswersOutcome v (endings_of shape 0 words.commands) (reply_view (reply.Fault fault)) in subst P (sym fits) refl
 fits_concludes shape words (reply.Answer output) fits = for_outcome (outcome shape words) (endings_of shape 0 words.commands) (reply_view (reply.Answer output)) fits.ended (fits.checked, fits.status, fits.stdout, fits.stderr)

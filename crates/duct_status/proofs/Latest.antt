@@ -106,7 +106,8 @@ when_told : (there : Bool) (change : Said (List ℕ) → Said (List ℕ)) (x y :
 when_told true change x y e = ap Some (sym e)
 when_told false change x y e = refl
 
-abbrev words_by : List Word → List (Said (Unit {0})) → Option (Said (List ℕ)) → Option (Said (List ℕ)) → Latest
+abbrev words_by : List Word → List (Said (Unit {0})) → Option (Said (List ℕ))
+    → Option (Said (List ℕ)) → Latest
 words_by commands inputs output error = record { commands = commands; inputs = inputs; output = output; error = error }
 
 same_words : (a b : List Word) (c d : List (Said (Unit {0}))) (o p q r : Option (Said (List ℕ))) → a ≡ b → c ≡ d → o ≡ p → q ≡ r → words_by a c o q ≡ words_by b d p r
@@ -131,7 +132,8 @@ drain_changed : (there : Bool) (stream : Side) (es : List EventView) (e : EventV
 drain_changed there stream es e x one = when_told there (λ old. kept_after old x) (latest_of_drain stream es) (latest_of_drain stream (es ++ e ∷ [])) (drain_told stream es e x one)
 
 -- the latest words after one more event
-pub words_more : (t : ShapeView) (drains : Drains) (es : List EventView) (e : EventView) → latest_after (latest_told t drains es) e ≡ latest_told t drains (es ++ e ∷ [])
+pub words_more : (t : ShapeView) (drains : Drains) (es : List EventView) (e : EventView)
+    → latest_after (latest_told t drains es) e ≡ latest_told t drains (es ++ e ∷ [])
 words_more t drains es (from_command j x) =
     let e = from_command j x in
     same_words _ _ _ _ _ _ _ _

@@ -10,7 +10,8 @@ use Rattle.duct_status.proofs.Quotes.{debug_list-printable}
 joined : (a b c d : List ℕ) → a ++ (b ++ (c ++ d)) ≡ ((a ++ b) ++ c) ++ d
 joined a b c d = sym (append_assoc (a ++ b) c d ∙ append_assoc a b (c ++ d))
 
-pub from_printed : (texts : List (List ℕ)) (status : ExitStatus) (text : List ℕ) → IfSome (printed_message texts status) (λ bytes. text ≡ bytes) → IsMessage texts status text
+pub from_printed : (texts : List (List ℕ)) (status : ExitStatus) (text : List ℕ)
+    → IfSome (printed_message texts status) (λ bytes. text ≡ bytes) → IsMessage texts status text
 from_printed texts status text printed is =
     let P : Option (List ℕ) → Type 0 = λ words. IfSome (Some (codes "command ") ++? words ++? Some (codes " exited with code ") ++? Some (status_text status)) (λ bytes. text ≡ bytes) in
     let e : text ≡ codes "command " ++ (quoted_list texts ++ (codes " exited with code " ++ status_text status)) = subst P (debug_list-printable texts is) printed in

@@ -36,7 +36,8 @@ unfolding debug_escape
 backslash_escape = refl
 
 -- a printable character between the quotes
-pub escape-printable : (c : ℕ) → (nat_le 32 c && nat_le c 126) ≡ true → debug_escape 34 c ≡ escaped c
+pub escape-printable : (c : ℕ) → (nat_le 32 c && nat_le c 126) ≡ true
+    → debug_escape 34 c ≡ escaped c
 escape-printable c is =
     let bounds = printable_bounds c is in
     elim (cases_eq c 34) [
@@ -63,7 +64,8 @@ escapes-printable (c ∷ text) is =
     rw (here, rest) refl
 
 -- a printable text prints in quotes
-pub debug_str-printable : (text : List ℕ) → is_printable text ≡ true → debug_str text ≡ Some (quoted text)
+pub debug_str-printable : (text : List ℕ) → is_printable text ≡ true
+    → debug_str text ≡ Some (quoted text)
 debug_str-printable text is =
     rw (ascii-printable text is, escapes-printable text is) refl
 
@@ -83,12 +85,15 @@ items-after f g p at (x ∷ xs) is =
     rw (at x both.0, items-after f g p at xs both.1) refl
 
 -- elements that each print a text print as a list of these texts
-pub debug_list-listed : {X : Type 0} (f : X → Option (List ℕ)) (g : X → List ℕ) (p : X → Bool) → ((x : X) → p x ≡ true → f x ≡ Some (g x)) → (xs : List X) → list_all p xs ≡ true → debug_list f xs ≡ Some (codes "[" ++ listed (map g xs) ++ codes "]")
+pub debug_list-listed : {X : Type 0} (f : X → Option (List ℕ)) (g : X → List ℕ) (p : X → Bool)
+    → ((x : X) → p x ≡ true → f x ≡ Some (g x)) → (xs : List X) → list_all p xs ≡ true
+    → debug_list f xs ≡ Some (codes "[" ++ listed (map g xs) ++ codes "]")
 debug_list-listed f g p at [] is = refl
 debug_list-listed f g p at (x ∷ xs) is =
     let both = and_parts (p x) (list_all p xs) is in
     rw (at x both.0, items-after f g p at xs both.1, listed-after (g x) (map g xs)) refl
 
 -- printable texts print as a list of texts in quotes
-pub debug_list-printable : (texts : List (List ℕ)) → list_all is_printable texts ≡ true → debug_list debug_str texts ≡ Some (quoted_list texts)
+pub debug_list-printable : (texts : List (List ℕ)) → list_all is_printable texts ≡ true
+    → debug_list debug_str texts ≡ Some (quoted_list texts)
 debug_list-printable texts is = debug_list-listed debug_str quoted is_printable debug_str-printable texts is

@@ -23,7 +23,8 @@ AllStand standing (reply ∷ replies) = ((standing_after None reply ≡ None) �
 abbrev pub IsStanding : Option ReplyView → Type 0
 IsStanding standing = IfSome standing (λ answer. standing_after None answer ≡ Some answer)
 
-pub record Ran (t : ShapeView) (drains : Drains) (words : Latest) (standing : Option ReplyView) (events : List EventView) (replies : List ReplyView) : Type 0 where
+pub record Ran (t : ShapeView) (drains : Drains) (words : Latest) (standing : Option ReplyView)
+    (events : List EventView) (replies : List ReplyView) : Type 0 where
   pub told : words ≡ latest_told t drains events
   pub responds : RespondsToAll t drains [] events replies
   pub repeated : AllRepeated events replies
@@ -31,7 +32,9 @@ pub record Ran (t : ShapeView) (drains : Drains) (words : Latest) (standing : Op
   pub is_standing : IsStanding standing
 
 -- before the first event
-pub ran_none : (t : ShapeView) (drains : Drains) (words : Latest) (standing : Option ReplyView) (replies : List Reply) → words ≡ latest_told t drains [] → standing ≡ None → replies ≡ [] → Ran t drains words standing [] (map reply_view replies)
+pub ran_none : (t : ShapeView) (drains : Drains) (words : Latest) (standing : Option ReplyView)
+    (replies : List Reply) → words ≡ latest_told t drains [] → standing ≡ None → replies ≡ []
+    → Ran t drains words standing [] (map reply_view replies)
 ran_none t drains words standing replies told first none =
     let P : Option ReplyView → Type 0 = λ s. Ran t drains words s [] (map reply_view replies) in
     let Q : List Reply → Type 0 = λ rs. Ran t drains words None [] (map reply_view rs) in
@@ -109,7 +112,11 @@ standing_next None (faulted fault) is = tt
 standing_next None no_memory is = tt
 
 -- one more event
-pub ran_more : (t : ShapeView) (drains : Drains) (words now : Latest) (standing next : Option ReplyView) (es : List EventView) (rs : List ReplyView) (e : EventView) (r : ReplyView) → Ran t drains words standing es rs → now ≡ latest_after words e → Responds t words e r → Repeats standing e r → next ≡ standing_after standing r → Ran t drains now next (es ++ e ∷ []) (rs ++ r ∷ [])
+pub ran_more : (t : ShapeView) (drains : Drains) (words now : Latest)
+    (standing next : Option ReplyView) (es : List EventView) (rs : List ReplyView) (e : EventView)
+    (r : ReplyView) → Ran t drains words standing es rs → now ≡ latest_after words e
+    → Responds t words e r → Repeats standing e r → next ≡ standing_after standing r
+    → Ran t drains now next (es ++ e ∷ []) (rs ++ r ∷ [])
 ran_more t drains words now standing next es rs e r ran after one again is =
     let P : Option ReplyView → Type 0 = λ s. AllStand s (rs ++ r ∷ []) in
     let Q : Latest → Type 0 = λ w. Responds t w e r in
@@ -123,7 +130,14 @@ ran_more t drains words now standing next es rs e r ran after one again is =
     }
 
 -- one more event of a slice, with its reply
-pub ran_next : (t now : ShapeView) (drains : Drains) (words after : Latest) (standing next : Option ReplyView) (es : List Event) (i : ℕ) (d : Event) (rs : List Reply) (e : Event) (r : Reply) → i < length es → d ≡ get_or es i d → now ≡ t → event_view e ≡ event_view d → Ran t drains words standing (map event_view (take i es)) (map reply_view rs) → after ≡ latest_after words (event_view e) → Responds now words (event_view e) (reply_view r) → Repeats standing (event_view e) (reply_view r) → next ≡ standing_after standing (reply_view r) → Ran t drains after next (map event_view (take (i + 1) es)) (map reply_view (rs ++ r ∷ []))
+pub ran_next : (t now : ShapeView) (drains : Drains) (words after : Latest)
+    (standing next : Option ReplyView) (es : List Event) (i : ℕ) (d : Event) (rs : List Reply)
+    (e : Event) (r : Reply) → i < length es → d ≡ get_or es i d → now ≡ t
+    → event_view e ≡ event_view d
+    → Ran t drains words standing (map event_view (take i es)) (map reply_view rs)
+    → after ≡ latest_after words (event_view e) → Responds now words (event_view e) (reply_view r)
+    → Repeats standing (event_view e) (reply_view r) → next ≡ standing_after standing (reply_view r)
+    → Ran t drains after next (map event_view (take (i + 1) es)) (map reply_view (rs ++ r ∷ []))
 ran_next t now drains words after standing next es i d rs e r low is shape same ran told one again stands =
     let P : List EventView → Type 0 = λ ns. Ran t drains after next ns (map reply_view (rs ++ r ∷ [])) in
     let Q : List ReplyView → Type 0 = λ qs. Ran t drains after next (map event_view (take i es) ++ event_view e ∷ []) qs in

@@ -130,7 +130,8 @@ inputs_same t words k heard fit done =
     ]
 
 -- once all have ended, no further event changes a word
-pub settled : (t : ShapeView) (words : Latest) (event : EventView) → Fit t words → is_finished (outcome t words) ≡ true → latest_after words event ≡ words
+pub settled : (t : ShapeView) (words : Latest) (event : EventView) → Fit t words
+    → is_finished (outcome t words) ≡ true → latest_after words event ≡ words
 settled t words conclude fit over = refl
 settled t words (from_command k heard) fit over =
     let said = in_tree_order t 0 0 words.commands words.inputs in
@@ -151,14 +152,20 @@ settled t words (from_drain side.Err heard) fit over =
     ap (λ (x : Option (Said (List ℕ))). record words { error = x }) (drain_same words.error heard (λ err. finished next.0 err) next.1)
 
 -- an answer that fits goes on to fit
-pub answer_stays : (t : ShapeView) (words now : Latest) (event : EventView) (answer : Option (Arc Output Global)) → now ≡ latest_after words event → Fit t words → ForSome answer (λ a. FitsAnswer t words (arc_value a)) → ForSome answer (λ a. FitsAnswer t now (arc_value a))
+pub answer_stays : (t : ShapeView) (words now : Latest) (event : EventView)
+    (answer : Option (Arc Output Global)) → now ≡ latest_after words event → Fit t words
+    → ForSome answer (λ a. FitsAnswer t words (arc_value a))
+    → ForSome answer (λ a. FitsAnswer t now (arc_value a))
 answer_stays t words now event answer e fit fits a is =
     let P : Latest → Type 0 = λ w. FitsAnswer t w (arc_value a) in
     let old = fits a is in
     subst P (sym (settled t words event fit old.ended) ∙ sym e) old
 
 -- a message that fits goes on to fit
-pub message_stays : (t : ShapeView) (words now : Latest) (event : EventView) (text : Option (Arc (String Global) Global)) → now ≡ latest_after words event → Fit t words → ForSome text (λ a. FitsMessage t words (arc_value a)) → ForSome text (λ a. FitsMessage t now (arc_value a))
+pub message_stays : (t : ShapeView) (words now : Latest) (event : EventView)
+    (text : Option (Arc (String Global) Global)) → now ≡ latest_after words event → Fit t words
+    → ForSome text (λ a. FitsMessage t words (arc_value a))
+    → ForSome text (λ a. FitsMessage t now (arc_value a))
 message_stays t words now event text e fit fits a is =
     let P : Latest → Type 0 = λ w. FitsMessage t w (arc_value a) in
     let old = fits a is in

@@ -15,8 +15,12 @@ core_fit core = record {
   inputs = omega (arith, core.inputs.ok.0, core.inputs_fit);
 }
 
-pub answer_after : (core : Core) (now : Latest) (event : EventView) → now ≡ latest_after (latest_in core) event → ForSome core.answer (λ a. FitsAnswer (shape_in core) now (arc_value a))
+pub answer_after : (core : Core) (now : Latest) (event : EventView)
+    → now ≡ latest_after (latest_in core) event
+    → ForSome core.answer (λ a. FitsAnswer (shape_in core) now (arc_value a))
 answer_after core now event same = answer_stays (shape_in core) (latest_in core) now event core.answer same (core_fit core) core.answer_fits
 
-pub failure_after : (core : Core) (now : Latest) (event : EventView) → now ≡ latest_after (latest_in core) event → ForSome core.failure (λ a. FitsMessage (shape_in core) now (arc_value a))
+pub failure_after : (core : Core) (now : Latest) (event : EventView)
+    → now ≡ latest_after (latest_in core) event
+    → ForSome core.failure (λ a. FitsMessage (shape_in core) now (arc_value a))
 failure_after core now event same = message_stays (shape_in core) (latest_in core) now event core.failure same (core_fit core) core.failure_fits

@@ -14,7 +14,8 @@ is_checked_failure t way = is_failure t way && is_checked t way
 
 -- whether the right side of a pipe is taken: it is a checked failure, or it is a failure and the left one is no checked one
 abbrev pub takes_right : (l r : Endings) → Way l → Way r → Bool
-takes_right l r left right = is_checked_failure r right || (not (is_checked_failure l left) && is_failure r right)
+takes_right l r left right =
+    is_checked_failure r right || (not (is_checked_failure l left) && is_failure r right)
 
 -- the command that is taken, of the two that each pipe's sides gave
 abbrev pub chosen : (t : Endings) → Way t

@@ -52,6 +52,7 @@ status_of None = Code (pos 0)
 -- the tree of a shape whose commands, numbered from c, ended by these words
 abbrev pub endings_of : ShapeView → ℕ → List Word → Endings
 endings_of (shape.command texts) c words = ending texts (status_of (slice_get words c))
-endings_of (shape.pipe l r) c words = pipe (endings_of l c words) (endings_of r (c + command_count l) words)
+endings_of (shape.pipe l r) c words =
+    pipe (endings_of l c words) (endings_of r (c + command_count l) words)
 endings_of (shape.input t) c words = endings_of t c words
 endings_of (shape.unchecked t) c words = unchecked (endings_of t c words)

@@ -22,7 +22,8 @@ use Rattle.duct_status.specs.Outcome.{OutcomeView, waits, faults, finished, outc
 use Rattle.duct_status.specs.Latest.{Latest}
 
 -- the words of these fields
-abbrev pub latest_of : List Word → List (Said (Unit {0})) → Option (Said (Arc (Vec ℕ Global) Global)) → Option (Said (Arc (Vec ℕ Global) Global)) → Latest
+abbrev pub latest_of : List Word → List (Said (Unit {0}))
+    → Option (Said (Arc (Vec ℕ Global) Global)) → Option (Said (Arc (Vec ℕ Global) Global)) → Latest
 latest_of commands inputs output error = record {
   commands = commands;
   inputs = inputs;
@@ -52,14 +53,20 @@ pub record FitsAnswer (shape : ShapeView) (words : Latest) (output : Output) : T
   pub ended : is_finished (outcome shape words) ≡ true
   pub stdout : output.stdout.items ≡ output_of (outcome shape words)
   pub stderr : output.stderr.items ≡ error_of (outcome shape words)
-  pub checked : is_checked_failure (endings_of shape 0 words.commands) (chosen (endings_of shape 0 words.commands)) ≡ false
-  pub status : output.status ≡ status_at (endings_of shape 0 words.commands) (chosen (endings_of shape 0 words.commands))
+  pub checked : is_checked_failure (endings_of shape 0 words.commands)
+      (chosen (endings_of shape 0 words.commands)) ≡ false
+  pub status : output.status
+      ≡ status_at (endings_of shape 0 words.commands) (chosen (endings_of shape 0 words.commands))
 
 -- all have ended, the command that is chosen is a checked failure, and the text is its message
 pub record FitsMessage (shape : ShapeView) (words : Latest) (said : String Global) : Type 0 where
   pub ended : is_finished (outcome shape words) ≡ true
-  pub checked : is_checked_failure (endings_of shape 0 words.commands) (chosen (endings_of shape 0 words.commands)) ≡ true
-  pub text : IsMessage (texts_at (endings_of shape 0 words.commands) (chosen (endings_of shape 0 words.commands))) (status_at (endings_of shape 0 words.commands) (chosen (endings_of shape 0 words.commands))) (string_bytes said)
+  pub checked : is_checked_failure (endings_of shape 0 words.commands)
+      (chosen (endings_of shape 0 words.commands)) ≡ true
+  pub text : IsMessage (texts_at (endings_of shape 0 words.commands)
+      (chosen (endings_of shape 0 words.commands)))
+      (status_at (endings_of shape 0 words.commands) (chosen (endings_of shape 0 words.commands)))
+      (string_bytes said)
 
 -- the reply was made for these words: the outcome's, and for a finished one the answer, the message, or want of memory
 abbrev pub Fits : ShapeView → Latest → Reply → Type 0
@@ -72,7 +79,8 @@ Fits shape words reply.Noted = ⊥
 Fits shape words reply.Unknown = ⊥
 
 -- the answer that stands
-abbrev pub standing_of : Option (Arc Output Global) → Option (Arc (String Global) Global) → Option ReplyView
+abbrev pub standing_of : Option (Arc Output Global) → Option (Arc (String Global) Global)
+    → Option ReplyView
 standing_of (Some output) failure = Some (reply_view (reply.Answer output))
 standing_of None (Some text) = Some (reply_view (reply.Failed text))
 standing_of None None = None

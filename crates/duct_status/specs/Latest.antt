@@ -19,7 +19,8 @@ use Rattle.duct_system.specs.Job.{kept_after}
 -- the words that were told of command k, the oldest first
 abbrev pub words_of_command : ℕ → List EventView → List Word
 words_of_command k [] = []
-words_of_command k (from_command j word ∷ told) = if j == k then word ∷ words_of_command k told else words_of_command k told
+words_of_command k (from_command j word ∷ told) =
+    if j == k then word ∷ words_of_command k told else words_of_command k told
 words_of_command k (from_input i heard ∷ told) = words_of_command k told
 words_of_command k (from_drain side heard ∷ told) = words_of_command k told
 words_of_command k (conclude ∷ told) = words_of_command k told
@@ -28,7 +29,8 @@ words_of_command k (conclude ∷ told) = words_of_command k told
 abbrev pub words_of_input : ℕ → List EventView → List (Said (Unit {0}))
 words_of_input k [] = []
 words_of_input k (from_command j word ∷ told) = words_of_input k told
-words_of_input k (from_input i heard ∷ told) = if i == k then heard ∷ words_of_input k told else words_of_input k told
+words_of_input k (from_input i heard ∷ told) =
+    if i == k then heard ∷ words_of_input k told else words_of_input k told
 words_of_input k (from_drain side heard ∷ told) = words_of_input k told
 words_of_input k (conclude ∷ told) = words_of_input k told
 
@@ -44,7 +46,9 @@ abbrev pub words_of_drain : Side → List EventView → List (Said (List ℕ))
 words_of_drain stream [] = []
 words_of_drain stream (from_command j word ∷ told) = words_of_drain stream told
 words_of_drain stream (from_input i heard ∷ told) = words_of_drain stream told
-words_of_drain stream (from_drain other heard ∷ told) = if is_same_side other stream then heard ∷ words_of_drain stream told else words_of_drain stream told
+words_of_drain stream (from_drain other heard ∷ told) =
+    if is_same_side other stream then heard ∷ words_of_drain stream told
+    else words_of_drain stream told
 words_of_drain stream (conclude ∷ told) = words_of_drain stream told
 
 -- the first ending among the words
@@ -66,7 +70,9 @@ ended_or None other = other
 
 -- the latest word of command k: its first ending, else its last word, else Running
 abbrev pub latest_of_command : ℕ → List EventView → Word
-latest_of_command k told = let words = words_of_command k told in ended_or (first_ending words) (last_or word.Running words)
+latest_of_command k told =
+    let words = words_of_command k told
+    in ended_or (first_ending words) (last_or word.Running words)
 
 -- the first Done or Fault, and Running where there is none
 abbrev pub first_result : {T : Type 0} → List (Said T) → Said T
@@ -113,10 +119,14 @@ change_at change (suc k) (x ∷ xs) = x ∷ change_at change k xs
 
 -- the words after one more event: what names nothing, and the question, change nothing
 abbrev pub latest_after : Latest → EventView → Latest
-latest_after words (from_command k heard) = record words { commands = change_at (λ old. word_after old heard) k words.commands }
-latest_after words (from_input k heard) = record words { inputs = change_at (λ old. kept_after old heard) k words.inputs }
-latest_after words (from_drain Out heard) = record words { output = option_map (λ old. kept_after old heard) words.output }
-latest_after words (from_drain Err heard) = record words { error = option_map (λ old. kept_after old heard) words.error }
+latest_after words (from_command k heard) =
+    record words { commands = change_at (λ old. word_after old heard) k words.commands }
+latest_after words (from_input k heard) =
+    record words { inputs = change_at (λ old. kept_after old heard) k words.inputs }
+latest_after words (from_drain Out heard) =
+    record words { output = option_map (λ old. kept_after old heard) words.output }
+latest_after words (from_drain Err heard) =
+    record words { error = option_map (λ old. kept_after old heard) words.error }
 latest_after words conclude = words
 
 -- whether the event names a command, an input worker or a capture worker that is there

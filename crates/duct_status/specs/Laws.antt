@@ -12,12 +12,18 @@ pub record IsStrictTotalOrder (t : Endings) : Type 0 where
 
 -- exactly one command beats each other one
 abbrev pub ExactlyOneWins : Endings → Type 0
-ExactlyOneWins t = (winner : Way t) × IsWinner t winner × ((other : Way t) → IsWinner t other → other ≡ winner)
+ExactlyOneWins t =
+    (winner : Way t) × IsWinner t winner × ((other : Way t) → IsWinner t other → other ≡ winner)
 
 -- the winner failed exactly where some command failed
 abbrev pub FailsWhereSomeFails : Endings → Type 0
-FailsWhereSomeFails t = (winner : Way t) → IsWinner t winner → (is_failure t winner ≡ true) ↔ ((way : Way t) × (is_failure t way ≡ true))
+FailsWhereSomeFails t =
+    (winner : Way t) → IsWinner t winner
+    → (is_failure t winner ≡ true) ↔ ((way : Way t) × (is_failure t way ≡ true))
 
 -- unchecked changes no status and no winner of what it wraps
 abbrev pub UncheckedKeeps : Endings → Type 0
-UncheckedKeeps t = (way : Way t) → (status_at (unchecked t) way ≡ status_at t way) × (IsWinner (unchecked t) way ↔ IsWinner t way)
+UncheckedKeeps t =
+    (way : Way t)
+    → (status_at (unchecked t) way ≡ status_at t way)
+    × (IsWinner (unchecked t) way ↔ IsWinner t way)

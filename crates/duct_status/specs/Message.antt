@@ -13,7 +13,8 @@ status_text (Signal signal) = codes "<signal " ++ signed_decimal signal ++ codes
 
 -- the command's words and how it ended, as in `command ["a", "b"] exited with code 1`
 abbrev pub message : List (List ℕ) → ExitStatus → List ℕ
-message texts status = codes "command " ++ quoted_list texts ++ codes " exited with code " ++ status_text status
+message texts status =
+    codes "command " ++ quoted_list texts ++ codes " exited with code " ++ status_text status
 
 -- the text is that message, where the words are printable ASCII
 abbrev pub IsMessage : List (List ℕ) → ExitStatus → List ℕ → Type 0
@@ -21,4 +22,6 @@ IsMessage texts status text = list_all is_printable texts ≡ true → text ≡ 
 
 -- the same as the standard forms print it, which say nothing of a word that is not ASCII
 abbrev pub printed_message : List (List ℕ) → ExitStatus → Option (List ℕ)
-printed_message texts status = Some (codes "command ") ++? debug_list debug_str texts ++? Some (codes " exited with code ") ++? Some (status_text status)
+printed_message texts status =
+    Some (codes "command ") ++? debug_list debug_str texts ++? Some
+    (codes " exited with code ") ++? Some (status_text status)

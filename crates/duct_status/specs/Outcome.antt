@@ -30,10 +30,14 @@ input_said None = said.Running
 
 -- the words of the commands, numbered from c, and of the input workers, numbered from i, in tree order: left before
 -- right, an inner expression before the worker round it
-abbrev pub in_tree_order : ShapeView → ℕ → ℕ → List Word → List (Said (Unit {0})) → List (Said (Unit {0}))
+abbrev pub in_tree_order : ShapeView → ℕ → ℕ → List Word → List (Said (Unit {0}))
+    → List (Said (Unit {0}))
 in_tree_order (command texts) c i commands inputs = command_said (slice_get commands c) ∷ []
-in_tree_order (pipe l r) c i commands inputs = in_tree_order l c i commands inputs ++ in_tree_order r (c + command_count l) (i + input_count l) commands inputs
-in_tree_order (input t) c i commands inputs = in_tree_order t c i commands inputs ++ input_said (slice_get inputs (i + input_count t)) ∷ []
+in_tree_order (pipe l r) c i commands inputs =
+    in_tree_order l c i commands inputs
+    ++ in_tree_order r (c + command_count l) (i + input_count l) commands inputs
+in_tree_order (input t) c i commands inputs =
+    in_tree_order t c i commands inputs ++ input_said (slice_get inputs (i + input_count t)) ∷ []
 in_tree_order (unchecked t) c i commands inputs = in_tree_order t c i commands inputs
 
 -- the first fault
@@ -77,13 +81,17 @@ ended None false next = next
 abbrev pub outcome : ShapeView → Latest → OutcomeView
 outcome shape words =
     let said = in_tree_order shape 0 0 words.commands words.inputs in
-    ended (first_fault said) (some_runs said) (with_bytes (captured words.output) (λ output. with_bytes (captured words.error) (λ error. finished output error)))
+    ended (first_fault said) (some_runs said)
+    (with_bytes (captured words.output)
+    (λ output. with_bytes (captured words.error) (λ error. finished output error)))
 
 -- the reply for the command there: its message where it failed and no unchecked stands round it, and else its status
 -- with the captured bytes; or no memory, where the making or one more owner of it was refused
 abbrev pub AnswersFor : (t : Endings) → Way t → List ℕ → List ℕ → ReplyView → Type 0
-AnswersFor t way output error (answered status out err) = (is_checked_failure t way ≡ false) × (status ≡ status_at t way) × (out ≡ output) × (err ≡ error)
-AnswersFor t way output error (failed text) = (is_checked_failure t way ≡ true) × IsMessage (texts_at t way) (status_at t way) text
+AnswersFor t way output error (answered status out err) =
+    (is_checked_failure t way ≡ false) × (status ≡ status_at t way) × (out ≡ output) × (err ≡ error)
+AnswersFor t way output error (failed text) =
+    (is_checked_failure t way ≡ true) × IsMessage (texts_at t way) (status_at t way) text
 AnswersFor t way output error no_memory = Unit {0}
 AnswersFor t way output error noted = ⊥
 AnswersFor t way output error unknown = ⊥
@@ -92,7 +100,8 @@ AnswersFor t way output error (faulted fault) = ⊥
 
 -- the reply for the winner
 abbrev pub AnswersWinner : Endings → List ℕ → List ℕ → ReplyView → Type 0
-AnswersWinner t output error reply = (winner : Way t) × IsWinner t winner × AnswersFor t winner output error reply
+AnswersWinner t output error reply =
+    (winner : Way t) × IsWinner t winner × AnswersFor t winner output error reply
 
 -- the reply that a outcome gives
 abbrev pub AnswersOutcome : OutcomeView → Endings → ReplyView → Type 0
@@ -102,18 +111,24 @@ AnswersOutcome (finished output error) t reply = AnswersWinner t output error re
 
 -- the reply is the outcome of these latest words
 abbrev pub Concludes : ShapeView → Latest → ReplyView → Type 0
-Concludes shape words reply = AnswersOutcome (outcome shape words) (endings_of shape 0 words.commands) reply
+Concludes shape words reply =
+    AnswersOutcome (outcome shape words) (endings_of shape 0 words.commands) reply
 
 -- the reply to one event, by the latest words before it
 abbrev pub Responds : ShapeView → Latest → EventView → ReplyView → Type 0
 Responds shape words conclude reply = Concludes shape words reply
-Responds shape words (from_command k heard) reply = MatchBool (is_known shape words (from_command k heard)) (reply ≡ noted) (reply ≡ unknown)
-Responds shape words (from_input k heard) reply = MatchBool (is_known shape words (from_input k heard)) (reply ≡ noted) (reply ≡ unknown)
-Responds shape words (from_drain side heard) reply = MatchBool (is_known shape words (from_drain side heard)) (reply ≡ noted) (reply ≡ unknown)
+Responds shape words (from_command k heard) reply =
+    MatchBool (is_known shape words (from_command k heard)) (reply ≡ noted) (reply ≡ unknown)
+Responds shape words (from_input k heard) reply =
+    MatchBool (is_known shape words (from_input k heard)) (reply ≡ noted) (reply ≡ unknown)
+Responds shape words (from_drain side heard) reply =
+    MatchBool (is_known shape words (from_drain side heard)) (reply ≡ noted) (reply ≡ unknown)
 
 -- one reply for each event, each by the words that were told before it
-abbrev pub RespondsToAll : ShapeView → Drains → List EventView → List EventView → List ReplyView → Type 0
+abbrev pub RespondsToAll : ShapeView → Drains → List EventView → List EventView → List ReplyView
+    → Type 0
 RespondsToAll shape drains before [] replies = replies ≡ []
 RespondsToAll shape drains before (event ∷ events) [] = ⊥
 RespondsToAll shape drains before (event ∷ events) (reply ∷ replies) =
-    Responds shape (latest_told shape drains before) event reply × RespondsToAll shape drains (before ++ event ∷ []) events replies
+    Responds shape (latest_told shape drains before) event reply
+    × RespondsToAll shape drains (before ++ event ∷ []) events replies

@@ -22,6 +22,8 @@ reply_view reply.Noted = noted
 reply_view reply.Unknown = unknown
 reply_view reply.Pending = pending
 reply_view (reply.Fault fault) = faulted fault
-reply_view (reply.Answer output) = answered (arc_value output).status (arc_value output).stdout.items (arc_value output).stderr.items
+reply_view (reply.Answer output) =
+    answered (arc_value output).status (arc_value output).stdout.items
+    (arc_value output).stderr.items
 reply_view (reply.Failed text) = failed (string_bytes (arc_value text))
 reply_view reply.Memory = no_memory

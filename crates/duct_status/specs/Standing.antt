@@ -30,10 +30,12 @@ Repeats standing (from_drain side heard) reply = Unit {0}
 abbrev pub RepeatedBy : ReplyView → List EventView → List ReplyView → Type 0
 RepeatedBy reply [] later = Unit {0}
 RepeatedBy reply (event ∷ events) [] = Unit {0}
-RepeatedBy reply (event ∷ events) (other ∷ later) = Repeats (standing_after None reply) event other × RepeatedBy reply events later
+RepeatedBy reply (event ∷ events) (other ∷ later) =
+    Repeats (standing_after None reply) event other × RepeatedBy reply events later
 
 -- each answer and each failure is repeated by every later question
 abbrev pub AllRepeated : List EventView → List ReplyView → Type 0
 AllRepeated [] replies = Unit {0}
 AllRepeated (event ∷ events) [] = Unit {0}
-AllRepeated (event ∷ events) (reply ∷ replies) = RepeatedBy reply events replies × AllRepeated events replies
+AllRepeated (event ∷ events) (reply ∷ replies) =
+    RepeatedBy reply events replies × AllRepeated events replies

@@ -15,7 +15,6 @@ mod look;
 mod message;
 mod outcome;
 
-use duct_system::error::Error;
 use crate::status::answer::{answer, failure};
 use crate::status::begin::{begin, first_word};
 use crate::status::choose::choose;
@@ -23,6 +22,7 @@ use crate::status::copy::copy;
 use crate::status::keep::{keep_at, keep_bytes, tell_at};
 use crate::status::look::look;
 use crate::status::outcome::{Outcome, judge};
+use duct_system::error::Error;
 use duct_system::system::{ExitStatus, Fault, Output, Said, Side};
 use std::alloc::Global;
 use std::sync::Arc;
@@ -100,8 +100,12 @@ pub struct Core {
     failure: Option<Arc<String>>,
     pub ghost commands_fit: { vec_len commands ≡ command_count (shape_view shape) },
     pub ghost inputs_fit: { vec_len inputs ≡ input_count (shape_view shape) },
-    pub ghost answer_fits: { ForSome answer (λ a. FitsAnswer (shape_view shape) (latest_of commands.items inputs.items output error) (arc_value a)) },
-    pub ghost failure_fits: { ForSome failure (λ a. FitsMessage (shape_view shape) (latest_of commands.items inputs.items output error) (arc_value a)) },
+    pub ghost answer_fits: { ForSome answer
+        (λ a. FitsAnswer (shape_view shape) (latest_of commands.items inputs.items output error)
+        (arc_value a)) },
+    pub ghost failure_fits: { ForSome failure
+        (λ a. FitsMessage (shape_view shape) (latest_of commands.items inputs.items output error)
+        (arc_value a)) },
 }
 
 impl Core {
@@ -118,9 +122,11 @@ impl Core {
     /// Keeps what a command said.
     fn tell(&mut self, at: usize, word: Word) -> Reply
         ensures shape { shape_in self.new ≡ shape_in self.old }
-        ensures words { latest_in self.new ≡ latest_after (latest_in self.old) (event_view (Event.Command at word)) }
+        ensures words { latest_in self.new
+            ≡ latest_after (latest_in self.old) (event_view (Event.Command at word)) }
         ensures standing { standing_in self.new ≡ standing_in self.old }
-        ensures reply { Responds (shape_in self.old) (latest_in self.old) (event_view (Event.Command at word)) (reply_view result) }
+        ensures reply { Responds (shape_in self.old) (latest_in self.old)
+            (event_view (Event.Command at word)) (reply_view result) }
     {
         if tell_at(&mut self.commands, at, word) {
             Reply::Noted
@@ -132,9 +138,11 @@ impl Core {
     /// Keeps what an input worker said.
     fn hear(&mut self, at: usize, said: Said<()>) -> Reply
         ensures shape { shape_in self.new ≡ shape_in self.old }
-        ensures words { latest_in self.new ≡ latest_after (latest_in self.old) (event_view (Event.Input at said)) }
+        ensures words { latest_in self.new
+            ≡ latest_after (latest_in self.old) (event_view (Event.Input at said)) }
         ensures standing { standing_in self.new ≡ standing_in self.old }
-        ensures reply { Responds (shape_in self.old) (latest_in self.old) (event_view (Event.Input at said)) (reply_view result) }
+        ensures reply { Responds (shape_in self.old) (latest_in self.old)
+            (event_view (Event.Input at said)) (reply_view result) }
     {
         if keep_at(&mut self.inputs, at, said) {
             Reply::Noted
@@ -146,9 +154,11 @@ impl Core {
     /// Keeps what stdout's capture worker said.
     fn hear_output(&mut self, said: Said<Arc<Vec<u8>>>) -> Reply
         ensures shape { shape_in self.new ≡ shape_in self.old }
-        ensures words { latest_in self.new ≡ latest_after (latest_in self.old) (event_view (Event.Drain Side.Out said)) }
+        ensures words { latest_in self.new
+            ≡ latest_after (latest_in self.old) (event_view (Event.Drain Side.Out said)) }
         ensures standing { standing_in self.new ≡ standing_in self.old }
-        ensures reply { Responds (shape_in self.old) (latest_in self.old) (event_view (Event.Drain Side.Out said)) (reply_view result) }
+        ensures reply { Responds (shape_in self.old) (latest_in self.old)
+            (event_view (Event.Drain Side.Out said)) (reply_view result) }
     {
         if keep_bytes(&mut self.output, said) {
             Reply::Noted
@@ -160,9 +170,11 @@ impl Core {
     /// Keeps what stderr's capture worker said.
     fn hear_error(&mut self, said: Said<Arc<Vec<u8>>>) -> Reply
         ensures shape { shape_in self.new ≡ shape_in self.old }
-        ensures words { latest_in self.new ≡ latest_after (latest_in self.old) (event_view (Event.Drain Side.Err said)) }
+        ensures words { latest_in self.new
+            ≡ latest_after (latest_in self.old) (event_view (Event.Drain Side.Err said)) }
         ensures standing { standing_in self.new ≡ standing_in self.old }
-        ensures reply { Responds (shape_in self.old) (latest_in self.old) (event_view (Event.Drain Side.Err said)) (reply_view result) }
+        ensures reply { Responds (shape_in self.old) (latest_in self.old)
+            (event_view (Event.Drain Side.Err said)) (reply_view result) }
     {
         if keep_bytes(&mut self.error, said) {
             Reply::Noted
@@ -173,7 +185,8 @@ impl Core {
 
     /// The answer or the message of the command that wins, with these captured bytes.
     fn answer_with(&self, output: &[u8], error: &[u8]) -> Reply
-        requires { outcome (shape_in self.now) (latest_in self.now) ≡ finished output.now error.now }
+        requires { outcome (shape_in self.now) (latest_in self.now)
+            ≡ finished output.now error.now }
         ensures { Fits (shape_in self.now) (latest_in self.now) result }
     {
         let winner = choose(&self.shape, self.commands.as_slice(), 0);
@@ -211,8 +224,11 @@ impl Core {
     /// One more owner of the answer that stands.
     fn again(&self) -> Option<Reply>
         ensures none { IfNone result (standing_in self.now ≡ None) }
-        ensures fits { IfSome result (λ reply. Fits (shape_in self.now) (latest_in self.now) reply) }
-        ensures again { IfSome result (λ reply. IsSomeAnd (standing_in self.now) (λ answer. Again answer (reply_view reply))) }
+        ensures fits { IfSome result
+            (λ reply. Fits (shape_in self.now) (latest_in self.now) reply) }
+        ensures again { IfSome result
+            (λ reply. IsSomeAnd (standing_in self.now)
+            (λ answer. Again answer (reply_view reply))) }
     {
         if let Some(output) = &self.answer {
             return Some(match output.clone() {
@@ -263,7 +279,8 @@ impl Core {
         ensures words { latest_in self.new ≡ latest_in self.old }
         ensures reply { Concludes (shape_in self.old) (latest_in self.old) (reply_view result) }
         ensures repeats { Repeats (standing_in self.old) conclude (reply_view result) }
-        ensures standing { standing_in self.new ≡ standing_after (standing_in self.old) (reply_view result) }
+        ensures standing { standing_in self.new
+            ≡ standing_after (standing_in self.old) (reply_view result) }
     {
         if let Some(reply) = self.again() {
             return reply;
@@ -279,9 +296,11 @@ impl Core {
     pub fn step(&mut self, event: Event) -> Reply
         ensures shape { shape_in self.new ≡ shape_in self.old }
         ensures words { latest_in self.new ≡ latest_after (latest_in self.old) (event_view event) }
-        ensures reply { Responds (shape_in self.old) (latest_in self.old) (event_view event) (reply_view result) }
+        ensures reply { Responds (shape_in self.old) (latest_in self.old) (event_view event)
+            (reply_view result) }
         ensures repeats { Repeats (standing_in self.old) (event_view event) (reply_view result) }
-        ensures standing { standing_in self.new ≡ standing_after (standing_in self.old) (reply_view result) }
+        ensures standing { standing_in self.new
+            ≡ standing_after (standing_in self.old) (reply_view result) }
     {
         match event {
             Event::Command(at, word) => self.tell(at, word),
@@ -317,7 +336,8 @@ impl Core {
     /// A core that was told nothing, or `Memory`.
     pub fn new(alloc: Global, shape: Shape, drains: Drains) -> Result<Core, Error>
         ensures shape { IfOk result (λ core. shape_in core ≡ shape_view shape) }
-        ensures words { IfOk result (λ core. latest_in core ≡ latest_told (shape_view shape) drains []) }
+        ensures words { IfOk result
+            (λ core. latest_in core ≡ latest_told (shape_view shape) drains []) }
         ensures standing { IfOk result (λ core. standing_in core ≡ None) }
         ensures err { IfErr result (λ error. error ≡ Memory) }
     {
@@ -344,8 +364,11 @@ impl Core {
         drains: Drains,
         events: &[Event],
     ) -> Result<Vec<Reply>, Error>
-        ensures replies { IfOk result (λ replies. RespondsToAll (shape_view shape) drains [] (map event_view events.now) (map reply_view replies.items)) }
-        ensures repeated { IfOk result (λ replies. AllRepeated (map event_view events.now) (map reply_view replies.items)) }
+        ensures replies { IfOk result
+            (λ replies. RespondsToAll (shape_view shape) drains [] (map event_view events.now)
+            (map reply_view replies.items)) }
+        ensures repeated { IfOk result
+            (λ replies. AllRepeated (map event_view events.now) (map reply_view replies.items)) }
         ensures err { IfErr result (λ error. error ≡ Memory) }
     {
         let mut core = Core::new(alloc, shape, drains)?;

@@ -11,7 +11,9 @@ use Rattle.std.proofs.Common.{◌≡◌, ap, refl}
 use Rattle.duct_system.specs.SpecView.{pair_text, without_var}
 
 -- the texts of a map with one more entry are the texts of the map with the text of that entry
-pub insert_texts : {Z : Type 0} (es : List (String Z × String Z)) (k v : String Z) → map pair_text (insert_entry string_cmp es k v) ≡ insert_entry (slice_cmp nat_cmp) (map pair_text es) (string_bytes k) (string_bytes v)
+pub insert_texts : {Z : Type 0} (es : List (String Z × String Z)) (k v : String Z)
+    → map pair_text (insert_entry string_cmp es k v)
+    ≡ insert_entry (slice_cmp nat_cmp) (map pair_text es) (string_bytes k) (string_bytes v)
 insert_texts [] k v = refl
 insert_texts (e ∷ es) k v =
     elim (slice_cmp nat_cmp (string_bytes k) (string_bytes e.0)) as (λ o.
@@ -20,7 +22,9 @@ insert_texts (e ∷ es) k v =
     [ Less ↦ refl | Equal ↦ refl | Greater ↦ ap (λ r. pair_text e ∷ r) (insert_texts es k v) ]
 
 -- the texts of a map without an entry are the texts of the map without the text of that entry
-pub remove_texts : {Z : Type 0} (name : List ℕ) (es : List (String Z × String Z)) → map pair_text (remove_entry (is_at (λ k. slice_cmp nat_cmp name (string_bytes k))) es) ≡ without_var name (map pair_text es)
+pub remove_texts : {Z : Type 0} (name : List ℕ) (es : List (String Z × String Z))
+    → map pair_text (remove_entry (is_at (λ k. slice_cmp nat_cmp name (string_bytes k))) es)
+    ≡ without_var name (map pair_text es)
 remove_texts name [] = refl
 remove_texts {Z} name (e ∷ es) =
     elim (is_eq (slice_cmp nat_cmp name (string_bytes e.0))) as (λ b.

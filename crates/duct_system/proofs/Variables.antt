@@ -21,6 +21,7 @@ value_of-map {Z} name (e ∷ es) =
     [ true ↦ refl | false ↦ value_of-map name es ]
 
 -- the text of what the map answers is the value among the texts
-pub value_of-found : {Z : Type 0} (name : List ℕ) (es : List (String Z × String Z)) (vars : Vars) (answer : Option (String Z)) →
+pub value_of-found : {Z : Type 0} (name : List ℕ) (es : List (String Z × String Z)) (vars : Vars)
+    (answer : Option (String Z)) →
     map pair_text es ≡ vars → answer ≡ lookup (is_at (λ k. slice_cmp nat_cmp name (string_bytes k))) es → option_map string_bytes answer ≡ value_of name vars
 value_of-found name es vars answer texts is = ap (λ o. option_map string_bytes o) is ∙ sym (value_of-map name es) ∙ ap (value_of name) texts

@@ -44,7 +44,8 @@ child_after answer child = record child {
 }
 
 -- a child was polled: it may give this answer, gives its ending again if it has one, and nothing else of it has changed
-pub record PollsChild (may : ℕ → Answer → Type 0) (before : ChildView) (answer : Answer) (after : ChildView) : Type 0 where
+pub record PollsChild (may : ℕ → Answer → Type 0) (before : ChildView) (answer : Answer)
+    (after : ChildView) : Type 0 where
   pub told : may before.number answer
   pub again : IfSome before.ending (λ status. answer ≡ Ok (Some status))
   pub after_is : after ≡ child_after answer before
@@ -55,7 +56,8 @@ child_ordered order answer child = record child { orders = child.orders ++ (orde
 
 -- a child was given an order: it was noted with its answer, which such a child may give, or there was no memory to note it and
 -- nobody was asked; nothing else has changed
-abbrev pub OrdersChild : (ℕ → Order → Obeyed → Type 0) → Order → ChildView → Obeyed → ChildView → Type 0
+abbrev pub OrdersChild : (ℕ → Order → Obeyed → Type 0) → Order → ChildView → Obeyed → ChildView
+    → Type 0
 OrdersChild may order before answer after =
     ((after ≡ child_ordered order answer before) × may before.number order answer)
     ⊎ ((after ≡ before) × (answer ≡ Err (record { kind = OutOfMemory })))

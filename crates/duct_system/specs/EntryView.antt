@@ -34,7 +34,8 @@ entry_view (entry.OpenRead path answer) = OpenRead (string_bytes path) answer
 entry_view (entry.Create path answer) = Create (string_bytes path) answer
 entry_view (entry.Duplicate lent answer) = Duplicate lent answer
 entry_view (entry.Parent side answer) = Parent side answer
-entry_view (entry.Canonicalize path (Ok text)) = Canonicalize (string_bytes path) (Ok (string_bytes text))
+entry_view (entry.Canonicalize path (Ok text)) =
+    Canonicalize (string_bytes path) (Ok (string_bytes text))
 entry_view (entry.Canonicalize path (Err fault)) = Canonicalize (string_bytes path) (Err fault)
 entry_view (entry.Spawn spec io answer) = Spawn spec io answer
 entry_view (entry.Feed number bytes answer) = Feed number (arc_value bytes).items answer

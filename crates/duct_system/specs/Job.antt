@@ -29,17 +29,21 @@ SaysAgain same refusable (said.Done value) (said.Fault fault) = ⊥
 SaysAgain same refusable (said.Fault fault) heard = heard ≡ said.Fault fault
 
 -- a job was polled: it may say this, says its first Done or Fault again if it has one, and nothing else of it has changed
-pub record PollsJob {T : Type 0} (may : ℕ → Said T → Type 0) (same : T → T → Type 0) (refusable : Type 0)
+pub record PollsJob {T : Type 0} (may : ℕ → Said T → Type 0) (same : T → T → Type 0)
+    (refusable : Type 0)
     (before : JobView T) (heard : Said T) (after : JobView T) : Type 0 where
   pub told : may before.number heard
   pub again : SaysAgain same refusable before.kept heard
-  pub after_is : after ≡ record before { polls = one_more before.polls; kept = kept_after before.kept heard }
+  pub after_is : after ≡ record before
+      { polls = one_more before.polls; kept = kept_after before.kept heard }
 
 -- a job of this number that nobody has polled
 abbrev pub unpolled_job : {T : Type 0} → ℕ → JobView T
 unpolled_job number = record { number = number; polls = 0; kept = said.Running }
 
 -- two owners that are the same in this sense hold the same bytes
-abbrev pub MeansSameBytes : (Arc (Vec ℕ Global) Global → Arc (Vec ℕ Global) Global → Type 0) → Type 0
+abbrev pub MeansSameBytes : (Arc (Vec ℕ Global) Global → Arc (Vec ℕ Global) Global → Type 0)
+    → Type 0
 MeansSameBytes same =
-    (one other : Arc (Vec ℕ Global) Global) → same one other → (arc_value other).items ≡ (arc_value one).items
+    (one other : Arc (Vec ℕ Global) Global) → same one other
+    → (arc_value other).items ≡ (arc_value one).items

@@ -41,7 +41,8 @@ GetsEnd entry number old new = Adds entry 1 0 old new × IsNew old new number
 
 -- a call that gets the two ends of a pipe
 abbrev pub GetsEnds : EntryView → ℕ → ℕ → JournalView → JournalView → Type 0
-GetsEnds entry one other old new = Adds entry 2 0 old new × IsNew old new one × IsNew old new other × (one ≢ other)
+GetsEnds entry one other old new =
+    Adds entry 2 0 old new × IsNew old new one × IsNew old new other × (one ≢ other)
 
 -- a call that is given this many ends
 abbrev pub GivesEnds : EntryView → ℕ → JournalView → JournalView → Type 0

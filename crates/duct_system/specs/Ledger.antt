@@ -35,7 +35,10 @@ count_of number numbers = count_by (λ other. other == number) numbers
 
 -- the numbers spent are the numbers got, in some order, each number once
 abbrev pub IsBalanced : List EntryView → Type 0
-IsBalanced entries = (number : ℕ) → (count_of number (spent entries) ≡ count_of number (got entries)) × (count_of number (got entries) ≤ 1)
+IsBalanced entries =
+    (number : ℕ)
+    → (count_of number (spent entries) ≡ count_of number (got entries))
+    × (count_of number (got entries) ≤ 1)
 
 -- how many ends were got and are not spent yet
 abbrev pub held : List EntryView → ℕ

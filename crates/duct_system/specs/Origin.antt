@@ -12,11 +12,17 @@ pub data Origin : Type 0 where
 -- the same, where the entries stand from the last to the first
 abbrev pub origin_before : List EntryView → ℕ → Origin
 origin_before [] number = Lent number
-origin_before (Pipe (Ok (reader, writer)) ∷ entries) number = if number == reader then Opened number else if number == writer then Opened number else origin_before entries number
-origin_before (OpenRead path (Ok end) ∷ entries) number = if number == end then Opened number else origin_before entries number
-origin_before (Create path (Ok end) ∷ entries) number = if number == end then Opened number else origin_before entries number
-origin_before (Parent side (Ok end) ∷ entries) number = if number == end then ParentOf side else origin_before entries number
-origin_before (Duplicate lent (Ok end) ∷ entries) number = if number == end then origin_before entries lent else origin_before entries number
+origin_before (Pipe (Ok (reader, writer)) ∷ entries) number =
+    if number == reader then Opened number else if number == writer then Opened number
+    else origin_before entries number
+origin_before (OpenRead path (Ok end) ∷ entries) number =
+    if number == end then Opened number else origin_before entries number
+origin_before (Create path (Ok end) ∷ entries) number =
+    if number == end then Opened number else origin_before entries number
+origin_before (Parent side (Ok end) ∷ entries) number =
+    if number == end then ParentOf side else origin_before entries number
+origin_before (Duplicate lent (Ok end) ∷ entries) number =
+    if number == end then origin_before entries lent else origin_before entries number
 origin_before (entry ∷ entries) number = origin_before entries number
 
 -- where the end of a number comes from: back through the duplicates to what opened it

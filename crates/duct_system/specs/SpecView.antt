@@ -63,4 +63,5 @@ gives Err spec = record spec { error = Given }
 
 -- no stream is given an end afterwards that was not before
 abbrev pub GivesNothing : SpecView → SpecView → Type 0
-GivesNothing before after = (stream : Stream) → port_of stream after ≡ Given → port_of stream before ≡ Given
+GivesNothing before after =
+    (stream : Stream) → port_of stream after ≡ Given → port_of stream before ≡ Given

@@ -55,4 +55,5 @@ OnlyCloses (entry ∷ entries) = (is_close entry ≡ true) × OnlyCloses entries
 -- after an entry with a fault there are only closes
 abbrev pub StopsAtFault : List EntryView → Type 0
 StopsAtFault [] = Unit {0}
-StopsAtFault (entry ∷ entries) = IfSome (fault_of entry) (λ fault. OnlyCloses entries) × StopsAtFault entries
+StopsAtFault (entry ∷ entries) =
+    IfSome (fault_of entry) (λ fault. OnlyCloses entries) × StopsAtFault entries

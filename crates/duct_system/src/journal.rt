@@ -85,7 +85,8 @@ impl Journal {
 
     // The room with that of one entry more and of this many ends, where so many entries can still be counted.
     fn room_with(&self, ends: usize) -> Option<usize>
-        ensures { IfSome result (λ room. (room ≡ self.now.room + ends + 1) × (self.now.added + room < 2 ^ 64)) }
+        ensures { IfSome result
+            (λ room. (room ≡ self.now.room + ends + 1) × (self.now.added + room < 2 ^ 64)) }
     {
         let room = self.room.checked_add(ends)?.checked_add(1)?;
         let _ = self.added.checked_add(room as u64)?;

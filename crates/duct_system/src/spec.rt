@@ -118,7 +118,8 @@ impl CommandSpec {
 
     /// All variables of the child, in order of name. Refused, by `Error::Memory`, only for want of memory.
     pub fn vars(&self) -> Result<Vec<(&str, &str)>, Error>
-        ensures vars { IfOk result (λ pairs. map (λ p. (p.0.now, p.1.now)) pairs.items ≡ self.now.vars) }
+        ensures vars { IfOk result
+            (λ pairs. map (λ p. (p.0.now, p.1.now)) pairs.items ≡ self.now.vars) }
         ensures memory { IsOkUnless result Error.Memory }
     {
         let mut pairs = Vec::new(*self.words.allocator());
@@ -143,7 +144,8 @@ impl CommandSpec {
 impl CommandSpec {
     /// Adds an argument at the end. Refused, by `Error::Memory`, only for want of memory; the spec is then as it was.
     pub fn arg(&mut self, arg: &str) -> Result<(), Error>
-        ensures ok { OnOk result (self.new ≡ record self.old { words = self.old.words ++ arg.now ∷ [] }) }
+        ensures ok { OnOk result
+            (self.new ≡ record self.old { words = self.old.words ++ arg.now ∷ [] }) }
         ensures err { OnErr result (self.new ≡ self.old) }
         ensures memory { IsOkUnless result Error.Memory }
     {
@@ -154,7 +156,8 @@ impl CommandSpec {
 
     /// Adds arguments at the end. Refused, by `Error::Memory`, only for want of memory; the spec is then as it was.
     pub fn args(&mut self, args: &[&str]) -> Result<(), Error>
-        ensures ok { OnOk result (self.new ≡ record self.old { words = self.old.words ++ texts_of args.now }) }
+        ensures ok { OnOk result
+            (self.new ≡ record self.old { words = self.old.words ++ texts_of args.now }) }
         ensures err { OnErr result (self.new ≡ self.old) }
         ensures memory { IsOkUnless result Error.Memory }
     {
@@ -166,7 +169,8 @@ impl CommandSpec {
     /// Gives a variable a value, in place of the one that it had. Refused, by `Error::Memory`, only for want of memory; the
     /// spec is then as it was.
     pub fn env(&mut self, name: &str, value: &str) -> Result<(), Error>
-        ensures ok { OnOk result (self.new ≡ record self.old { vars = with_var name.now value.now self.old.vars }) }
+        ensures ok { OnOk result
+            (self.new ≡ record self.old { vars = with_var name.now value.now self.old.vars }) }
         ensures err { OnErr result (self.new ≡ self.old) }
         ensures memory { IsOkUnless result Error.Memory }
     {

@@ -168,11 +168,13 @@ pub trait Child: Numbered {
     /// Ends the child, without waiting for it. Where there is no memory to note the order, nobody is asked and the answer
     /// is `OutOfMemory`.
     fn kill(&mut self) -> Result<(), Fault>
-        ensures { OrdersChild may_obey Order.Kill (child_view self.old) result (child_view self.new) };
+        ensures { OrdersChild may_obey Order.Kill (child_view self.old) result
+            (child_view self.new) };
 
     /// Sends the child a signal. This may wait for a program that the system asks. Refused for want of memory as `kill` is.
     fn signal(&mut self, signal: i32) -> Result<(), Fault>
-        ensures { OrdersChild may_obey (Order.Signal signal) (child_view self.old) result (child_view self.new) };
+        ensures { OrdersChild may_obey (Order.Signal signal) (child_view self.old) result
+            (child_view self.new) };
 
     /// The number by which the machine knows the process.
     fn id(&self) -> u32
@@ -322,7 +324,8 @@ pub trait System {
         ensures ok { IfOk result (λ job.
             let entry = Feed (Self.End.number_of end) (arc_value bytes).items (Ok tt) in
             GivesEnds entry 1 (journal_view self.old) (journal_view self.new)) }
-        ensures unasked { IfOk result (λ job. Self.Feed.job_view job ≡ unpolled_job (Self.End.number_of end)) }
+        ensures unasked { IfOk result
+            (λ job. Self.Feed.job_view job ≡ unpolled_job (Self.End.number_of end)) }
         ensures err { IfErr result (λ fault.
             let entry = Feed (Self.End.number_of end) (arc_value bytes).items (Err fault) in
             GivesEnds entry 1 (journal_view self.old) (journal_view self.new)) };
@@ -332,20 +335,23 @@ pub trait System {
         requires { 0 < (journal_view self.old).room }
         ensures ok { IfOk result (λ job.
             GivesEnds (Drain (Self.End.number_of end) (Ok tt)) 1 (journal_view self.old) (journal_view self.new)) }
-        ensures unasked { IfOk result (λ job. Self.Drain.job_view job ≡ unpolled_job (Self.End.number_of end)) }
+        ensures unasked { IfOk result
+            (λ job. Self.Drain.job_view job ≡ unpolled_job (Self.End.number_of end)) }
         ensures err { IfErr result (λ fault.
             GivesEnds (Drain (Self.End.number_of end) (Err fault)) 1 (journal_view self.old) (journal_view self.new)) };
 
     /// A reader of the end. It cannot fail and takes no memory.
     fn reader(&mut self, end: Self::End) -> Self::Reader
         requires { 0 < (journal_view self.old).room }
-        ensures added { GivesEnds (Reader (Self.End.number_of end)) 1 (journal_view self.old) (journal_view self.new) }
+        ensures added { GivesEnds (Reader (Self.End.number_of end)) 1 (journal_view self.old)
+            (journal_view self.new) }
         ensures told { may_read (Self.End.number_of end) result };
 
     /// Closes the end. It cannot fail and takes no memory.
     fn close(&mut self, end: Self::End)
         requires { 0 < (journal_view self.old).room }
-        ensures { GivesEnds (Close (Self.End.number_of end)) 1 (journal_view self.old) (journal_view self.new) };
+        ensures { GivesEnds (Close (Self.End.number_of end)) 1 (journal_view self.old)
+            (journal_view self.new) };
 
     /// The entries so far, the oldest first.
     fn journal(&self) -> &[Entry]

@@ -15,7 +15,8 @@ use std::sync::Arc;
 impl<E: Drop, H: Drop> Expression<E, H> {
     // The modifier round this expression.
     fn around(&self, modifier: Modifier<E, H>) -> Result<Expression<E, H>, Error>
-        ensures tree { IfOk result (λ made. tree_view made ≡ around (modifier_view modifier) (tree_view self.now)) }
+        ensures tree { IfOk result
+            (λ made. tree_view made ≡ around (modifier_view modifier) (tree_view self.now)) }
         ensures memory { IsOkUnless result Error.Memory }
     {
         let inner = Arc::try_clone(&self.root)?;
@@ -28,7 +29,8 @@ impl<E: Drop, H: Drop> Expression<E, H> {
 
     /// A pipe: this expression's stdout goes to the stdin of the right one.
     pub fn pipe(&self, right: &Expression<E, H>) -> Result<Expression<E, H>, Error>
-        ensures tree { IfOk result (λ made. tree_view made ≡ pipe (tree_view self.now) (tree_view right.now)) }
+        ensures tree { IfOk result
+            (λ made. tree_view made ≡ pipe (tree_view self.now) (tree_view right.now)) }
         ensures memory { IsOkUnless result Error.Memory }
     {
         let left = Arc::try_clone(&self.root)?;
@@ -42,7 +44,8 @@ impl<E: Drop, H: Drop> Expression<E, H> {
 
     /// Stdin gets these bytes, and then ends. They are written while the commands run.
     pub fn stdin_bytes(&self, bytes: Vec<u8>) -> Result<Expression<E, H>, Error>
-        ensures tree { IfOk result (λ made. tree_view made ≡ around (stdin_bytes bytes.items) (tree_view self.now)) }
+        ensures tree { IfOk result
+            (λ made. tree_view made ≡ around (stdin_bytes bytes.items) (tree_view self.now)) }
         ensures memory { IsOkUnless result Error.Memory }
     {
         let bytes = Arc::new(self.alloc, bytes)?;
@@ -51,7 +54,8 @@ impl<E: Drop, H: Drop> Expression<E, H> {
 
     /// Stdin reads the file of this path.
     pub fn stdin_path(&self, path: &str) -> Result<Expression<E, H>, Error>
-        ensures tree { IfOk result (λ made. tree_view made ≡ around (stdin_path path.now) (tree_view self.now)) }
+        ensures tree { IfOk result
+            (λ made. tree_view made ≡ around (stdin_path path.now) (tree_view self.now)) }
         ensures memory { IsOkUnless result Error.Memory }
     {
         let path = String::from_str(self.alloc, path)?;
@@ -60,7 +64,8 @@ impl<E: Drop, H: Drop> Expression<E, H> {
 
     /// Stdin reads this end. Each start duplicates it.
     pub fn stdin_file(&self, end: E) -> Result<Expression<E, H>, Error>
-        ensures tree { IfOk result (λ made. tree_view made ≡ around (stdin_file end) (tree_view self.now)) }
+        ensures tree { IfOk result
+            (λ made. tree_view made ≡ around (stdin_file end) (tree_view self.now)) }
         ensures memory { IsOkUnless result Error.Memory }
     {
         self.around(Modifier::StdinFile(end))
@@ -68,7 +73,8 @@ impl<E: Drop, H: Drop> Expression<E, H> {
 
     /// Stdin is empty.
     pub fn stdin_null(&self) -> Result<Expression<E, H>, Error>
-        ensures tree { IfOk result (λ made. tree_view made ≡ around stdin_null (tree_view self.now)) }
+        ensures tree { IfOk result
+            (λ made. tree_view made ≡ around stdin_null (tree_view self.now)) }
         ensures memory { IsOkUnless result Error.Memory }
     {
         self.around(Modifier::StdinNull)
@@ -76,7 +82,8 @@ impl<E: Drop, H: Drop> Expression<E, H> {
 
     /// Stdout writes to the file of this path, which is made or emptied.
     pub fn stdout_path(&self, path: &str) -> Result<Expression<E, H>, Error>
-        ensures tree { IfOk result (λ made. tree_view made ≡ around (stdout_path path.now) (tree_view self.now)) }
+        ensures tree { IfOk result
+            (λ made. tree_view made ≡ around (stdout_path path.now) (tree_view self.now)) }
         ensures memory { IsOkUnless result Error.Memory }
     {
         let path = String::from_str(self.alloc, path)?;
@@ -85,7 +92,8 @@ impl<E: Drop, H: Drop> Expression<E, H> {
 
     /// Stdout writes to this end. Each start duplicates it.
     pub fn stdout_file(&self, end: E) -> Result<Expression<E, H>, Error>
-        ensures tree { IfOk result (λ made. tree_view made ≡ around (stdout_file end) (tree_view self.now)) }
+        ensures tree { IfOk result
+            (λ made. tree_view made ≡ around (stdout_file end) (tree_view self.now)) }
         ensures memory { IsOkUnless result Error.Memory }
     {
         self.around(Modifier::StdoutFile(end))
@@ -93,7 +101,8 @@ impl<E: Drop, H: Drop> Expression<E, H> {
 
     /// What stdout writes is thrown away.
     pub fn stdout_null(&self) -> Result<Expression<E, H>, Error>
-        ensures tree { IfOk result (λ made. tree_view made ≡ around stdout_null (tree_view self.now)) }
+        ensures tree { IfOk result
+            (λ made. tree_view made ≡ around stdout_null (tree_view self.now)) }
         ensures memory { IsOkUnless result Error.Memory }
     {
         self.around(Modifier::StdoutNull)
@@ -101,7 +110,8 @@ impl<E: Drop, H: Drop> Expression<E, H> {
 
     /// What stdout writes is kept for the caller.
     pub fn stdout_capture(&self) -> Result<Expression<E, H>, Error>
-        ensures tree { IfOk result (λ made. tree_view made ≡ around stdout_capture (tree_view self.now)) }
+        ensures tree { IfOk result
+            (λ made. tree_view made ≡ around stdout_capture (tree_view self.now)) }
         ensures memory { IsOkUnless result Error.Memory }
     {
         self.around(Modifier::StdoutCapture)
@@ -109,7 +119,8 @@ impl<E: Drop, H: Drop> Expression<E, H> {
 
     /// Stdout goes where stderr goes outside this node.
     pub fn stdout_to_stderr(&self) -> Result<Expression<E, H>, Error>
-        ensures tree { IfOk result (λ made. tree_view made ≡ around stdout_to_stderr (tree_view self.now)) }
+        ensures tree { IfOk result
+            (λ made. tree_view made ≡ around stdout_to_stderr (tree_view self.now)) }
         ensures memory { IsOkUnless result Error.Memory }
     {
         self.around(Modifier::StdoutToStderr)
@@ -117,7 +128,8 @@ impl<E: Drop, H: Drop> Expression<E, H> {
 
     /// Stderr writes to the file of this path, which is made or emptied.
     pub fn stderr_path(&self, path: &str) -> Result<Expression<E, H>, Error>
-        ensures tree { IfOk result (λ made. tree_view made ≡ around (stderr_path path.now) (tree_view self.now)) }
+        ensures tree { IfOk result
+            (λ made. tree_view made ≡ around (stderr_path path.now) (tree_view self.now)) }
         ensures memory { IsOkUnless result Error.Memory }
     {
         let path = String::from_str(self.alloc, path)?;
@@ -126,7 +138,8 @@ impl<E: Drop, H: Drop> Expression<E, H> {
 
     /// Stderr writes to this end. Each start duplicates it.
     pub fn stderr_file(&self, end: E) -> Result<Expression<E, H>, Error>
-        ensures tree { IfOk result (λ made. tree_view made ≡ around (stderr_file end) (tree_view self.now)) }
+        ensures tree { IfOk result
+            (λ made. tree_view made ≡ around (stderr_file end) (tree_view self.now)) }
         ensures memory { IsOkUnless result Error.Memory }
     {
         self.around(Modifier::StderrFile(end))
@@ -134,7 +147,8 @@ impl<E: Drop, H: Drop> Expression<E, H> {
 
     /// What stderr writes is thrown away.
     pub fn stderr_null(&self) -> Result<Expression<E, H>, Error>
-        ensures tree { IfOk result (λ made. tree_view made ≡ around stderr_null (tree_view self.now)) }
+        ensures tree { IfOk result
+            (λ made. tree_view made ≡ around stderr_null (tree_view self.now)) }
         ensures memory { IsOkUnless result Error.Memory }
     {
         self.around(Modifier::StderrNull)
@@ -142,7 +156,8 @@ impl<E: Drop, H: Drop> Expression<E, H> {
 
     /// What stderr writes is kept for the caller.
     pub fn stderr_capture(&self) -> Result<Expression<E, H>, Error>
-        ensures tree { IfOk result (λ made. tree_view made ≡ around stderr_capture (tree_view self.now)) }
+        ensures tree { IfOk result
+            (λ made. tree_view made ≡ around stderr_capture (tree_view self.now)) }
         ensures memory { IsOkUnless result Error.Memory }
     {
         self.around(Modifier::StderrCapture)
@@ -150,7 +165,8 @@ impl<E: Drop, H: Drop> Expression<E, H> {
 
     /// Stderr goes where stdout goes outside this node.
     pub fn stderr_to_stdout(&self) -> Result<Expression<E, H>, Error>
-        ensures tree { IfOk result (λ made. tree_view made ≡ around stderr_to_stdout (tree_view self.now)) }
+        ensures tree { IfOk result
+            (λ made. tree_view made ≡ around stderr_to_stdout (tree_view self.now)) }
         ensures memory { IsOkUnless result Error.Memory }
     {
         self.around(Modifier::StderrToStdout)
@@ -158,7 +174,8 @@ impl<E: Drop, H: Drop> Expression<E, H> {
 
     /// Stdout and stderr change places.
     pub fn stdout_stderr_swap(&self) -> Result<Expression<E, H>, Error>
-        ensures tree { IfOk result (λ made. tree_view made ≡ around stdout_stderr_swap (tree_view self.now)) }
+        ensures tree { IfOk result
+            (λ made. tree_view made ≡ around stdout_stderr_swap (tree_view self.now)) }
         ensures memory { IsOkUnless result Error.Memory }
     {
         self.around(Modifier::StdoutStderrSwap)
@@ -166,7 +183,8 @@ impl<E: Drop, H: Drop> Expression<E, H> {
 
     /// The commands start in this folder. Of two the inner one counts.
     pub fn dir(&self, path: &str) -> Result<Expression<E, H>, Error>
-        ensures tree { IfOk result (λ made. tree_view made ≡ around (dir path.now) (tree_view self.now)) }
+        ensures tree { IfOk result
+            (λ made. tree_view made ≡ around (dir path.now) (tree_view self.now)) }
         ensures memory { IsOkUnless result Error.Memory }
     {
         let path = String::from_str(self.alloc, path)?;
@@ -175,7 +193,8 @@ impl<E: Drop, H: Drop> Expression<E, H> {
 
     /// The commands have this variable, whatever is said of it outside.
     pub fn env(&self, name: &str, value: &str) -> Result<Expression<E, H>, Error>
-        ensures tree { IfOk result (λ made. tree_view made ≡ around (env name.now value.now) (tree_view self.now)) }
+        ensures tree { IfOk result
+            (λ made. tree_view made ≡ around (env name.now value.now) (tree_view self.now)) }
         ensures memory { IsOkUnless result Error.Memory }
     {
         let name = String::from_str(self.alloc, name)?;
@@ -185,7 +204,8 @@ impl<E: Drop, H: Drop> Expression<E, H> {
 
     /// The commands don't have this variable, whatever is said of it outside.
     pub fn env_remove(&self, name: &str) -> Result<Expression<E, H>, Error>
-        ensures tree { IfOk result (λ made. tree_view made ≡ around (env_remove name.now) (tree_view self.now)) }
+        ensures tree { IfOk result
+            (λ made. tree_view made ≡ around (env_remove name.now) (tree_view self.now)) }
         ensures memory { IsOkUnless result Error.Memory }
     {
         let name = String::from_str(self.alloc, name)?;
@@ -194,7 +214,9 @@ impl<E: Drop, H: Drop> Expression<E, H> {
 
     /// The commands have these variables alone, whatever is said outside. Of a name given twice the last value counts.
     pub fn full_env(&self, pairs: &[(&str, &str)]) -> Result<Expression<E, H>, Error>
-        ensures tree { IfOk result (λ made. tree_view made ≡ around (full_env (last_values (pairs_of pairs.now))) (tree_view self.now)) }
+        ensures tree { IfOk result
+            (λ made. tree_view made
+            ≡ around (full_env (last_values (pairs_of pairs.now))) (tree_view self.now)) }
         ensures memory { IsOkUnless result Error.Memory }
     {
         let vars = vars(self.alloc, pairs)?;
@@ -203,7 +225,8 @@ impl<E: Drop, H: Drop> Expression<E, H> {
 
     /// A command that fails is no error of the whole. Its status stays as it is.
     pub fn unchecked(&self) -> Result<Expression<E, H>, Error>
-        ensures tree { IfOk result (λ made. tree_view made ≡ around unchecked (tree_view self.now)) }
+        ensures tree { IfOk result
+            (λ made. tree_view made ≡ around unchecked (tree_view self.now)) }
         ensures memory { IsOkUnless result Error.Memory }
     {
         self.around(Modifier::Unchecked)
@@ -211,7 +234,8 @@ impl<E: Drop, H: Drop> Expression<E, H> {
 
     /// Before each command is started the hook changes its spec. A hook may name the ends beside it by their places.
     pub fn before_spawn(&self, hook: H, ends: Vec<E>) -> Result<Expression<E, H>, Error>
-        ensures tree { IfOk result (λ made. tree_view made ≡ around (before_spawn hook ends.items) (tree_view self.now)) }
+        ensures tree { IfOk result
+            (λ made. tree_view made ≡ around (before_spawn hook ends.items) (tree_view self.now)) }
         ensures memory { IsOkUnless result Error.Memory }
     {
         self.around(Modifier::BeforeSpawn(hook, ends))
@@ -220,7 +244,8 @@ impl<E: Drop, H: Drop> Expression<E, H> {
 
 // The pairs as a map, with the last value of a name given twice.
 fn vars(alloc: Global, pairs: &[(&str, &str)]) -> Result<BTreeMap<String, String>, Error>
-    ensures vars { IfOk result (λ vars. map pair_text vars.entries ≡ last_values (pairs_of pairs.now)) }
+    ensures vars { IfOk result
+        (λ vars. map pair_text vars.entries ≡ last_values (pairs_of pairs.now)) }
     ensures memory { IsOkUnless result Error.Memory }
 {
     let mut vars = BTreeMap::new(alloc);

@@ -89,7 +89,8 @@ impl<E, H> fmt::Debug for Modifier<E, H> {
 // A command with these words.
 #[tactic(auto, using(crate::proofs::Debug::list_of_map))]
 fn write_command<W: fmt::Write>(words: &[String], f: &mut fmt::Formatter<W>) -> fmt::Result
-    ensures { DisplaysOnOk W.write_str_gives f.old result (printed_words (map string_bytes words.now)) f.new }
+    ensures { DisplaysOnOk W.write_str_gives f.old result
+        (printed_words (map string_bytes words.now)) f.new }
 {
     write!(f, "Cmd({words:?})")
 }
@@ -100,7 +101,8 @@ fn write_vars<W: fmt::Write>(
     lead: &str,
     f: &mut fmt::Formatter<W>,
 ) -> fmt::Result
-    ensures { DisplaysOnOk W.write_str_gives f.old result (printed_vars lead.now (map pair_text rest.entry)) f.new }
+    ensures { DisplaysOnOk W.write_str_gives f.old result
+        (printed_vars lead.now (map pair_text rest.entry)) f.new }
 {
     match rest.next() {
         None => Ok(()),

@@ -38,7 +38,9 @@ pub(crate) fn failure(
     words: &Vec<String>,
     status: ExitStatus,
 ) -> Result<Arc<String>, AllocError>
-    ensures { IfOk result (λ made. IsMessage (map string_bytes words.now.items) status (string_bytes (arc_value made))) }
+    ensures { IfOk result
+        (λ made. IsMessage (map string_bytes words.now.items) status
+        (string_bytes (arc_value made))) }
 {
     let text = message(alloc, words, status)?;
     let made = Arc::new(alloc, text)?;

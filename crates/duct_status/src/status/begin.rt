@@ -18,8 +18,12 @@ pub(crate) fn begin(
     commands: &mut Vec<Word>,
     inputs: &mut Vec<Said<()>>,
 ) -> Result<(), AllocError>
-    ensures commands { OnOk result (commands.new.items ≡ commands.old.items ++ replicate (command_count (shape_view shape.now)) word.Running) }
-    ensures inputs { OnOk result (inputs.new.items ≡ inputs.old.items ++ replicate (input_count (shape_view shape.now)) said.Running) }
+    ensures commands { OnOk result
+        (commands.new.items ≡ commands.old.items
+        ++ replicate (command_count (shape_view shape.now)) word.Running) }
+    ensures inputs { OnOk result
+        (inputs.new.items ≡ inputs.old.items
+        ++ replicate (input_count (shape_view shape.now)) said.Running) }
 {
     match shape {
         Shape::Command(_) => commands.push(Word::Running)?,

@@ -49,9 +49,12 @@ fn status_at(commands: &[Word], at: usize) -> ExitStatus
 /// Chooses in a part of a shape whose first command has this number.
 pub(crate) fn choose<'a>(shape: &'a Shape, commands: &[Word], first: usize) -> Chosen<'a>
     requires { first + command_count (shape_view shape.now) ≤ length commands.now }
-    ensures words { let t = endings_of (shape_view shape.now) first commands.now in map string_bytes (arc_value result.words.now).items ≡ texts_at t (chosen t) }
-    ensures status { let t = endings_of (shape_view shape.now) first commands.now in result.status ≡ status_at t (chosen t) }
-    ensures checked { let t = endings_of (shape_view shape.now) first commands.now in result.is_checked ≡ is_checked t (chosen t) }
+    ensures words { let t = endings_of (shape_view shape.now) first commands.now
+        in map string_bytes (arc_value result.words.now).items ≡ texts_at t (chosen t) }
+    ensures status { let t = endings_of (shape_view shape.now) first commands.now in result.status
+        ≡ status_at t (chosen t) }
+    ensures checked { let t = endings_of (shape_view shape.now) first commands.now
+        in result.is_checked ≡ is_checked t (chosen t) }
     ensures next { result.next ≡ first + command_count (shape_view shape.now) }
 {
     match shape {

@@ -46,7 +46,8 @@ fn after(word: Word, heard: Word) -> Word
 
 /// Keeps a command's word, and says whether that command is there.
 pub(crate) fn tell_at(commands: &mut Vec<Word>, at: usize, heard: Word) -> bool
-    ensures items { commands.new.items ≡ change_at (λ old. word_after old heard) at commands.old.items }
+    ensures items { commands.new.items
+        ≡ change_at (λ old. word_after old heard) at commands.old.items }
     ensures len { vec_len commands.new ≡ vec_len commands.old }
     ensures known { result ≡ nat_lt at (vec_len commands.old) }
 {
@@ -59,7 +60,8 @@ pub(crate) fn tell_at(commands: &mut Vec<Word>, at: usize, heard: Word) -> bool
 
 /// Keeps a capture worker's word, and says whether there is such a worker.
 pub(crate) fn keep_bytes(drain: &mut Option<Said<Arc<Vec<u8>>>>, heard: Said<Arc<Vec<u8>>>) -> bool
-    ensures bytes { option_map bytes_said drain.new ≡ option_map (λ old. kept_after old (bytes_said heard)) (option_map bytes_said drain.old) }
+    ensures bytes { option_map bytes_said drain.new
+        ≡ option_map (λ old. kept_after old (bytes_said heard)) (option_map bytes_said drain.old) }
     ensures known { result ≡ is_some (option_map bytes_said drain.old) }
 {
     match drain {

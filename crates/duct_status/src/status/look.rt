@@ -84,8 +84,10 @@ pub(crate) fn look(
 ) -> Found
     requires commands { command + command_count (shape_view shape.now) ≤ length commands.now }
     requires inputs { input + input_count (shape_view shape.now) ≤ length inputs.now }
-    ensures fault { result.fault ≡ first_fault (in_tree_order (shape_view shape.now) command input commands.now inputs.now) }
-    ensures runs { result.runs ≡ some_runs (in_tree_order (shape_view shape.now) command input commands.now inputs.now) }
+    ensures fault { result.fault
+        ≡ first_fault (in_tree_order (shape_view shape.now) command input commands.now inputs.now) }
+    ensures runs { result.runs
+        ≡ some_runs (in_tree_order (shape_view shape.now) command input commands.now inputs.now) }
     ensures next_command { result.next_command ≡ command + command_count (shape_view shape.now) }
     ensures next_input { result.next_input ≡ input + input_count (shape_view shape.now) }
 {

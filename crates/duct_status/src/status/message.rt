@@ -12,7 +12,9 @@ pub(crate) fn message(
     words: &Vec<String>,
     status: ExitStatus,
 ) -> Result<String, AllocError>
-    ensures { IfOk result (λ text. IfSome (printed_message (map string_bytes words.now.items) status) (λ bytes. string_bytes text ≡ bytes)) }
+    ensures { IfOk result
+        (λ text. IfSome (printed_message (map string_bytes words.now.items) status)
+        (λ bytes. string_bytes text ≡ bytes)) }
 {
     match status {
         ExitStatus::Code(code) => { format!(in alloc; "command {words:?} exited with code {code}") }

@@ -35,7 +35,11 @@ pub(crate) fn judge<'a>(
     output: &'a Option<Said<Arc<Vec<u8>>>>,
     error: &'a Option<Said<Arc<Vec<u8>>>>,
 ) -> Outcome<'a>
-    ensures { outcome_view result ≡ ended found.fault found.runs (with_bytes (captured (option_map bytes_said output.now)) (λ out. with_bytes (captured (option_map bytes_said error.now)) (λ err. finished out err))) }
+    ensures { outcome_view result
+        ≡ ended found.fault found.runs
+        (with_bytes (captured (option_map bytes_said output.now))
+        (λ out. with_bytes (captured (option_map bytes_said error.now))
+        (λ err. finished out err))) }
 {
     if let Some(fault) = found.fault {
         return Outcome::Faults(fault);
