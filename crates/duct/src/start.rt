@@ -28,9 +28,11 @@ use std::collections::BTreeMap;
 // The variables of these pairs, each name with its last value.
 fn variables(alloc: Global, pairs: Vec<(String, String)>) -> Result<BTreeMap<String, String>, Error>
     ensures values { IfOk result (λ vars. (name : List ℕ) →
-        value_of name (map pair_text vars.entries) ≡ value_of name (reverse (map pair_text pairs.items))) }
+        value_of name (map pair_text vars.entries)
+        ≡ value_of name (reverse (map pair_text pairs.items))) }
     ensures ordered { IfOk result (λ vars.
-        IsStrictlySortedBy (slice_cmp nat_cmp) (map (λ pair. pair.0) (map pair_text vars.entries))) }
+        IsStrictlySortedBy (slice_cmp nat_cmp)
+        (map (λ pair. pair.0) (map pair_text vars.entries))) }
     ensures memory { IsOkUnless result Error.Memory }
 {
     let mut vars = BTreeMap::new(alloc);

@@ -119,7 +119,8 @@ impl<C> Model for Pool<C> {
     } };
 
     ghost invariant = { λ p. (p.seats ≡ map Some (seated p.seats))
-        × AddsUp (record { children = seated p.seats; given = p.given; reaped = p.reaped; lost = p.lost }) };
+        × AddsUp (record
+        { children = seated p.seats; given = p.given; reaped = p.reaped; lost = p.lost }) };
 }
 
 impl<C: Drop> Pool<C> {

@@ -127,7 +127,8 @@ fn is_stopped_by<E: Numbered>(
 ) -> Result<bool, Untold>
     requires { place ≤ length (trace (map entry_view added.now)) }
     ensures { IfOk result (λ yes. IsTrue yes
-        ↔ StoppedBy allows refuses E.number_of (trace (map entry_view added.now)) place (Some (item_of item.now)) error.now) }
+        ↔ StoppedBy allows refuses E.number_of (trace (map entry_view added.now)) place
+        (Some (item_of item.now)) error.now) }
 {
     match item {
         Item::Spawn(found, words) => is_stopped(alloc, added, place, found, words, error),
@@ -146,7 +147,8 @@ fn is_stopped<E: Numbered>(
 ) -> Result<bool, Untold>
     requires { place ≤ length (trace (map entry_view added.now)) }
     ensures { IfOk result (λ yes. IsTrue yes
-        ↔ StoppedBy allows refuses E.number_of (trace (map entry_view added.now)) place (Some (AskSpawn (found_of found.now) (map string_bytes words.now))) error.now) }
+        ↔ StoppedBy allows refuses E.number_of (trace (map entry_view added.now)) place
+        (Some (AskSpawn (found_of found.now) (map string_bytes words.now))) error.now) }
 {
     let trace = trace(alloc, added)?;
     let asked = asked_at(alloc, trace.as_slice(), place, found, words)?;

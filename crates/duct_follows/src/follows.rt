@@ -73,7 +73,8 @@ fn answers_from<E: Numbered>(
     requires fits { place + length entries.now < 2 ^ 64 }
     requires last { place + length entries.now ≡ length (trace (map entry_view added.now)) }
     ensures { IfOk result (λ yes. IsTrue yes
-        ↔ AnswersFrom allows E.number_of (map entry_view added.now) place (map item_of items.now) (entry_views entries.now)) }
+        ↔ AnswersFrom allows E.number_of (map entry_view added.now) place (map item_of items.now)
+        (entry_views entries.now)) }
 {
     match (items.split_first(), entries.split_first()) {
         (_, None) => Ok(true),
@@ -96,7 +97,8 @@ fn answers<E: Numbered>(
 ) -> Result<bool, Untold>
     requires { place ≤ length (trace (map entry_view added.now)) }
     ensures { IfOk result (λ yes. IsTrue yes
-        ↔ Answers allows E.number_of (map entry_view added.now) place (item_of item.now) (entry_view entry.now)) }
+        ↔ Answers allows E.number_of (map entry_view added.now) place (item_of item.now)
+        (entry_view entry.now)) }
 {
     match (item, entry) {
         (Item::Environment, Entry::Environment(_)) => Ok(true),

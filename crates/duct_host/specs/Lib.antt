@@ -1,6 +1,5 @@
 pub mod ChildView
 pub mod Endings
-pub mod Kinds
 pub mod Signals
 pub mod Steps
 pub mod Variables

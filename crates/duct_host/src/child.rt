@@ -173,7 +173,9 @@ impl<R: Processes> Child<R> {
     /// does one of which the machine knows nothing, since its number may be another's: `Other`.
     fn send(&self, signal: i32) -> Result<(), Fault>
         ensures ended { IfSome self.now.ending (λ _. result ≡ Ok tt) }
-        ensures lost { IfNone self.now.ending (IfSome self.now.last (λ answer. IfErr answer (λ _. result ≡ Err (record { kind = Other })))) }
+        ensures lost { IfNone self.now.ending
+            (IfSome self.now.last
+            (λ answer. IfErr answer (λ _. result ≡ Err (record { kind = Other })))) }
     {
         match (self.ending, self.last) {
             (Some(_), _) => Ok(()),

@@ -51,7 +51,9 @@ fn entry_at<E: Env>(rt: &E, alloc: Global, i: usize) -> Result<Option<Vec<u8>>, 
 /// The name and the value of an entry. The name has at least one byte, so that an entry's first byte is the name's, also
 /// where it is a `=`.
 fn split_entry(alloc: Global, entry: &str) -> Result<Option<(String, String)>, AllocError>
-    ensures { IfOk result (λ found. IfSome found (λ pair. entry.now ≡ string_bytes pair.0 ++ 61 ∷ string_bytes pair.1)) }
+    ensures { IfOk result
+        (λ found. IfSome found
+        (λ pair. entry.now ≡ string_bytes pair.0 ++ 61 ∷ string_bytes pair.1)) }
 {
     let (front, text) = match entry.strip_prefix('=') {
         Some(text) => ("=", text),
@@ -81,7 +83,9 @@ pub(crate) fn copy_of(
 
 /// Adds a copy of a variable.
 fn push_copy(copies: &mut Vec<(String, String)>, pair: &(String, String)) -> Result<(), AllocError>
-    ensures { OnOk result (map pair_text copies.new.items ≡ map pair_text copies.old.items ++ pair_text pair.now ∷ []) }
+    ensures { OnOk result
+        (map pair_text copies.new.items ≡ map pair_text copies.old.items ++ pair_text pair.now
+        ∷ []) }
 {
     let name = pair.0.clone()?;
     let value = pair.1.clone()?;

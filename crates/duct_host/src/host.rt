@@ -63,8 +63,11 @@ impl<R> Host<R> {
     /// An end of an open file, with the next number. It adds no entry. Where no number is left the answer is `Other`, and
     /// the file is closed.
     pub fn adopt_file(&mut self, file: File) -> Result<End, Fault>
-        ensures ok { IfOk result (λ end. (end ≡ self.old.next) × (self.new ≡ record self.old { next = self.old.next + 1 })) }
-        ensures err { IfErr result (λ fault. (fault.kind ≡ Other) × (self.new ≡ self.old) × (2 ^ 64 ≤ self.old.next + 1)) }
+        ensures ok { IfOk result
+            (λ end. (end ≡ self.old.next)
+            × (self.new ≡ record self.old { next = self.old.next + 1 })) }
+        ensures err { IfErr result
+            (λ fault. (fault.kind ≡ Other) × (self.new ≡ self.old) × (2 ^ 64 ≤ self.old.next + 1)) }
     {
         let number = self.take_number()?;
         Ok(End::new(number, OwnedFd::from(file)))
@@ -72,8 +75,11 @@ impl<R> Host<R> {
 
     /// An end of a pipe's reader, as `adopt_file` gives one of a file.
     pub fn adopt_reader(&mut self, reader: PipeReader) -> Result<End, Fault>
-        ensures ok { IfOk result (λ end. (end ≡ self.old.next) × (self.new ≡ record self.old { next = self.old.next + 1 })) }
-        ensures err { IfErr result (λ fault. (fault.kind ≡ Other) × (self.new ≡ self.old) × (2 ^ 64 ≤ self.old.next + 1)) }
+        ensures ok { IfOk result
+            (λ end. (end ≡ self.old.next)
+            × (self.new ≡ record self.old { next = self.old.next + 1 })) }
+        ensures err { IfErr result
+            (λ fault. (fault.kind ≡ Other) × (self.new ≡ self.old) × (2 ^ 64 ≤ self.old.next + 1)) }
     {
         let number = self.take_number()?;
         Ok(End::new(number, OwnedFd::from(reader)))
@@ -81,8 +87,11 @@ impl<R> Host<R> {
 
     /// An end of a pipe's writer, as `adopt_file` gives one of a file.
     pub fn adopt_writer(&mut self, writer: PipeWriter) -> Result<End, Fault>
-        ensures ok { IfOk result (λ end. (end ≡ self.old.next) × (self.new ≡ record self.old { next = self.old.next + 1 })) }
-        ensures err { IfErr result (λ fault. (fault.kind ≡ Other) × (self.new ≡ self.old) × (2 ^ 64 ≤ self.old.next + 1)) }
+        ensures ok { IfOk result
+            (λ end. (end ≡ self.old.next)
+            × (self.new ≡ record self.old { next = self.old.next + 1 })) }
+        ensures err { IfErr result
+            (λ fault. (fault.kind ≡ Other) × (self.new ≡ self.old) × (2 ^ 64 ≤ self.old.next + 1)) }
     {
         let number = self.take_number()?;
         Ok(End::new(number, OwnedFd::from(writer)))
@@ -90,8 +99,11 @@ impl<R> Host<R> {
 
     /// The next number, or `Other` where none is left.
     fn take_number(&mut self) -> Result<u64, Fault>
-        ensures ok { IfOk result (λ number. (number ≡ self.old.next) × (self.new ≡ record self.old { next = self.old.next + 1 })) }
-        ensures err { IfErr result (λ fault. (fault.kind ≡ Other) × (self.new ≡ self.old) × (2 ^ 64 ≤ self.old.next + 1)) }
+        ensures ok { IfOk result
+            (λ number. (number ≡ self.old.next)
+            × (self.new ≡ record self.old { next = self.old.next + 1 })) }
+        ensures err { IfErr result
+            (λ fault. (fault.kind ≡ Other) × (self.new ≡ self.old) × (2 ^ 64 ≤ self.old.next + 1)) }
     {
         match self.journal.take_numbers(1) {
             Some(number) => Ok(number),
@@ -102,7 +114,9 @@ impl<R> Host<R> {
     /// Makes room for an entry that names a path and for this many ends, and copies the path. Where there is no memory the
     /// host is as it was.
     fn prepare_named(&mut self, path: &str, ends: usize) -> Result<String, Fault>
-        ensures ok { IfOk result (λ kept. (string_bytes kept ≡ path.now) × (self.new ≡ record self.old { room = self.old.room + ends + 1 })) }
+        ensures ok { IfOk result
+            (λ kept. (string_bytes kept ≡ path.now)
+            × (self.new ≡ record self.old { room = self.old.room + ends + 1 })) }
         ensures err { IfErr result (λ fault. (fault.kind ≡ OutOfMemory) × (self.new ≡ self.old)) }
     {
         let Ok(kept) = String::from_str(self.alloc, path) else {
@@ -115,8 +129,11 @@ impl<R> Host<R> {
     /// Takes the room of a spawn's ends but for one entry, and makes that room where no stream is an end.
     fn prepare_spawn(&mut self, ends: usize) -> Result<(), Fault>
         requires { min 1 ends ≤ self.old.room }
-        ensures ok { OnOk result (OnlyRoom self.old self.new × (0 < self.new.room) × (self.old.room + 1 ≤ self.new.room + ends)) }
-        ensures err { IfErr result (λ fault. (fault.kind ≡ OutOfMemory) × (self.new ≡ self.old) × (ends ≡ 0)) }
+        ensures ok { OnOk result
+            (OnlyRoom self.old self.new × (0 < self.new.room)
+            × (self.old.room + 1 ≤ self.new.room + ends)) }
+        ensures err { IfErr result
+            (λ fault. (fault.kind ≡ OutOfMemory) × (self.new ≡ self.old) × (ends ≡ 0)) }
     {
         match ends.checked_sub(1) {
             None => self.journal.prepare(0),
@@ -145,7 +162,9 @@ impl<R: Processes + Files<File = File> + Env + Parents + Clone + Drop> Host<R> {
     /// Two ends of a new pipe, with the next two numbers.
     fn new_pipe(&mut self) -> Result<(End, End), Fault>
         ensures kept { OnlyCounts self.old self.new }
-        ensures fresh { IfOk result (λ ends. IsNew self.old self.new ends.0 × IsNew self.old self.new ends.1 × (ends.0 ≢ ends.1)) }
+        ensures fresh { IfOk result
+            (λ ends. IsNew self.old self.new ends.0 × IsNew self.old self.new ends.1
+            × (ends.0 ≢ ends.1)) }
     {
         let (reader, writer) = ask(|| io::pipe(&self.rt))?;
         let read = self.adopt_reader(reader)?;
@@ -312,7 +331,8 @@ impl<R: Processes + Files<File = File> + Env + Parents + Clone + Drop> System fo
         requires { min 1 (length (ends_of io)) ≤ self.old.room }
         ensures ok { IfOk result (λ child.
             let entry = Spawn spec (map (stream_of (λ e. e)) io) (Ok child.number) in
-            GivesEnds entry (length (ends_of io)) self.old self.new × IsNew self.old self.new child.number) }
+            GivesEnds entry (length (ends_of io)) self.old self.new
+            × IsNew self.old self.new child.number) }
         ensures unasked { IfOk result (λ child. IsUnasked (child_view child)) }
         ensures err { IfErr result (λ fault.
             let entry = Spawn spec (map (stream_of (λ e. e)) io) (Err fault) in

@@ -6,7 +6,7 @@ ghost use Rattle.duct_system.specs.declared.system.Kind.TheVariants.{InvalidInpu
 ghost use Rattle.duct_host.specs.Variables.{IsWholeEnvironment, Sets};
 
 use crate::end::End;
-use crate::fault::{fault_of, no_memory};
+use crate::fault::no_memory;
 use duct_base::spec::CommandSpec;
 use duct_base::system::{Fault, Kind, Numbered, Stdio};
 use std::alloc::{AllocError, Global};
@@ -31,7 +31,7 @@ pub(crate) fn start<R: Processes>(
         match command.spawn(rt) {
             Ok(started) => return Ok(started),
             Err(error) if error.kind() == ErrorKind::Interrupted => {}
-            Err(error) => return Err(fault_of(error)),
+            Err(error) => return Err(Fault::from(error)),
         }
     }
     Err(Fault::new(Kind::Other))
@@ -60,7 +60,8 @@ fn command_with(
     program: &str,
     arguments: &[String],
 ) -> Result<Command, AllocError>
-    ensures words { IfOk result (λ c. command_program c ∷ command_args c ≡ program.now ∷ map string_bytes arguments.now) }
+    ensures words { IfOk result
+        (λ c. command_program c ∷ command_args c ≡ program.now ∷ map string_bytes arguments.now) }
     ensures folder { IfOk result (λ c. command_dir c ≡ spec.now.folder) }
     ensures vars { IfOk result (IsWholeEnvironment spec.now.vars) }
 {
@@ -73,7 +74,8 @@ fn command_with(
 
 /// Adds arguments behind those that the command has.
 fn add_arguments(command: &mut Command, arguments: &[String]) -> Result<(), AllocError>
-    ensures arguments { OnOk result (command_args command.new ≡ command_args command.old ++ map string_bytes arguments.now) }
+    ensures arguments { OnOk result
+        (command_args command.new ≡ command_args command.old ++ map string_bytes arguments.now) }
     ensures program { OnOk result (command_program command.new ≡ command_program command.old) }
     ensures folder { OnOk result (SameDir command.old command.new) }
 {
@@ -99,7 +101,8 @@ fn set_variables(command: &mut Command, spec: &CommandSpec) -> Result<(), AllocE
 /// Sets variables in their order, where the command has none.
 fn set_each(command: &mut Command, variables: &[(&str, &str)]) -> Result<(), AllocError>
     requires { IsWholeEnvironment [] command.old }
-    ensures vars { OnOk result (IsWholeEnvironment (map (λ p. (p.0.now, p.1.now)) variables.now) command.new) }
+    ensures vars { OnOk result
+        (IsWholeEnvironment (map (λ p. (p.0.now, p.1.now)) variables.now) command.new) }
     ensures call { OnOk result (SameProgramAndArgs command.old command.new) }
     ensures folder { OnOk result (SameDir command.old command.new) }
 {

@@ -290,7 +290,8 @@ impl Script {
     /// Takes this many numbers in a row for the answer of a request for which this fault is set, if one is.
     fn answer(&mut self, fault: Option<Fault>, count: u64) -> Result<u64, Fault>
         ensures ok { IfOk result (λ first. (first ≡ self.old.journal.next)
-            × (self.new.journal ≡ record self.old.journal { next = self.old.journal.next + count })) }
+            × (self.new.journal
+            ≡ record self.old.journal { next = self.old.journal.next + count })) }
         ensures fits { OnOk result (self.new.journal.next < 2 ^ 64) }
         ensures err { OnErr result (self.new.journal ≡ self.old.journal) }
     {

@@ -2,6 +2,7 @@ pub mod Child
 pub mod EntryView
 pub mod Job
 pub mod Journal
+pub mod Kinds
 pub mod Ledger
 pub mod Name
 pub mod Origin

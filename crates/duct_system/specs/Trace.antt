@@ -1,5 +1,5 @@
 -- What a call added to the journal, and what of it a plan speaks of.
-use Rattle.std.specs.Prelude.{Bool, true, false, List, [], ◌∷◌, ◌++◌, ◌≡◌, length, drop, filter, Err, Some, None, IfSome}
+use Rattle.std.specs.Prelude.{Bool, true, false, List, [], ◌∷◌, ◌≡◌, length, drop, filter, Err, Some, None, IfSome}
 use Rattle.std.specs.declared.option.Option.{Option}
 use Rattle.duct_system.specs.EntryView.{EntryView, Environment, Pipe, OpenRead, Create, Duplicate, Parent, Canonicalize, Spawn, Feed, Drain, Close}
 use Rattle.duct_system.specs.declared.system.Fault.{Fault}
@@ -7,10 +7,6 @@ use Rattle.duct_system.specs.declared.system.Fault.{Fault}
 -- what the new journal holds past the old one
 abbrev pub segment : List EntryView → List EntryView → List EntryView
 segment old new = drop (length old) new
-
--- the old journal is the front of the new one
-abbrev pub IsFront : List EntryView → List EntryView → Type 0
-IsFront old new = new ≡ old ++ segment old new
 
 -- whether a plan speaks of such an entry: of each but duplicates, ends of the parent's streams, and closes
 abbrev pub is_traced : EntryView → Bool

@@ -125,7 +125,8 @@ impl Journal {
     /// Takes this many numbers in a row and answers the first of them, or none where so many are not left.
     pub fn take_numbers(&mut self, count: u64) -> Option<u64>
         ensures some { IfSome result (λ first.
-            (first ≡ self.old.next) × (self.new ≡ record self.old { next = self.old.next + count })) }
+            (first ≡ self.old.next)
+            × (self.new ≡ record self.old { next = self.old.next + count })) }
         ensures fits { OnSome result (self.new.next < 2 ^ 64) }
         ensures none { IfNone result ((self.new ≡ self.old) × (2 ^ 64 ≤ self.old.next + count)) }
     {

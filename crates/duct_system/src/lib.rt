@@ -2,6 +2,7 @@
 #![tactic(auto)]
 
 pub mod error;
+mod fault;
 pub mod journal;
 pub mod names;
 pub mod spec;

@@ -1,4 +1,4 @@
--- The kind of fault that an error of std is answered as.
+-- The kind of fault that an error of std becomes.
 use Rattle.std.specs.declared.io.ErrorKind.{ErrorKind}
 use Rattle.std.specs.declared.io.ErrorKind.TheVariants as error
 use Rattle.duct_system.specs.declared.system.Kind.{Kind}
