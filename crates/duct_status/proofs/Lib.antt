@@ -10,3 +10,4 @@ pub mod Ran
 pub mod Settled
 pub mod Shown
 pub mod Stays
+pub mod Texts

@@ -147,3 +147,14 @@ is_word_due (Some (word.Fault fault)) = true
 -- whether command k is there and has not ended
 abbrev pub is_due : Latest → ℕ → Bool
 is_due words k = is_word_due (slice_get words.commands k)
+
+-- whether a worker is there and has not finished, by its word
+abbrev pub is_said_due : Option (Said (Unit {0})) → Bool
+is_said_due None = false
+is_said_due (Some said.Running) = true
+is_said_due (Some (said.Done value)) = false
+is_said_due (Some (said.Fault fault)) = false
+
+-- whether input worker k is there and has not finished
+abbrev pub is_input_due : Latest → ℕ → Bool
+is_input_due latest k = is_said_due (slice_get latest.inputs k)

@@ -3,6 +3,8 @@ use Rattle.std.specs.Prelude.{ℕ, ◌+◌, Bool, true, false, List, [], ◌∷�
 use Rattle.std.specs.declared.option.Option.{Option}
 use Rattle.duct_system.specs.declared.system.Fault.{Fault}
 use Rattle.duct_system.specs.declared.system.Said.{Said}
+use Rattle.duct_system.specs.declared.system.Side.{Side}
+use Rattle.duct_system.specs.declared.system.Side.TheVariants.{Out, Err}
 use Rattle.duct_system.specs.declared.system.Said.TheVariants as said
 use Rattle.duct_status.specs.declared.status.Word.{Word}
 use Rattle.duct_status.specs.declared.status.Word.TheVariants as word
@@ -64,6 +66,22 @@ pub data OutcomeView : Type 0 where
 abbrev pub captured : Option (Said (List ℕ)) → Said (List ℕ)
 captured None = said.Done []
 captured (Some heard) = heard
+
+-- the stream whose capture worker decides and has not finished; none where a command or an input worker decides
+abbrev pub awaited_by : Option Fault → Bool → Said (List ℕ) → Said (List ℕ) → Option Side
+awaited_by (Some fault) runs output error = None
+awaited_by None true output error = None
+awaited_by None false said.Running error = Some Out
+awaited_by None false (said.Fault fault) error = None
+awaited_by None false (said.Done bytes) said.Running = Some Err
+awaited_by None false (said.Done bytes) (said.Fault fault) = None
+awaited_by None false (said.Done bytes) (said.Done others) = None
+
+-- the stream whose capture worker is still to be asked, by the latest words
+abbrev pub awaited : ShapeView → Latest → Option Side
+awaited shape latest =
+    let said = in_tree_order shape 0 0 latest.commands latest.inputs in
+    awaited_by (first_fault said) (some_runs said) (captured latest.output) (captured latest.error)
 
 -- what a capture worker's word comes to: while it runs all wait, its fault is the fault, and with its bytes this
 abbrev pub with_bytes : Said (List ℕ) → (List ℕ → OutcomeView) → OutcomeView

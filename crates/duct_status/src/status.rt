@@ -14,14 +14,15 @@ pub mod law;
 mod look;
 mod message;
 mod outcome;
+mod same;
 
 use crate::status::answer::{answer, failure};
 use crate::status::begin::{begin, first_word};
 use crate::status::choose::choose;
 use crate::status::copy::copy;
 use crate::status::keep::{keep_at, keep_bytes, tell_at};
-use crate::status::look::look;
-use crate::status::outcome::{Outcome, judge};
+use crate::status::look::{Found, look};
+use crate::status::outcome::{Outcome, awaited, judge};
 use duct_system::error::Error;
 use duct_system::system::{ExitStatus, Fault, Output, Said, Side};
 use std::alloc::Global;
@@ -110,14 +111,14 @@ pub struct Core {
 
 impl Core {
     ghost use Rattle.std.specs.Prelude.{◌≡◌, IfNone, IfSome, IsSomeAnd, None};
-    ghost use Rattle.duct_status.specs.Outcome.{Concludes, Responds, finished, outcome};
+    ghost use Rattle.duct_status.specs.Outcome.{Concludes, Responds, awaited, finished, first_fault, in_tree_order, outcome, some_runs};
     ghost use Rattle.duct_status.specs.Fits.{Fits};
     ghost use Rattle.duct_status.specs.EventView.{event_view, conclude};
     ghost use Rattle.duct_status.specs.ShapeView.{command_count, input_count};
     ghost use Rattle.duct_status.specs.ReplyView.{reply_view};
     ghost use Rattle.duct_status.specs.Standing.{Again, Repeats, standing_after};
     ghost use Rattle.duct_status.specs.CoreView.{shape_in, latest_in, standing_in};
-    ghost use Rattle.duct_status.specs.Latest.{is_due, latest_after};
+    ghost use Rattle.duct_status.specs.Latest.{is_due, is_input_due, latest_after};
 
     /// Keeps what a command said.
     fn tell(&mut self, at: usize, word: Word) -> Reply
@@ -203,18 +204,29 @@ impl Core {
         }
     }
 
-    /// What the latest words come to.
-    fn outcome(&self) -> Reply
-        ensures { Fits (shape_in self.now) (latest_in self.now) result }
+    /// What is found in the latest words of the commands and the input workers.
+    fn found(&self) -> Found
+        ensures fault { result.fault
+            ≡ first_fault (in_tree_order (shape_in self.now) 0 0 (latest_in self.now).commands
+            (latest_in self.now).inputs) }
+        ensures runs { result.runs
+            ≡ some_runs (in_tree_order (shape_in self.now) 0 0 (latest_in self.now).commands
+            (latest_in self.now).inputs) }
     {
-        let found = look(
+        look(
             &self.shape,
             self.commands.as_slice(),
             self.inputs.as_slice(),
             0,
             0,
-        );
-        match judge(found, &self.output, &self.error) {
+        )
+    }
+
+    /// What the latest words come to.
+    fn outcome(&self) -> Reply
+        ensures { Fits (shape_in self.now) (latest_in self.now) result }
+    {
+        match judge(self.found(), &self.output, &self.error) {
             Outcome::Waits => Reply::Pending,
             Outcome::Faults(fault) => Reply::Fault(fault),
             Outcome::Finished(output, error) => self.answer_with(output, error),
@@ -319,6 +331,27 @@ impl Core {
             Some(Word::Running | Word::Fault(_)) => true,
             Some(Word::Ended(_)) | None => false,
         }
+    }
+
+    /// Whether this input worker is there and has not finished.
+    pub fn is_input_due(&self, i: usize) -> bool
+        ensures { result ≡ is_input_due (latest_in self.now) i }
+    {
+        matches!(self.inputs.get(i), Some(Said::Running))
+    }
+
+    /// The stream whose capture worker the outcome waits for: all commands and input workers have ended without a fault.
+    pub fn awaited(&self) -> Option<Side>
+        ensures { result ≡ awaited (shape_in self.now) (latest_in self.now) }
+    {
+        awaited(self.found(), &self.output, &self.error)
+    }
+
+    /// The shape whose commands and workers it is told of.
+    pub fn shape(&self) -> &Shape
+        ensures { shape_view result.now ≡ shape_in self.now }
+    {
+        &self.shape
     }
 }
 

@@ -3,10 +3,10 @@ ghost use Rattle.std.specs.Prelude.{◌≡◌};
 ghost use Rattle.std.specs.Option.{option_map};
 ghost use Rattle.duct_status.specs.Bytes.{lent_bytes, outcome_view};
 ghost use Rattle.duct_status.specs.EventView.{bytes_said};
-ghost use Rattle.duct_status.specs.Outcome.{captured, ended, finished, with_bytes};
+ghost use Rattle.duct_status.specs.Outcome.{awaited_by, captured, ended, finished, with_bytes};
 
 use crate::status::look::Found;
-use duct_system::system::{Fault, Said};
+use duct_system::system::{Fault, Said, Side};
 use std::sync::Arc;
 
 /// A fault, something that still runs, or that all have ended, with the bytes of stdout and of stderr.
@@ -53,5 +53,25 @@ pub(crate) fn judge<'a>(
         (Said::Done(_), Said::Running) => Outcome::Waits,
         (Said::Done(_), Said::Fault(fault)) => Outcome::Faults(fault),
         (Said::Done(output), Said::Done(error)) => Outcome::Finished(output, error),
+    }
+}
+
+/// The stream whose capture worker decides and has not finished, where no fault was found and nothing runs.
+pub(crate) fn awaited(
+    found: Found,
+    output: &Option<Said<Arc<Vec<u8>>>>,
+    error: &Option<Said<Arc<Vec<u8>>>>,
+) -> Option<Side>
+    ensures { result
+        ≡ awaited_by found.fault found.runs (captured (option_map bytes_said output.now))
+        (captured (option_map bytes_said error.now)) }
+{
+    if found.fault.is_some() || found.runs {
+        return None;
+    }
+    match (bytes_of(output), bytes_of(error)) {
+        (Said::Running, _) => Some(Side::Out),
+        (Said::Done(_), Said::Running) => Some(Side::Err),
+        (Said::Fault(_), _) | (Said::Done(_), Said::Fault(_) | Said::Done(_)) => None,
     }
 }

@@ -1,5 +1,5 @@
 use Rattle.std.proofs.Common.{string_bytes}
-use Rattle.duct_follows.proofs.Texts.{texts_decide}
+use Rattle.duct_status.proofs.Texts.{texts_decide}
 use Rattle.duct_follows.proofs.same.same_texts.Goals as goal
 
 pub returns : goal.returns
