@@ -62,7 +62,8 @@ fn spec_for(
 ) -> Result<CommandSpec, Error>
     ensures asked { IfOk result (λ spec.
         let texts = map string_bytes words.now in
-        IsAsked {E = Unit {0}} {H = Unit {0}} (map pair_text pairs.items) (program_of texts) plain texts spec) }
+        IsAsked {E = Unit {0}} {H = Unit {0}} (map pair_text pairs.items)
+        (program_of texts) plain texts spec) }
     ensures memory { IsOkUnless result Error.Memory }
 {
     let vars = variables(alloc, pairs)?;
@@ -86,12 +87,15 @@ fn command<S: System, H: Hook>(
     seat: Seat<S::Child>,
 ) -> Result<Place<S::Child>, Error>
     ensures ok { OnOk result (let tree = command (map string_bytes words.now) in
-        StartSucceeds H.allows S.End.number_of tree (plan_of tree) (S.journal_view sys.old) (S.journal_view sys.new)) }
+        StartSucceeds H.allows S.End.number_of tree (plan_of tree) (S.journal_view sys.old)
+        (S.journal_view sys.new)) }
     ensures child { IfOk result (λ place.
-        StartsOne (S.Child.number_of place) (segment (S.journal_view sys.old).entries (S.journal_view sys.new).entries)) }
+        StartsOne (S.Child.number_of place)
+        (segment (S.journal_view sys.old).entries (S.journal_view sys.new).entries)) }
     ensures unasked { IfOk result (λ place. IsUnasked (S.Child.child_view place)) }
     ensures err { IfErr result (let tree = command (map string_bytes words.now) in
-        StartRefused H.allows H.refuses S.End.number_of tree (plan_of tree) (S.journal_view sys.old) (S.journal_view sys.new)) }
+        StartRefused H.allows H.refuses S.End.number_of tree (plan_of tree) (S.journal_view sys.old)
+        (S.journal_view sys.new)) }
     ensures no_child { OnErr result
         (StartsNone (segment (S.journal_view sys.old).entries (S.journal_view sys.new).entries)) }
 {
@@ -114,15 +118,18 @@ impl<E: Drop, H: Hook> Expression<E, H> {
     ) -> Result<Running<S>, Error>
         requires { IsCommand (tree_view self.now) }
         ensures ok { OnOk result (let tree = tree_view self.now in
-            StartSucceeds H.allows E.number_of tree (plan_of tree) (S.journal_view sys.old) (S.journal_view sys.new)) }
+            StartSucceeds H.allows E.number_of tree (plan_of tree) (S.journal_view sys.old)
+            (S.journal_view sys.new)) }
         ensures running { IfOk result (let tree = tree_view self.now in
             IsRunning S.Child.child_view S.Feed.job_view S.Drain.job_view tree (plan_of tree)
             (segment (S.journal_view sys.old).entries (S.journal_view sys.new).entries)) }
         ensures err { IfErr result (let tree = tree_view self.now in
-            StartRefused H.allows H.refuses E.number_of tree (plan_of tree) (S.journal_view sys.old) (S.journal_view sys.new)) }
+            StartRefused H.allows H.refuses E.number_of tree (plan_of tree) (S.journal_view sys.old)
+            (S.journal_view sys.new)) }
         ensures pool_given { OnErr result
             (LeavesStarted S.Child.may_answer S.Child.child_view
-            (segment (S.journal_view sys.old).entries (S.journal_view sys.new).entries) pool.old pool.new) }
+            (segment (S.journal_view sys.old).entries
+            (S.journal_view sys.new).entries) pool.old pool.new) }
 
         // One command leaves nothing to a pool, whatever it answers.
         ensures pool_kept { pool.new ≡ pool.old }

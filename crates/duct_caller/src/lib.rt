@@ -3,6 +3,8 @@
 
 ghost use Rattle.std.specs.Prelude.{◌≡◌, OnOk};
 
+pub mod hello;
+
 use duct::{CommandSpec, Error, Expression, Fault, Hook, HookBox, IntoExecutablePath, Port, cmd};
 use std::alloc::{AllocError, Global};
 use std::path::{Path, PathBuf};
@@ -112,11 +114,21 @@ pub fn shown(alloc: Global) -> Result<String, Error> {
 #[cfg(test)]
 mod tests {
     use super::*;
+    use crate::hello::hello;
+    use duct_host::host::Host;
 
     #[test]
     fn a_hook_in_a_box(rt: HostRuntime) -> Result<(), Error> {
         let text = shown(rt.alloc())?;
         assert_eq!(rt; text.as_str(), "Io(BeforeSpawn(<closure>), Cmd([\"a\"]))");
+        Ok(())
+    }
+
+    #[test]
+    fn hello_ends_well(rt: HostRuntime) -> Result<(), Error> {
+        let mut host = Host::new(&rt, rt.alloc());
+        let answer = hello(rt.alloc(), &mut host)?;
+        assert!(rt; answer.is_some_and(|output| output.status.success()));
         Ok(())
     }
 }

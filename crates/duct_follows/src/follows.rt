@@ -169,7 +169,8 @@ fn given<E: Numbered>(
 ) -> Result<Option<Wired>, Untold>
     requires { place ≤ length (trace (map entry_view added.now)) }
     ensures { IfOk result (λ given. (spec : SpecView) (streams : List (Stdio Origin)) →
-        IsGiven allows E.number_of (trace (map entry_view added.now)) place (found_of found.now) (map string_bytes words.now) spec streams
+        IsGiven allows E.number_of (trace (map entry_view added.now)) place (found_of found.now)
+        (map string_bytes words.now) spec streams
         ↔ AreAnswered given spec streams) }
 {
     let trace = trace(alloc, added)?;

@@ -250,16 +250,19 @@ pub trait System {
     /// The parent's variables. A name may be answered twice.
     fn environment(&mut self) -> Result<Vec<(String, String)>, Fault>
         ensures ok { IfOk result (λ pairs.
-            Asks (Environment (Ok (map pair_text pairs.items))) (journal_view self.old) (journal_view self.new)) }
+            Asks (Environment (Ok (map pair_text pairs.items))) (journal_view self.old)
+            (journal_view self.new)) }
         ensures err { IfErr result (λ fault.
-            IsRefused (Environment (Err fault)) 0 fault (journal_view self.old) (journal_view self.new)) };
+            IsRefused (Environment (Err fault)) 0 fault (journal_view self.old)
+            (journal_view self.new)) };
 
     /// A pipe: its read end, then its write end.
     fn pipe(&mut self) -> Result<(Self::End, Self::End), Fault>
         ensures ok { IfOk result (λ ends.
             let read = Self.End.number_of ends.0 in
             let write = Self.End.number_of ends.1 in
-            GetsEnds (Pipe (Ok (read, write))) read write (journal_view self.old) (journal_view self.new)) }
+            GetsEnds (Pipe (Ok (read, write))) read write (journal_view self.old)
+            (journal_view self.new)) }
         ensures err { IfErr result (λ fault.
             IsRefused (Pipe (Err fault)) 0 fault (journal_view self.old) (journal_view self.new)) };
 
@@ -267,42 +270,52 @@ pub trait System {
     fn open_read(&mut self, path: &str) -> Result<Self::End, Fault>
         ensures ok { IfOk result (λ end.
             let number = Self.End.number_of end in
-            GetsEnd (OpenRead path.now (Ok number)) number (journal_view self.old) (journal_view self.new)) }
+            GetsEnd (OpenRead path.now (Ok number)) number (journal_view self.old)
+            (journal_view self.new)) }
         ensures err { IfErr result (λ fault.
-            IsRefused (OpenRead path.now (Err fault)) 0 fault (journal_view self.old) (journal_view self.new)) };
+            IsRefused (OpenRead path.now (Err fault)) 0 fault (journal_view self.old)
+            (journal_view self.new)) };
 
     /// A file, made or emptied, to be written.
     fn create(&mut self, path: &str) -> Result<Self::End, Fault>
         ensures ok { IfOk result (λ end.
             let number = Self.End.number_of end in
-            GetsEnd (Create path.now (Ok number)) number (journal_view self.old) (journal_view self.new)) }
+            GetsEnd (Create path.now (Ok number)) number (journal_view self.old)
+            (journal_view self.new)) }
         ensures err { IfErr result (λ fault.
-            IsRefused (Create path.now (Err fault)) 0 fault (journal_view self.old) (journal_view self.new)) };
+            IsRefused (Create path.now (Err fault)) 0 fault (journal_view self.old)
+            (journal_view self.new)) };
 
     /// One more end of what the lent end reads or writes.
     fn duplicate(&mut self, end: &Self::End) -> Result<Self::End, Fault>
         ensures ok { IfOk result (λ made.
             let lent = Self.End.number_of end.now in
             let number = Self.End.number_of made in
-            GetsEnd (Duplicate lent (Ok number)) number (journal_view self.old) (journal_view self.new)) }
+            GetsEnd (Duplicate lent (Ok number)) number (journal_view self.old)
+            (journal_view self.new)) }
         ensures err { IfErr result (λ fault.
             let lent = Self.End.number_of end.now in
-            IsRefused (Duplicate lent (Err fault)) 0 fault (journal_view self.old) (journal_view self.new)) };
+            IsRefused (Duplicate lent (Err fault)) 0 fault (journal_view self.old)
+            (journal_view self.new)) };
 
     /// One more end of the parent's own stdout or stderr.
     fn parent(&mut self, side: Side) -> Result<Self::End, Fault>
         ensures ok { IfOk result (λ made.
             let number = Self.End.number_of made in
-            GetsEnd (Parent side (Ok number)) number (journal_view self.old) (journal_view self.new)) }
+            GetsEnd (Parent side (Ok number)) number (journal_view self.old)
+            (journal_view self.new)) }
         ensures err { IfErr result (λ fault.
-            IsRefused (Parent side (Err fault)) 0 fault (journal_view self.old) (journal_view self.new)) };
+            IsRefused (Parent side (Err fault)) 0 fault (journal_view self.old)
+            (journal_view self.new)) };
 
     /// The canonical name of a path.
     fn canonicalize(&mut self, path: &str) -> Result<String, Fault>
         ensures ok { IfOk result (λ text.
-            Asks (Canonicalize path.now (Ok (string_bytes text))) (journal_view self.old) (journal_view self.new)) }
+            Asks (Canonicalize path.now (Ok (string_bytes text))) (journal_view self.old)
+            (journal_view self.new)) }
         ensures err { IfErr result (λ fault.
-            IsRefused (Canonicalize path.now (Err fault)) 0 fault (journal_view self.old) (journal_view self.new)) };
+            IsRefused (Canonicalize path.now (Err fault)) 0 fault (journal_view self.old)
+            (journal_view self.new)) };
 
     /// Starts a child with these streams, in the order stdin, stdout, stderr. Where no stream is an end, there may be no
     /// memory for the entry.
@@ -316,7 +329,8 @@ pub trait System {
         ensures unasked { IfOk result (λ child. IsUnasked (Self.Child.child_view child)) }
         ensures err { IfErr result (λ fault.
             let entry = Spawn spec (map (stream_of Self.End.number_of) io) (Err fault) in
-            IsRefused entry (length (ends_of io)) fault (journal_view self.old) (journal_view self.new)) };
+            IsRefused entry (length (ends_of io)) fault (journal_view self.old)
+            (journal_view self.new)) };
 
     /// Starts a worker that writes the bytes to the end, closes it and ends.
     fn start_feed(&mut self, end: Self::End, bytes: Arc<Vec<u8>>) -> Result<Self::Feed, Fault>
@@ -334,11 +348,13 @@ pub trait System {
     fn start_drain(&mut self, end: Self::End) -> Result<Self::Drain, Fault>
         requires { 0 < (journal_view self.old).room }
         ensures ok { IfOk result (λ job.
-            GivesEnds (Drain (Self.End.number_of end) (Ok tt)) 1 (journal_view self.old) (journal_view self.new)) }
+            GivesEnds (Drain (Self.End.number_of end) (Ok tt)) 1 (journal_view self.old)
+            (journal_view self.new)) }
         ensures unasked { IfOk result
             (λ job. Self.Drain.job_view job ≡ unpolled_job (Self.End.number_of end)) }
         ensures err { IfErr result (λ fault.
-            GivesEnds (Drain (Self.End.number_of end) (Err fault)) 1 (journal_view self.old) (journal_view self.new)) };
+            GivesEnds (Drain (Self.End.number_of end) (Err fault)) 1 (journal_view self.old)
+            (journal_view self.new)) };
 
     /// A reader of the end. It cannot fail and takes no memory.
     fn reader(&mut self, end: Self::End) -> Self::Reader
