@@ -1,4 +1,4 @@
-use Rattle.std.proofs.Common.{◌≤◌, sym, ◌∙◌, map, length, arith}
+use Rattle.std.proofs.Common.{◌≤◌, refl, sym, ◌∙◌, map, length, arith, rules}
 use Rattle.std.proofs.lemmas.List.{length-map}
 use Rattle.duct.proofs.Polls.{asked_more, asked_all, asked_length}
 use Rattle.duct.proofs.running.Running.poll.Goals as goal
@@ -21,3 +21,6 @@ returns-clause-asked g c =
     let i = c.loop-at.invariant in
     let all : length (map view c.args.self.now.children) ≤ c.loop-at.at = omega (arith, length-map c.args.self.now.children view, i.kept, c.loop-at-test.false) in
     rw c.conclude.ensures.children (asked_all g.S.Child.Child.may_answer c.loop-at.at _ _ all i.asked)
+
+pub loop-at-init : goal.loop-at-init
+loop-at-init g c = record { shape = refl; asked = refl; count = search rules; kept = search rules }

@@ -1,0 +1,4 @@
+use Rattle.duct.proofs.expression.Expression.stderr_file.Goals as goal
+
+pub returns-clause-tree : goal.returns-clause-tree
+returns-clause-tree g c = c.around.ensures.tree

@@ -1,0 +1,6 @@
+use Rattle.std.proofs.Common.{ap}
+use Rattle.duct.specs.TreeView.{node_view}
+use Rattle.duct.proofs.expression.ExpressionClone.clone.Goals as goal
+
+pub returns : goal.returns
+returns g c = record { cases = ap (λ n. node_view n) c.in_ok-try_clone.ensures }

@@ -1,0 +1,5 @@
+use Rattle.std.proofs.Common.{rules}
+use Rattle.duct_host.proofs.child.ChildChild.id.Goals as goal
+
+pub returns : goal.returns
+returns g c = search rules

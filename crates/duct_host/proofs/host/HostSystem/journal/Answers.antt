@@ -1,0 +1,5 @@
+use Rattle.std.proofs.Common.{rules}
+use Rattle.duct_host.proofs.host.HostSystem.journal.Goals as goal
+
+pub returns : goal.returns
+returns g c = search rules

@@ -1,0 +1,5 @@
+use Rattle.std.proofs.Common.{rules}
+use Rattle.duct_script.proofs.child.ScriptChildChild.signal.Goals as goal
+
+pub returns : goal.returns
+returns c = search rules

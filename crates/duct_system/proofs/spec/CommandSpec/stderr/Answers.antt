@@ -1,0 +1,5 @@
+use Rattle.std.proofs.Common.{rules}
+use Rattle.duct_system.proofs.spec.CommandSpec.stderr.Goals as goal
+
+pub returns : goal.returns
+returns c = search rules
