@@ -6,9 +6,9 @@ use std::fmt;
 
 /// An entry in words: the request, then its answer, which is `ok` with what was answered, or the kind of the fault.
 #[derive(Drop)]
-pub struct Latest<'a>(pub &'a Entry);
+pub struct Words<'a>(pub &'a Entry);
 
-impl fmt::Display for Latest<'_> {
+impl fmt::Display for Words<'_> {
     fn fmt<W: fmt::Write>(&self, f: &mut fmt::Formatter<W>) -> fmt::Result {
         match self.0 {
             Entry::Environment(Ok(pairs)) => {
@@ -105,7 +105,7 @@ impl fmt::Display for Stream {
 pub fn journal_in_words(alloc: Global, entries: &[Entry]) -> Result<String, AllocError> {
     let mut text = String::new(alloc);
     for entry in entries {
-        writeln!(text, "{}", Latest(entry))?;
+        writeln!(text, "{}", Words(entry))?;
     }
     Ok(text)
 }

@@ -1,6 +1,6 @@
 //! The gates of the tests.
 use crate::children::start;
-use crate::jobs::reader_by;
+use crate::jobs::read_file;
 use duct_base::system::Numbered;
 use duct_script::child::{ChildScript, ScriptChild};
 use duct_script::gate::Gate;
@@ -53,9 +53,11 @@ fn write_two(mut writer: Gated<Vec<u8>>) -> usize {
     writer.inner.len()
 }
 
-/// Sends a guest to a shut gate, and opens it once somebody stands there. Answers how many stood there, what the guest
-/// answers, and how many stand there in the end.
-fn let_in(rt: &impl Threads, gate: &Gate, guest: Guest) -> Result<(u64, u64, u64), Fail> {
+/// How many stood at a gate, what the guest answers, and how many stand there in the end.
+type Seen = (u64, u64, u64);
+
+/// Sends a guest to a shut gate, and opens it once somebody stands there.
+fn let_in(rt: &impl Threads, gate: &Gate, guest: Guest) -> Result<Seen, Fail> {
     gate.shut();
     let there = thread::spawn(rt, move || answer(guest))?;
     let standing = stands(gate);
@@ -66,77 +68,74 @@ fn let_in(rt: &impl Threads, gate: &Gate, guest: Guest) -> Result<(u64, u64, u64
 
 /// A child whose number is behind a gate.
 fn gated_child(alloc: Global, gate: &Gate) -> Result<ScriptChild, Fail> {
-    let shared = gate.share()?;
-    let mut sys = Script::new(alloc)?;
     let mut script = ChildScript::running(alloc);
-    script.gate = Some(shared);
+    script.gate = Some(gate.share()?);
+    child_by(alloc, &mut Script::new(alloc)?, script)
+}
+
+fn child_by(alloc: Global, sys: &mut Script, script: ChildScript) -> Result<ScriptChild, Fail> {
     sys.child(script)?;
-    start(alloc, &mut sys)
+    Ok(start(alloc, sys)?)
 }
 
 /// The number of a gated child while its gate is open, and what comes of it at the shut gate.
-fn let_child_in(rt: &impl Threads, alloc: Global) -> Result<(u64, (u64, u64, u64)), Fail> {
-    let gate = Gate::new(alloc)?;
-    let child = gated_child(alloc, &gate)?;
+fn let_child_in(rt: &impl Threads, alloc: Global, gate: &Gate) -> Result<(u64, Seen), Fail> {
+    let child = gated_child(alloc, gate)?;
     let number = child.number();
-    Ok((number, let_in(rt, &gate, Guest::Child(child))?))
-}
-
-#[test]
-fn a_number_waits_at_a_shut_gate(rt: HostRuntime) -> Result<(), Fail> {
-    let found = let_child_in(&rt, rt.alloc())?;
-    assert_eq!(rt; found, (1, (1, 1, 0)));
-    Ok(())
+    Ok((number, let_in(rt, gate, Guest::Child(child))?))
 }
 
 /// A reader of one byte, whose reads are behind a gate.
 fn gated_reader(alloc: Global, gate: &Gate) -> Result<ScriptReader, Fail> {
-    let bytes = Vec::from_slice(alloc, &[7])?;
-    let shared = gate.share()?;
     let mut script = ReaderScript::empty(alloc);
-    script.bytes = bytes;
-    script.gate = Some(shared);
-    reader_by(alloc, script)
+    script.gate = Some(gate.share()?);
+    script.bytes.push(7)?;
+    reader_by(&mut Script::new(alloc)?, script)
 }
 
-fn let_reader_in(rt: &impl Threads, alloc: Global) -> Result<(u64, u64, u64), Fail> {
-    let gate = Gate::new(alloc)?;
-    let reader = gated_reader(alloc, &gate)?;
-    let_in(rt, &gate, Guest::Reader(reader))
+fn reader_by(sys: &mut Script, script: ReaderScript) -> Result<ScriptReader, Fail> {
+    sys.bytes(script)?;
+    Ok(read_file(sys)?)
 }
 
-#[test]
-fn a_read_waits_at_a_shut_gate(rt: HostRuntime) -> Result<(), Fail> {
-    let found = let_reader_in(&rt, rt.alloc())?;
-    assert_eq!(rt; found, (1, 1, 0));
-    Ok(())
+fn let_reader_in(rt: &impl Threads, alloc: Global, gate: &Gate) -> Result<Seen, Fail> {
+    let_in(rt, gate, Guest::Reader(gated_reader(alloc, gate)?))
 }
 
-/// A writer of bytes whose writes are behind a gate.
-fn gated_writer(alloc: Global, gate: &Gate) -> Result<Gated<Vec<u8>>, Fail> {
-    Ok(Gated {
-        gate: gate.share()?,
-        inner: Vec::new(alloc),
-    })
+/// What comes of a gated writer at the shut gate.
+fn let_writer_in(rt: &impl Threads, alloc: Global, gate: &Gate) -> Result<Seen, Fail> {
+    let inner = Vec::new(alloc);
+    let gate_of_writer = gate.share()?;
+    let writer = Gated {
+        gate: gate_of_writer,
+        inner,
+    };
+    let_in(rt, gate, Guest::Writer(writer))
 }
 
-/// How many bytes a reader gives that has two open gates.
-fn read_through(alloc: Global, gate: Gate) -> Result<usize, Fail> {
+/// How many bytes a reader gives that has this gate and one more, which are open.
+fn read_through(alloc: Global, gate: &Gate) -> Result<usize, Fail> {
     let inner = gated_reader(alloc, &Gate::new(alloc)?)?;
+    let gate = gate.share()?;
     Ok(read_one(Gated { gate, inner }))
 }
 
-/// What comes of a gated writer at the shut gate, and of a reader with that gate, which is open then.
-fn let_writer_in(rt: &impl Threads, alloc: Global) -> Result<((u64, u64, u64), usize), Fail> {
-    let gate = Gate::new(alloc)?;
-    let writer = gated_writer(alloc, &gate)?;
-    let found = let_in(rt, &gate, Guest::Writer(writer))?;
-    Ok((found, read_through(alloc, gate)?))
+/// A child's number, a read and a write wait at a shut gate, one after another at the same one; a read passes open ones.
+fn all_let_in(
+    rt: &impl Threads,
+    alloc: Global,
+    gate: &Gate,
+) -> Result<((u64, Seen), Seen, Seen, usize), Fail> {
+    let child = let_child_in(rt, alloc, gate)?;
+    let reader = let_reader_in(rt, alloc, gate)?;
+    let writer = let_writer_in(rt, alloc, gate)?;
+    Ok((child, reader, writer, read_through(alloc, gate)?))
 }
 
 #[test]
-fn a_write_waits_at_a_shut_gate(rt: HostRuntime) -> Result<(), Fail> {
-    let found = let_writer_in(&rt, rt.alloc())?;
-    assert_eq!(rt; found, ((1, 2, 0), 1));
+fn guests_wait_at_a_shut_gate(rt: HostRuntime) -> Result<(), Fail> {
+    let found = all_let_in(&rt, rt.alloc(), &Gate::new(rt.alloc())?)?;
+    let wanted = ((1, (1, 1, 0)), (1, 1, 0), (1, 2, 0), 1);
+    assert_eq!(rt; found, wanted);
     Ok(())
 }

@@ -1,72 +1,67 @@
 //! The hooks of the tests, and the log that they share with a scripted system.
-use crate::asks::spec_of_words;
+use crate::bench::{same, spec_of_words};
 use crate::children::start;
-use duct_base::spec::{CommandSpec, Hook, Port, Stream};
+use crate::words::{Stop, first_word};
+use duct_base::spec::{CommandSpec, Hook, Stream};
 use duct_base::system::{Child, Fault, Kind, System};
 use duct_script::calls::{Call, CallLog};
 use duct_script::hook::{Change, HookAnswer, ScriptHook, Target};
 use duct_script::requests::Sort;
 use duct_script::system::Script;
 use std::alloc::{AllocError, Global};
-use std::process::Abort;
 use std::sync::Arc;
 use std::test::Fail;
+
+/// Each change.
+const BUSY: &str =
+    "var X=0,no_vars,word x,var A=1,var B=2,no_var A,folder /in,stdin_to_place 1,stdout_to_null";
 
 fn text(alloc: Global, text: &str) -> Result<String, AllocError> {
     String::from_str(alloc, text)
 }
 
-/// A change of a spec.
-#[derive(Clone, Copy)]
-enum Row {
-    Word(&'static str),
-    Var(&'static str, &'static str),
-    NoVar(&'static str),
-    NoVars,
-    Folder(&'static str),
-    Port(Stream, Target),
+fn change(alloc: Global, row: &str) -> Result<Change, Stop> {
+    let (word, rest) = first_word(row);
+    match word {
+        "word" => Ok(Change::Word(text(alloc, rest)?)),
+        "var" => Ok(variable(alloc, rest)?),
+        "no_var" => Ok(Change::NoVar(text(alloc, rest)?)),
+        "no_vars" => Ok(Change::NoVars),
+        "folder" => Ok(Change::Folder(text(alloc, rest)?)),
+        "stdin_to_place" => Ok(Change::Port(Stream::In, Target::Place(rest.parse()?))),
+        "stdout_to_null" => Ok(Change::Port(Stream::Out, Target::Null)),
+        _ => Err(Stop::Word),
+    }
 }
 
-/// Each change.
-const BUSY: [Row; 9] = [
-    Row::Var("X", "0"),
-    Row::NoVars,
-    Row::Word("x"),
-    Row::Var("A", "1"),
-    Row::Var("B", "2"),
-    Row::NoVar("A"),
-    Row::Folder("/in"),
-    Row::Port(Stream::In, Target::Place(1)),
-    Row::Port(Stream::Out, Target::Null),
-];
-
-fn change_of(alloc: Global, row: Row) -> Result<Change, AllocError> {
-    Ok(match row {
-        Row::Word(word) => Change::Word(text(alloc, word)?),
-        Row::Var(name, value) => Change::Var(text(alloc, name)?, text(alloc, value)?),
-        Row::NoVar(name) => Change::NoVar(text(alloc, name)?),
-        Row::NoVars => Change::NoVars,
-        Row::Folder(folder) => Change::Folder(text(alloc, folder)?),
-        Row::Port(stream, target) => Change::Port(stream, target),
-    })
+fn variable(alloc: Global, pair: &str) -> Result<Change, AllocError> {
+    let (name, value) = pair.split_once('=').unwrap_or((pair, ""));
+    let name = text(alloc, name)?;
+    Ok(Change::Var(name, text(alloc, value)?))
 }
 
 /// A hook that makes each change, and then answers this.
-fn busy(alloc: Global, answer: HookAnswer) -> Result<ScriptHook, AllocError> {
-    let mut changes = Vec::new(alloc);
-    for row in BUSY {
-        changes.push(change_of(alloc, row)?)?;
+fn busy(alloc: Global, answer: HookAnswer) -> Result<ScriptHook, Stop> {
+    let mut hook = ScriptHook::new(alloc);
+    hook.answer = answer;
+    for row in BUSY.split(',') {
+        hook.changes.push(change(alloc, row)?)?;
     }
-    Ok(ScriptHook {
-        changes,
-        answer,
-        label: 0,
-        calls: None,
-    })
+    Ok(hook)
 }
 
-/// Notes the words and the folder of a spec.
-fn note_words(spec: &CommandSpec, text: &mut String) -> Result<(), AllocError> {
+fn answer(alloc: Global, word: &str) -> Result<HookAnswer, Stop> {
+    let refused = Fault::new(Kind::PermissionDenied);
+    match word {
+        "obeys" => Ok(HookAnswer::Obey),
+        "refuses" => Ok(HookAnswer::Refuse(refused)),
+        "refuses_x" => Ok(HookAnswer::RefuseWord(text(alloc, "x")?, refused)),
+        _ => Err(Stop::Word),
+    }
+}
+
+/// Adds the words and the folder of a spec.
+fn push_words(spec: &CommandSpec, text: &mut String) -> Result<(), AllocError> {
     for word in spec.words() {
         write!(text, "{word} ")?;
     }
@@ -74,100 +69,71 @@ fn note_words(spec: &CommandSpec, text: &mut String) -> Result<(), AllocError> {
     write!(text, "in {folder}")
 }
 
-/// Notes the variables of a spec.
-fn note_variables(spec: &CommandSpec, text: &mut String) -> Result<(), Fail> {
+/// Adds the variables of a spec.
+fn push_variables(spec: &CommandSpec, text: &mut String) -> Result<(), Stop> {
     for (name, value) in spec.vars()?.iter() {
         write!(text, " {name}={value}")?;
     }
     Ok(())
 }
 
-/// Notes a spec: the words, the folder, the variables, the ports.
-fn note_spec(spec: &CommandSpec, text: &mut String) -> Result<(), Fail> {
-    note_words(spec, text)?;
-    note_variables(spec, text)?;
-    let input = spec.port(Stream::In);
-    let output = spec.port(Stream::Out);
-    let error = spec.port(Stream::Err);
-    Ok(write!(text, " {input:?} {output:?} {error:?}")?)
+/// Adds a spec: the words, the folder, the variables, the ports.
+fn push_spec(spec: &CommandSpec, text: &mut String) -> Result<(), Stop> {
+    push_words(spec, text)?;
+    push_variables(spec, text)?;
+    let ports = [Stream::In, Stream::Out, Stream::Err].map(|stream| spec.port(stream));
+    Ok(write!(text, " {ports:?}")?)
 }
 
-/// Notes the spec that a hook let pass, or the fault by which it refused it.
-fn note_answer(answer: Option<Fault>, spec: &CommandSpec, text: &mut String) -> Result<(), Fail> {
-    match answer {
-        None => note_spec(spec, text),
-        Some(fault) => {
+/// Adds what a hook makes of a spec of these words, or the fault by which it refuses.
+fn push_made(alloc: Global, hook: &ScriptHook, words: &str, text: &mut String) -> Result<(), Stop> {
+    let mut spec = spec_of_words(alloc, words)?;
+    match hook.change(&mut spec) {
+        Ok(()) => push_spec(&spec, text),
+        Err(fault) => {
             let kind = fault.kind;
             Ok(write!(text, "{kind:?}")?)
         }
     }
 }
 
-/// What a hook makes of a spec of these words, or the fault by which it refuses.
-fn made(alloc: Global, hook: &ScriptHook, words: &[&str]) -> Result<String, Fail> {
-    let mut spec = spec_of_words(alloc, words)?;
-    let answer = hook.change(&mut spec).err();
+/// Tries a line: how a hook answers, the words of a spec, and what it makes of it.
+fn try_line(alloc: Global, line: &str) -> Result<(), Stop> {
+    let (key, wanted) = line.split_once(" -> ").ok_or(Stop::Word)?;
+    let (word, words) = first_word(key);
     let mut text = String::new(alloc);
-    note_answer(answer, &spec, &mut text)?;
-    Ok(text)
+    push_made(alloc, &busy(alloc, answer(alloc, word)?)?, words, &mut text)?;
+    same(text, wanted)
 }
 
-/// The same of a busy hook with this answer.
-fn outcome(alloc: Global, answer: HookAnswer, words: &[&str]) -> Result<String, Fail> {
-    let hook = busy(alloc, answer)?;
-    made(alloc, &hook, words)
-}
-
-/// Asserts what it makes.
-fn makes<R: Abort + AllocGlobal>(
-    rt: &R,
-    answer: HookAnswer,
-    words: &[&str],
-    wanted: &str,
-) -> Result<(), Fail> {
-    let found = outcome(rt.alloc(), answer, words)?;
-    assert_eq!(rt; found.as_str(), wanted);
+/// A hook makes its changes, refuses, or refuses a word.
+#[test]
+fn hooks(rt: HostRuntime) -> Result<(), Fail> {
+    let table = "
+        obeys a -> a x in /in B=2 [Place(1), Null, Inherit]
+        refuses a -> PermissionDenied
+        refuses_x a,xx, -> a xx  x in /in B=2 [Place(1), Null, Inherit]
+        refuses_x a,x -> PermissionDenied
+        ";
+    for text in table.trim().lines() {
+        if let Err(stop) = try_line(rt.alloc(), text.trim()) {
+            return Err(Fail::new(format_args!("{text}: {stop:?}")));
+        }
+    }
     Ok(())
 }
 
-#[test]
-fn a_hook_makes_its_changes(rt: HostRuntime) -> Result<(), Fail> {
-    let wanted = "a x in /in B=2 Place(1) Null Inherit";
-    makes(&rt, HookAnswer::Obey, &["a"], wanted)
-}
-
-const REFUSED: Fault = Fault {
-    kind: Kind::PermissionDenied,
-};
-
-#[test]
-fn a_hook_refuses(rt: HostRuntime) -> Result<(), Fail> {
-    makes(&rt, HookAnswer::Refuse(REFUSED), &["a"], "PermissionDenied")
-}
-
-#[test]
-fn a_hook_refuses_a_word(rt: HostRuntime) -> Result<(), Fail> {
-    let word = text(rt.alloc(), "x")?;
-    let wanted = "a xx  x in /in B=2 Place(1) Null Inherit";
-    let answer = HookAnswer::RefuseWord(word, REFUSED);
-    makes(&rt, answer, &["a", "xx", ""], wanted)?;
-    let word = text(rt.alloc(), "x")?;
-    let answer = HookAnswer::RefuseWord(word, REFUSED);
-    makes(&rt, answer, &["a", "x"], "PermissionDenied")
-}
-
 /// Lets a hook with a label, which shares this log, change a spec.
-fn call_hook(alloc: Global, log: &Arc<CallLog>) -> Result<(), Fail> {
+fn call_hook(alloc: Global, log: &Arc<CallLog>) -> Result<(), Stop> {
     let mut hook = ScriptHook::new(alloc);
     hook.label = 7;
     hook.calls = Some(Arc::try_clone(log)?);
-    let mut spec = spec_of_words(alloc, &["a"])?;
-    let _ = hook.change(&mut spec);
+    let _ = hook.change(&mut spec_of_words(alloc, "a")?);
     Ok(())
 }
 
 /// Starts a child, polls it, kills it, and polls it.
-fn call_child(alloc: Global, sys: &mut Script) -> Result<(), Fail> {
+fn call_child(alloc: Global, sys: &mut Script) -> Result<(), Stop> {
     let mut child = start(alloc, sys)?;
     let _ = child.poll();
     let _ = child.kill();
@@ -175,49 +141,28 @@ fn call_child(alloc: Global, sys: &mut Script) -> Result<(), Fail> {
     Ok(())
 }
 
-/// Asks for the environment.
-fn call_environment(sys: &mut Script) -> Result<(), Fail> {
-    sys.environment()?;
-    Ok(())
-}
-
-/// A system that shares this log.
-fn system_of(alloc: Global, log: &Arc<CallLog>) -> Result<Script, AllocError> {
-    let shared = Arc::try_clone(log)?;
-    let mut sys = Script::new(alloc)?;
-    sys.note_in(shared);
-    Ok(sys)
-}
-
 /// Asks a system, a hook and a child, which share this log.
-fn call_all(alloc: Global, log: &Arc<CallLog>) -> Result<(), Fail> {
-    let mut sys = system_of(alloc, log)?;
-    call_environment(&mut sys)?;
+fn call_all(alloc: Global, sys: &mut Script, log: &Arc<CallLog>) -> Result<(), Stop> {
+    sys.note_in(Arc::try_clone(log)?);
+    let _ = sys.environment();
     call_hook(alloc, log)?;
-    call_child(alloc, &mut sys)
+    call_child(alloc, sys)
 }
 
 fn first_six(log: &CallLog) -> [Option<Call>; 6] {
-    [
-        log.get(0),
-        log.get(1),
-        log.get(2),
-        log.get(3),
-        log.get(4),
-        log.get(5),
-    ]
+    [0, 1, 2, 3, 4, 5].map(|place| log.get(place))
 }
 
 /// The calls at the first six places of that log, which has five, and how many were noted.
-fn calls_of(alloc: Global) -> Result<([Option<Call>; 6], u64), Fail> {
+fn calls(alloc: Global) -> Result<([Option<Call>; 6], u64), Stop> {
     let log = Arc::new(alloc, CallLog::new(alloc, 5)?)?;
-    call_all(alloc, &log)?;
+    call_all(alloc, &mut Script::new(alloc)?, &log)?;
     Ok((first_six(&log), log.noted()))
 }
 
 #[test]
 fn a_log_has_all_calls_in_order(rt: HostRuntime) -> Result<(), Fail> {
-    let found = calls_of(rt.alloc())?;
+    let found = calls(rt.alloc())?;
     let calls = [
         Some(Call::Request(Sort::Environment)),
         Some(Call::Hook(7)),

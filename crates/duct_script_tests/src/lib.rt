@@ -2,7 +2,7 @@
 #![tactic(auto)]
 
 #[cfg(test)]
-mod asks;
+mod bench;
 #[cfg(test)]
 mod children;
 #[cfg(test)]
@@ -12,6 +12,10 @@ mod hooks;
 #[cfg(test)]
 mod jobs;
 #[cfg(test)]
+mod lists;
+#[cfg(test)]
 mod memory;
 #[cfg(test)]
 mod requests;
+#[cfg(test)]
+mod words;

@@ -1,100 +1,133 @@
-//! What comes of refused memory. The test passes with ample memory, and also where any one request for memory is refused.
-use crate::asks::{Ask, asked, spec_of_words};
-use duct_base::system::{Child, Entry, Side, Stdio, System};
+//! What comes of refused memory. The tests of `memory_` pass with ample memory, and also where any one request for memory is
+//! refused; the last test passes only where none is.
+use crate::bench::Bench;
+use crate::children::start;
+use crate::words::Stop;
+use duct_base::system::{Child, Entry, Kind, System};
 use duct_plain::checker::{got, held, is_balanced, spent, trace};
 use duct_script::child::ScriptChild;
 use duct_script::system::Script;
 use std::alloc::{AllocError, Global};
-use std::test::Fail;
 
 /// Each request, one after another, all of them Ok where there is memory.
-const ALL: [Ask; 15] = [
-    Ask::Variable("A", "1"),
-    Ask::Canonical("./x", "/x"),
-    Ask::Environment,
-    Ask::Pipe,
-    Ask::OpenRead("in"),
-    Ask::Create("out"),
-    Ask::Duplicate(4),
-    Ask::Parent(Side::Err),
-    Ask::Canonicalize("./x"),
-    Ask::Spawn(Stdio::End(1), Stdio::Null, Stdio::End(5)),
-    Ask::Feed(2),
-    Ask::Drain(3),
-    Ask::Reader(4),
-    Ask::Close(6),
-    Ask::Environment,
-];
+const ALL: &str =
+    "variable A 1; canonical ./x /x; environment; pipe; open_read in; create out; duplicate 4; parent err; \
+     canonicalize ./x; spawn 1 null 5; feed 2; drain 3; reader 4; close 6; environment";
 
-/// Whether an answer is one that these requests may have.
-fn is_known(word: &str) -> bool {
-    word == "" || word == "ok" || word == "reader-4" || word == "OutOfMemory"
+/// What came of a run.
+#[derive(Clone, Copy, Debug, PartialEq, Eq)]
+enum Came {
+    /// As with ample memory.
+    Whole,
+    /// Memory was refused, and by its name.
+    Refused,
+    Wrong,
 }
 
-/// The answers to these requests, if there is memory for them.
-fn answers(alloc: Global) -> Option<String> {
-    let bench = asked(alloc, &ALL).ok()?;
-    Some(bench.answers)
+/// What came of a run that stopped.
+fn stopped(stop: &Stop) -> Came {
+    match stop {
+        Stop::Memory => Came::Refused,
+        Stop::Fault(fault) if fault.kind == Kind::OutOfMemory => Came::Refused,
+        _ => Came::Wrong,
+    }
 }
 
-#[test]
-fn memory_of_requests_is_refused_by_its_name(rt: HostRuntime) -> Result<(), Fail> {
-    if let Some(answers) = answers(rt.alloc()) {
-        for word in answers.as_str().split(' ') {
-            assert!(rt; is_known(word), "{word}");
+/// A system that was asked these requests.
+fn asked(alloc: Global) -> Result<Bench, Stop> {
+    let mut bench = Bench::new(alloc)?;
+    bench.ask_all(ALL)?;
+    Ok(bench)
+}
+
+fn answers(alloc: Global) -> Result<String, Stop> {
+    Ok(asked(alloc)?.answers)
+}
+
+/// What came of these answers.
+fn came_of(answers: &str) -> Came {
+    let mut came = Came::Whole;
+    for word in answers.split_whitespace() {
+        match word {
+            "ok" | "reader-4" => (),
+            "OutOfMemory" => came = Came::Refused,
+            _ => return Came::Wrong,
         }
     }
-    Ok(())
+    came
 }
 
-/// Starts a child with no ends.
-fn started(alloc: Global, sys: &mut Script) -> Option<ScriptChild> {
-    let spec = spec_of_words(alloc, &["a"]).ok()?;
-    let io = [Stdio::Inherit, Stdio::Inherit, Stdio::Inherit];
-    sys.spawn(spec, io).ok()
-}
-
-/// Starts a child and kills it. Answers how many orders it keeps, and whether the order was obeyed.
-fn killed(alloc: Global) -> Option<(usize, bool)> {
-    let mut sys = Script::new(alloc).ok()?;
-    let mut child = started(alloc, &mut sys)?;
-    let obeyed = child.kill().is_ok();
-    Some((child.orders().len(), obeyed))
+/// Asks each request.
+fn requests(alloc: Global) -> Came {
+    match answers(alloc) {
+        Ok(answers) => came_of(answers.as_str()),
+        Err(stop) => stopped(&stop),
+    }
 }
 
 #[test]
-fn memory_of_an_order_is_refused_by_its_name(rt: HostRuntime) -> Result<(), Fail> {
-    if let Some((orders, obeyed)) = killed(rt.alloc()) {
-        assert_eq!(rt; orders, if obeyed { 1 } else { 0 });
-    }
-    Ok(())
+fn memory_of_requests_is_refused_by_its_name(rt: HostRuntime) {
+    assert_ne!(rt; requests(rt.alloc()), Came::Wrong);
 }
 
-/// What the checker says of a journal: how many numbers were got and spent, whether they balance, how many are held, and
-/// whether the trace is no longer than the journal.
-fn checked(
-    alloc: Global,
-    entries: &[Entry],
-) -> Result<(usize, usize, bool, usize, bool), AllocError> {
+/// How many orders a child keeps once it was killed, and whether it obeyed.
+fn killed(mut child: ScriptChild) -> (usize, bool) {
+    let obeyed = child.kill().is_ok();
+    (child.orders().len(), obeyed)
+}
+
+/// Starts a child and kills it.
+fn started_and_killed(alloc: Global) -> Result<(usize, bool), Stop> {
+    let child = start(alloc, &mut Script::new(alloc)?)?;
+    Ok(killed(child))
+}
+
+/// Gives an order.
+fn order(alloc: Global) -> Came {
+    match started_and_killed(alloc) {
+        Ok((1, true)) => Came::Whole,
+        Ok((0, false)) => Came::Refused,
+        Ok(_) => Came::Wrong,
+        Err(stop) => stopped(&stop),
+    }
+}
+
+#[test]
+fn memory_of_an_order_is_refused_by_its_name(rt: HostRuntime) {
+    assert_ne!(rt; order(rt.alloc()), Came::Wrong);
+}
+
+/// Whether the checker is right about the journal of these requests: how many numbers were got and spent, whether they balance,
+/// how many are held, and whether the trace is no longer than the journal.
+fn is_right(alloc: Global, entries: &[Entry]) -> Result<bool, AllocError> {
     let got = got(alloc, entries)?.len();
     let spent = spent(alloc, entries)?.len();
     let balanced = is_balanced(alloc, entries)?;
     let held = held(alloc, entries)?;
     let traced = trace(alloc, entries)?.len();
-    Ok((got, spent, balanced, held, traced <= entries.len()))
+    Ok(held == got.saturating_sub(spent) && balanced == (got == spent) && traced <= entries.len())
 }
 
-/// The same of the journal of these requests.
-fn all_checked(alloc: Global) -> Result<(usize, usize, bool, usize, bool), AllocError> {
-    let bench = asked(alloc, &ALL)?;
-    checked(alloc, bench.sys.journal())
+fn is_right_about_all(alloc: Global) -> Result<bool, Stop> {
+    Ok(is_right(alloc, asked(alloc)?.sys.journal())?)
+}
+
+/// Lets the checker look at the journal of these requests.
+fn check(alloc: Global) -> Came {
+    match is_right_about_all(alloc) {
+        Ok(true) => Came::Whole,
+        Ok(false) => Came::Wrong,
+        Err(stop) => stopped(&stop),
+    }
 }
 
 #[test]
-fn memory_of_the_checker_is_refused_or_it_is_right(rt: HostRuntime) -> Result<(), Fail> {
-    if let Ok((got, spent, balanced, held, within)) = all_checked(rt.alloc()) {
-        let found = (held, balanced, within);
-        assert_eq!(rt; found, (got - spent.min(got), got == spent, true));
-    }
-    Ok(())
+fn memory_of_the_checker_is_refused_or_it_is_right(rt: HostRuntime) {
+    assert_ne!(rt; check(rt.alloc()), Came::Wrong);
+}
+
+#[test]
+fn all_memory_is_there(rt: HostRuntime) {
+    let came = [requests(rt.alloc()), order(rt.alloc()), check(rt.alloc())];
+    assert_eq!(rt; came, [Came::Whole, Came::Whole, Came::Whole]);
 }

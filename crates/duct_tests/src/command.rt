@@ -1,7 +1,7 @@
 //! The start of one command over the scripted system, and its polls.
 ghost use Rattle.std.specs.Prelude.{IfOk};
 ghost use Rattle.duct.specs.Start.{IsCommand};
-ghost use Rattle.duct.specs.TreeOf.{tree_of};
+ghost use Rattle.duct.specs.TreeView.{tree_view};
 
 mod bench;
 mod memory;
@@ -17,7 +17,7 @@ use std::sync::Arc;
 
 // The command of these words, which commas part.
 fn command(alloc: Global, words: &str) -> Result<Expression<ScriptEnd>, Error>
-    ensures { IfOk result (λ made. IsCommand (tree_of made)) }
+    ensures { IfOk result (λ made. IsCommand (tree_view made)) }
 {
     let words = pieces(alloc, words)?;
     match words.split_first() {
