@@ -1,5 +1,5 @@
 -- What contracts see of a start that runs, and what it holds of the journal's children and workers.
-use Rattle.std.specs.Prelude.{ℕ, List, ◌++◌, ◌≡◌, map, is_some, All}
+use Rattle.std.specs.Prelude.{ℕ, Bool, List, ◌++◌, ◌≡◌, map, is_some, All}
 use Rattle.std.specs.Option.{option_map, option_to_list}
 use Rattle.std.specs.declared.option.Option.{Option}
 use Rattle.duct_system.specs.Child.{ChildView, IsUnasked}
@@ -9,7 +9,6 @@ use Rattle.duct_status.specs.ShapeView.{shape_view}
 use Rattle.duct_system.specs.Started.{children_in, feeds_in, drains_in}
 use Rattle.duct_status.specs.declared.status.Shape.{Shape}
 use Rattle.duct.specs.ShapeOfTree.{shape_of_tree}
-use Rattle.duct.specs.Plan.{Plan}
 use Rattle.duct.specs.TreeView.{TreeView}
 
 -- its shape, its children from left to right, its input workers in tree order, and the capture workers of stdout and of stderr
@@ -21,10 +20,10 @@ pub record RunningView (C F D : Type 0) : Type 0 where
   pub error : Option D
 
 -- the shape of this tree, with the children and the workers that were added to the journal, each by its number in its place and
--- nobody asked yet; stdout and stderr have a worker where the plan opened their capture pipes
+-- nobody asked yet; these truth values say whether stdout and stderr have a capture worker
 pub record IsRunning {E H C F D V W : Type 0} (child : C → ChildView) (feed : F → JobView V)
     (drain : D → JobView W)
-    (tree : TreeView E H) (plan : Plan E H) (added : List EntryView)
+    (tree : TreeView E H) (output error : Bool) (added : List EntryView)
     (running : RunningView C F D) : Type 0 where
   pub shape_is : shape_view running.shape ≡ shape_of_tree tree
   pub children_are : map (λ c. (child c).number) running.children ≡ children_in added
@@ -32,5 +31,5 @@ pub record IsRunning {E H C F D V W : Type 0} (child : C → ChildView) (feed : 
   pub feeds_are : map feed running.feeds ≡ map (λ number. unpolled_job number) (feeds_in added)
   pub drains_are : map drain (option_to_list running.output ++ option_to_list running.error)
       ≡ map (λ number. unpolled_job number) (drains_in added)
-  pub output_is : is_some running.output ≡ is_some plan.out
-  pub error_is : is_some running.error ≡ is_some plan.err
+  pub output_is : is_some running.output ≡ output
+  pub error_is : is_some running.error ≡ error

@@ -1,5 +1,5 @@
 //! The start of an expression: what is asked of the system, and what is kept of it.
-ghost use Rattle.std.specs.Prelude.{◌≡◌, ℕ, List, map, reverse, string_bytes, IfOk, IfErr, OnOk, OnErr, IsOkUnless};
+ghost use Rattle.std.specs.Prelude.{◌≡◌, ℕ, List, map, reverse, string_bytes, is_some, IfOk, IfErr, OnOk, OnErr, IsOkUnless};
 ghost use Rattle.std.specs.Cmp.Lexicographic.{slice_cmp};
 ghost use Rattle.std.specs.List.Sorted.{IsStrictlySortedBy};
 ghost use Rattle.std.specs.Ordering.{nat_cmp};
@@ -121,7 +121,8 @@ impl<E: Drop, H: Hook> Expression<E, H> {
             StartSucceeds H.allows E.number_of tree (plan_of tree) (S.journal_view sys.old)
             (S.journal_view sys.new)) }
         ensures running { IfOk result (let tree = tree_view self.now in
-            IsRunning S.Child.child_view S.Feed.job_view S.Drain.job_view tree (plan_of tree)
+            IsRunning S.Child.child_view S.Feed.job_view S.Drain.job_view tree
+            (is_some (plan_of tree).out) (is_some (plan_of tree).err)
             (segment (S.journal_view sys.old).entries (S.journal_view sys.new).entries)) }
         ensures err { IfErr result (let tree = tree_view self.now in
             StartRefused H.allows H.refuses E.number_of tree (plan_of tree) (S.journal_view sys.old)
