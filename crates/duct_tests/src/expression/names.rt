@@ -1,7 +1,7 @@
 //! Names of variables.
 use duct_base::names::EnvNameString;
 use std::alloc::{AllocError, Global};
-use std::collections::HashSet;
+use std::collections::{BTreeSet, HashSet};
 use std::convert::AsStr;
 use std::process::Abort;
 use std::test::Fail;
@@ -31,6 +31,16 @@ fn count_of<R: Abort + AllocGlobal>(rt: &R, texts: &[&str]) -> Result<usize, All
     Ok(names.len())
 }
 
+// The names of these texts in their order, each as it was first spelled.
+fn names_in_order<R: AllocGlobal>(rt: &R, texts: &[&str]) -> Result<String, AllocError> {
+    let alloc = rt.alloc();
+    let mut names = BTreeSet::new(alloc);
+    for text in texts {
+        names.insert(name(alloc, text)?)?;
+    }
+    format!(in alloc; "{names:?}")
+}
+
 // Whether the names of two texts are equal, and whether they are not.
 fn compared(alloc: Global, one: &str, other: &str) -> Result<(bool, bool), AllocError> {
     let one = name(alloc, one)?;
@@ -44,13 +54,32 @@ fn printed(alloc: Global, text: &str) -> Result<String, AllocError> {
 }
 
 #[test]
-fn names_are_their_texts(rt: HostRuntime) -> Result<(), Fail> {
+fn names_are_one_in_any_case(rt: HostRuntime) -> Result<(), Fail> {
+    let spellings = ["abc", "abC", "aBc", "aBC", "Abc", "AbC", "ABc", "ABC"];
+    let count = count_of(&rt, &spellings)?;
+    let ordered = names_in_order(&rt, &spellings)?;
+    assert_eq!(rt; (count, ordered.as_str()), (1, "{\"abc\"}"));
+    Ok(())
+}
+
+#[test]
+fn names_of_other_letters_differ(rt: HostRuntime) -> Result<(), Fail> {
     let alloc = rt.alloc();
-    let count = count_of(&rt, &["abc", "ABC", "abc", "xyz"])?;
-    let same = compared(alloc, "a\"b", "a\"b")?;
-    let different = compared(alloc, "a\"b", "a\"c")?;
-    let printed = printed(alloc, "a\"b")?;
+    let count = count_of(&rt, &["abc", "ABC", "xyz", "É", "é"])?;
+    let same = compared(alloc, "a\"B", "A\"b")?;
+    let different = compared(alloc, "É", "é")?;
+    let printed = printed(alloc, "A\"b")?;
     let found = (count, same, different, printed.as_str());
-    assert_eq!(rt; found, (3, (true, false), (false, true), "\"a\\\"b\""));
+    assert_eq!(rt; found, (4, (true, false), (false, true), "\"A\\\"b\""));
+    Ok(())
+}
+
+#[test]
+fn names_stand_in_the_order_of_small_letters(rt: HostRuntime) -> Result<(), Fail> {
+    let ordered = names_in_order(&rt, &["B", "a", "_", "Z", "[", "ab"])?;
+    assert_eq!(rt;
+        ordered.as_str(),
+        "{\"[\", \"_\", \"a\", \"ab\", \"B\", \"Z\"}"
+    );
     Ok(())
 }
