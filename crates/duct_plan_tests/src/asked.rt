@@ -17,12 +17,18 @@ fn a_refused_spawn_changes_no_stream(rt: HostRuntime) -> Result<(), Fail> {
 }
 
 #[test]
-fn beyond_the_commands_nothing_is_asked(rt: HostRuntime) -> Result<(), Fail> {
+fn beyond_the_commands_nothing_is_asked_and_too_early_it_is_not_told(
+    rt: HostRuntime,
+) -> Result<(), Fail> {
     rows(
         rt.alloc(),
         "
         expression: a b pipe
         asked: yes yes no no
+        journal: environment; pipe 1 2
+        asked: yes early no no
+        journal: environment
+        asked: early early no no
         ",
     )
 }

@@ -8,7 +8,7 @@ use duct::{
 };
 use duct_follows::chain::wired;
 use duct_plain::checker::trace;
-use duct_plan::asked::{Wired, asked};
+use duct_plan::asked::{AskedError, Wired, asked};
 use duct_plan::items::Item;
 use std::alloc::{AllocError, Global};
 use std::sync::Arc;
@@ -99,11 +99,16 @@ fn push_known(
     trace: &[&Entry],
     command: usize,
 ) -> Result<(), Fail> {
-    let known = asked(alloc, plan, trace, command)?.is_some();
+    let known = match asked(alloc, plan, trace, command) {
+        Ok(Some(_)) => "yes",
+        Ok(None) => "no",
+        Err(AskedError::TraceTooShort) => "early",
+        Err(AskedError::Memory) => return Err(Fail::from("out of memory")),
+    };
     if !text.is_empty() {
         text.push(' ')?;
     }
-    text.push_str(if known { "yes" } else { "no" })?;
+    text.push_str(known)?;
     Ok(())
 }
 

@@ -9,7 +9,7 @@
 //! - What each command finds on its way outwards: where its streams go (`goes`), `folders`, `variables` (of the names `A` to `D`,
 //!   which are also those of its spec) and `hooks`.
 //! - What each command is asked for: the streams that it is `given`, and the words and the folder with which it `starts`. Whether
-//!   the first four are `asked` for anything. What the `child` of the first is given once its hooks ran.
+//!   the first four are `asked` for anything, or it is too `early` to tell. What the `child` of the first is given once its hooks ran.
 //! - The `message` of the one command where it fails.
 //! - A journal's text behind what is said of it: `whole`, `front`, `neither` or `no memory`.
 //! - An error's text behind what is said of it: `cause` or `no cause`, `answer` or `no answer`.
