@@ -10,10 +10,8 @@ pub mod Pairs
 pub mod Path
 pub mod Plan
 pub mod Polled
-pub mod Printed
 pub mod Running
 pub mod ShapeOfTree
-pub mod Shown
 pub mod Start
 pub mod Step
 pub mod Stored

@@ -1,41 +1,100 @@
--- The debug text of a tree, by the kinds of its nodes.
-use Rattle.std.specs.Prelude.{ℕ, List, ◌++◌, map, codes}
-use Rattle.std.specs.Fmt.{decimal}
-use Rattle.duct_status.specs.Quoted.{quoted, quoted_list, listed}
+-- The debug text of an expression as it is promised: its form by the kinds of its nodes, and the text of a form.
+use Rattle.std.specs.Prelude.{ℕ, List, [], ◌∷◌, ◌++◌, Bool, true, ◌&&◌, map, codes, Some, None, if◌then◌else◌}
+use Rattle.std.specs.Fmt.{◌++?◌, debug_list, debug_str, decimal}
+use Rattle.std.specs.List.{list_all}
+use Rattle.std.specs.declared.option.Option.{Option}
+use Rattle.duct_system.specs.SpecView.{Vars}
+use Rattle.duct_status.specs.Quoted.{is_printable, quoted, quoted_list, listed}
 use Rattle.duct.specs.TreeView.{ModifierView, TreeView, command, pipe, around, stdin_bytes, stdin_path, stdin_file, stdin_null, stdout_path, stdout_file, stdout_null, stdout_capture, stdout_to_stderr, stderr_path, stderr_file, stderr_null, stderr_capture, stderr_to_stdout, stdout_stderr_swap, dir, env, env_remove, full_env, unchecked, before_spawn}
 
--- a name and its value
-abbrev pub variable_text : List ℕ × List ℕ → List ℕ
-variable_text variable = quoted variable.0 ++ codes ": " ++ quoted variable.1
+-- what stands as it is, a text in quotes, a list of numbers, a list of texts in quotes, or one form before another
+pub data Form : Type 0 where
+  plain : List ℕ → Form
+  quote : List ℕ → Form
+  numbers : List ℕ → Form
+  texts : List (List ℕ) → Form
+  before : Form → Form → Form
 
--- the text of a modifier; an end and a hook are not shown
-abbrev pub modifier_text : {E H : Type 0} → ModifierView E H → List ℕ
-modifier_text (stdin_bytes bytes) = codes "StdinBytes([" ++ listed (map decimal bytes) ++ codes "])"
-modifier_text (stdin_path path) = codes "StdinPath(" ++ quoted path ++ codes ")"
-modifier_text (stdin_file end) = codes "StdinFile(<end>)"
-modifier_text stdin_null = codes "StdinNull"
-modifier_text (stdout_path path) = codes "StdoutPath(" ++ quoted path ++ codes ")"
-modifier_text (stdout_file end) = codes "StdoutFile(<end>)"
-modifier_text stdout_null = codes "StdoutNull"
-modifier_text stdout_capture = codes "StdoutCapture"
-modifier_text stdout_to_stderr = codes "StdoutToStderr"
-modifier_text (stderr_path path) = codes "StderrPath(" ++ quoted path ++ codes ")"
-modifier_text (stderr_file end) = codes "StderrFile(<end>)"
-modifier_text stderr_null = codes "StderrNull"
-modifier_text stderr_capture = codes "StderrCapture"
-modifier_text stderr_to_stdout = codes "StderrToStdout"
-modifier_text stdout_stderr_swap = codes "StdoutStderrSwap"
-modifier_text (dir path) = codes "Dir(" ++ quoted path ++ codes ")"
-modifier_text (env name value) =
-    codes "Env(" ++ quoted name ++ codes ", " ++ quoted value ++ codes ")"
-modifier_text (env_remove name) = codes "EnvRemove(" ++ quoted name ++ codes ")"
-modifier_text (full_env vars) = codes "FullEnv({" ++ listed (map variable_text vars) ++ codes "})"
-modifier_text unchecked = codes "Unchecked"
-modifier_text (before_spawn hook ends) = codes "BeforeSpawn(<closure>)"
+-- forms one after the other
+abbrev pub joined : List Form → Form
+joined [] = plain []
+joined (form ∷ []) = form
+joined (form ∷ next ∷ forms) = before form (joined (next ∷ forms))
 
--- the text of a tree
-abbrev pub text : {E H : Type 0} → TreeView E H → List ℕ
-text (command words) = codes "Cmd(" ++ quoted_list words ++ codes ")"
-text (pipe left right) = codes "Pipe(" ++ text left ++ codes ", " ++ text right ++ codes ")"
-text (around modifier inner) =
-    codes "Io(" ++ modifier_text modifier ++ codes ", " ++ text inner ++ codes ")"
+-- a name with its parenthesis, then a form, then the other parenthesis
+abbrev pub named : List ℕ → Form → Form
+named name form = joined (plain name ∷ form ∷ plain (codes ")") ∷ [])
+
+-- some variables, the first after the lead and each other one after a comma
+abbrev pub vars_form : List ℕ → Vars → Form
+vars_form lead [] = plain []
+vars_form lead (variable ∷ vars) =
+    joined (plain lead ∷ quote variable.0 ∷ plain (codes ": ") ∷ quote variable.1
+    ∷ vars_form (codes ", ") vars ∷ [])
+
+-- the form of a modifier; an end and a hook are not shown
+abbrev pub modifier_form : {E H : Type 0} → ModifierView E H → Form
+modifier_form (stdin_bytes bytes) = named (codes "StdinBytes(") (numbers bytes)
+modifier_form (stdin_path path) = named (codes "StdinPath(") (quote path)
+modifier_form (stdin_file end) = plain (codes "StdinFile(<end>)")
+modifier_form stdin_null = plain (codes "StdinNull")
+modifier_form (stdout_path path) = named (codes "StdoutPath(") (quote path)
+modifier_form (stdout_file end) = plain (codes "StdoutFile(<end>)")
+modifier_form stdout_null = plain (codes "StdoutNull")
+modifier_form stdout_capture = plain (codes "StdoutCapture")
+modifier_form stdout_to_stderr = plain (codes "StdoutToStderr")
+modifier_form (stderr_path path) = named (codes "StderrPath(") (quote path)
+modifier_form (stderr_file end) = plain (codes "StderrFile(<end>)")
+modifier_form stderr_null = plain (codes "StderrNull")
+modifier_form stderr_capture = plain (codes "StderrCapture")
+modifier_form stderr_to_stdout = plain (codes "StderrToStdout")
+modifier_form stdout_stderr_swap = plain (codes "StdoutStderrSwap")
+modifier_form (dir path) = named (codes "Dir(") (quote path)
+modifier_form (env name value) =
+    joined (plain (codes "Env(") ∷ quote name ∷ plain (codes ", ") ∷ quote value ∷ plain (codes ")")
+        ∷ [])
+modifier_form (env_remove name) = named (codes "EnvRemove(") (quote name)
+modifier_form (full_env vars) =
+    joined (plain (codes "FullEnv({") ∷ vars_form [] vars ∷ plain (codes "})") ∷ [])
+modifier_form unchecked = plain (codes "Unchecked")
+modifier_form (before_spawn hook ends) = plain (codes "BeforeSpawn(<closure>)")
+
+-- two forms in parentheses behind a name
+abbrev pub pair_form : List ℕ → Form → Form → Form
+pair_form name one other =
+    joined (plain name ∷ one ∷ plain (codes ", ") ∷ other ∷ plain (codes ")") ∷ [])
+
+-- the form of a tree
+abbrev pub tree_form : {E H : Type 0} → TreeView E H → Form
+tree_form (command words) = named (codes "Cmd(") (texts words)
+tree_form (pipe left right) = pair_form (codes "Pipe(") (tree_form left) (tree_form right)
+tree_form (around modifier inner) =
+    pair_form (codes "Io(") (modifier_form modifier) (tree_form inner)
+
+-- the text of a form
+abbrev pub form_text : Form → List ℕ
+form_text (plain bytes) = bytes
+form_text (quote text) = quoted text
+form_text (numbers values) = codes "[" ++ listed (map decimal values) ++ codes "]"
+form_text (texts all) = quoted_list all
+form_text (before form next) = form_text form ++ form_text next
+
+-- whether all texts of a form are printable ASCII
+abbrev pub is_form_printable : Form → Bool
+is_form_printable (plain bytes) = true
+is_form_printable (quote text) = is_printable text
+is_form_printable (numbers values) = true
+is_form_printable (texts all) = list_all is_printable all
+is_form_printable (before form next) = is_form_printable form && is_form_printable next
+
+-- the text of a tree, or no promise
+abbrev pub shown : {E H : Type 0} → TreeView E H → Option (List ℕ)
+shown tree = if is_form_printable (tree_form tree) then Some (form_text (tree_form tree)) else None
+
+-- what the standard forms print of a form, which say nothing of a text that is not ASCII
+abbrev pub printed : Form → Option (List ℕ)
+printed (plain bytes) = Some bytes
+printed (quote text) = debug_str text
+printed (numbers values) = debug_list (λ value. Some (decimal value)) values
+printed (texts all) = debug_list debug_str all
+printed (before form next) = printed form ++? printed next

@@ -1,15 +1,15 @@
 //! The debug text of an expression.
-ghost use Rattle.std.specs.Prelude.{map, string_bytes};
+ghost use Rattle.std.specs.Prelude.{codes, map, string_bytes};
 ghost use Rattle.std.specs.Fmt.{DisplaysOnOk};
 ghost use Rattle.duct_system.specs.SpecView.{pair_text};
-ghost use Rattle.duct.specs.Printed.{printed_vars, printed_words};
+ghost use Rattle.duct.specs.Text.{named, printed, texts, vars_form};
 
 use super::{Expression, Modifier, Node};
 use std::collections::btree_map::Iter;
 use std::fmt;
 
 impl<E, H> fmt::Debug for Expression<E, H> {
-    ghost use Rattle.duct.specs.Shown.{shown};
+    ghost use Rattle.duct.specs.Text.{shown};
     ghost use Rattle.duct.specs.TreeView.{tree_view};
 
     ghost debug_output = { λ expression. shown (tree_view expression) };
@@ -22,10 +22,10 @@ impl<E, H> fmt::Debug for Expression<E, H> {
 }
 
 impl<E, H> fmt::Debug for Node<E, H> {
-    ghost use Rattle.duct.specs.Printed.{printed};
+    ghost use Rattle.duct.specs.Text.{printed, tree_form};
     ghost use Rattle.duct.specs.TreeView.{node_view};
 
-    ghost debug_output = { λ node. printed (node_view node) };
+    ghost debug_output = { λ node. printed (tree_form (node_view node)) };
 
     fn fmt<W: fmt::Write>(&self, f: &mut fmt::Formatter<W>) -> fmt::Result {
         match self {
@@ -47,10 +47,10 @@ impl<E, H> fmt::Debug for Node<E, H> {
 }
 
 impl<E, H> fmt::Debug for Modifier<E, H> {
-    ghost use Rattle.duct.specs.Printed.{printed_modifier};
+    ghost use Rattle.duct.specs.Text.{modifier_form, printed};
     ghost use Rattle.duct.specs.TreeView.{modifier_view};
 
-    ghost debug_output = { λ modifier. printed_modifier (modifier_view modifier) };
+    ghost debug_output = { λ modifier. printed (modifier_form (modifier_view modifier)) };
 
     fn fmt<W: fmt::Write>(&self, f: &mut fmt::Formatter<W>) -> fmt::Result {
         match self {
@@ -90,7 +90,7 @@ impl<E, H> fmt::Debug for Modifier<E, H> {
 #[tactic(auto, using(crate::proofs::Debug::list_of_map))]
 fn write_command<W: fmt::Write>(words: &[String], f: &mut fmt::Formatter<W>) -> fmt::Result
     ensures { DisplaysOnOk W.write_str_gives f.old result
-        (printed_words (map string_bytes words.now)) f.new }
+        (printed (named (codes "Cmd(") (texts (map string_bytes words.now)))) f.new }
 {
     write!(f, "Cmd({words:?})")
 }
@@ -102,7 +102,7 @@ fn write_vars<W: fmt::Write>(
     f: &mut fmt::Formatter<W>,
 ) -> fmt::Result
     ensures { DisplaysOnOk W.write_str_gives f.old result
-        (printed_vars lead.now (map pair_text rest.entry)) f.new }
+        (printed (vars_form lead.now (map pair_text rest.entry))) f.new }
 {
     match rest.next() {
         None => Ok(()),
