@@ -52,7 +52,7 @@ modifier_form stdout_stderr_swap = plain (codes "StdoutStderrSwap")
 modifier_form (dir path) = named (codes "Dir(") (quote path)
 modifier_form (env name value) =
     joined (plain (codes "Env(") ∷ quote name ∷ plain (codes ", ") ∷ quote value ∷ plain (codes ")")
-        ∷ [])
+    ∷ [])
 modifier_form (env_remove name) = named (codes "EnvRemove(") (quote name)
 modifier_form (full_env vars) =
     joined (plain (codes "FullEnv({") ∷ vars_form [] vars ∷ plain (codes "})") ∷ [])
