@@ -3,54 +3,62 @@ use duct_base::names::EnvNameString;
 use std::alloc::{AllocError, Global};
 use std::collections::HashSet;
 use std::convert::AsStr;
-use std::process::Abort;
 use std::test::Fail;
 
 fn name(alloc: Global, text: &str) -> Result<EnvNameString, AllocError> {
     Ok(EnvNameString::from(String::from_str(alloc, text)?))
 }
 
-// Puts a name, whose text is this one, into a set.
-fn put<R: Abort + AllocGlobal>(
-    rt: &R,
+/// Puts a name into a set, and adds its text.
+fn put(
+    alloc: Global,
     names: &mut HashSet<EnvNameString>,
     text: &str,
+    told: &mut String,
 ) -> Result<(), AllocError> {
-    let name = name(rt.alloc(), text)?;
-    assert_eq!(rt; name.as_str(), text);
+    let name = name(alloc, text)?;
+    write!(told, "{} ", name.as_str())?;
     names.insert(name)?;
     Ok(())
 }
 
-// How many names of these texts there are.
-fn count_of<R: Abort + AllocGlobal>(rt: &R, texts: &[&str]) -> Result<usize, AllocError> {
-    let mut names = HashSet::new(rt.alloc());
-    for text in texts {
-        put(rt, &mut names, text)?;
+/// Adds the texts of four names, and how many names they are.
+fn push_count(alloc: Global, told: &mut String) -> Result<(), AllocError> {
+    let mut names = HashSet::new(alloc);
+    for text in ["abc", "ABC", "abc", "xyz"] {
+        put(alloc, &mut names, text, told)?;
     }
-    Ok(names.len())
+    let count = names.len();
+    write!(told, "are {count}, ")
 }
 
-// Whether the names of two texts are equal, and whether they are not.
-fn compared(alloc: Global, one: &str, other: &str) -> Result<(bool, bool), AllocError> {
+/// Adds how two names print, whether they are equal, and whether they are not.
+fn push_compared(
+    alloc: Global,
+    one: &str,
+    other: &str,
+    told: &mut String,
+) -> Result<(), AllocError> {
     let one = name(alloc, one)?;
     let other = name(alloc, other)?;
-    Ok((one == other, one != other))
+    let (equal, unequal) = (one == other, one != other);
+    write!(told, "{one:?} {other:?} {equal} {unequal}, ")
 }
 
-fn printed(alloc: Global, text: &str) -> Result<String, AllocError> {
-    let name = name(alloc, text)?;
-    format!(in alloc; "{name:?}")
+fn told(alloc: Global) -> Result<String, AllocError> {
+    let mut told = String::new(alloc);
+    push_count(alloc, &mut told)?;
+    push_compared(alloc, "a\"b", "a\"b", &mut told)?;
+    push_compared(alloc, "a\"b", "a\"c", &mut told)?;
+    Ok(told)
 }
 
 #[test]
 fn names_are_their_texts(rt: HostRuntime) -> Result<(), Fail> {
-    let alloc = rt.alloc();
-    let count = count_of(&rt, &["abc", "ABC", "abc", "xyz"])?;
-    let same = compared(alloc, "a\"b", "a\"b")?;
-    let different = compared(alloc, "a\"b", "a\"c")?;
-    let printed = printed(alloc, "a\"b")?;
-    let found = (count, same, different, printed.as_str());
-    assert_eq!(rt; found, (3, (true, false), (false, true), "\"a\\\"b\""));
+    let told = told(rt.alloc())?;
+    assert_eq!(rt;
+        told.as_str(),
+        r#"abc ABC abc xyz are 3, "a\"b" "a\"b" true false, "a\"b" "a\"c" false true, "#
+    );
     Ok(())
 }
