@@ -1,174 +1,215 @@
-//! Shapes and events that are made of rows, and the replies to them in words.
+//! Shapes and events that are written as texts, and the replies to them in words.
+//!
+//! A shape has each node after what it stands on: `one two pipe unchecked` is an unchecked pipe of the commands `one` and `two`,
+//! and `a,b input` a command of two words with input. Events are parted by `; `: `0 code 1` and `1 signal 6` are endings of
+//! commands, `1 Other` and `1 running` other words of them, `input 0 done` and `input 0 Other` words of an input worker,
+//! `out xy` the bytes of stdout, `err Other` the fault of stderr, and `conclude` asks.
+use duct_base::error::Error;
 use duct_base::status::{Core, Drains, Event, Reply, Shape, Word};
 use duct_base::system::{ExitStatus, Fault, Kind, Said, Side};
-use std::alloc::{AllocError, Global};
+use std::alloc::{AllocError, AllocFailed, Global};
+use std::num::ParseIntError;
 use std::sync::Arc;
-use std::test::Fail;
 
-pub(crate) const NONE: Drains = Drains {
-    out: false,
-    err: false,
-};
-
-pub(crate) const BOTH: Drains = Drains {
-    out: true,
-    err: true,
-};
-
-pub(crate) const OTHER: Fault = Fault { kind: Kind::Other };
-
-// What is told, or asked.
-#[derive(Clone, Copy)]
-pub(crate) enum Told {
-    Command(usize, Word),
-    Input(usize, Said<()>),
-    Drain(Side, Said<&'static [u8]>),
-    Conclude,
+/// Why a line of a table stops.
+#[derive(Debug, Drop)]
+pub enum Stop {
+    /// Memory was refused.
+    Memory,
+    /// A word or a number that is not known, or another error.
+    Word,
+    /// This text was found where another one was wanted.
+    Found(String),
 }
 
-// A command that ended with this code.
-pub(crate) fn ended(command: usize, code: i32) -> Told {
-    Told::Command(command, Word::Ended(ExitStatus::Code(code)))
+impl From<AllocError> for Stop {
+    fn from(_error: AllocError) -> Stop {
+        Stop::Memory
+    }
 }
 
-// The shape that a row writes, each node after what it stands on: `one two pipe unchecked` is an unchecked pipe of the
-// commands `one` and `two`, and `a,b input` a command of two words with input. Nothing where a request was refused.
-pub(crate) fn shape_of(alloc: Global, row: &str) -> Option<Shape> {
+impl<T: Drop> From<AllocFailed<T>> for Stop {
+    fn from(_failed: AllocFailed<T>) -> Stop {
+        Stop::Memory
+    }
+}
+
+impl From<ParseIntError> for Stop {
+    fn from(_error: ParseIntError) -> Stop {
+        Stop::Word
+    }
+}
+
+impl From<Error> for Stop {
+    fn from(error: Error) -> Stop {
+        match error {
+            Error::Memory => Stop::Memory,
+            _ => Stop::Word,
+        }
+    }
+}
+
+/// The text before the first space, and the text after it.
+fn first_word(text: &str) -> (&str, &str) {
+    text.split_once(' ').unwrap_or((text, ""))
+}
+
+/// The shape that a row writes.
+pub fn shape_of(alloc: Global, row: &str) -> Result<Shape, Stop> {
     let mut shapes = Vec::new(alloc);
     for word in row.split(' ') {
         add_node(alloc, &mut shapes, word)?;
     }
-    shapes.pop()
+    last(&mut shapes)
 }
 
-// Adds the node that a word makes of the last shapes, in their place.
-fn add_node(alloc: Global, shapes: &mut Vec<Shape>, word: &str) -> Option<()> {
+fn last(shapes: &mut Vec<Shape>) -> Result<Shape, Stop> {
+    shapes.pop().ok_or(Stop::Word)
+}
+
+/// Adds the node that a word makes of the last shapes, in their place.
+fn add_node(alloc: Global, shapes: &mut Vec<Shape>, word: &str) -> Result<(), Stop> {
     let node = match word {
-        "input" => Shape::Input(Box::new(alloc, shapes.pop()?).ok()?),
-        "unchecked" => Shape::Unchecked(Box::new(alloc, shapes.pop()?).ok()?),
-        "pipe" => {
-            let right = shapes.pop()?;
-            pipe(alloc, shapes.pop()?, right)?
-        }
-        words => command(alloc, words).ok()?,
+        "input" => Shape::Input(Box::new(alloc, last(shapes)?)?),
+        "unchecked" => Shape::Unchecked(Box::new(alloc, last(shapes)?)?),
+        "pipe" => pipe(alloc, last(shapes)?, shapes)?,
+        words => command(alloc, words)?,
     };
-    shapes.push(node).ok()
+    Ok(shapes.push(node)?)
 }
 
-fn pipe(alloc: Global, left: Shape, right: Shape) -> Option<Shape> {
-    let left = Box::new(alloc, left).ok()?;
-    Some(Shape::Pipe(left, Box::new(alloc, right).ok()?))
+/// A pipe of the last shape into this one.
+fn pipe(alloc: Global, right: Shape, shapes: &mut Vec<Shape>) -> Result<Shape, Stop> {
+    let right = Box::new(alloc, right)?;
+    let left = Box::new(alloc, last(shapes)?)?;
+    Ok(Shape::Pipe(left, right))
 }
 
-// A command of these words, with commas between them.
+/// A command of these words, with commas between them.
 fn command(alloc: Global, words: &str) -> Result<Shape, AllocError> {
     let mut texts = Vec::new(alloc);
     for word in words.split(',') {
-        push_text(alloc, &mut texts, word)?;
+        texts.push(String::from_str(alloc, word)?)?;
     }
     Ok(Shape::Command(Arc::new(alloc, texts)?))
 }
 
-fn push_text(alloc: Global, texts: &mut Vec<String>, word: &str) -> Result<(), AllocError> {
-    Ok(texts.push(String::from_str(alloc, word)?)?)
-}
-
-pub(crate) fn event(alloc: Global, told: Told) -> Result<Event, AllocError> {
-    match told {
-        Told::Command(at, word) => Ok(Event::Command(at, word)),
-        Told::Input(at, said) => Ok(Event::Input(at, said)),
-        Told::Drain(side, Said::Running) => Ok(Event::Drain(side, Said::Running)),
-        Told::Drain(side, Said::Fault(fault)) => Ok(Event::Drain(side, Said::Fault(fault))),
-        Told::Drain(side, Said::Done(bytes)) => done(alloc, side, bytes),
-        Told::Conclude => Ok(Event::Conclude),
-    }
-}
-
-fn done(alloc: Global, side: Side, bytes: &[u8]) -> Result<Event, AllocError> {
-    let bytes = Vec::from_slice(alloc, bytes)?;
-    Ok(Event::Drain(side, Said::Done(Arc::new(alloc, bytes)?)))
-}
-
-pub(crate) fn events_of(alloc: Global, told: &[Told]) -> Result<Vec<Event>, AllocError> {
+/// The events of a text.
+pub fn events_of(alloc: Global, text: &str) -> Result<Vec<Event>, Stop> {
     let mut events = Vec::new(alloc);
-    for one in told {
-        push_event(alloc, &mut events, *one)?;
+    for one in text.split("; ") {
+        events.push(event(alloc, one)?)?;
     }
     Ok(events)
 }
 
-fn push_event(alloc: Global, events: &mut Vec<Event>, told: Told) -> Result<(), AllocError> {
-    Ok(events.push(event(alloc, told)?)?)
+fn event(alloc: Global, text: &str) -> Result<Event, Stop> {
+    let (first, rest) = first_word(text);
+    match first {
+        "conclude" => Ok(Event::Conclude),
+        "out" => Ok(Event::Drain(Side::Out, drained(alloc, rest)?)),
+        "err" => Ok(Event::Drain(Side::Err, drained(alloc, rest)?)),
+        "input" => {
+            let (at, said) = first_word(rest);
+            Ok(Event::Input(at.parse()?, fed(said)?))
+        }
+        at => Ok(Event::Command(at.parse()?, word_of(rest)?)),
+    }
 }
 
-// A core of the shape of this row, which was told nothing.
-pub(crate) fn core_of(alloc: Global, row: &str, drains: Drains) -> Result<Core, Fail> {
-    let shape = shape_of(alloc, row).ok_or("no shape")?;
+const OTHER: Fault = Fault { kind: Kind::Other };
+
+fn word_of(text: &str) -> Result<Word, Stop> {
+    let (word, number) = first_word(text);
+    match word {
+        "running" => Ok(Word::Running),
+        "Other" => Ok(Word::Fault(OTHER)),
+        "code" => Ok(Word::Ended(ExitStatus::Code(number.parse()?))),
+        "signal" => Ok(Word::Ended(ExitStatus::Signal(number.parse()?))),
+        _ => Err(Stop::Word),
+    }
+}
+
+fn fed(text: &str) -> Result<Said<()>, Stop> {
+    match text {
+        "done" => Ok(Said::Done(())),
+        "Other" => Ok(Said::Fault(OTHER)),
+        _ => Err(Stop::Word),
+    }
+}
+
+fn drained(alloc: Global, text: &str) -> Result<Said<Arc<Vec<u8>>>, AllocError> {
+    if text == "Other" {
+        return Ok(Said::Fault(OTHER));
+    }
+    let bytes = Vec::from_slice(alloc, text.as_bytes())?;
+    Ok(Said::Done(Arc::new(alloc, bytes)?))
+}
+
+/// Which streams are captured: `none`, `both` or `stdout`.
+pub fn drains_of(text: &str) -> Result<Drains, Stop> {
+    let (out, err) = match text {
+        "none" => (false, false),
+        "stdout" => (true, false),
+        "both" => (true, true),
+        _ => return Err(Stop::Word),
+    };
+    Ok(Drains { out, err })
+}
+
+/// A core of the shape of this row, which was told nothing.
+pub fn core_of(alloc: Global, row: &str, drains: Drains) -> Result<Core, Stop> {
+    let shape = shape_of(alloc, row)?;
     Ok(Core::new(alloc, shape, drains)?)
 }
 
-// The replies of a core that is told these one by one, in words.
-pub(crate) fn step_by_step(
+/// Adds the replies of a core that is told these one by one.
+pub fn push_steps(
     alloc: Global,
-    row: &str,
-    drains: Drains,
-    told: &[Told],
-) -> Result<String, Fail> {
-    let mut core = core_of(alloc, row, drains)?;
-    let mut text = String::new(alloc);
-    for one in told {
-        step(alloc, &mut core, *one, &mut text)?;
+    core: &mut Core,
+    told: &str,
+    text: &mut String,
+) -> Result<(), Stop> {
+    for event in events_of(alloc, told)? {
+        push_reply(text, &core.step(event))?;
     }
-    Ok(text)
+    Ok(())
 }
 
-fn step(alloc: Global, core: &mut Core, told: Told, text: &mut String) -> Result<(), AllocError> {
-    let reply = core.step(event(alloc, told)?);
-    push_reply(text, &reply)
-}
-
-// The replies of a whole run, in words.
-pub(crate) fn at_once(
+/// Adds the replies of a whole run.
+pub fn push_run(
     alloc: Global,
-    row: &str,
+    shape: Shape,
     drains: Drains,
-    told: &[Told],
-) -> Result<String, Fail> {
-    let replies = run(alloc, row, drains, told)?;
-    let mut text = String::new(alloc);
-    for reply in replies.iter() {
-        push_reply(&mut text, reply)?;
+    events: &[Event],
+    text: &mut String,
+) -> Result<(), Stop> {
+    for reply in Core::run(alloc, shape, drains, events)?.iter() {
+        push_reply(text, reply)?;
     }
-    Ok(text)
+    Ok(())
 }
 
-fn run(alloc: Global, row: &str, drains: Drains, told: &[Told]) -> Result<Vec<Reply>, Fail> {
-    let events = events_of(alloc, told)?;
-    let shape = shape_of(alloc, row).ok_or("no shape")?;
-    Ok(Core::run(alloc, shape, drains, events.as_slice())?)
-}
-
-// Adds a reply in words, on a line of its own: an answer with its status and the bytes of stdout and of stderr, a failure
-// with its message.
+/// Adds a reply: an answer with its status and the bytes of stdout and of stderr, a failure with its message.
 fn push_reply(text: &mut String, reply: &Reply) -> Result<(), AllocError> {
     match reply {
-        Reply::Noted => text.push_str("Noted\n"),
-        Reply::Unknown => text.push_str("Unknown\n"),
-        Reply::Pending => text.push_str("Pending\n"),
-        Reply::Memory => text.push_str("Memory\n"),
+        Reply::Noted => text.push_str("Noted; "),
+        Reply::Unknown => text.push_str("Unknown; "),
+        Reply::Pending => text.push_str("Pending; "),
+        Reply::Memory => text.push_str("Memory; "),
         Reply::Fault(fault) => {
             let kind = fault.kind;
-            write!(text, "Fault {kind:?}\n")
+            write!(text, "Fault {kind:?}; ")
         }
         Reply::Answer(output) => {
             let status = output.status;
             let stdout = output.stdout.as_slice();
             let stderr = output.stderr.as_slice();
-            write!(text, "Answer {status:?} {stdout:?} {stderr:?}\n")
+            write!(text, "Answer {status:?} {stdout:?} {stderr:?}; ")
         }
         Reply::Failed(message) => {
             let message = message.as_str();
-            write!(text, "Failed {message}\n")
+            write!(text, "Failed {message}; ")
         }
     }
 }

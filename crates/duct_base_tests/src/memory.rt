@@ -1,121 +1,144 @@
-//! Want of memory: whatever single request of the process is refused, each test either finds the answer that it gets with
-//! ample memory, or finds that this call answered `Memory`, that nothing was lost, and the answer at the next one.
-use crate::build::{BOTH, Told, ended, events_of, shape_of};
-use duct_base::error::Error;
+//! Want of memory: whatever single request of the process is refused, each test of `memory_` either finds the answer that it gets
+//! with ample memory, or finds that this call answered `Memory`, that nothing was lost, and the answer at the next one.
+use crate::build::{Stop, core_of, drains_of, events_of, shape_of};
 use duct_base::status::{Core, Event, Reply};
-use duct_base::system::{ExitStatus, Said, Side};
+use duct_base::system::ExitStatus;
 use std::alloc::Global;
-use std::process::Abort;
 
-// An unchecked failure piped into a success, and the failure alone.
+/// What came of a run.
+#[derive(Clone, Copy, Debug, PartialEq, Eq)]
+enum Came {
+    /// As with ample memory.
+    Whole,
+    /// Memory was refused, by its name, and nothing was lost.
+    Refused,
+    Wrong,
+}
+
+/// What came of a run and of one more.
+fn both(one: Came, other: Came) -> Came {
+    match (one, other) {
+        (Came::Wrong, _) | (_, Came::Wrong) => Came::Wrong,
+        (Came::Refused, _) | (_, Came::Refused) => Came::Refused,
+        _ => Came::Whole,
+    }
+}
+
+/// What came of a run that may have stopped.
+fn came_of(run: Result<Came, Stop>) -> Came {
+    match run {
+        Ok(came) => came,
+        Err(Stop::Memory) => Came::Refused,
+        Err(_) => Came::Wrong,
+    }
+}
+
+/// An unchecked failure piped into a success.
 const ANSWERED: &str = "one,a unchecked zero pipe";
 
-const FAILED: &str = "one,a";
+/// The words of two commands and of both capture workers.
+const WORDS: &str = "0 code 1; 1 code 0; out x; err yz";
 
-const OUT: Told = Told::Drain(Side::Out, Said::Done(b"x"));
-
-const ERR: Told = Told::Drain(Side::Err, Said::Done(b"yz"));
-
-// The words of two commands and of both capture workers.
-fn words(alloc: Global) -> Option<Vec<Event>> {
-    events_of(alloc, &[ended(0, 1), ended(1, 0), OUT, ERR]).ok()
-}
-
-// The words and two questions.
-fn questions(alloc: Global) -> Option<Vec<Event>> {
-    let (ask, again) = (Told::Conclude, Told::Conclude);
-    events_of(alloc, &[ended(0, 1), ended(1, 0), OUT, ERR, ask, again]).ok()
-}
-
-// Of a call and one more, the first that is not refused.
-fn either<T: Drop>(rt: &impl Abort, first: Option<T>, second: Option<T>) -> T {
-    match first.or(second) {
-        Some(made) => made,
-        None => panic!(rt; "two requests were refused"),
+/// What came of a call whose value isn't needed.
+fn came_of_other<T: Drop>(other: Result<T, Stop>) -> Came {
+    match other {
+        Ok(_made) => Came::Whole,
+        Err(Stop::Memory) => Came::Refused,
+        Err(_stop) => Came::Wrong,
     }
 }
 
-// A core of the shape of this row, or nothing where a request was refused: the refusal is `Memory` and nothing else.
-fn core(rt: &impl Abort, alloc: Global, row: &str) -> Option<Core> {
-    match Core::new(alloc, shape_of(alloc, row)?, BOTH) {
-        Ok(core) => Some(core),
-        Err(error) => {
-            assert!(rt; matches!(error, Error::Memory));
-            None
-        }
+/// Of a call and one more, the first that is not refused, and what came of both.
+fn either<T: Drop>(first: Result<T, Stop>, second: Result<T, Stop>) -> Result<(T, Came), Stop> {
+    match first {
+        Ok(made) => Ok((made, came_of_other(second))),
+        Err(Stop::Memory) => Ok((second?, Came::Refused)),
+        Err(stop) => Err(stop),
     }
 }
 
-// Whether the reply is the answer of the words.
-fn is_answer(reply: &Reply) -> bool {
+/// What came of a question: the answer of the words or the message of the failure, or a refusal.
+fn came_of_reply(reply: &Reply) -> Came {
     match reply {
-        Reply::Answer(output) => {
-            output.status == ExitStatus::Code(1)
+        Reply::Memory => Came::Refused,
+        Reply::Answer(output)
+            if output.status == ExitStatus::Code(1)
                 && output.stdout.as_slice() == b"x".as_slice()
-                && output.stderr.as_slice() == b"yz".as_slice()
+                && output.stderr.as_slice() == b"yz".as_slice() => Came::Whole,
+        Reply::Failed(text) if text.as_str() == "command [\"one\", \"a\"] exited with code 1" => {
+            Came::Whole
         }
-        _ => false,
+        _ => Came::Wrong,
     }
 }
 
-// Whether the reply is the message of the words.
-fn is_failure(reply: &Reply) -> bool {
-    match reply {
-        Reply::Failed(text) => text.as_str() == "command [\"one\", \"a\"] exited with code 1",
-        _ => false,
-    }
+/// Whether a reply is an answer, and no message.
+fn is_answer(reply: &Reply) -> bool {
+    matches!(reply, Reply::Answer(_))
 }
 
-fn is_wanted(reply: &Reply, wants_answer: bool) -> bool {
-    if wants_answer {
-        is_answer(reply)
-    } else {
-        is_failure(reply)
-    }
-}
-
-// Tells the words; no reply to them needs memory. Whether a reply was `Memory` all the same.
+/// Tells the words; no reply to them needs memory. Whether a reply was `Memory` all the same.
 fn tell(core: &mut Core, events: Vec<Event>) -> bool {
     let mut refused = false;
     for event in events {
-        refused = is_refusal(&core.step(event)) || refused;
+        refused = matches!(core.step(event), Reply::Memory) || refused;
     }
     refused
 }
 
-fn is_refusal(reply: &Reply) -> bool {
-    matches!(reply, Reply::Memory)
-}
-
-// Whether the next question is answered, or, where it may be, refused.
-fn asks(core: &mut Core, wants_answer: bool, may_refuse: bool) -> bool {
+/// What comes of the next question, where it is an answer or a message, as is wanted, or a refusal.
+fn ask(core: &mut Core, wants_answer: bool) -> Came {
     let reply = core.step(Event::Conclude);
-    is_wanted(&reply, wants_answer) || (may_refuse && is_refusal(&reply))
+    match came_of_reply(&reply) {
+        Came::Whole if is_answer(&reply) != wants_answer => Came::Wrong,
+        came => came,
+    }
 }
 
-// A first question may be refused, and the next ones give the answer.
-fn asked(rt: &impl Abort, alloc: Global, row: &str, wants_answer: bool) {
-    let mut core = either(rt, core(rt, alloc, row), core(rt, alloc, row));
-    let refused = tell(&mut core, either(rt, words(alloc), words(alloc)));
-    let first = asks(&mut core, wants_answer, true);
+/// A first question may be refused, and the next ones give the answer.
+fn ask_thrice(core: &mut Core, events: Vec<Event>, wants_answer: bool) -> Came {
+    let refused = tell(core, events);
+    let first = ask(core, wants_answer);
     let due = core.is_due(0);
-    let second = asks(&mut core, wants_answer, false);
-    let third = asks(&mut core, wants_answer, false);
-    assert!(rt; !refused && first && !due && second && third);
+    let second = ask(core, wants_answer);
+    let third = ask(core, wants_answer);
+    if refused || due || second != Came::Whole || third != Came::Whole {
+        Came::Wrong
+    } else {
+        first
+    }
+}
+
+fn asked(alloc: Global, row: &str, wants_answer: bool) -> Result<Came, Stop> {
+    let drains = drains_of("both")?;
+    let (events, words) = either(events_of(alloc, WORDS), events_of(alloc, WORDS))?;
+    let (mut core, made) = either(core_of(alloc, row, drains), core_of(alloc, row, drains))?;
+    Ok(both(
+        both(words, made),
+        ask_thrice(&mut core, events, wants_answer),
+    ))
+}
+
+fn answer(alloc: Global) -> Came {
+    came_of(asked(alloc, ANSWERED, true))
 }
 
 #[test]
 fn memory_of_an_answer(rt: HostRuntime) {
-    asked(&rt, rt.alloc(), ANSWERED, true);
+    assert_ne!(rt; answer(rt.alloc()), Came::Wrong);
+}
+
+fn message(alloc: Global) -> Came {
+    came_of(asked(alloc, "one,a", false))
 }
 
 #[test]
 fn memory_of_a_message(rt: HostRuntime) {
-    asked(&rt, rt.alloc(), FAILED, false);
+    assert_ne!(rt; message(rt.alloc()), Came::Wrong);
 }
 
-// Whether the replies are six, the last the answer, and the one before it the answer or the refusal.
-fn are_wanted(replies: &[Reply]) -> bool {
+/// What came of six replies, the last the answer, and the one before it the answer or the refusal.
+fn came_of_replies(replies: &[Reply]) -> Came {
     match replies {
         [
             Reply::Noted,
@@ -124,28 +147,41 @@ fn are_wanted(replies: &[Reply]) -> bool {
             Reply::Noted,
             first,
             last,
-        ] => { is_answer(last) && (is_answer(first) || is_refusal(first)) }
-        _ => false,
+        ] if is_answer(last) && !matches!(first, Reply::Failed(_)) => match came_of_reply(last) {
+            Came::Whole => came_of_reply(first),
+            _ => Came::Wrong,
+        },
+        _ => Came::Wrong,
     }
 }
 
-// Whether the replies of a run are the wanted ones, or nothing where it was refused: the refusal is `Memory` and nothing
-// else.
-fn ran(rt: &impl Abort, alloc: Global) -> Option<bool> {
-    let events = questions(alloc)?;
-    match Core::run(alloc, shape_of(alloc, ANSWERED)?, BOTH, events.as_slice()) {
-        Ok(replies) => Some(are_wanted(replies.as_slice())),
-        Err(error) => {
-            assert!(rt; matches!(error, Error::Memory));
-            None
-        }
+fn ran(alloc: Global) -> Result<Came, Stop> {
+    let events = events_of(
+        alloc,
+        "0 code 1; 1 code 0; out x; err yz; conclude; conclude",
+    )?;
+    let shape = shape_of(alloc, ANSWERED)?;
+    let replies = Core::run(alloc, shape, drains_of("both")?, events.as_slice())?;
+    Ok(came_of_replies(replies.as_slice()))
+}
+
+/// Of two runs one at most is refused.
+fn runs(alloc: Global) -> Came {
+    match (ran(alloc), ran(alloc)) {
+        (Ok(first), Ok(second)) => both(first, second),
+        (Ok(came), Err(Stop::Memory)) | (Err(Stop::Memory), Ok(came)) => both(came, Came::Refused),
+        _ => Came::Wrong,
     }
 }
 
 #[test]
 fn memory_of_a_run(rt: HostRuntime) {
-    let first = ran(&rt, rt.alloc());
-    let second = ran(&rt, rt.alloc());
-    assert!(rt; first.unwrap_or(true) && second.unwrap_or(true));
-    assert!(rt; first.is_some() || second.is_some());
+    assert_ne!(rt; runs(rt.alloc()), Came::Wrong);
+}
+
+/// Does what the others do, and passes only where no memory is refused.
+#[test]
+fn all_memory_is_there(rt: HostRuntime) {
+    let came = [answer(rt.alloc()), message(rt.alloc()), runs(rt.alloc())];
+    assert_eq!(rt; came, [Came::Whole, Came::Whole, Came::Whole]);
 }

@@ -1,251 +1,128 @@
 //! Rows of events with the replies that they must get.
-use crate::build::{BOTH, NONE, OTHER, Told, at_once, core_of, ended, step_by_step};
+use crate::build::{Stop, core_of, drains_of, events_of, push_run, push_steps, shape_of};
 use duct_base::status::{Core, Drains, Event, Word};
-use duct_base::system::{ExitStatus, Said, Side};
-use std::process::Abort;
+use duct_base::system::{ExitStatus, Fault, Kind};
+use std::alloc::Global;
 use std::test::Fail;
 
-// Fails unless a core of the shape of this row replies so, a line for each event, where it is told them one by one.
-fn in_steps<R: Abort + AllocGlobal>(
-    rt: &R,
-    row: &str,
-    drains: Drains,
-    told: &[Told],
-    wanted: &str,
-) -> Result<(), Fail> {
-    let found = step_by_step(rt.alloc(), row, drains, told)?;
-    assert_eq!(rt; found.as_str(), wanted);
+/// The replies of a core of the shape of this row, where it is told these one by one.
+fn in_steps(alloc: Global, row: &str, drains: Drains, told: &str) -> Result<String, Stop> {
+    let mut text = String::new(alloc);
+    push_steps(alloc, &mut core_of(alloc, row, drains)?, told, &mut text)?;
+    Ok(text)
+}
+
+/// The same in one run.
+fn at_once(alloc: Global, row: &str, drains: Drains, told: &str) -> Result<String, Stop> {
+    let mut text = String::new(alloc);
+    let events = events_of(alloc, told)?;
+    push_run(
+        alloc,
+        shape_of(alloc, row)?,
+        drains,
+        events.as_slice(),
+        &mut text,
+    )?;
+    Ok(text)
+}
+
+fn same(found: String, wanted: &str) -> Result<(), Stop> {
+    if found.as_str().trim_end() == wanted {
+        Ok(())
+    } else {
+        Err(Stop::Found(found))
+    }
+}
+
+/// Tries a line: `streams that are captured | shape | events -> replies`.
+fn try_line(alloc: Global, line: &str) -> Result<(), Stop> {
+    let (case, wanted) = line.split_once(" -> ").ok_or(Stop::Word)?;
+    let (drains, rest) = case.split_once(" | ").ok_or(Stop::Word)?;
+    let (row, told) = rest.split_once(" | ").ok_or(Stop::Word)?;
+    let drains = drains_of(drains)?;
+    same(in_steps(alloc, row, drains, told)?, wanted)?;
+    same(at_once(alloc, row, drains, told)?, wanted)
+}
+
+/// Tries the lines of a table. A sharp sign begins what a line is about.
+fn replies(alloc: Global, table: &str) -> Result<(), Fail> {
+    for text in table.trim().lines() {
+        let text = text.trim();
+        if !text.starts_with('#') {
+            if let Err(stop) = try_line(alloc, text) {
+                return Err(Fail::new(format_args!("{text}: {stop:?}")));
+            }
+        }
+    }
     Ok(())
 }
 
-// The same in one run, and one by one.
-fn replies<R: Abort + AllocGlobal>(
-    rt: &R,
-    row: &str,
-    drains: Drains,
-    told: &[Told],
-    wanted: &str,
-) -> Result<(), Fail> {
-    in_steps(rt, row, drains, told, wanted)?;
-    let found = at_once(rt.alloc(), row, drains, told)?;
-    assert_eq!(rt; found.as_str(), wanted);
-    Ok(())
-}
-
 #[test]
-fn an_unchecked_pipe_before_a_success_keeps_its_failure(rt: HostRuntime) -> Result<(), Fail> {
+fn winners(rt: HostRuntime) -> Result<(), Fail> {
     replies(
-        &rt,
-        "one two pipe unchecked zero pipe",
-        NONE,
-        &[ended(0, 1), ended(1, 2), ended(2, 0), Told::Conclude],
-        "Noted\nNoted\nNoted\nAnswer Code(2) [] []\n",
+        rt.alloc(),
+        r#"
+        # An unchecked pipe before a success keeps its failure.
+        none | one two pipe unchecked zero pipe | 0 code 1; 1 code 2; 2 code 0; conclude -> Noted; Noted; Noted; Answer Code(2) [] [];
+        # A checked failure stands after an unchecked pipe.
+        none | one two unchecked pipe unchecked three pipe | 0 code 1; 1 code 2; 2 code 3; conclude -> Noted; Noted; Noted; Failed command ["three"] exited with code 3;
+        # The right one of two unchecked failures stands.
+        none | one unchecked zero pipe two unchecked pipe | 0 code 1; 1 code 0; 2 code 2; conclude -> Noted; Noted; Noted; Answer Code(2) [] [];
+        # Two successes are a success.
+        none | zero zero pipe | 0 code 0; 1 code 0; conclude -> Noted; Noted; Answer Code(0) [] [];
+        # Precedence below an unchecked whole.
+        none | one two pipe unchecked | 0 code 1; 1 code 2; conclude -> Noted; Noted; Answer Code(2) [] [];
+        none | one two unchecked pipe unchecked | 0 code 1; 1 code 2; conclude -> Noted; Noted; Answer Code(1) [] [];
+        none | one unchecked two unchecked pipe unchecked | 0 code 1; 1 code 2; conclude -> Noted; Noted; Answer Code(2) [] [];
+        none | one unchecked zero unchecked pipe unchecked | 0 code 1; 1 code 0; conclude -> Noted; Noted; Answer Code(1) [] [];
+        none | one unchecked zero pipe unchecked | 0 code 1; 1 code 0; conclude -> Noted; Noted; Answer Code(1) [] [];
+        "#,
     )
 }
 
 #[test]
-fn a_checked_failure_stands_after_an_unchecked_pipe(rt: HostRuntime) -> Result<(), Fail> {
+fn words(rt: HostRuntime) -> Result<(), Fail> {
     replies(
-        &rt,
-        "one two unchecked pipe unchecked three pipe",
-        NONE,
-        &[ended(0, 1), ended(1, 2), ended(2, 3), Told::Conclude],
-        "Noted\nNoted\nNoted\nFailed command [\"three\"] exited with code 3\n",
+        rt.alloc(),
+        r#"
+        # A second ending is ignored.
+        none | one | 0 code 1; 0 code 0; conclude -> Noted; Noted; Failed command ["one"] exited with code 1;
+        # Without a word all wait.
+        none | zero | conclude -> Pending;
+        # A worker's fault stays.
+        none | zero input | input 0 Other; conclude; 0 code 0; conclude -> Noted; Fault Other; Noted; Fault Other;
+        # A command's fault lasts until its next word.
+        none | zero zero pipe | 1 Other; conclude; 0 code 0; 1 code 0; conclude -> Noted; Fault Other; Noted; Noted; Answer Code(0) [] [];
+        # The fault of stderr waits for stdout.
+        both | zero | 0 code 0; err Other; conclude; out x; conclude -> Noted; Noted; Pending; Noted; Fault Other;
+        # What is not there is unknown.
+        stdout | zero | 7 running; input 0 done; err x -> Unknown; Unknown; Unknown;
+        # An answer keeps its bytes.
+        both | zero | 0 code 0; out x; err y; conclude; out z; 0 code 1; conclude -> Noted; Noted; Noted; Answer Code(0) [120] [121]; Noted; Noted; Answer Code(0) [120] [121];
+        # A message names the words and the code, or the signal.
+        none | status,1 | 0 code 1; conclude -> Noted; Failed command ["status", "1"] exited with code 1;
+        none | status,1 | 0 signal 6; conclude -> Noted; Failed command ["status", "1"] exited with code <signal 6>;
+        "#,
     )
 }
 
-#[test]
-fn the_right_one_of_two_unchecked_failures_stands(rt: HostRuntime) -> Result<(), Fail> {
-    replies(
-        &rt,
-        "one unchecked zero pipe two unchecked pipe",
-        NONE,
-        &[ended(0, 1), ended(1, 0), ended(2, 2), Told::Conclude],
-        "Noted\nNoted\nNoted\nAnswer Code(2) [] []\n",
-    )
-}
-
-#[test]
-fn two_successes_are_a_success(rt: HostRuntime) -> Result<(), Fail> {
-    replies(
-        &rt,
-        "zero zero pipe",
-        NONE,
-        &[ended(0, 0), ended(1, 0), Told::Conclude],
-        "Noted\nNoted\nAnswer Code(0) [] []\n",
-    )
-}
-
-// Fails unless an unchecked whole of two commands that ended with these codes has the status of this code.
-fn status_of_two<R: Abort + AllocGlobal>(
-    rt: &R,
-    row: &str,
-    codes: (i32, i32),
-    wanted: &str,
-) -> Result<(), Fail> {
-    let told = [ended(0, codes.0), ended(1, codes.1), Told::Conclude];
-    replies(rt, row, NONE, &told, wanted)
-}
-
-const ONE: &str = "Noted\nNoted\nAnswer Code(1) [] []\n";
-
-const TWO: &str = "Noted\nNoted\nAnswer Code(2) [] []\n";
-
-#[test]
-fn precedence_below_an_unchecked_whole(rt: HostRuntime) -> Result<(), Fail> {
-    status_of_two(&rt, "one two pipe unchecked", (1, 2), TWO)?;
-    status_of_two(&rt, "one two unchecked pipe unchecked", (1, 2), ONE)?;
-    status_of_two(
-        &rt,
-        "one unchecked two unchecked pipe unchecked",
-        (1, 2),
-        TWO,
-    )?;
-    status_of_two(
-        &rt,
-        "one unchecked zero unchecked pipe unchecked",
-        (1, 0),
-        ONE,
-    )?;
-    status_of_two(&rt, "one unchecked zero pipe unchecked", (1, 0), ONE)
-}
-
-#[test]
-fn a_second_ending_is_ignored(rt: HostRuntime) -> Result<(), Fail> {
-    replies(
-        &rt,
-        "one",
-        NONE,
-        &[ended(0, 1), ended(0, 0), Told::Conclude],
-        "Noted\nNoted\nFailed command [\"one\"] exited with code 1\n",
-    )
-}
-
-#[test]
-fn without_a_word_all_wait(rt: HostRuntime) -> Result<(), Fail> {
-    replies(&rt, "zero", NONE, &[Told::Conclude], "Pending\n")
-}
-
-#[test]
-fn a_workers_fault_stays(rt: HostRuntime) -> Result<(), Fail> {
-    let fault = Told::Input(0, Said::Fault(OTHER));
-    replies(
-        &rt,
-        "zero input",
-        NONE,
-        &[fault, Told::Conclude, ended(0, 0), Told::Conclude],
-        "Noted\nFault Other\nNoted\nFault Other\n",
-    )
-}
-
-#[test]
-fn a_commands_fault_lasts_until_its_next_word(rt: HostRuntime) -> Result<(), Fail> {
-    let fault = Told::Command(1, Word::Fault(OTHER));
-    replies(
-        &rt,
-        "zero zero pipe",
-        NONE,
-        &[
-            fault,
-            Told::Conclude,
-            ended(0, 0),
-            ended(1, 0),
-            Told::Conclude,
-        ],
-        "Noted\nFault Other\nNoted\nNoted\nAnswer Code(0) [] []\n",
-    )
-}
-
-#[test]
-fn stderrs_fault_waits_for_stdout(rt: HostRuntime) -> Result<(), Fail> {
-    let fault = Told::Drain(Side::Err, Said::Fault(OTHER));
-    let bytes = Told::Drain(Side::Out, Said::Done(b"x"));
-    replies(
-        &rt,
-        "zero",
-        BOTH,
-        &[ended(0, 0), fault, Told::Conclude, bytes, Told::Conclude],
-        "Noted\nNoted\nPending\nNoted\nFault Other\n",
-    )
-}
-
-#[test]
-fn what_is_not_there_is_unknown(rt: HostRuntime) -> Result<(), Fail> {
-    let out = Drains {
-        out: true,
-        err: false,
-    };
-    let command = Told::Command(7, Word::Running);
-    let worker = Told::Input(0, Said::Done(()));
-    let drain = Told::Drain(Side::Err, Said::Done(b"x"));
-    replies(
-        &rt,
-        "zero",
-        out,
-        &[command, worker, drain],
-        "Unknown\nUnknown\nUnknown\n",
-    )
-}
-
-#[test]
-fn an_answer_keeps_its_bytes(rt: HostRuntime) -> Result<(), Fail> {
-    let out = Told::Drain(Side::Out, Said::Done(b"x"));
-    let again = Told::Drain(Side::Out, Said::Done(b"z"));
-    let err = Told::Drain(Side::Err, Said::Done(b"y"));
-    replies(
-        &rt,
-        "zero",
-        BOTH,
-        &[
-            ended(0, 0),
-            out,
-            err,
-            Told::Conclude,
-            again,
-            ended(0, 1),
-            Told::Conclude,
-        ],
-        "Noted\nNoted\nNoted\nAnswer Code(0) [120] [121]\nNoted\nNoted\nAnswer Code(0) [120] [121]\n",
-    )
-}
-
-// The message of the command `status 1` names its words, and how it ended.
-#[test]
-fn a_message_names_the_words_and_the_code(rt: HostRuntime) -> Result<(), Fail> {
-    replies(
-        &rt,
-        "status,1",
-        NONE,
-        &[ended(0, 1), Told::Conclude],
-        "Noted\nFailed command [\"status\", \"1\"] exited with code 1\n",
-    )
-}
-
-#[test]
-fn a_message_names_the_words_and_the_signal(rt: HostRuntime) -> Result<(), Fail> {
-    let killed = Told::Command(0, Word::Ended(ExitStatus::Signal(6)));
-    replies(
-        &rt,
-        "status,1",
-        NONE,
-        &[killed, Told::Conclude],
-        "Noted\nFailed command [\"status\", \"1\"] exited with code <signal 6>\n",
-    )
-}
-
-// Whether the first command is due after this event.
-fn is_due_after(core: &mut Core, event: Event) -> bool {
-    let _ = core.step(event);
+/// Whether the first command is due after this event.
+fn is_due_after(core: &mut Core, word: Word) -> bool {
+    let _ = core.step(Event::Command(0, word));
     core.is_due(0)
+}
+
+/// Whether a command is due until it ends, and not after a fault alone.
+fn is_due_until_its_end(core: &mut Core) -> bool {
+    let before = core.is_due(0) && !core.is_due(1);
+    let faulted = is_due_after(core, Word::Fault(Fault::new(Kind::Other)));
+    let ended = is_due_after(core, Word::Ended(ExitStatus::Code(3)));
+    before && faulted && !ended
 }
 
 #[test]
 fn a_command_is_due_until_it_ends(rt: HostRuntime) -> Result<(), Fail> {
-    let mut core = core_of(rt.alloc(), "zero", NONE)?;
-    let before = core.is_due(0) && !core.is_due(1);
-    let faulted = is_due_after(&mut core, Event::Command(0, Word::Fault(OTHER)));
-    let ending = Word::Ended(ExitStatus::Code(3));
-    let ended = is_due_after(&mut core, Event::Command(0, ending));
-    assert!(rt; before && faulted && !ended);
+    let is_due = is_due_until_its_end(&mut core_of(rt.alloc(), "zero", drains_of("none")?)?);
+    assert!(rt; is_due);
     Ok(())
 }

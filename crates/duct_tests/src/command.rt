@@ -4,8 +4,7 @@ ghost use Rattle.duct.specs.Start.{IsCommand};
 ghost use Rattle.duct.specs.TreeView.{tree_view};
 
 mod bench;
-mod memory;
-mod polls;
+pub mod memory;
 mod starts;
 
 use crate::texts::pieces;

@@ -2,6 +2,8 @@
 #![tactic(auto)]
 
 #[cfg(test)]
+mod came;
+#[cfg(test)]
 mod command;
 #[cfg(test)]
 mod expression;

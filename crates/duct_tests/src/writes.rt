@@ -1,23 +1,22 @@
 //! Specs in words, and writes of a spec that are written as texts: `env=A,2` gives the variable `A` the value `2`.
-use crate::texts::{number, pieces};
+use crate::texts::{Stop, pieces};
 use duct::{CommandSpec, Error, Port, Stream};
 use duct_base::spec::{give, spec_of};
 use std::alloc::{AllocError, Global};
 use std::collections::BTreeMap;
-use std::process::Abort;
 
-/// The spec of the command `a` with variables of the value 1.
-pub fn spec(alloc: Global, names: &[&str]) -> Result<CommandSpec, Error> {
+/// The spec of the command `a` with the variables `A` and `B` of the value 1.
+pub fn spec(alloc: Global) -> Result<CommandSpec, Error> {
     let mut spec = bare(alloc)?;
-    for name in names {
-        spec.env(name, "1")?;
-    }
+    spec.env("B", "1")?;
+    spec.env("A", "1")?;
     Ok(spec)
 }
 
 /// The spec of the command `a` with no variables.
 fn bare(alloc: Global) -> Result<CommandSpec, AllocError> {
-    let words = vec![in alloc; String::from_str(alloc, "a")?]?;
+    let mut words = Vec::new(alloc);
+    words.push(String::from_str(alloc, "a")?)?;
     let vars = BTreeMap::new(alloc);
     Ok(spec_of(words, None, vars, Port::Inherit, Port::Given, Port::Null))
 }
@@ -68,27 +67,19 @@ fn push_variable(text: &mut String, name: &str, value: &str) -> Result<(), Error
 }
 
 /// Writes to a spec.
-pub fn write<R: Abort + AllocGlobal>(
-    rt: &R,
-    spec: &mut CommandSpec,
-    step: &str,
-) -> Result<(), Error> {
+pub fn write(alloc: Global, spec: &mut CommandSpec, step: &str) -> Result<(), Stop> {
     let (call, values) = step.split_once('=').unwrap_or((step, ""));
     match call {
-        "arg" => spec.arg(values),
-        "args" => write_args(rt.alloc(), spec, values),
-        "current_dir" => spec.current_dir(values),
-        "env" => write_variable(spec, values),
-        _ => {
-            write_without_memory(rt, spec, call, values);
-            Ok(())
-        }
+        "arg" => Ok(spec.arg(values)?),
+        "args" => Ok(write_args(alloc, spec, values)?),
+        "current_dir" => Ok(spec.current_dir(values)?),
+        "env" => Ok(write_variable(spec, values)?),
+        _ => write_without_memory(spec, call, values),
     }
 }
 
 fn write_args(alloc: Global, spec: &mut CommandSpec, values: &str) -> Result<(), Error> {
-    let args = pieces(alloc, values)?;
-    spec.args(args.as_slice())
+    spec.args(pieces(alloc, values)?.as_slice())
 }
 
 fn write_variable(spec: &mut CommandSpec, values: &str) -> Result<(), Error> {
@@ -96,14 +87,15 @@ fn write_variable(spec: &mut CommandSpec, values: &str) -> Result<(), Error> {
     spec.env(name, value)
 }
 
-fn write_without_memory(rt: &impl Abort, spec: &mut CommandSpec, call: &str, values: &str) {
+fn write_without_memory(spec: &mut CommandSpec, call: &str, values: &str) -> Result<(), Stop> {
     match call {
         "env_remove" => spec.env_remove(values),
         "env_clear" => spec.env_clear(),
-        "stdin_to" => spec.stdin(Port::Place(number(rt, values) as usize)),
+        "stdin_to" => spec.stdin(Port::Place(values.parse()?)),
         "stdout_to_null" => spec.stdout(Port::Null),
         "stderr_to_inherit" => spec.stderr(Port::Inherit),
         "give_stdin" => give(spec, Stream::In),
-        _ => panic!(rt; "no such write"),
+        _ => return Err(Stop::Word),
     }
+    Ok(())
 }

@@ -9,14 +9,14 @@
 //! - `journal -> text`, `spec -> text` and `pool -> text` say what stands in the journal, what the last child was started with,
 //!   and how many children the pool keeps and was given.
 use super::{launched, parts, poll};
+use crate::texts::{Stop, fault, same, tried};
 use crate::writes::spec_text;
-use duct::{Entry, Error, ExitStatus, Fault, Kind, Numbered, Output, Place, Pool, Running, System};
+use duct::{Entry, Error, ExitStatus, Numbered, Output, Place, Pool, Running, System};
 use duct_script::child::{PollAnswer, ScriptChild};
 use duct_script::requests::Sort;
 use duct_script::system::Script;
 use duct_script::text::Words;
 use std::alloc::{AllocError, Global};
-use std::process::Abort;
 use std::sync::Arc;
 use std::test::Fail;
 
@@ -28,38 +28,40 @@ struct Bench {
     parts: String,
 }
 
-/// Tries all lines on one system with one pool.
-pub fn lines<R: Abort + AllocGlobal>(rt: &R, table: &str) -> Result<(), Fail> {
-    let alloc = rt.alloc();
-    let sys = Script::new(alloc)?;
-    let pool = Pool::new(alloc);
-    let parts = String::new(alloc);
-    let mut bench = Bench {
-        alloc,
-        sys,
-        pool,
-        parts,
-    };
-    for text in table.trim().lines() {
-        line(rt, &mut bench, text.trim())?;
+/// Tries all rows of a table, which empty lines part, each on a system of its own with a pool of its own.
+pub fn rows(alloc: Global, table: &str) -> Result<(), Fail> {
+    for row in table.split("\n\n") {
+        empty_bench(alloc)?.lines(row)?;
     }
     Ok(())
 }
 
-fn line<R: Abort>(rt: &R, bench: &mut Bench, line: &str) -> Result<(), Fail> {
-    match line.split_once(" -> ") {
-        Some((step, wanted)) => {
-            let text = bench.told(step)?;
-            assert_eq!(rt; text.trim_end(), wanted, "{step}");
-            Ok(())
-        }
-        None => bench.set(line),
-    }
+fn empty_bench(alloc: Global) -> Result<Bench, AllocError> {
+    Ok(Bench {
+        alloc,
+        sys: Script::new(alloc)?,
+        pool: Pool::new(alloc),
+        parts: String::new(alloc),
+    })
 }
 
 impl Bench {
+    fn lines(&mut self, row: &str) -> Result<(), Fail> {
+        for line in row.trim().lines() {
+            tried(line, self.line(line.trim()))?;
+        }
+        Ok(())
+    }
+
+    fn line(&mut self, line: &str) -> Result<(), Stop> {
+        match line.split_once(" -> ") {
+            Some((step, wanted)) => same(self.told(step)?, wanted),
+            None => self.set(line),
+        }
+    }
+
     /// Sets what the system answers.
-    fn set(&mut self, line: &str) -> Result<(), Fail> {
+    fn set(&mut self, line: &str) -> Result<(), Stop> {
         let (word, values) = line.split_once(' ').unwrap_or((line, ""));
         match word {
             "variable" => set_variable(&mut self.sys, values),
@@ -71,7 +73,7 @@ impl Bench {
     }
 
     /// What comes of a line with a text.
-    fn told(&mut self, step: &str) -> Result<String, Fail> {
+    fn told(&mut self, step: &str) -> Result<String, Stop> {
         match step {
             "journal" => Ok(journal_text(self.alloc, self.sys.journal())?),
             "spec" => last_spec(self.alloc, self.sys.journal()),
@@ -81,14 +83,14 @@ impl Bench {
         }
     }
 
-    fn pool_text(&self) -> Result<String, Fail> {
+    fn pool_text(&self) -> Result<String, Stop> {
         let (kept, given) = (self.pool.len(), self.pool.given());
         Ok(format!(in self.alloc; "{kept} kept, {given} given")?)
     }
 
-    fn start(&mut self, step: &str) -> Result<String, Fail> {
-        let (_, values) = step.split_once(' ').ok_or("no such line")?;
-        let (times, words) = values.split_once(' ').ok_or("no words")?;
+    fn start(&mut self, step: &str) -> Result<String, Stop> {
+        let (_, values) = step.split_once(' ').ok_or(Stop::Word)?;
+        let (times, words) = values.split_once(' ').ok_or(Stop::Word)?;
         let times = times.parse::<u32>()?;
         let alloc = self.alloc;
         let text = match launched(alloc, &mut self.sys, &mut self.pool, words) {
@@ -99,41 +101,33 @@ impl Bench {
     }
 }
 
-fn set_variable(sys: &mut Script, values: &str) -> Result<(), Fail> {
-    let (name, value) = values.split_once(',').ok_or("no value")?;
+fn set_variable(sys: &mut Script, values: &str) -> Result<(), Stop> {
+    let (name, value) = values.split_once(',').ok_or(Stop::Word)?;
     Ok(sys.variable(name, value)?)
 }
 
 /// Refuses the first request of a sort.
-fn refuse(sys: &mut Script, sort: Sort, kind: &str) -> Result<(), Fail> {
+fn refuse(sys: &mut Script, sort: Sort, kind: &str) -> Result<(), Stop> {
     let fault = fault(kind)?;
     Ok(sys.refuse_sort(sort, 1, fault)?)
 }
 
 /// Sets what the next child answers.
-fn set_child(alloc: Global, sys: &mut Script, answers: &str) -> Result<(), Fail> {
+fn set_child(alloc: Global, sys: &mut Script, answers: &str) -> Result<(), Stop> {
     let answers = poll_answers(alloc, answers)?;
     Ok(sys.polls(answers.as_slice())?)
 }
 
-fn clear(sys: &mut Script, word: &str) -> Result<(), Fail> {
+fn clear(sys: &mut Script, word: &str) -> Result<(), Stop> {
     if word != "clear" {
-        return Err(Fail::from("no such line"));
+        return Err(Stop::Word);
     }
     sys.clear_journal();
     Ok(())
 }
 
-fn fault(kind: &str) -> Result<Fault, Fail> {
-    match kind {
-        "NotFound" => Ok(Fault::new(Kind::NotFound)),
-        "Other" => Ok(Fault::new(Kind::Other)),
-        _ => Err(Fail::from("no such fault")),
-    }
-}
-
 /// The answers that commas part.
-fn poll_answers(alloc: Global, answers: &str) -> Result<Vec<PollAnswer>, Fail> {
+fn poll_answers(alloc: Global, answers: &str) -> Result<Vec<PollAnswer>, Stop> {
     let mut made = Vec::new(alloc);
     for answer in answers.split(',') {
         made.push(poll_answer(answer)?)?;
@@ -141,7 +135,7 @@ fn poll_answers(alloc: Global, answers: &str) -> Result<Vec<PollAnswer>, Fail> {
     Ok(made)
 }
 
-fn poll_answer(answer: &str) -> Result<PollAnswer, Fail> {
+fn poll_answer(answer: &str) -> Result<PollAnswer, Stop> {
     if answer == "running" {
         return Ok(PollAnswer::Running);
     }
@@ -162,10 +156,10 @@ fn journal_text(alloc: Global, journal: &[Entry]) -> Result<String, AllocError> 
 }
 
 /// What stands in the spec of the last entry.
-fn last_spec(alloc: Global, journal: &[Entry]) -> Result<String, Fail> {
+fn last_spec(alloc: Global, journal: &[Entry]) -> Result<String, Stop> {
     match journal.last() {
         Some(Entry::Spawn(spec, _, _)) => Ok(spec_text(alloc, spec)?),
-        _ => Err(Fail::from("no spawn")),
+        _ => Err(Stop::Word),
     }
 }
 

@@ -1,11 +1,11 @@
 //! Want of memory: whichever one request for memory is refused, a start and a poll answer as with ample memory, or name the
 //! refusal and lose nothing.
 use super::{launched, parts, poll};
+use crate::came::Came;
 use duct::{Entry, Error, ExitStatus, Fault, Kind, Output, Pool, Running, System};
 use duct_script::child::{PollAnswer, ScriptChild};
 use duct_script::system::Script;
 use std::alloc::{AllocError, Global};
-use std::process::Abort;
 use std::sync::Arc;
 
 // Sets a variable, and a child that runs at first and then fails.
@@ -34,84 +34,114 @@ fn is_front(journal: &[Entry]) -> bool {
     matches!(journal, [] | [Entry::Environment(Ok(_))])
 }
 
-// Whether a poll answered that the child runs, or that there was no memory.
-fn is_to_poll_again(polled: &Result<Option<Arc<Output>>, Error>) -> bool {
-    matches!(polled, Ok(None) | Err(Error::Memory))
-}
-
-// The message of a checked failure.
-fn message(polled: &Result<Option<Arc<Output>>, Error>) -> &str {
+// What came of a poll, if it is not that the child runs: the message of the failure, or no memory.
+fn came_of_poll(polled: &Result<Option<Arc<Output>>, Error>) -> Option<Came> {
     match polled {
-        Err(Error::Checked(message)) => message.as_str(),
-        _ => "another answer",
+        Ok(None) => None,
+        Err(Error::Memory) => Some(Came::Refused),
+        Err(Error::Checked(message)) => {
+            let wanted = "command [\"f\", \"x\"] exited with code 1";
+            Some(if message.as_str() == wanted {
+                Came::Whole
+            } else {
+                Came::Wrong
+            })
+        }
+        _ => Some(Came::Wrong),
     }
 }
 
-// The message of the failure, past polls that found no memory.
-fn fails<R: Abort>(rt: &R, running: &mut Running<Script>) {
+// Polls until the message of the failure comes, past polls that found no memory.
+fn polled(running: &mut Running<Script>) -> Came {
+    let mut came = Came::Whole;
     for _ in 0..4 {
-        let polled = poll(running);
-        if !is_to_poll_again(&polled) {
-            assert_eq!(rt;
-                message(&polled),
-                "command [\"f\", \"x\"] exited with code 1"
-            );
-            return;
+        match came_of_poll(&poll(running)) {
+            None => (),
+            Some(Came::Refused) => came = Came::Refused,
+            Some(last) => return came.then(last),
         }
     }
-    panic!(rt; "no answer");
+    Came::Wrong
 }
 
-// Polls what runs until it answers the message of the failure, and lets it go.
-fn ends<R: Abort>(rt: &R, mut running: Running<Script>) {
-    fails(rt, &mut running);
+// Polls what runs to its end, and lets it go.
+fn ended(mut running: Running<Script>) -> Came {
+    let came = polled(&mut running);
     drop(parts(running));
+    came
 }
 
-// How many entries a journal has.
-fn entries(sys: &Script) -> usize {
-    sys.journal().len()
-}
-
-// Asserts that a start was refused for want of memory, after a front of its entries.
-fn is_refused<R: Abort>(rt: &R, error: Error, sys: &Script) {
-    assert!(rt; is_memory(&error) && is_front(sys.journal()));
-}
-
-// Starts the command, polls it to its end, and compares.
-fn start<R: Abort + AllocGlobal>(rt: &R, sys: &mut Script, pool: &mut Pool<ScriptChild>) {
-    match launched(rt.alloc(), sys, pool, "f,x") {
-        Err(error) => is_refused(rt, error, sys),
-        Ok(running) => {
-            ends(rt, running);
-            assert_eq!(rt; entries(sys), 2);
-        }
+// What came of a start that was refused, after a front of its entries.
+fn refused(error: &Error, journal: &[Entry]) -> Came {
+    if is_memory(error) && is_front(journal) {
+        Came::Refused
+    } else {
+        Came::Wrong
     }
-    assert_eq!(rt; (pool.len(), pool.given()), (0, 0));
+}
+
+// Starts the command, and polls it to its end.
+fn start(alloc: Global, sys: &mut Script, pool: &mut Pool<ScriptChild>) -> Came {
+    let came = match launched(alloc, sys, pool, "f,x") {
+        Err(error) => refused(&error, sys.journal()),
+        Ok(running) => {
+            let came = ended(running);
+            if sys.journal().len() == 2 {
+                came
+            } else {
+                Came::Wrong
+            }
+        }
+    };
+    if pool.len() == 0 && pool.given() == 0 {
+        came
+    } else {
+        Came::Wrong
+    }
+}
+
+pub fn starts(alloc: Global) -> Came {
+    match system(alloc) {
+        Ok(mut sys) => start(alloc, &mut sys, &mut Pool::new(alloc)),
+        Err(_) => Came::Refused,
+    }
 }
 
 #[test]
 fn memory_of_a_start_and_its_polls(rt: HostRuntime) {
-    if let Ok(mut sys) = system(rt.alloc()) {
-        start(&rt, &mut sys, &mut Pool::new(rt.alloc()));
+    assert_ne!(rt; starts(rt.alloc()), Came::Wrong);
+}
+
+// What came of a start on a system that finds no more memory.
+fn came_of_starved(error: &Error, journal: &[Entry]) -> Came {
+    match error {
+        _ if journal.len() > 0 => Came::Wrong,
+        Error::Memory => Came::Refused,
+        error if is_memory(error) => Came::Whole,
+        _ => Came::Wrong,
     }
 }
 
 // Starts the command where the system finds no more memory.
-fn starved<R: Abort + AllocGlobal>(rt: &R, sys: &mut Script, pool: &mut Pool<ScriptChild>) {
+fn start_starved(alloc: Global, sys: &mut Script, pool: &mut Pool<ScriptChild>) -> Came {
     sys.starve(true);
-    match launched(rt.alloc(), sys, pool, "f,x") {
-        Err(error) => assert!(rt; is_memory(&error) && entries(sys) == 0),
+    match launched(alloc, sys, pool, "f,x") {
+        Err(error) => came_of_starved(&error, sys.journal()),
         Ok(running) => {
             drop(parts(running));
-            panic!(rt; "started");
+            Came::Wrong
         }
+    }
+}
+
+pub fn starved(alloc: Global) -> Came {
+    match system(alloc) {
+        Ok(mut sys) => start_starved(alloc, &mut sys, &mut Pool::new(alloc)),
+        Err(_) => Came::Refused,
     }
 }
 
 #[test]
 fn memory_that_the_system_finds_no_more_of(rt: HostRuntime) {
-    if let Ok(mut sys) = system(rt.alloc()) {
-        starved(&rt, &mut sys, &mut Pool::new(rt.alloc()));
-    }
+    assert_ne!(rt; starved(rt.alloc()), Came::Wrong);
 }

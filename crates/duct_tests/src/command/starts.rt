@@ -1,39 +1,25 @@
-//! What a start asks, what it answers, and what is left after a refusal.
-use super::bench::lines;
+//! The start of one command and its polls: what they ask, what they answer, and what is left after a refusal.
+use super::bench::rows;
 use std::test::Fail;
 
+/// A start asks the environment and spawns; it passes each word as it stands, gives the last value of a name answered twice, is
+/// refused with the environment and with the spawn, and keeps the journal that was there.
 #[test]
-fn asks_the_environment_and_spawns(rt: HostRuntime) -> Result<(), Fail> {
-    lines(
-        &rt,
+fn starts(rt: HostRuntime) -> Result<(), Fail> {
+    rows(
+        rt.alloc(),
         r#"
         start 0 echo,hi -> started.
         parts -> (1, 0, 0) child 1 polled 0
         journal -> environment ok. spawn echo hi inherit inherit inherit ok 1.
         spec -> ["echo", "hi"] None [Inherit, Inherit, Inherit]
         pool -> 0 kept, 0 given
-        "#,
-    )
-}
 
-#[test]
-fn passes_each_word_as_it_stands(rt: HostRuntime) -> Result<(), Fail> {
-    lines(
-        &rt,
-        r#"
         start 0 p,,a b,",$HOME,é -> started.
         parts -> (1, 0, 0) child 1 polled 0
         journal -> environment ok. spawn p  a b " $HOME é inherit inherit inherit ok 1.
         spec -> ["p", "", "a b", "\"", "$HOME", "é"] None [Inherit, Inherit, Inherit]
-        "#,
-    )
-}
 
-#[test]
-fn gives_the_last_value_of_a_name_answered_twice(rt: HostRuntime) -> Result<(), Fail> {
-    lines(
-        &rt,
-        r#"
         variable A,1
         variable B,x
         variable A,2
@@ -41,41 +27,17 @@ fn gives_the_last_value_of_a_name_answered_twice(rt: HostRuntime) -> Result<(), 
         parts -> (1, 0, 0) child 1 polled 0
         journal -> environment ok A=1 B=x A=2. spawn echo hi inherit inherit inherit ok 1.
         spec -> ["echo", "hi"] None A=2 B=x [Inherit, Inherit, Inherit]
-        "#,
-    )
-}
 
-#[test]
-fn is_refused_with_the_environment(rt: HostRuntime) -> Result<(), Fail> {
-    lines(
-        &rt,
-        r#"
         refuse_environment Other
         start 0 echo,hi -> system: Other
         journal -> environment Other.
         pool -> 0 kept, 0 given
-        "#,
-    )
-}
 
-#[test]
-fn is_refused_with_the_spawn(rt: HostRuntime) -> Result<(), Fail> {
-    lines(
-        &rt,
-        r#"
         refuse_spawn NotFound
         start 0 echo,hi -> system: NotFound
         journal -> environment ok. spawn echo hi inherit inherit inherit NotFound.
         pool -> 0 kept, 0 given
-        "#,
-    )
-}
 
-#[test]
-fn keeps_the_journal_that_was_there(rt: HostRuntime) -> Result<(), Fail> {
-    lines(
-        &rt,
-        r#"
         start 0 echo,hi -> started.
         parts -> (1, 0, 0) child 1 polled 0
         start 0 echo,hi -> started.
@@ -85,6 +47,36 @@ fn keeps_the_journal_that_was_there(rt: HostRuntime) -> Result<(), Fail> {
         start 0 echo,hi -> started.
         parts -> (1, 0, 0) child 3 polled 0
         journal -> environment ok. spawn echo hi inherit inherit inherit ok 3.
+        "#,
+    )
+}
+
+/// Polls answer nothing and then the output, a checked failure again and again with the words and the code or the signal, and a
+/// fault until the next word.
+#[test]
+fn polls(rt: HostRuntime) -> Result<(), Fail> {
+    rows(
+        rt.alloc(),
+        r#"
+        child running,code 0
+        start 3 echo,hi -> started. nothing. Code(0) 0 0. Code(0) 0 0.
+        parts -> (1, 0, 0) child 1 polled 2
+
+        child code 1
+        start 2 status,1 -> started. command ["status", "1"] exited with code 1. command ["status", "1"] exited with code 1.
+        parts -> (1, 0, 0) child 1 polled 1
+
+        child signal 6
+        start 1 status,1 -> started. command ["status", "1"] exited with code <signal 6>.
+        parts -> (1, 0, 0) child 1 polled 1
+
+        child code 1
+        start 1 a\b,c"d -> started. command ["a\\b", "c\"d"] exited with code 1.
+        parts -> (1, 0, 0) child 1 polled 1
+
+        child Other,running,code 0
+        start 3 status,1 -> started. system: Other. nothing. Code(0) 0 0.
+        parts -> (1, 0, 0) child 1 polled 3
         "#,
     )
 }

@@ -1,46 +1,36 @@
 //! Deep trees are dropped without stack.
-use super::{a, b, made_shows, shows};
-use duct::{Error, Expression};
+use super::made::shows;
+use crate::texts::Stop;
+use duct::{Error, Expression, cmd};
 use std::alloc::Global;
-
-// One more modifier.
-fn unchecked(inner: Expression<u64>) -> Result<Expression<u64>, Error> {
-    inner.unchecked()
-}
+use std::test::Fail;
 
 fn deep_modifiers(alloc: Global) -> Result<Expression<u64>, Error> {
-    let mut deep = a(alloc)?;
+    let mut deep = cmd!(in alloc; "a")?;
     for _ in 0..10_000u32 {
-        deep = unchecked(deep)?;
+        deep = deep.unchecked()?;
     }
     Ok(deep)
-}
-
-#[test]
-fn ten_thousand_modifiers(rt: HostRuntime) -> Result<(), Error> {
-    let deep = deep_modifiers(rt.alloc())?;
-    let copy = deep.clone()?;
-    drop(deep);
-    drop(copy);
-    made_shows(&rt, a(rt.alloc()), "Cmd([\"a\"])")
-}
-
-// One more pipe.
-fn piped(left: Expression<u64>, right: &Expression<u64>) -> Result<Expression<u64>, Error> {
-    left.pipe(right)
 }
 
 fn deep_pipes(alloc: Global, right: &Expression<u64>) -> Result<Expression<u64>, Error> {
-    let mut deep = a(alloc)?;
+    let mut deep = cmd!(in alloc; "a")?;
     for _ in 0..10_000u32 {
-        deep = piped(deep, right)?;
+        deep = deep.pipe(right)?;
     }
     Ok(deep)
 }
 
+/// Drops both trees, of the first a copy too, and shows what stands in one of them.
+fn dropped(alloc: Global) -> Result<(), Stop> {
+    drop(deep_modifiers(alloc)?.clone()?);
+    let right = cmd!(in alloc; "b")?;
+    drop(deep_pipes(alloc, &right)?);
+    shows(alloc, &cmd!(in alloc; "a")?, "Cmd([\"a\"])")?;
+    shows(alloc, &right, "Cmd([\"b\"])")
+}
+
 #[test]
-fn ten_thousand_pipes_from_the_left(rt: HostRuntime) -> Result<(), Error> {
-    let right = b(rt.alloc())?;
-    drop(deep_pipes(rt.alloc(), &right)?);
-    shows(&rt, &right, "Cmd([\"b\"])")
+fn ten_thousand_modifiers_and_pipes(rt: HostRuntime) -> Result<(), Fail> {
+    Ok(dropped(rt.alloc())?)
 }

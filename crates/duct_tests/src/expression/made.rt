@@ -5,15 +5,16 @@
 //! `full_env=A:1,B:2`. The numbers of ends stand behind `stdout_file=` and `before_spawn=`. A word that is no call is a command:
 //! `echo,hi` has two words. `@1` takes expression 1 in hand, of those that the paragraph made, from 0; `pipe=1` pipes the
 //! expression at hand into that one.
-use super::{Quiet, shows};
-use crate::texts::{number, numbers, pairs, pieces};
+use super::Quiet;
+use crate::texts::{Stop, numbers, pairs, pieces, same, tried};
 use duct::{Error, Expression, HookBox};
-use std::alloc::Global;
-use std::process::Abort;
+use std::alloc::{AllocError, Global};
+use std::test::Fail;
 
 /// What was made so far, and the place of the expression at hand.
 #[derive(Drop)]
 pub struct Made {
+    alloc: Global,
     all: Vec<Expression<u64>>,
     hand: usize,
 }
@@ -21,85 +22,86 @@ pub struct Made {
 impl Made {
     pub fn new(alloc: Global) -> Made {
         let all = Vec::new(alloc);
-        Made { all, hand: 0 }
+        Made {
+            alloc,
+            all,
+            hand: 0,
+        }
     }
 
     /// Adds an expression, which is then at hand.
-    fn add(&mut self, made: Expression<u64>) -> Result<(), Error> {
+    fn add(&mut self, made: Expression<u64>) -> Result<(), Stop> {
         let hand = self.all.len();
         self.all.push(made)?;
         self.hand = hand;
         Ok(())
     }
 
-    /// The expression of this place.
-    fn at(&self, rt: &impl Abort, place: usize) -> &Expression<u64> {
-        match self.all.get(place) {
-            Some(expression) => expression,
-            None => panic!(rt; "no such expression"),
-        }
-    }
-
     /// Takes these steps.
-    pub fn take<R: Abort + AllocGlobal>(&mut self, rt: &R, steps: &str) -> Result<(), Error> {
+    pub fn take(&mut self, steps: &str) -> Result<(), Stop> {
         for step in steps.split_whitespace() {
-            self.step(rt, step)?;
+            self.step(step)?;
         }
         Ok(())
     }
 
-    fn step<R: Abort + AllocGlobal>(&mut self, rt: &R, step: &str) -> Result<(), Error> {
+    fn step(&mut self, step: &str) -> Result<(), Stop> {
         if let Some(place) = step.strip_prefix('@') {
-            self.hand = number(rt, place) as usize;
+            self.hand = place.parse()?;
             return Ok(());
         }
-        let made = self.made(rt, step)?;
+        let made = self.made(step)?;
         self.add(made)
     }
 
     /// What a step makes.
-    fn made<R: Abort + AllocGlobal>(&self, rt: &R, step: &str) -> Result<Expression<u64>, Error> {
+    fn made(&self, step: &str) -> Result<Expression<u64>, Stop> {
         match step.split_once('=') {
-            Some(("pipe", place)) => {
-                let right = self.at(rt, number(rt, place) as usize);
-                self.at(rt, self.hand).pipe(right)
-            }
-            Some((call, values)) => with_values(rt, self.at(rt, self.hand), call, values),
-            None if is_call(step) => bare(rt, self.at(rt, self.hand), step),
-            None => command(rt, step),
+            Some(("pipe", place)) => Ok(at(self, self.hand)?.pipe(at(self, place.parse()?)?)?),
+            Some((call, values)) => with_values(self.alloc, at(self, self.hand)?, call, values),
+            None if is_call(step) => bare(at(self, self.hand)?, step),
+            None => command(self.alloc, step),
         }
     }
 
-    /// Asserts what the expression at this place shows.
-    pub fn shows_at<R: Abort + AllocGlobal>(
-        &self,
-        rt: &R,
-        place: usize,
-        text: &str,
-    ) -> Result<(), Error> {
-        shows(rt, self.at(rt, place), text)
+    /// Stops unless the expression at this place shows this text.
+    pub fn shows_at(&self, place: usize, text: &str) -> Result<(), Stop> {
+        shows(self.alloc, at(self, place)?, text)
     }
 
     /// Tries a line of a table.
-    pub fn line<R: Abort + AllocGlobal>(&mut self, rt: &R, line: &str) -> Result<(), Error> {
-        let Some((steps, text)) = line.split_once(" -> ") else {
-            panic!(rt; "no text");
-        };
-        self.take(rt, steps)?;
-        self.shows_at(rt, self.hand, text)
+    pub fn line(&mut self, line: &str) -> Result<(), Stop> {
+        let (steps, text) = line.split_once(" -> ").ok_or(Stop::Word)?;
+        self.take(steps)?;
+        self.shows_at(self.hand, text)
     }
 }
 
+/// The expression of this place.
+fn at(made: &Made, place: usize) -> Result<&Expression<u64>, Stop> {
+    made.all.get(place).ok_or(Stop::Word)
+}
+
+/// Stops unless an expression shows this text.
+pub fn shows(alloc: Global, expression: &Expression<u64>, text: &str) -> Result<(), Stop> {
+    same(shown(alloc, expression)?, text)
+}
+
+fn shown(alloc: Global, expression: &Expression<u64>) -> Result<String, AllocError> {
+    format!(in alloc; "{expression:?}")
+}
+
 /// Tries all lines of a table, whose paragraphs stand apart.
-pub fn rows<R: Abort + AllocGlobal>(rt: &R, table: &str) -> Result<(), Error> {
-    let mut made = Made::new(rt.alloc());
-    for line in table.lines() {
-        let line = line.trim();
-        if line.is_empty() {
-            made.all.clear();
-        } else {
-            made.line(rt, line)?;
-        }
+pub fn rows(alloc: Global, table: &str) -> Result<(), Fail> {
+    for paragraph in table.split("\n\n") {
+        lines(&mut Made::new(alloc), paragraph)?;
+    }
+    Ok(())
+}
+
+fn lines(made: &mut Made, paragraph: &str) -> Result<(), Fail> {
+    for line in paragraph.trim().lines() {
+        tried(line, made.line(line.trim()))?;
     }
     Ok(())
 }
@@ -110,17 +112,17 @@ fn is_call(step: &str) -> bool {
 }
 
 /// A command of the words that commas part.
-fn command<R: Abort + AllocGlobal>(rt: &R, words: &str) -> Result<Expression<u64>, Error> {
-    let words = pieces(rt.alloc(), words)?;
+fn command(alloc: Global, words: &str) -> Result<Expression<u64>, Stop> {
+    let words = pieces(alloc, words)?;
     match words.split_first() {
-        Some((program, args)) => duct::cmd(rt.alloc(), *program, args),
-        None => panic!(rt; "no program"),
+        Some((program, args)) => Ok(duct::cmd(alloc, *program, args)?),
+        None => Err(Stop::Word),
     }
 }
 
 /// A call without arguments.
-fn bare(rt: &impl Abort, inner: &Expression<u64>, call: &str) -> Result<Expression<u64>, Error> {
-    match call {
+fn bare(inner: &Expression<u64>, call: &str) -> Result<Expression<u64>, Stop> {
+    let made = match call {
         "stdin_null" => inner.stdin_null(),
         "stdout_null" => inner.stdout_null(),
         "stderr_null" => inner.stderr_null(),
@@ -130,55 +132,53 @@ fn bare(rt: &impl Abort, inner: &Expression<u64>, call: &str) -> Result<Expressi
         "stderr_to_stdout" => inner.stderr_to_stdout(),
         "stdout_stderr_swap" => inner.stdout_stderr_swap(),
         "unchecked" => inner.unchecked(),
-        "clone" => Ok(inner.clone()?),
-        _ => panic!(rt; "no such call"),
-    }
+        "clone" => return Ok(inner.clone()?),
+        _ => return Err(Stop::Word),
+    };
+    Ok(made?)
 }
 
 /// A call with arguments.
-fn with_values<R: Abort + AllocGlobal>(
-    rt: &R,
+fn with_values(
+    alloc: Global,
     inner: &Expression<u64>,
     call: &str,
     values: &str,
-) -> Result<Expression<u64>, Error> {
-    match call {
-        "stdin_bytes" => inner.stdin_bytes(Vec::from_slice(rt.alloc(), values.as_bytes())?),
+) -> Result<Expression<u64>, Stop> {
+    let made = match call {
+        "stdin_bytes" => inner.stdin_bytes(Vec::from_slice(alloc, values.as_bytes())?),
         "stdin_path" => inner.stdin_path(values),
         "stdout_path" => inner.stdout_path(values),
         "stderr_path" => inner.stderr_path(values),
-        "stdin_file" => inner.stdin_file(number(rt, values)),
-        "stdout_file" => inner.stdout_file(number(rt, values)),
-        "stderr_file" => inner.stderr_file(number(rt, values)),
-        _ => surrounded(rt, inner, call, values),
-    }
+        "stdin_file" => inner.stdin_file(values.parse()?),
+        "stdout_file" => inner.stdout_file(values.parse()?),
+        "stderr_file" => inner.stderr_file(values.parse()?),
+        _ => return surrounded(alloc, inner, call, values),
+    };
+    Ok(made?)
 }
 
 /// A call with arguments that is on no stream.
-fn surrounded<R: Abort + AllocGlobal>(
-    rt: &R,
+fn surrounded(
+    alloc: Global,
     inner: &Expression<u64>,
     call: &str,
     values: &str,
-) -> Result<Expression<u64>, Error> {
+) -> Result<Expression<u64>, Stop> {
     let (first, rest) = values.split_once(',').unwrap_or((values, ""));
     match call {
-        "dir" => inner.dir(values),
-        "env" => inner.env(first, rest),
-        "env_remove" => inner.env_remove(values),
-        "full_env" => inner.full_env(pairs(rt.alloc(), values)?.as_slice()),
-        "before_spawn" => hooked(rt, inner, values),
-        _ => panic!(rt; "no such call"),
+        "dir" => Ok(inner.dir(values)?),
+        "env" => Ok(inner.env(first, rest)?),
+        "env_remove" => Ok(inner.env_remove(values)?),
+        "full_env" => Ok(inner.full_env(pairs(alloc, values)?.as_slice())?),
+        "before_spawn" => hooked(alloc, inner, values),
+        _ => Err(Stop::Word),
     }
 }
 
 /// A quiet hook with the ends of these numbers.
-fn hooked<R: Abort + AllocGlobal>(
-    rt: &R,
-    inner: &Expression<u64>,
-    ends: &str,
-) -> Result<Expression<u64>, Error> {
-    let ends = numbers(rt, ends)?;
-    let hook: HookBox = Box::new(rt.alloc(), Quiet)?;
-    inner.before_spawn(hook, ends)
+fn hooked(alloc: Global, inner: &Expression<u64>, ends: &str) -> Result<Expression<u64>, Stop> {
+    let ends = numbers(alloc, ends)?;
+    let hook: HookBox = Box::new(alloc, Quiet)?;
+    Ok(inner.before_spawn(hook, ends)?)
 }

@@ -1,211 +1,146 @@
 //! Want of memory: whichever one request for memory is refused, a call answers as with ample memory, or `Error::Memory`
-//! and leaves the old value as it was.
-use super::made::Made;
-use super::{a, shows};
+//! and leaves the old value as it was. The tests of `memory_` pass either way.
+use super::made::{Made, shows};
+use super::programs;
+use crate::came::Came;
+use crate::texts::{Stop, same};
 use crate::writes::{spec, spec_text, write};
-use duct::{Error, Expression, IntoExecutablePath, cmd};
-use std::path::{Path, PathBuf};
-use std::process::Abort;
+use duct::{CommandSpec, Error, Expression, cmd};
+use std::alloc::Global;
+use std::path::Path;
 
-// Asserts that a run came to its end, or to a refusal of memory outside of the calls that it is about.
-fn ended<R: Abort>(rt: &R, run: Result<(), Error>) {
-    assert!(rt; matches!(run, Ok(()) | Err(Error::Memory)));
-}
+const BUILDERS: &str = r#"
+    @0 stdin_bytes=xy -> Io(StdinBytes([120, 121]), Cmd(["a"]))
+    @0 stdin_path=f -> Io(StdinPath("f"), Cmd(["a"]))
+    @0 stdin_file=1 -> Io(StdinFile(<end>), Cmd(["a"]))
+    @0 stdin_null -> Io(StdinNull, Cmd(["a"]))
+    @0 stdout_path=f -> Io(StdoutPath("f"), Cmd(["a"]))
+    @0 stdout_file=1 -> Io(StdoutFile(<end>), Cmd(["a"]))
+    @0 stdout_null -> Io(StdoutNull, Cmd(["a"]))
+    @0 stdout_capture -> Io(StdoutCapture, Cmd(["a"]))
+    @0 stdout_to_stderr -> Io(StdoutToStderr, Cmd(["a"]))
+    @0 stdout_stderr_swap -> Io(StdoutStderrSwap, Cmd(["a"]))
+    @0 stderr_path=f -> Io(StderrPath("f"), Cmd(["a"]))
+    @0 stderr_file=1 -> Io(StderrFile(<end>), Cmd(["a"]))
+    @0 stderr_null -> Io(StderrNull, Cmd(["a"]))
+    @0 stderr_capture -> Io(StderrCapture, Cmd(["a"]))
+    @0 stderr_to_stdout -> Io(StderrToStdout, Cmd(["a"]))
+    @0 dir=/in -> Io(Dir("/in"), Cmd(["a"]))
+    @0 env=A,2 -> Io(Env("A", "2"), Cmd(["a"]))
+    @0 env_remove=A -> Io(EnvRemove("A"), Cmd(["a"]))
+    @0 full_env=B:x,A:1,B:y -> Io(FullEnv({"A": "1", "B": "y"}), Cmd(["a"]))
+    @0 unchecked -> Io(Unchecked, Cmd(["a"]))
+    @0 before_spawn=1,2 -> Io(BeforeSpawn(<closure>), Cmd(["a"]))
+    @0 pipe=1 -> Pipe(Cmd(["a"]), Cmd(["b"]))
+    @1 -> Cmd(["b"])
+"#;
 
-// Tries a line of a table, or asserts that there was no memory and the command `a`, which was made first, shows as before.
-fn line<R: Abort + AllocGlobal>(rt: &R, made: &mut Made, line: &str) -> Result<(), Error> {
-    match made.line(rt, line) {
-        Err(Error::Memory) => made.shows_at(rt, 0, "Cmd([\"a\"])"),
-        other => other,
+/// Tries a line of a table, or, where memory was refused, whether the commands `a` and `b`, which were made first, show as
+/// before.
+fn line(made: &mut Made, line: &str) -> Result<Came, Stop> {
+    match made.line(line) {
+        Ok(()) => Ok(Came::Whole),
+        Err(Stop::Error(Error::Memory)) => {
+            made.shows_at(0, "Cmd([\"a\"])")?;
+            made.shows_at(1, "Cmd([\"b\"])")?;
+            Ok(Came::Refused)
+        }
+        Err(stop) => Err(stop),
     }
 }
 
-// Tries the lines of a table after these steps, the first of which makes the command `a`.
-fn lines<R: Abort + AllocGlobal>(rt: &R, before: &str, table: &str) -> Result<(), Error> {
-    let mut made = Made::new(rt.alloc());
-    made.take(rt, before)?;
-    for text in table.trim().lines() {
-        line(rt, &mut made, text.trim())?;
+fn build(made: &mut Made) -> Result<Came, Stop> {
+    let mut came = Came::Whole;
+    made.take("a b")?;
+    for text in BUILDERS.trim().lines() {
+        came = came.then(line(made, text.trim())?);
     }
-    Ok(())
+    Ok(came)
+}
+
+pub fn builders(alloc: Global) -> Came {
+    Came::of(build(&mut Made::new(alloc)))
 }
 
 #[test]
-fn memory_of_stdin(rt: HostRuntime) {
-    let run = lines(
-        &rt,
-        "a",
-        r#"
-        @0 stdin_bytes=xy -> Io(StdinBytes([120, 121]), Cmd(["a"]))
-        @0 stdin_path=f -> Io(StdinPath("f"), Cmd(["a"]))
-        @0 stdin_file=1 -> Io(StdinFile(<end>), Cmd(["a"]))
-        @0 stdin_null -> Io(StdinNull, Cmd(["a"]))
-        "#,
-    );
-    ended(&rt, run);
+fn memory_of_builders(rt: HostRuntime) {
+    assert_ne!(rt; builders(rt.alloc()), Came::Wrong);
 }
 
-#[test]
-fn memory_of_stdout(rt: HostRuntime) {
-    let run = lines(
-        &rt,
-        "a",
-        r#"
-        @0 stdout_path=f -> Io(StdoutPath("f"), Cmd(["a"]))
-        @0 stdout_file=1 -> Io(StdoutFile(<end>), Cmd(["a"]))
-        @0 stdout_null -> Io(StdoutNull, Cmd(["a"]))
-        @0 stdout_capture -> Io(StdoutCapture, Cmd(["a"]))
-        @0 stdout_to_stderr -> Io(StdoutToStderr, Cmd(["a"]))
-        @0 stdout_stderr_swap -> Io(StdoutStderrSwap, Cmd(["a"]))
-        "#,
-    );
-    ended(&rt, run);
-}
-
-#[test]
-fn memory_of_stderr(rt: HostRuntime) {
-    let run = lines(
-        &rt,
-        "a",
-        r#"
-        @0 stderr_path=f -> Io(StderrPath("f"), Cmd(["a"]))
-        @0 stderr_file=1 -> Io(StderrFile(<end>), Cmd(["a"]))
-        @0 stderr_null -> Io(StderrNull, Cmd(["a"]))
-        @0 stderr_capture -> Io(StderrCapture, Cmd(["a"]))
-        @0 stderr_to_stdout -> Io(StderrToStdout, Cmd(["a"]))
-        "#,
-    );
-    ended(&rt, run);
-}
-
-#[test]
-fn memory_of_surroundings(rt: HostRuntime) {
-    let run = lines(
-        &rt,
-        "a",
-        r#"
-        @0 dir=/in -> Io(Dir("/in"), Cmd(["a"]))
-        @0 env=A,2 -> Io(Env("A", "2"), Cmd(["a"]))
-        @0 env_remove=A -> Io(EnvRemove("A"), Cmd(["a"]))
-        @0 full_env=B:x,A:1,B:y -> Io(FullEnv({"A": "1", "B": "y"}), Cmd(["a"]))
-        @0 unchecked -> Io(Unchecked, Cmd(["a"]))
-        @0 before_spawn=1,2 -> Io(BeforeSpawn(<closure>), Cmd(["a"]))
-        "#,
-    );
-    ended(&rt, run);
-}
-
-// Asserts that a clone takes no memory and shows the same.
-fn copied<R: Abort + AllocGlobal>(rt: &R, a: &Expression<u64>) -> Result<(), Error> {
-    match a.clone() {
-        Ok(copy) => shows(rt, &copy, "Cmd([\"a\"])"),
-        Err(_) => panic!(rt; "a clone takes no memory"),
-    }
-}
-
-// Asserts that a command of a path was made; or that there was no memory, and the command `a` shows as before.
-fn named_by_path<R: Abort + AllocGlobal>(rt: &R, a: &Expression<u64>) -> Result<(), Error> {
-    match cmd!(in rt.alloc(); Path::new("x"), "y", "z") {
-        Ok(made) => shows(rt, &made, "Cmd([\"./x\", \"y\", \"z\"])"),
-        Err(Error::Memory) => shows(rt, a, "Cmd([\"a\"])"),
-        Err(error) => Err(error),
-    }
-}
-
-fn copy_and_name<R: Abort + AllocGlobal>(rt: &R) -> Result<(), Error> {
-    let a = a(rt.alloc())?;
-    copied(rt, &a)?;
-    named_by_path(rt, &a)
-}
-
-#[test]
-fn memory_of_pipes_and_commands(rt: HostRuntime) {
-    let run = lines(
-        &rt,
-        "a b",
-        r#"
-        @0 pipe=1 -> Pipe(Cmd(["a"]), Cmd(["b"]))
-        @1 -> Cmd(["b"])
-        "#,
-    );
-    ended(&rt, run);
-    let run = copy_and_name(&rt);
-    ended(&rt, run);
-}
-
-// Asserts that this names a program of that text, or that there was no memory.
-fn named<R: Abort + AllocGlobal, P: IntoExecutablePath>(rt: &R, program: P, text: &str) {
-    let named = program.to_executable(rt.alloc());
-    assert_eq!(rt; text_or(&named, text), text);
-}
-
-// The text, or this other one where there was no memory.
-fn text_or<'a>(named: &'a Result<String, Error>, other: &'a str) -> &'a str {
-    match named {
-        Ok(program) => program.as_str(),
-        Err(Error::Memory) => other,
-        Err(_) => "another error",
-    }
-}
-
-fn name_by_texts<R: Abort + AllocGlobal>(rt: &R) -> Result<(), Error> {
-    let text = String::from_str(rt.alloc(), "x")?;
-    named(rt, "x", "x");
-    named(rt, &text, "x");
-    named(rt, text, "x");
-    Ok(())
-}
-
-fn name_by_paths<R: Abort + AllocGlobal>(rt: &R) -> Result<(), Error> {
-    let path = PathBuf::from_str(rt.alloc(), "x")?;
-    named(rt, Path::new("x"), "./x");
-    named(rt, &path, "./x");
-    named(rt, path, "./x");
-    Ok(())
-}
-
-#[test]
-fn memory_of_programs(rt: HostRuntime) {
-    let run = name_by_texts(&rt);
-    ended(&rt, run);
-    let run = name_by_paths(&rt);
-    ended(&rt, run);
-}
-
-// Asserts what stands in a spec after the write of a line, `step -> text`; or that there was no memory, and it is as before.
-fn wrote<R: Abort + AllocGlobal>(rt: &R, line: &str) -> Result<(), Error> {
-    let Some((step, changed)) = line.split_once(" -> ") else {
-        panic!(rt; "no text");
+/// Whether a clone takes no memory and a command of a path was made; or there was no memory, and the command `a` shows as
+/// before.
+fn copied_and_named(alloc: Global, a: &Expression<u64>) -> Result<Came, Stop> {
+    let Ok(copy) = a.clone() else {
+        return Ok(Came::Wrong);
     };
-    let mut spec = spec(rt.alloc(), &["A"])?;
-    let wanted = match write(rt, &mut spec, step) {
-        Ok(()) => changed,
-        Err(Error::Memory) => { r#"["a"] None A=1 [Inherit, Given, Null]"# }
-        Err(error) => return Err(error),
-    };
-    let text = spec_text(rt.alloc(), &spec)?;
-    assert_eq!(rt; text.as_str(), wanted);
-    Ok(())
+    shows(alloc, &copy, "Cmd([\"a\"])")?;
+    match cmd!(in alloc; Path::new("x"), "y", "z") {
+        Ok(made) => {
+            shows(alloc, &made, "Cmd([\"./x\", \"y\", \"z\"])")?;
+            Ok(Came::Whole)
+        }
+        Err(Error::Memory) => {
+            shows(alloc, a, "Cmd([\"a\"])")?;
+            Ok(Came::Refused)
+        }
+        Err(error) => Err(Stop::Error(error)),
+    }
 }
 
-fn write_specs<R: Abort + AllocGlobal>(rt: &R, lines: &str) -> Result<(), Error> {
-    for line in lines.trim().lines() {
-        wrote(rt, line.trim())?;
+fn copy_and_name(alloc: Global) -> Result<Came, Stop> {
+    copied_and_named(alloc, &cmd!(in alloc; "a")?)
+}
+
+/// Clones a command, and names programs by texts and by paths.
+pub fn commands(alloc: Global) -> Came {
+    Came::of(copy_and_name(alloc)).then(Came::of(name_programs(alloc)))
+}
+
+fn name_programs(alloc: Global) -> Result<Came, Stop> {
+    programs::line(alloc, "x -> x x x ./x ./x ./x")?;
+    Ok(Came::Whole)
+}
+
+#[test]
+fn memory_of_commands(rt: HostRuntime) {
+    assert_ne!(rt; commands(rt.alloc()), Came::Wrong);
+}
+
+const UNCHANGED: &str = r#"["a"] None A=1 B=1 [Inherit, Given, Null]"#;
+
+const WRITES: &str = r#"
+    arg=x -> ["a", "x"] None A=1 B=1 [Inherit, Given, Null]
+    args=x,y -> ["a", "x", "y"] None A=1 B=1 [Inherit, Given, Null]
+    env=C,2 -> ["a"] None A=1 B=1 C=2 [Inherit, Given, Null]
+    current_dir=/in -> ["a"] Some("/in") A=1 B=1 [Inherit, Given, Null]
+    env_remove=A -> ["a"] None B=1 [Inherit, Given, Null]
+"#;
+
+/// Writes to a spec as a line says, or, where memory was refused, finds it as before.
+fn wrote(alloc: Global, spec: &mut CommandSpec, line: &str) -> Result<Came, Stop> {
+    let (step, changed) = line.split_once(" -> ").ok_or(Stop::Word)?;
+    let (came, wanted) = match write(alloc, spec, step) {
+        Ok(()) => (Came::Whole, changed),
+        Err(Stop::Error(Error::Memory)) => (Came::Refused, UNCHANGED),
+        Err(stop) => return Err(stop),
+    };
+    same(spec_text(alloc, spec)?, wanted)?;
+    Ok(came)
+}
+
+fn write_all(alloc: Global) -> Result<Came, Stop> {
+    let mut came = Came::Whole;
+    for text in WRITES.trim().lines() {
+        came = came.then(wrote(alloc, &mut spec(alloc)?, text.trim())?);
     }
-    Ok(())
+    Ok(came)
+}
+
+pub fn writes(alloc: Global) -> Came {
+    Came::of(write_all(alloc))
 }
 
 #[test]
 fn memory_of_specs(rt: HostRuntime) {
-    let run = write_specs(
-        &rt,
-        r#"
-        arg=x -> ["a", "x"] None A=1 [Inherit, Given, Null]
-        args=x,y -> ["a", "x", "y"] None A=1 [Inherit, Given, Null]
-        env=B,2 -> ["a"] None A=1 B=2 [Inherit, Given, Null]
-        current_dir=/in -> ["a"] Some("/in") A=1 [Inherit, Given, Null]
-        env_remove=A -> ["a"] None [Inherit, Given, Null]
-        "#,
-    );
-    ended(&rt, run);
+    assert_ne!(rt; writes(rt.alloc()), Came::Wrong);
 }

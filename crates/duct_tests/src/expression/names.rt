@@ -3,83 +3,63 @@ use duct_base::names::EnvNameString;
 use std::alloc::{AllocError, Global};
 use std::collections::{BTreeSet, HashSet};
 use std::convert::AsStr;
-use std::process::Abort;
 use std::test::Fail;
 
 fn name(alloc: Global, text: &str) -> Result<EnvNameString, AllocError> {
     Ok(EnvNameString::from(String::from_str(alloc, text)?))
 }
 
-// Puts a name, whose text is this one, into a set.
-fn put<R: Abort + AllocGlobal>(
-    rt: &R,
-    names: &mut HashSet<EnvNameString>,
-    text: &str,
-) -> Result<(), AllocError> {
-    let name = name(rt.alloc(), text)?;
-    assert_eq!(rt; name.as_str(), text);
-    names.insert(name)?;
-    Ok(())
-}
-
-// How many names of these texts there are.
-fn count_of<R: Abort + AllocGlobal>(rt: &R, texts: &[&str]) -> Result<usize, AllocError> {
-    let mut names = HashSet::new(rt.alloc());
-    for text in texts {
-        put(rt, &mut names, text)?;
+/// Adds the texts that some names keep, and how many names they are.
+fn push_count(alloc: Global, texts: &str, told: &mut String) -> Result<(), AllocError> {
+    let mut names = HashSet::new(alloc);
+    for text in texts.split(' ') {
+        let name = name(alloc, text)?;
+        write!(told, "{} ", name.as_str())?;
+        names.insert(name)?;
     }
-    Ok(names.len())
+    let count = names.len();
+    write!(told, "are {count}, ")
 }
 
-// The names of these texts in their order, each as it was first spelled.
-fn names_in_order<R: AllocGlobal>(rt: &R, texts: &[&str]) -> Result<String, AllocError> {
-    let alloc = rt.alloc();
+/// Adds the names in their order, each as it was spelled first.
+fn push_order(alloc: Global, texts: &str, told: &mut String) -> Result<(), AllocError> {
     let mut names = BTreeSet::new(alloc);
-    for text in texts {
+    for text in texts.split(' ') {
         names.insert(name(alloc, text)?)?;
     }
-    format!(in alloc; "{names:?}")
+    write!(told, "{names:?}, ")
 }
 
-// Whether the names of two texts are equal, and whether they are not.
-fn compared(alloc: Global, one: &str, other: &str) -> Result<(bool, bool), AllocError> {
+/// Adds how two names print, whether they are equal, and whether they are not.
+fn push_compared(
+    alloc: Global,
+    one: &str,
+    other: &str,
+    told: &mut String,
+) -> Result<(), AllocError> {
     let one = name(alloc, one)?;
     let other = name(alloc, other)?;
-    Ok((one == other, one != other))
+    let (equal, unequal) = (one == other, one != other);
+    write!(told, "{one:?} {other:?} {equal} {unequal}, ")
 }
 
-fn printed(alloc: Global, text: &str) -> Result<String, AllocError> {
-    let name = name(alloc, text)?;
-    format!(in alloc; "{name:?}")
-}
-
-#[test]
-fn names_are_one_in_any_case(rt: HostRuntime) -> Result<(), Fail> {
-    let spellings = ["abc", "abC", "aBc", "aBC", "Abc", "AbC", "ABc", "ABC"];
-    let count = count_of(&rt, &spellings)?;
-    let ordered = names_in_order(&rt, &spellings)?;
-    assert_eq!(rt; (count, ordered.as_str()), (1, "{\"abc\"}"));
-    Ok(())
+fn told(alloc: Global) -> Result<String, AllocError> {
+    let mut told = String::new(alloc);
+    push_count(alloc, "abc abC aBc aBC Abc AbC ABc ABC", &mut told)?;
+    push_count(alloc, "abc ABC xyz É é", &mut told)?;
+    push_order(alloc, "B a _ Z [ ab A", &mut told)?;
+    push_compared(alloc, "a\"B", "A\"b", &mut told)?;
+    push_compared(alloc, "a\"b", "a\"c", &mut told)?;
+    Ok(told)
 }
 
 #[test]
-fn names_of_other_letters_differ(rt: HostRuntime) -> Result<(), Fail> {
-    let alloc = rt.alloc();
-    let count = count_of(&rt, &["abc", "ABC", "xyz", "É", "é"])?;
-    let same = compared(alloc, "a\"B", "A\"b")?;
-    let different = compared(alloc, "É", "é")?;
-    let printed = printed(alloc, "A\"b")?;
-    let found = (count, same, different, printed.as_str());
-    assert_eq!(rt; found, (4, (true, false), (false, true), "\"A\\\"b\""));
-    Ok(())
-}
-
-#[test]
-fn names_stand_in_the_order_of_small_letters(rt: HostRuntime) -> Result<(), Fail> {
-    let ordered = names_in_order(&rt, &["B", "a", "_", "Z", "[", "ab"])?;
-    assert_eq!(rt;
-        ordered.as_str(),
-        "{\"[\", \"_\", \"a\", \"ab\", \"B\", \"Z\"}"
-    );
+fn names_are_their_texts_in_any_case(rt: HostRuntime) -> Result<(), Fail> {
+    let told = told(rt.alloc())?;
+    let wanted = [
+        "abc abC aBc aBC Abc AbC ABc ABC are 1, abc ABC xyz É é are 4, ",
+        r#"{"[", "_", "a", "ab", "B", "Z"}, "a\"B" "A\"b" true false, "a\"b" "a\"c" false true, "#,
+    ];
+    assert!(rt; told.as_str().strip_prefix(wanted[0]) == Some(wanted[1]));
     Ok(())
 }

@@ -1,91 +1,95 @@
 //! How programs are named, and when a name is made canonical.
-use super::made_shows;
+use super::shown::made_shows;
+use crate::texts::{Stop, same, tried};
 use duct::{Error, IntoExecutablePath, asks_canonical, cmd};
+use std::alloc::Global;
 use std::path::{Path, PathBuf};
-use std::process::Abort;
+use std::test::Fail;
 
-// Asserts that this names a program of that text.
-fn names<R: Abort + AllocGlobal, P: IntoExecutablePath>(
-    rt: &R,
+/// Adds how a program is named.
+fn push_name<P: IntoExecutablePath>(
+    alloc: Global,
     program: P,
-    text: &str,
+    told: &mut String,
 ) -> Result<(), Error> {
-    let program = program.to_executable(rt.alloc())?;
-    assert_eq!(rt; program.as_str(), text);
-    Ok(())
+    let name = program.to_executable(alloc)?;
+    Ok(write!(told, "{name} ")?)
 }
 
-// Asserts that a text, in each of its types, stands as it is.
-fn text_names<R: Abort + AllocGlobal>(rt: &R, text: &str) -> Result<(), Error> {
-    let owned = String::from_str(rt.alloc(), text)?;
-    names(rt, text, text)?;
-    names(rt, &owned, text)?;
-    names(rt, owned, text)
+/// Adds the names of a text in each of its types.
+fn push_text(alloc: Global, text: &str, told: &mut String) -> Result<(), Error> {
+    let owned = String::from_str(alloc, text)?;
+    push_name(alloc, text, told)?;
+    push_name(alloc, &owned, told)?;
+    push_name(alloc, owned, told)
+}
+
+/// Adds the names of a path in each of its types.
+fn push_path(alloc: Global, path: &str, told: &mut String) -> Result<(), Error> {
+    let owned = PathBuf::from_str(alloc, path)?;
+    push_name(alloc, Path::new(path), told)?;
+    push_name(alloc, &owned, told)?;
+    push_name(alloc, owned, told)
+}
+
+/// A text, in each of its types, stands as it is; a path gets a dot. A line has a text, and then its names and the path's.
+pub fn line(alloc: Global, line: &str) -> Result<(), Stop> {
+    let (text, wanted) = line.split_once(" -> ").ok_or(Stop::Word)?;
+    let mut told = String::new(alloc);
+    push_text(alloc, text.trim(), &mut told)?;
+    push_path(alloc, text.trim(), &mut told)?;
+    same(told, wanted)
 }
 
 #[test]
-fn texts_stand_as_they_are(rt: HostRuntime) -> Result<(), Error> {
-    for text in ["foo", "./foo", "", "/x", "x"] {
-        text_names(&rt, text)?;
+fn names_of_programs(rt: HostRuntime) -> Result<(), Fail> {
+    let table = "
+        foo -> foo foo foo ./foo ./foo ./foo
+        ./foo -> ./foo ./foo ./foo ././foo ././foo ././foo
+         ->    ./ ./ ./
+        /x -> /x /x /x /x /x /x
+        x -> x x x ./x ./x ./x";
+    for text in table.lines().skip(1) {
+        tried(text, line(rt.alloc(), text))?;
     }
     Ok(())
 }
 
-// Asserts that a path, in each of its types, names a program of this text.
-fn path_names<R: Abort + AllocGlobal>(rt: &R, path: &str, text: &str) -> Result<(), Error> {
-    let owned = PathBuf::from_str(rt.alloc(), path)?;
-    names(rt, Path::new(path), text)?;
-    names(rt, &owned, text)?;
-    names(rt, owned, text)
+/// Commands of a text and of a path, in each of their types.
+pub fn commands(alloc: Global) -> Result<(), Stop> {
+    commands_of_a_text(alloc, String::from_str(alloc, "x")?)?;
+    commands_of_a_path(alloc, PathBuf::from_str(alloc, "x")?)
+}
+
+fn commands_of_a_text(alloc: Global, text: String) -> Result<(), Stop> {
+    made_shows(alloc, cmd!(in alloc; &text, "y"), "Cmd([\"x\", \"y\"])")?;
+    made_shows(alloc, cmd!(in alloc; text), "Cmd([\"x\"])")
+}
+
+fn commands_of_a_path(alloc: Global, path: PathBuf) -> Result<(), Stop> {
+    made_shows(
+        alloc,
+        cmd!(in alloc; Path::new("x"), "y"),
+        "Cmd([\"./x\", \"y\"])",
+    )?;
+    made_shows(alloc, cmd!(in alloc; &path), "Cmd([\"./x\"])")?;
+    made_shows(alloc, cmd!(in alloc; path), "Cmd([\"./x\"])")
 }
 
 #[test]
-fn paths_get_a_dot(rt: HostRuntime) -> Result<(), Error> {
-    let rows = [
-        ("foo", "./foo"),
-        ("./foo", "././foo"),
-        ("", "./"),
-        ("/x", "/x"),
-        ("x", "./x"),
-    ];
-    for (path, text) in rows {
-        path_names(&rt, path, text)?;
-    }
-    Ok(())
-}
-
-// Asserts what the commands of a text show.
-fn texts_of_commands<R: Abort + AllocGlobal>(rt: &R) -> Result<(), Error> {
-    let text = String::from_str(rt.alloc(), "x")?;
-    made_shows(rt, cmd!(in rt.alloc(); &text, "y"), "Cmd([\"x\", \"y\"])")?;
-    made_shows(rt, cmd!(in rt.alloc(); text), "Cmd([\"x\"])")
-}
-
-// Asserts what the commands of a path show.
-fn paths_of_commands<R: Abort + AllocGlobal>(rt: &R) -> Result<(), Error> {
-    let path = PathBuf::from_str(rt.alloc(), "x")?;
-    let first = cmd!(in rt.alloc(); Path::new("x"), "y");
-    made_shows(rt, first, "Cmd([\"./x\", \"y\"])")?;
-    made_shows(rt, cmd!(in rt.alloc(); &path), "Cmd([\"./x\"])")?;
-    made_shows(rt, cmd!(in rt.alloc(); path), "Cmd([\"./x\"])")
-}
-
-#[test]
-fn programs_of_commands(rt: HostRuntime) -> Result<(), Error> {
-    texts_of_commands(&rt)?;
-    paths_of_commands(&rt)
+fn programs_of_commands(rt: HostRuntime) -> Result<(), Fail> {
+    Ok(commands(rt.alloc())?)
 }
 
 #[test]
 fn canonical_names(rt: HostRuntime) {
-    let found = [
-        ("./x", true),
-        ("bin/x", true),
-        ("./x", false),
-        ("x", true),
-        ("/x", true),
-        ("", true),
-    ]
-    .map(|(program, folder_is_set)| asks_canonical(program, folder_is_set));
-    assert_eq!(rt; found, [true, true, false, false, false, false]);
+    let found = (
+        asks_canonical("./x", true),
+        asks_canonical("bin/x", true),
+        asks_canonical("./x", false),
+        asks_canonical("x", true),
+        asks_canonical("/x", true),
+        asks_canonical("", true),
+    );
+    assert_eq!(rt; found, (true, true, false, false, false, false));
 }
