@@ -1,5 +1,0 @@
-use Rattle.std.proofs.Common.{rules}
-use Rattle.duct_system.proofs.spec.CommandSpec.words.Goals as goal
-
-pub returns : goal.returns
-returns c = search rules
