@@ -64,11 +64,14 @@ impl Bench {
         Ok(())
     }
 
-    fn line(&mut self, line: &str) -> Result<(), Stop> {
-        match line.split_once(" -> ") {
-            Some((key, wanted)) => self.compare(key, wanted),
-            None => self.ask_all(line),
+    pub fn line(&mut self, line: &str) -> Result<(), Stop> {
+        if let Some((key, wanted)) = line.split_once(" -> ") {
+            return self.compare(key, wanted);
         }
+        for ask in line.split("; ") {
+            self.ask(ask)?;
+        }
+        Ok(())
     }
 
     fn compare(&mut self, key: &str, wanted: &str) -> Result<(), Stop> {
@@ -99,13 +102,6 @@ impl Bench {
         let requests = self.sys.requests();
         let room = self.sys.room();
         Ok(write!(text, " | asked {requests} | room {room}")?)
-    }
-
-    pub fn ask_all(&mut self, asks: &str) -> Result<(), Stop> {
-        for ask in asks.split("; ") {
-            self.ask(ask)?;
-        }
-        Ok(())
     }
 
     fn ask(&mut self, ask: &str) -> Result<(), Stop> {
@@ -204,20 +200,29 @@ impl Bench {
 
     /// Sets what the system is to answer.
     fn set(&mut self, word: &str, rest: &str) -> Result<(), Stop> {
-        let (first, second) = first_word(rest);
         match word {
-            "variable" => Ok(self.sys.variable(first, second)?),
-            "canonical" => Ok(self.sys.canonical(first, second)?),
-            "refuse" => Ok(self.sys.refuse(first.parse()?, fault(second)?)?),
-            "refuse_sort" => refuse_sort(&mut self.sys, first, second),
-            "child" => lists::polls(self.alloc, &mut self.sys, rest),
-            "orders" => lists::orders(self.alloc, &mut self.sys, first, second),
-            "feeds" => lists::feed(self.alloc, &mut self.sys, rest),
-            "drains" => lists::drain(self.alloc, &mut self.sys, rest),
-            "bytes" => lists::bytes(self.alloc, &mut self.sys, first, second),
-            _ => set_state(&mut self.sys, word, rest),
+            "variable" | "canonical" => set_text(&mut self.sys, word, rest),
+            "refuse" => refuse(&mut self.sys, rest),
+            "refuse_sort" => refuse_sort(&mut self.sys, rest),
+            "clear" | "starve" | "nourish" | "skip" => set_state(&mut self.sys, word, rest),
+            _ => lists::set(self.alloc, &mut self.sys, word, rest),
         }
     }
+}
+
+fn set_text(sys: &mut Script, word: &str, rest: &str) -> Result<(), Stop> {
+    let (first, second) = first_word(rest);
+    let set = if word == "variable" {
+        sys.variable(first, second)
+    } else {
+        sys.canonical(first, second)
+    };
+    Ok(set?)
+}
+
+fn refuse(sys: &mut Script, rest: &str) -> Result<(), Stop> {
+    let (request, kind) = first_word(rest);
+    Ok(sys.refuse(request.parse()?, fault(kind)?)?)
 }
 
 fn set_state(sys: &mut Script, word: &str, rest: &str) -> Result<(), Stop> {
@@ -225,13 +230,13 @@ fn set_state(sys: &mut Script, word: &str, rest: &str) -> Result<(), Stop> {
         "clear" => sys.clear_journal(),
         "starve" => sys.starve(true),
         "nourish" => sys.starve(false),
-        "skip" => sys.skip_numbers_below(rest.parse()?),
-        _ => return Err(Stop::Word),
+        _ => sys.skip_numbers_below(rest.parse()?),
     }
     Ok(())
 }
 
-fn refuse_sort(sys: &mut Script, name: &str, rest: &str) -> Result<(), Stop> {
+fn refuse_sort(sys: &mut Script, rest: &str) -> Result<(), Stop> {
+    let (name, rest) = first_word(rest);
     let (place, kind) = first_word(rest);
     Ok(sys.refuse_sort(sort(name)?, place.parse()?, fault(kind)?)?)
 }

@@ -1,5 +1,5 @@
 //! What the next child, feed, drain or reader of a system says, as texts that commas part.
-use crate::words::{Stop, fault};
+use crate::words::{Stop, fault, first_word};
 use duct_base::system::{ExitStatus, Fault, Said};
 use duct_script::answers::Answers;
 use duct_script::child::{ChildScript, PollAnswer};
@@ -10,8 +10,20 @@ use std::collections::VecDeque;
 use std::io::ErrorKind;
 use std::sync::Arc;
 
+/// Sets what the next child, feed, drain or reader says.
+pub fn set(alloc: Global, sys: &mut Script, word: &str, rest: &str) -> Result<(), Stop> {
+    match word {
+        "child" => polls(alloc, sys, rest),
+        "orders" => orders(alloc, sys, rest),
+        "feeds" => feed(alloc, sys, rest),
+        "drains" => drain(alloc, sys, rest),
+        "bytes" => bytes(alloc, sys, rest),
+        _ => Err(Stop::Word),
+    }
+}
+
 /// Sets the polls of the next child.
-pub fn polls(alloc: Global, sys: &mut Script, words: &str) -> Result<(), Stop> {
+fn polls(alloc: Global, sys: &mut Script, words: &str) -> Result<(), Stop> {
     let mut answers = Vec::new(alloc);
     for word in words.split(',') {
         answers.push(poll_answer(word)?)?;
@@ -29,7 +41,8 @@ fn poll_answer(word: &str) -> Result<PollAnswer, Stop> {
 }
 
 /// Sets what the next child answers to kills and to signals.
-pub fn orders(alloc: Global, sys: &mut Script, kills: &str, signals: &str) -> Result<(), Stop> {
+fn orders(alloc: Global, sys: &mut Script, rest: &str) -> Result<(), Stop> {
+    let (kills, signals) = first_word(rest);
     let mut script = ChildScript::running(alloc);
     script.kills = obeyed(alloc, kills)?;
     script.signals = obeyed(alloc, signals)?;
@@ -50,7 +63,7 @@ fn obeyed(alloc: Global, words: &str) -> Result<Answers<Result<(), Fault>>, Stop
 }
 
 /// Sets what the next feed says.
-pub fn feed(alloc: Global, sys: &mut Script, words: &str) -> Result<(), Stop> {
+fn feed(alloc: Global, sys: &mut Script, words: &str) -> Result<(), Stop> {
     let mut said = Vec::new(alloc);
     for word in words.split(',') {
         said.push(feed_word(word)?)?;
@@ -67,7 +80,7 @@ fn feed_word(word: &str) -> Result<Said<()>, Stop> {
 }
 
 /// Sets what the next drain says.
-pub fn drain(alloc: Global, sys: &mut Script, words: &str) -> Result<(), Stop> {
+fn drain(alloc: Global, sys: &mut Script, words: &str) -> Result<(), Stop> {
     let mut said = VecDeque::new(alloc);
     for word in words.split(',') {
         said.push_back(drain_word(alloc, word)?)?;
@@ -87,7 +100,8 @@ fn drain_word(alloc: Global, word: &str) -> Result<Said<Arc<Vec<u8>>>, Stop> {
 }
 
 /// Sets what the next reader gives, and by which steps.
-pub fn bytes(alloc: Global, sys: &mut Script, bytes: &str, steps: &str) -> Result<(), Stop> {
+fn bytes(alloc: Global, sys: &mut Script, rest: &str) -> Result<(), Stop> {
+    let (bytes, steps) = first_word(rest);
     let mut script = ReaderScript::empty(alloc);
     script.bytes = Vec::from_slice(alloc, bytes.as_bytes())?;
     script.steps = read_steps(alloc, steps)?;

@@ -36,12 +36,8 @@ fn stopped(stop: &Stop) -> Came {
 /// A system that was asked these requests.
 fn asked(alloc: Global) -> Result<Bench, Stop> {
     let mut bench = Bench::new(alloc)?;
-    bench.ask_all(ALL)?;
+    bench.line(ALL)?;
     Ok(bench)
-}
-
-fn answers(alloc: Global) -> Result<String, Stop> {
-    Ok(asked(alloc)?.answers)
 }
 
 /// What came of these answers.
@@ -59,8 +55,8 @@ fn came_of(answers: &str) -> Came {
 
 /// Asks each request.
 fn requests(alloc: Global) -> Came {
-    match answers(alloc) {
-        Ok(answers) => came_of(answers.as_str()),
+    match asked(alloc) {
+        Ok(bench) => came_of(bench.answers.as_str()),
         Err(stop) => stopped(&stop),
     }
 }
