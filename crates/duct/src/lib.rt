@@ -1,26 +1,43 @@
-//! Commands, pipes between them, and what is asked of them: a description of children of the operating system.
+//! Commands, pipes between them, and what is asked of them: a description of children of the operating system, their start,
+//! and how they ended.
+//!
+//! ```
+//! let hello: Expression<End> = cmd!(in alloc; "echo", "hi")?;
+//! let mut running = hello.launch(&mut system, &mut pool)?;
+//! let answer = running.poll(); // `None` while it runs, then how it ended
+//! let (_children, _feeds, _drains) = running.into_parts(); // what runs must be spent
+//! ```
 #![tactic(auto)]
 
 mod expression;
 mod running;
 mod start;
 
+// An expression: a command, a pipe, or a modifier round an expression.
+pub use duct_base::exe::{IntoExecutablePath, asks_canonical};
+pub use expression::{Expression, cmd};
+
 /// The tree of an expression, for crates that read it.
 pub mod tree {
     pub use crate::expression::{Modifier, Node};
 }
 
-pub use duct_base::error::Error;
-pub use duct_base::exe::{IntoExecutablePath, asks_canonical};
-pub use duct_base::pool::{Place, Pool};
+// What changes a command before it is started.
 pub use duct_base::spec::{CommandSpec, Hook, HookBox, Port, Stream};
-pub use duct_base::status::{Core, Drains, Event, Reply, Shape, Word};
+
+// What a start is lent: the operating system, and a pool for children that are given up.
+pub use duct_base::pool::{Place, Pool};
 pub use duct_base::system::{
-    Child, Clock, Entry, ExitStatus, Fault, Job, Kind, Numbered, Order, Output, Said, Side, Stdio,
-    System,
+    Child, Clock, Entry, Fault, Job, Kind, Numbered, Order, Said, Side, Stdio, System,
 };
-pub use expression::{Expression, cmd};
+
+// What runs, how it ended, and why a call was refused.
+pub use duct_base::error::Error;
+pub use duct_base::system::{ExitStatus, Output};
 pub use running::Running;
+
+// How an expression ended, by what its commands and workers said.
+pub use duct_base::status::{Core, Drains, Event, Reply, Shape, Word};
 
 /// A command: `cmd!(in alloc; program, arg, ..)` is `cmd(alloc, program, &[arg, ..])`. A trailing comma is allowed.
 #[macro_export]
