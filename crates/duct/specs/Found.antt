@@ -55,7 +55,6 @@ plain =
       changes = [];
       input = Parents In;
       output = Parents Out;
-      error = Parents
-          Err;
+      error = Parents Err;
       hooks = [];
     }

@@ -36,8 +36,7 @@ pool_view view pool =
       children = map view pool.children;
       given = pool.given;
       reaped = pool.reaped;
-      lost =
-          pool.lost;
+      lost = pool.lost;
     }
 
 -- the pool after a refused start: it was given each child that the start had started, which nobody had asked before

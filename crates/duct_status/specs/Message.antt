@@ -23,5 +23,7 @@ IsMessage texts status text = list_all is_printable texts ≡ true → text ≡ 
 -- the same as the standard forms print it, which say nothing of a word that is not ASCII
 abbrev pub printed_message : List (List ℕ) → ExitStatus → Option (List ℕ)
 printed_message texts status =
-    Some (codes "command ") ++? debug_list debug_str texts ++? Some
-    (codes " exited with code ") ++? Some (status_text status)
+    Some (codes "command ")
+        ++? debug_list debug_str texts
+        ++? Some (codes " exited with code ")
+        ++? Some (status_text status)

@@ -190,7 +190,7 @@ impl Core {
             ≡ finished output.now error.now }
         ensures { Fits (shape_in self.now) (latest_in self.now) result }
     {
-        let winner = choose(&self.shape, self.commands.as_slice(), 0);
+        let winner = choose(self.shape(), self.commands.as_slice(), 0);
         if winner.is_checked_failure() {
             match failure(self.alloc, winner.words, winner.status) {
                 Ok(text) => Reply::Failed(text),
@@ -214,7 +214,7 @@ impl Core {
             (latest_in self.now).inputs) }
     {
         look(
-            &self.shape,
+            self.shape(),
             self.commands.as_slice(),
             self.inputs.as_slice(),
             0,
