@@ -1,118 +1,44 @@
--- Look-ups in variables that were put in one after the other.
-use Rattle.std.specs.Prelude.{ℕ, Bool, true, false, cond, List, [], ◌∷◌, ◌++◌, map, reverse, fold, string_bytes, Some, None}
-use Rattle.std.specs.declared.option.Option.{Option}
+-- Variables that are put in one after the other, and what a look-up finds of them.
+use Rattle.std.specs.Prelude.{ℕ, List, [], ◌∷◌, ◌++◌, cond, map, string_bytes, Some}
 use Rattle.std.specs.declared.string.String.{String}
 use Rattle.std.specs.BTreeMap.{insert_entry}
-use Rattle.std.specs.Cmp.Lexicographic.{slice_cmp}
-use Rattle.std.specs.List.{AllByRecursion}
 use Rattle.std.specs.List.Sorted.{IsStrictlySortedBy}
 use Rattle.std.specs.Map.{keys_of}
-use Rattle.std.specs.Ordering.{nat_cmp, is_eq, match_ordering}
-use Rattle.std.specs.String.{string_cmp}
-use Rattle.std.specs.declared.cmp.Ordering.{Ordering}
-use Rattle.std.specs.declared.cmp.Ordering.TheVariants.{Less, Equal, Greater}
-use Rattle.std.proofs.Common.{◌≡◌, ◌+◌, suc, length, refl, ap, sym, ◌∙◌, arith, append_assoc}
-use Rattle.std.proofs.lemmas.List.{reverse-append, map-append, append-nil}
-use Rattle.std.proofs.lemmas.List.Sums.{fold-append}
-use Rattle.std.proofs.lemmas.Map.Text.{is_eq-slice_cmp}
-use Rattle.std.proofs.lemmas.Slice.Eq.{bytes_eq-Decides}
-use Rattle.duct_system.specs.SpecView.{Vars, pair_text, same_name, value_of}
-use Rattle.duct_system.proofs.Entries.{insert_texts}
-use Rattle.duct.specs.LastValues.{last_values}
+use Rattle.std.proofs.Common.{◌≡◌, ◌+◌, suc, length, refl, ap, sym, ◌∙◌, subst, arith, append_assoc}
+use Rattle.std.proofs.lemmas.List.{append-nil, map-append}
+use Rattle.duct_system.specs.Name.{is_same_name, name_cmp}
+use Rattle.duct_system.specs.SpecView.{Vars, AreOrdered, pair_text, said_of, spelled, var_view, variable_in}
+use Rattle.duct_system.proofs.Entries.{insert_var}
+use Rattle.duct_system.proofs.Variables.{variable_in-with, said_of-more}
 
--- the first of them, if there is one
-abbrev or_else : Option (List ℕ) → Option (List ℕ) → Option (List ℕ)
-or_else (Some value) other = Some value
-or_else None other = other
+keys_seen : {Z : Type 0} (es : List (List ℕ × String Z)) → keys_of (map var_view es) ≡ keys_of es
+keys_seen [] = refl
+keys_seen (e ∷ es) = ap (λ names. e.0 ∷ names) (keys_seen es)
 
-or_else-none : (o : Option (List ℕ)) → or_else o None ≡ o
-or_else-none (Some value) = refl
-or_else-none None = refl
+-- the variables of a map stand in order
+pub are_ordered : {Z : Type 0} (es : List (List ℕ × String Z))
+    → IsStrictlySortedBy name_cmp (keys_of es) → AreOrdered (map var_view es)
+are_ordered es sorted = subst (IsStrictlySortedBy name_cmp) (sym (keys_seen es)) sorted
 
-or_else-assoc : (a b c : Option (List ℕ)) → or_else (or_else a b) c ≡ or_else a (or_else b c)
-or_else-assoc (Some value) b c = refl
-or_else-assoc None b c = refl
+-- what is found of a name in these variables is what was said of it
+abbrev pub FindsSaid : {Z : Type 0} → List (List ℕ × String Z) → Vars → Type 0
+FindsSaid es said = (name : List ℕ) → variable_in name (map var_view es) ≡ said_of name said
 
--- a name is found in the front of some variables, or behind it
-value_of-append : (name : List ℕ) (xs ys : Vars) → value_of name (xs ++ ys) ≡ or_else (value_of name xs) (value_of name ys)
-value_of-append name [] ys = refl
-value_of-append name (x ∷ xs) ys =
-    elim (same_name name x.0) as (λ b. cond b (Some x.1) (value_of name (xs ++ ys)) ≡ or_else (cond b (Some x.1) (value_of name xs)) (value_of name ys))
-    [ true ↦ refl | false ↦ value_of-append name xs ys ]
-
--- two names that are the same are the same bytes
-pub same_name-is : (name other : List ℕ) → same_name name other ≡ true → name ≡ other
-same_name-is name other same = (bytes_eq-Decides name other).0 (sym (is_eq-slice_cmp name other) ∙ same)
-
-pub same_name-refl : (name other : List ℕ) → name ≡ other → same_name name other ≡ true
-same_name-refl name other is = is_eq-slice_cmp name other ∙ (bytes_eq-Decides name other).1 is
-
-equal_case : (b c : Bool) (v x : List ℕ) (rest : Option (List ℕ)) → b ≡ c → cond c (Some v) rest ≡ cond b (Some v) (cond c (Some x) rest)
-equal_case true true v x rest e = refl
-equal_case false false v x rest e = refl
-equal_case true false v x rest e = absurd (cc)
-equal_case false true v x rest e = absurd (cc)
-
-greater_case : (b c : Bool) (v x : List ℕ) (rest : Option (List ℕ)) → (b ≡ true → c ≡ true → ⊥) → cond c (Some x) (cond b (Some v) rest) ≡ cond b (Some v) (cond c (Some x) rest)
-greater_case true true v x rest apart = absurd (apart refl refl)
-greater_case true false v x rest apart = refl
-greater_case false true v x rest apart = refl
-greater_case false false v x rest apart = refl
-
-insert_case : (name k v : List ℕ) (e : List ℕ × List ℕ) (es : Vars) (o : Ordering) → slice_cmp nat_cmp k e.0 ≡ o →
-    value_of name (insert_entry (slice_cmp nat_cmp) es k v) ≡ cond (same_name name k) (Some v) (value_of name es) →
-    value_of name (match_ordering o ((k, v) ∷ e ∷ es) ((e.0, v) ∷ es) (e ∷ insert_entry (slice_cmp nat_cmp) es k v)) ≡ cond (same_name name k) (Some v) (value_of name (e ∷ es))
-insert_case name k v e es Less is rest = refl
-insert_case name k v e es Equal is rest =
-    equal_case (same_name name k) (same_name name e.0) v e.1 (value_of name es) (ap (λ n. same_name name n) (same_name-is k e.0 (ap is_eq is)))
-insert_case name k v e es Greater is rest =
-    ap (λ r. cond (same_name name e.0) (Some e.1) r) rest ∙ greater_case (same_name name k) (same_name name e.0) v e.1 (value_of name es)
-    (λ p q. let same = same_name-refl k e.0 (sym (same_name-is name k p) ∙ same_name-is name e.0 q) in let greater = ap is_eq is in cc)
-
--- a pair that is put in is found by its name, and each other name finds what it found
-pub value_of-insert : (name : List ℕ) (es : Vars) (k v : List ℕ)
-    → value_of name (insert_entry (slice_cmp nat_cmp) es k v)
-    ≡ cond (same_name name k) (Some v) (value_of name es)
-value_of-insert name [] k v = refl
-value_of-insert name (e ∷ es) k v = insert_case name k v e es (slice_cmp nat_cmp k e.0) refl (value_of-insert name es k v)
-
--- what was put in one after the other is found from the last to the first, and then what was there before
-value_of-fold : (name : List ℕ) (pairs vars : Vars) →
-    value_of name (fold (λ vars pair. insert_entry (slice_cmp nat_cmp) vars pair.0 pair.1) vars pairs) ≡ or_else (value_of name (reverse pairs)) (value_of name vars)
-value_of-fold name [] vars = refl
-value_of-fold name (p ∷ ps) vars =
-    value_of-fold name ps (insert_entry (slice_cmp nat_cmp) vars p.0 p.1)
-    ∙ ap (λ o. or_else (value_of name (reverse ps)) o) (value_of-insert name vars p.0 p.1 ∙ one_more (same_name name p.0) p.1 (value_of name vars))
-    ∙ sym (or_else-assoc (value_of name (reverse ps)) (cond (same_name name p.0) (Some p.1) None) (value_of name vars))
-    ∙ ap (λ o. or_else o (value_of name vars)) (sym (ap (λ xs. value_of name xs) (reverse-append (p ∷ []) ps) ∙ value_of-append name (reverse ps) (p ∷ [])))
-  where
-    one_more : (b : Bool) (v : List ℕ) (rest : Option (List ℕ)) → cond b (Some v) rest ≡ or_else (cond b (Some v) None) rest
-    one_more true v rest = refl
-    one_more false v rest = refl
-
--- the value of a name among variables that were put in one after the other is that of the last pair of the name
-pub value_of-last_values : (name : List ℕ) (pairs : Vars)
-    → value_of name (last_values pairs) ≡ value_of name (reverse pairs)
-value_of-last_values name pairs = value_of-fold name pairs [] ∙ or_else-none (value_of name (reverse pairs))
-
--- the names of a map's texts ascend as its names do
-pub names_ascend : {Z : Type 0} (es : List (String Z × String Z))
-    → IsStrictlySortedBy string_cmp (keys_of es)
-    → IsStrictlySortedBy (slice_cmp nat_cmp) (map (λ pair. pair.0) (map pair_text es))
-unfolding IsStrictlySortedBy
-names_ascend {Z} [] sorted = tt
-names_ascend {Z} (e ∷ es) sorted = (above es sorted.0, names_ascend es sorted.1)
-  where
-    above : (rest : List (String Z × String Z)) → AllByRecursion (λ y. string_cmp e.0 y ≡ Less) (keys_of rest) → AllByRecursion (λ y. slice_cmp nat_cmp (string_bytes e.0) y ≡ Less) (map (λ pair. pair.0) (map pair_text rest))
-    above [] all = tt
-    above (x ∷ xs) all = (all.0, above xs all.1)
-
--- one more pair that is put in
-pub last_values-more : {Z : Type 0} (es new pairs : List (String Z × String Z)) (k v : String Z) →
-    map pair_text es ≡ last_values (map pair_text pairs) → new ≡ insert_entry string_cmp es k v → map pair_text new ≡ last_values (map pair_text (pairs ++ (k, v) ∷ []))
-last_values-more es new pairs k v so_far is =
-    ap (λ xs. map pair_text xs) is ∙ insert_texts es k v ∙ ap (λ vars. insert_entry (slice_cmp nat_cmp) vars (string_bytes k) (string_bytes v)) so_far
-    ∙ sym (ap last_values (map-append pair_text pairs ((k, v) ∷ [])) ∙ fold-append (λ vars pair. insert_entry (slice_cmp nat_cmp) vars pair.0 pair.1) [] (map pair_text pairs) ((string_bytes k, string_bytes v) ∷ []))
+-- one more pair that is said and put in
+pub finds_more : {Z : Type 0} (es new : List (List ℕ × String Z))
+    (pairs : List (String Z × String Z)) (item : String Z × String Z) (k : List ℕ) (v : String Z) →
+    FindsSaid es (map pair_text pairs) → IsStrictlySortedBy name_cmp (keys_of es)
+    → new ≡ insert_entry name_cmp es k v
+    → k ≡ string_bytes item.0 → string_bytes v ≡ string_bytes item.1
+    → FindsSaid new (map pair_text (pairs ++ item ∷ []))
+finds_more es new pairs item k v finds sorted is same_name same_value = λ name.
+    let said : Vars = map pair_text pairs in
+    ap (λ xs. variable_in name (map var_view xs)) is ∙ ap (variable_in name) (insert_var es k v)
+    ∙ variable_in-with name (map var_view es) k (string_bytes v) (are_ordered es sorted)
+    ∙ ap (λ o. cond (is_same_name name k) (Some (spelled k o, string_bytes v)) o) (finds name)
+    ∙ sym (said_of-more name said k (string_bytes v))
+    ∙ (λ i. said_of name (said ++ (same_name i, same_value i) ∷ []))
+    ∙ sym (ap (said_of name) (map-append pair_text pairs (item ∷ [])))
 
 -- what is left of a list, after one more of its items
 pub left_more : {X : Type 0} (all so_far rest left : List X) (x : X) → all ≡ so_far ++ rest

@@ -1,21 +1,18 @@
 -- What the start of one command adds to the journal follows its plan.
-use Rattle.std.specs.Prelude.{ℕ, zero, suc, List, [], ◌∷◌, ◌++◌, map, reverse, take, length, All, Ok, Err, Some, None, OnErr, is_some}
+use Rattle.std.specs.Prelude.{ℕ, zero, suc, List, [], ◌∷◌, ◌++◌, map, take, length, All, Ok, Err, Some, None, OnErr, is_some}
 use Rattle.std.specs.declared.result.Result.{Result}
-use Rattle.std.specs.Cmp.Lexicographic.{slice_cmp}
-use Rattle.std.specs.List.Sorted.{IsStrictlySortedBy}
-use Rattle.std.specs.Ordering.{nat_cmp}
-use Rattle.std.proofs.Common.{◌≡◌, ◌+◌, ◌*◌, ◌≤◌, refl, ap, sym, ◌∙◌, subst, arith, inl, inr, append_assoc, length-append}
+use Rattle.std.proofs.Common.{◌≡◌, ◌+◌, ◌≤◌, refl, ap, sym, ◌∙◌, subst, arith, inl, inr, append_assoc, length-append}
 use Rattle.std.proofs.lemmas.List.{append-nil}
 use Rattle.std.proofs.lemmas.List.Elements.{All-nil, All-cons}
 use Rattle.duct_system.specs.Child.{Answer, ChildView, IsUnasked}
-use Rattle.duct_system.specs.Journal.{JournalView, Adds, AddsNothing, Asks, GivesEnds, IsRefused}
-use Rattle.duct_system.specs.Ledger.{IsBalanced, got, spent, got_by, held}
+use Rattle.duct_system.specs.Journal.{JournalView, AddsNothing, Asks, GivesEnds, IsRefused}
+use Rattle.duct_system.specs.Ledger.{IsBalanced, got, spent, got_by}
 use Rattle.duct_system.specs.Job.{JobView, unpolled_job}
 use Rattle.duct_system.specs.EntryView.{EntryView, Environment, Spawn}
 use Rattle.duct_system.specs.Origin.{origin}
 use Rattle.duct_base.specs.Pool.{PoolView, Sieves}
 use Rattle.duct_status.specs.ShapeView.{shape_view}
-use Rattle.duct_system.specs.SpecView.{SpecView, Vars, value_of}
+use Rattle.duct_system.specs.SpecView.{SpecView, Vars, AreOrdered, said_of, variable_in}
 use Rattle.duct_system.specs.Started.{StartsOne, StartsNone, children_in}
 use Rattle.duct_system.specs.Streams.{stream_of}
 use Rattle.duct_system.specs.Trace.{segment, trace}
@@ -32,7 +29,7 @@ use Rattle.duct.specs.Causes.{HasCause, AnswersLastFault}
 use Rattle.duct.specs.Chain.{Allows, Refuses, Wired}
 use Rattle.duct.specs.Follows.{Follows, FollowsWhole, IsGiven}
 use Rattle.duct.specs.Found.{plain}
-use Rattle.duct.specs.Left.{StaysInPool, Leaves, LeavesStarted, pool_view}
+use Rattle.duct.specs.Left.{StaysInPool, LeavesStarted}
 use Rattle.duct.specs.ShapeOfTree.{shape_of_tree}
 use Rattle.duct.specs.Plan.{Plan, plan_of, program_of}
 use Rattle.duct.specs.Running.{IsRunning}
@@ -300,7 +297,7 @@ with_own_program (word ∷ words) = refl
 pub plainly_asked : {E H : Type 0} (pairs vars : Vars) (words copy : List (List ℕ))
     (spec : SpecView) →
     spec ≡ record { words = copy; folder = None; vars = vars; input = port.Inherit; output = port.Inherit; error = port.Inherit } → copy ≡ words →
-    ((name : List ℕ) → value_of name vars ≡ value_of name (reverse pairs)) → IsStrictlySortedBy (slice_cmp nat_cmp) (map (λ pair. pair.0) vars) →
+    ((name : List ℕ) → variable_in name vars ≡ said_of name pairs) → AreOrdered vars →
     IsAsked {E = E} {H = H} pairs (program_of words) plain words spec
 plainly_asked {E} {H} pairs vars words copy spec is same values ordered = rw is (record {
   words_are = same ∙ sym (with_own_program words);

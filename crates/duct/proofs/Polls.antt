@@ -2,7 +2,7 @@
 use Rattle.std.specs.Prelude.{ℕ, zero, suc, true, false, List, [], ◌∷◌, map, length, get_or, set, slice_get, MatchOption, Ok, Err, Some, None}
 use Rattle.std.specs.declared.option.Option.{Option}
 use Rattle.std.proofs.Common.{◌≡◌, ◌+◌, ◌<◌, ◌≤◌, add-one, refl, ap, sym, ◌∙◌, subst, arith}
-use Rattle.duct_system.specs.Child.{Answer, ChildView, PollsChild, child_after, ending_after}
+use Rattle.duct_system.specs.Child.{Answer, ChildView, PollsChild, ending_after}
 use Rattle.duct_status.specs.EventView.{from_command}
 use Rattle.duct_status.specs.Latest.{Latest, is_due, is_word_due, word_after, change_at, latest_after}
 use Rattle.duct_status.specs.declared.status.Word.{Word}

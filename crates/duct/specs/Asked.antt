@@ -1,13 +1,10 @@
 -- The spec and the streams that a tree asks for a command, before its hooks.
-use Rattle.std.specs.Prelude.{ℕ, List, [], ◌∷◌, ◌≡◌, map, slice_index, slice_get, flat_map}
+use Rattle.std.specs.Prelude.{ℕ, List, [], ◌∷◌, ◌≡◌, slice_index, slice_get, flat_map}
 use Rattle.std.specs.Option.{option_to_list}
-use Rattle.std.specs.List.Sorted.{IsStrictlySortedBy}
-use Rattle.std.specs.Cmp.Lexicographic.{slice_cmp}
-use Rattle.std.specs.Ordering.{nat_cmp}
 use Rattle.duct_system.specs.Ledger.{got_by}
 use Rattle.duct_system.specs.EntryView.{EntryView}
 use Rattle.duct_system.specs.Origin.{Origin, Opened, ParentOf, Lent}
-use Rattle.duct_system.specs.SpecView.{SpecView, Vars, value_of, port_of}
+use Rattle.duct_system.specs.SpecView.{SpecView, Vars, AreOrdered, variable_in, port_of}
 use Rattle.duct_system.specs.declared.spec.Port.{Port}
 use Rattle.duct_system.specs.declared.spec.Port.TheVariants as port
 use Rattle.duct_system.specs.declared.spec.Stream.{Stream}
@@ -36,8 +33,8 @@ pub record IsAsked {E H : Type 0} (pairs : Vars) (program : List ℕ) (found : F
     (words : List (List ℕ)) (spec : SpecView) : Type 0 where
   pub words_are : spec.words ≡ with_program program words
   pub folder_is : spec.folder ≡ found.folder
-  pub vars_are : (name : List ℕ) → value_of name spec.vars ≡ variable pairs found.changes name
-  pub vars_ordered : IsStrictlySortedBy (slice_cmp nat_cmp) (map (λ pair. pair.0) spec.vars)
+  pub vars_are : (name : List ℕ) → variable_in name spec.vars ≡ variable pairs found.changes name
+  pub vars_ordered : AreOrdered spec.vars
   pub ports_are : (stream : Stream) → port_of stream spec ≡ port_to stream (target_of found stream)
 
 -- the number of an end that the entry at a place of the trace got: of a pipe the read end is the first, the write end the second

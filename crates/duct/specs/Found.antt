@@ -1,7 +1,8 @@
 -- What a command finds on its way outwards.
-use Rattle.std.specs.Prelude.{ℕ, List, Some, None, if◌then◌else◌, [], ◌∷◌, reverse}
+use Rattle.std.specs.Prelude.{ℕ, List, Some, None, if◌then◌else◌, [], ◌∷◌}
 use Rattle.std.specs.declared.option.Option.{Option}
-use Rattle.duct_system.specs.SpecView.{Vars, value_of, same_name}
+use Rattle.duct_system.specs.Name.{is_same_name}
+use Rattle.duct_system.specs.SpecView.{Vars, variable_in, said_of, spelled}
 use Rattle.duct_system.specs.declared.spec.Stream.{Stream}
 use Rattle.duct_system.specs.declared.spec.Stream.TheVariants.{In, Out, Err}
 
@@ -37,15 +38,17 @@ target_of found In = found.input
 target_of found Out = found.output
 target_of found Err = found.error
 
--- the value of a variable: the nearest change that names it or replaces all decides, and without one the last pair of that
--- name that the system answered
-abbrev pub variable : Vars → List Change → List ℕ → Option (List ℕ)
-variable pairs [] name = value_of name (reverse pairs)
+-- the spelling and the value of a variable. The nearest change that names it or replaces all decides its value; what is
+-- found behind that change keeps its spelling, and where nothing is found there the change's own spelling stands. Without a
+-- change it is what the system said
+abbrev pub variable : Vars → List Change → List ℕ → Option (List ℕ × List ℕ)
+variable pairs [] name = said_of name pairs
 variable pairs (Sets other value ∷ changes) name =
-    if same_name name other then Some value else variable pairs changes name
+    let further = variable pairs changes name in
+    if is_same_name name other then Some (spelled other further, value) else further
 variable pairs (Removes other ∷ changes) name =
-    if same_name name other then None else variable pairs changes name
-variable pairs (Replaces vars ∷ changes) name = value_of name vars
+    if is_same_name name other then None else variable pairs changes name
+variable pairs (Replaces vars ∷ changes) name = variable_in name vars
 
 -- what a command finds with nothing round it
 abbrev pub plain : {E H : Type 0} → Found E H

@@ -1,4 +1,4 @@
--- The variables that a list of names and values sets: in order of name, each name with the last of its values.
+-- The variables that a list of names and values sets: in order of name, each name with its first spelling and its last value.
 use Rattle.std.specs.Prelude.{[], fold}
 use Rattle.duct_system.specs.SpecView.{Vars, with_var}
 

@@ -1,6 +1,6 @@
 -- What contracts see of a start that runs, and what it holds of the journal's children and workers.
-use Rattle.std.specs.Prelude.{ℕ, Bool, List, ◌++◌, ◌≡◌, map, is_some, All}
-use Rattle.std.specs.Option.{option_map, option_to_list}
+use Rattle.std.specs.Prelude.{Bool, List, ◌++◌, ◌≡◌, map, is_some, All}
+use Rattle.std.specs.Option.{option_to_list}
 use Rattle.std.specs.declared.option.Option.{Option}
 use Rattle.duct_system.specs.Child.{ChildView, IsUnasked}
 use Rattle.duct_system.specs.Job.{JobView, unpolled_job}

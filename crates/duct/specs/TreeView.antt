@@ -1,6 +1,6 @@
 -- An expression as contracts see it: a tree without pointers, with one constructor for each kind of node.
 use Rattle.std.specs.Prelude.{ℕ, List, map, string_bytes}
-use Rattle.duct_system.specs.SpecView.{Vars, pair_text}
+use Rattle.duct_system.specs.SpecView.{Vars, var_view}
 use Rattle.std.specs.Arc.{arc_value}
 use Rattle.duct.specs.declared.expression.Modifier.{Modifier}
 use Rattle.duct.specs.declared.expression.Modifier.TheVariants.{StdinBytes, StdinPath, StdinFile, StdinNull, StdoutPath, StdoutFile, StdoutNull, StdoutCapture, StdoutToStderr, StderrPath, StderrFile, StderrNull, StderrCapture, StderrToStdout, StdoutStderrSwap, Dir, Env, EnvRemove, FullEnv, Unchecked, BeforeSpawn}
@@ -55,9 +55,9 @@ modifier_view StderrCapture = stderr_capture
 modifier_view StderrToStdout = stderr_to_stdout
 modifier_view StdoutStderrSwap = stdout_stderr_swap
 modifier_view (Dir path) = dir (string_bytes path)
-modifier_view (Env name value) = env (string_bytes name) (string_bytes value)
-modifier_view (EnvRemove name) = env_remove (string_bytes name)
-modifier_view (FullEnv vars) = full_env (map pair_text vars.entries)
+modifier_view (Env name value) = env name (string_bytes value)
+modifier_view (EnvRemove name) = env_remove name
+modifier_view (FullEnv vars) = full_env (map var_view vars.entries)
 modifier_view Unchecked = unchecked
 modifier_view (BeforeSpawn hook ends) = before_spawn hook ends.items
 

@@ -8,6 +8,7 @@ mod debug;
 
 use duct_base::error::Error;
 use duct_base::exe::IntoExecutablePath;
+use duct_base::names::EnvNameString;
 use duct_base::spec::HookBox;
 use std::alloc::{AllocError, Global};
 use std::collections::BTreeMap;
@@ -32,9 +33,9 @@ pub enum Modifier<E, H> {
     StderrToStdout,
     StdoutStderrSwap,
     Dir(String),
-    Env(String, String),
-    EnvRemove(String),
-    FullEnv(BTreeMap<String, String>),
+    Env(EnvNameString, String),
+    EnvRemove(EnvNameString),
+    FullEnv(BTreeMap<EnvNameString, String>),
     Unchecked,
     BeforeSpawn(H, Vec<E>),
 }

@@ -1,10 +1,7 @@
 //! The start of an expression: what is asked of the system, and what is kept of it.
-ghost use Rattle.std.specs.Prelude.{◌≡◌, ℕ, List, map, reverse, string_bytes, is_some, IfOk, IfErr, OnOk, OnErr, IsOkUnless};
-ghost use Rattle.std.specs.Cmp.Lexicographic.{slice_cmp};
-ghost use Rattle.std.specs.List.Sorted.{IsStrictlySortedBy};
-ghost use Rattle.std.specs.Ordering.{nat_cmp};
+ghost use Rattle.std.specs.Prelude.{◌≡◌, ℕ, List, map, string_bytes, is_some, IfOk, IfErr, OnOk, OnErr, IsOkUnless};
 ghost use Rattle.duct_system.specs.Child.{IsUnasked};
-ghost use Rattle.duct_system.specs.SpecView.{pair_text, value_of};
+ghost use Rattle.duct_system.specs.SpecView.{AreOrdered, pair_text, said_of, var_view, variable_in};
 ghost use Rattle.duct_system.specs.Started.{StartsOne, StartsNone};
 ghost use Rattle.duct_system.specs.Trace.{segment};
 ghost use Rattle.duct.specs.Asked.{IsAsked};
@@ -18,6 +15,7 @@ ghost use Rattle.duct.specs.TreeView.{command, tree_view};
 use crate::expression::{Expression, Node};
 use crate::running::Running;
 use duct_base::error::Error;
+use duct_base::names::EnvNameString;
 use duct_base::pool::{Place, Pool, Seat, place_new, seat_new};
 use duct_base::spec::{CommandSpec, Hook, Port, spec_of};
 use duct_base::status::{Core, Drains, Shape};
@@ -25,19 +23,20 @@ use duct_base::system::{Stdio, System};
 use std::alloc::Global;
 use std::collections::BTreeMap;
 
-// The variables of these pairs, each name with its last value.
-fn variables(alloc: Global, pairs: Vec<(String, String)>) -> Result<BTreeMap<String, String>, Error>
-    ensures values { IfOk result (λ vars. (name : List ℕ) →
-        value_of name (map pair_text vars.entries)
-        ≡ value_of name (reverse (map pair_text pairs.items))) }
-    ensures ordered { IfOk result (λ vars.
-        IsStrictlySortedBy (slice_cmp nat_cmp)
-        (map (λ pair. pair.0) (map pair_text vars.entries))) }
+// The variables of these pairs, each name with its first spelling and its last value.
+fn variables(
+    alloc: Global,
+    pairs: Vec<(String, String)>,
+) -> Result<BTreeMap<EnvNameString, String>, Error>
+    ensures found { IfOk result (λ vars. (name : List ℕ) →
+        variable_in name (map var_view vars.entries)
+        ≡ said_of name (map pair_text pairs.items)) }
+    ensures ordered { IfOk result (λ vars. AreOrdered (map var_view vars.entries)) }
     ensures memory { IsOkUnless result Error.Memory }
 {
     let mut vars = BTreeMap::new(alloc);
     for (name, value) in pairs {
-        vars.insert(name, value)?;
+        vars.insert(EnvNameString::from(name), value)?;
     }
     Ok(vars)
 }

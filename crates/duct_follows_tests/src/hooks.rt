@@ -83,3 +83,20 @@ fn the_places_are_looked_for_in_order(rt: HostRuntime) -> Result<(), Fail> {
         ",
     )
 }
+
+#[test]
+fn a_hook_that_sets_or_takes_away_a_variable(rt: HostRuntime) -> Result<(), Fail> {
+    rows(
+        rt.alloc(),
+        "
+        expression: a before_spawn=set:path:2
+        whole: environment PATH:1; spawn a -> inherit inherit inherit with=PATH:2
+        neither: environment PATH:1; spawn a -> inherit inherit inherit with=path:2
+        neither: environment PATH:1; spawn a -> inherit inherit inherit with=PATH:1
+
+        expression: a before_spawn=unset:path env=Path,3
+        whole: environment PATH:1,B:2; spawn a -> inherit inherit inherit with=B:2
+        neither: environment PATH:1,B:2; spawn a -> inherit inherit inherit with=PATH:3,B:2
+        ",
+    )
+}

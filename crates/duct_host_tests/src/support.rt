@@ -1,4 +1,5 @@
 //! What the tests share: commands, waiting, journals as texts, and the descriptors of this process.
+use duct_base::names::EnvNameString;
 use duct_base::spec::{CommandSpec, Port, spec_of};
 use duct_base::system::{Child, Entry, ExitStatus, Fault};
 use duct_host::host::Host;
@@ -75,7 +76,7 @@ fn push_text(texts: &mut Vec<String>, word: &str) -> Result<(), AllocError> {
 fn vars_of(
     alloc: Global,
     variables: &[(&str, &str)],
-) -> Result<BTreeMap<String, String>, AllocError> {
+) -> Result<BTreeMap<EnvNameString, String>, AllocError> {
     let mut vars = BTreeMap::new(alloc);
     for variable in variables {
         set(alloc, &mut vars, variable.0, variable.1)?;
@@ -85,13 +86,13 @@ fn vars_of(
 
 fn set(
     alloc: Global,
-    vars: &mut BTreeMap<String, String>,
+    vars: &mut BTreeMap<EnvNameString, String>,
     name: &str,
     value: &str,
 ) -> Result<(), AllocError> {
     let name = String::from_str(alloc, name)?;
     let value = String::from_str(alloc, value)?;
-    vars.insert(name, value)?;
+    vars.insert(EnvNameString::from(name), value)?;
     Ok(())
 }
 

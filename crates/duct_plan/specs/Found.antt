@@ -1,14 +1,11 @@
--- What the code finds outwards, as contracts see it, and what one change says of a variable.
-use Rattle.std.specs.Prelude.{ℕ, List, ◌∷◌, ◌≡◌, map, Some, None}
+-- What the code finds outwards, as contracts see it.
+use Rattle.std.specs.Prelude.{ℕ, List, map}
 use Rattle.std.specs.Borrow.{Bor}
 use Rattle.std.specs.Option.{option_copied}
-use Rattle.duct_system.specs.SpecView.{Vars, pair_text}
+use Rattle.duct_system.specs.SpecView.{var_view}
 use Rattle.duct.specs.Found as outwards
-use Rattle.duct.specs.Found.{variable}
 use Rattle.duct_plan.specs.declared.found.Change.{Change}
 use Rattle.duct_plan.specs.declared.found.Change.TheVariants.{Sets, Removes, Replaces}
-use Rattle.duct_plan.specs.declared.found.Decision.{Decision}
-use Rattle.duct_plan.specs.declared.found.Decision.TheVariants.{Value, Gone, Further}
 use Rattle.duct_plan.specs.declared.found.Found.{Found}
 use Rattle.duct_plan.specs.declared.found.Target.{Target}
 use Rattle.duct_plan.specs.declared.found.Target.TheVariants.{Parents, Nothing, ReaderAt, WriterAt, FileAt, Lends}
@@ -26,7 +23,7 @@ target_of (Lends end) = outwards.Lends end.now
 abbrev pub change_of : Change → outwards.Change
 change_of (Sets name value) = outwards.Sets name.now value.now
 change_of (Removes name) = outwards.Removes name.now
-change_of (Replaces vars) = outwards.Replaces (map pair_text vars.now.entries)
+change_of (Replaces vars) = outwards.Replaces (map var_view vars.now.entries)
 
 -- a hook with the ends beside it
 abbrev pub hook_of : {E H : Type 0} → Bor H × Bor (List E) → H × List E
@@ -43,13 +40,6 @@ found_of found = record {
   hooks = map hook_of found.hooks.items;
 }
 
--- the change gives the variable this value or none, or leaves it to the changes further out
-abbrev pub Decides : outwards.Change → List ℕ → Decision → Type 0
-Decides change name (Value value) =
-    (pairs : Vars) (further : List outwards.Change)
-    → variable pairs (change ∷ further) name ≡ Some value.now
-Decides change name Gone =
-    (pairs : Vars) (further : List outwards.Change) → variable pairs (change ∷ further) name ≡ None
-Decides change name Further =
-    (pairs : Vars) (further : List outwards.Change)
-    → variable pairs (change ∷ further) name ≡ variable pairs further name
+-- a borrowed spelling with a borrowed value
+abbrev pub pair_seen : Bor (List ℕ) × Bor (List ℕ) → List ℕ × List ℕ
+pair_seen pair = (pair.0.now, pair.1.now)

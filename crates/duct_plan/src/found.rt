@@ -1,12 +1,15 @@
 //! What a command finds on its way outwards: its folder, the changes of variables, where its streams go, and its hooks.
-ghost use Rattle.std.specs.Prelude.{◌≡◌, map, reverse};
-ghost use Rattle.std.specs.Option.{option_copied};
-ghost use Rattle.duct_system.specs.SpecView.{pair_text, same_name, value_of};
+ghost use Rattle.std.specs.Prelude.{◌≡◌, map};
+ghost use Rattle.std.specs.Option.{option_map};
+ghost use Rattle.duct_system.specs.Name.{is_same_name};
+ghost use Rattle.duct_system.specs.SpecView.{last_value, pair_text, said_of, spelled, var_view, variable_in};
 ghost use Rattle.duct.specs.Found.{variable};
-ghost use Rattle.duct_plan.specs.Found.{change_of, Decides};
+ghost use Rattle.duct_plan.specs.Found.{change_of, pair_seen};
 
 use duct::Stream;
+use duct_base::names::EnvNameString;
 use std::collections::BTreeMap;
+use std::convert::AsStr;
 
 /// Where a stream of a command goes.
 #[derive_where(Clone, Copy)]
@@ -33,7 +36,7 @@ pub enum Change<'t> {
     /// This name is gone.
     Removes(&'t str),
     /// There are these variables alone.
-    Replaces(&'t BTreeMap<String, String>),
+    Replaces(&'t BTreeMap<EnvNameString, String>),
 }
 
 /// What a command finds on its way outwards.
@@ -53,91 +56,100 @@ pub struct Found<'t, E, H> {
     pub hooks: Vec<(&'t H, &'t [E])>,
 }
 
-/// What one change says of a variable.
-enum Decision<'t> {
-    /// The variable has this value.
-    Value(&'t str),
-    /// There is no such variable.
-    Gone,
-    /// The changes further out decide.
-    Further,
-}
-
-/// The value of a variable: the nearest change that names it or replaces all decides, and without one the last of these pairs
-/// that has the name.
+/// The spelling and the value of a variable. The nearest change that names it or replaces all decides the value; what is found
+/// behind that change keeps its spelling. Without a change it is what these pairs say, one after the other.
 pub fn variable<'t>(
     pairs: &'t [(String, String)],
     changes: &[Change<'t>],
     name: &str,
-) -> Option<&'t str>
-    ensures { option_copied result
+) -> Option<(&'t str, &'t str)>
+    ensures { option_map pair_seen result
         ≡ variable (map pair_text pairs.now) (map change_of changes.now) name.now }
 {
-    match changes.split_first() {
-        None => last_value(pairs, name),
-        Some((change, further)) => match decision_of(*change, name) {
-            Decision::Value(value) => Some(value),
-            Decision::Gone => None,
-            Decision::Further => variable(pairs, further, name),
-        },
-    }
-}
-
-/// The value of the last pair that has this name.
-fn last_value<'t>(pairs: &'t [(String, String)], name: &str) -> Option<&'t str>
-    ensures { option_copied result ≡ value_of name.now (reverse (map pair_text pairs.now)) }
-{
-    match pairs.split_last() {
-        None => None,
-        Some((last, earlier)) => {
-            if is_same(name, last.0.as_str()) {
-                Some(last.1.as_str())
-            } else {
-                last_value(earlier, name)
-            }
-        }
-    }
-}
-
-/// What a change says of a variable.
-fn decision_of<'t>(change: Change<'t>, name: &str) -> Decision<'t>
-    ensures { Decides (change_of change.entry) name.now result }
-{
-    match change {
+    let Some((change, further)) = changes.split_first() else {
+        return said_of(pairs, name);
+    };
+    match *change {
         Change::Sets(other, value) => {
+            let found = variable(pairs, further, name);
             if is_same(name, other) {
-                Decision::Value(value)
+                Some((spelled(other, found), value))
             } else {
-                Decision::Further
+                found
             }
         }
         Change::Removes(other) => {
-            if is_same(name, other) {
-                Decision::Gone
+            let found = variable(pairs, further, name);
+            if is_same(name, other) { None } else { found }
+        }
+        Change::Replaces(vars) => variable_in(vars, name),
+    }
+}
+
+/// What these pairs say of a name: its first spelling and its last value.
+fn said_of<'t>(pairs: &'t [(String, String)], name: &str) -> Option<(&'t str, &'t str)>
+    ensures { option_map pair_seen result ≡ said_of name.now (map pair_text pairs.now) }
+{
+    match pairs.split_first() {
+        None => None,
+        Some((first, rest)) => {
+            if is_same(name, first.0.as_str()) {
+                Some((
+                    first.0.as_str(),
+                    last_value(rest, name, first.1.as_str()),
+                ))
             } else {
-                Decision::Further
+                said_of(rest, name)
             }
         }
-        Change::Replaces(vars) => match value_in(vars, name) {
-            Some(value) => Decision::Value(value),
-            None => Decision::Gone,
-        },
+    }
+}
+
+/// The last value that these pairs give a name, or else this one.
+fn last_value<'t>(pairs: &'t [(String, String)], name: &str, value: &'t str) -> &'t str
+    ensures { result.now ≡ last_value name.now value.now (map pair_text pairs.now) }
+{
+    match pairs.split_first() {
+        None => value,
+        Some((first, rest)) => {
+            if is_same(name, first.0.as_str()) {
+                last_value(rest, name, first.1.as_str())
+            } else {
+                last_value(rest, name, value)
+            }
+        }
+    }
+}
+
+/// The spelling of a name: the one that was found, or else its own.
+fn spelled<'t>(name: &'t str, found: Option<(&'t str, &'t str)>) -> &'t str
+    ensures { result.now ≡ spelled name.now (option_map pair_seen found.entry) }
+{
+    match found {
+        Some((spelling, _)) => spelling,
+        None => name,
     }
 }
 
 /// Whether two names are the same variable's.
 fn is_same(name: &str, other: &str) -> bool
-    ensures { result ≡ same_name name.now other.now }
+    ensures { result ≡ is_same_name name.now other.now }
 {
-    name == other
+    name.eq_ignore_ascii_case(other)
 }
 
-/// The value of a name in a map.
-fn value_in<'t>(vars: &'t BTreeMap<String, String>, name: &str) -> Option<&'t str>
-    ensures { option_copied result ≡ value_of name.now (map pair_text vars.now.entries) }
+/// The spelling and the value of a name in a map.
+fn variable_in<'t>(
+    vars: &'t BTreeMap<EnvNameString, String>,
+    name: &str,
+) -> Option<(&'t str, &'t str)>
+    ensures { option_map pair_seen result
+        ≡ variable_in name.now (map var_view vars.now.entries) }
 {
-    match vars.get(name) {
-        Some(value) => Some(value.as_str()),
-        None => None,
+    for (other, value) in vars.iter() {
+        if other.is(name) {
+            return Some((other.as_str(), value.as_str()));
+        }
     }
+    None
 }

@@ -7,6 +7,7 @@ ghost use Rattle.duct_plan.specs.Step.{idle, IsStep};
 use crate::found::Change;
 use duct::Stream;
 use duct::tree::Modifier;
+use std::convert::AsStr;
 
 /// What a node asks before what it wraps.
 #[derive(Clone, Copy)]

@@ -1,15 +1,13 @@
 //! The variables that a command is to have.
-ghost use Rattle.std.specs.Prelude.{ℕ, ◌≡◌, List, map, IfOk, reverse};
+ghost use Rattle.std.specs.Prelude.{ℕ, ◌≡◌, List, map, IfOk};
 ghost use Rattle.std.specs.BTreeMap.{IsOrdered};
-ghost use Rattle.std.specs.Cmp.Lexicographic.{slice_cmp};
-ghost use Rattle.std.specs.List.Sorted.{IsStrictlySortedBy};
-ghost use Rattle.std.specs.Ordering.{nat_cmp};
-ghost use Rattle.std.specs.String.{string_cmp};
-ghost use Rattle.duct_system.specs.SpecView.{pair_text, value_of};
+ghost use Rattle.duct_system.specs.Name.{name_cmp};
+ghost use Rattle.duct_system.specs.SpecView.{AreOrdered, pair_text, said_of, var_view, variable_in};
 ghost use Rattle.duct_plan.specs.Found.{change_of};
 ghost use Rattle.duct_plan.specs.Variables.{AreFound, Changes};
 
 use crate::found::Change;
+use duct_base::names::EnvNameString;
 use std::alloc::{AllocError, Global};
 use std::collections::BTreeMap;
 
@@ -18,13 +16,13 @@ pub(crate) fn variables(
     alloc: Global,
     pairs: &[(String, String)],
     changes: &[Change<'_>],
-) -> Result<BTreeMap<String, String>, AllocError>
+) -> Result<BTreeMap<EnvNameString, String>, AllocError>
     ensures { IfOk result
         (λ vars. AreFound (map pair_text pairs.now) (map change_of changes.now)
-        (map pair_text vars.entries)) }
+        (map var_view vars.entries)) }
 {
     match changes.split_first() {
-        None => last_values(alloc, pairs),
+        None => said(alloc, pairs),
         Some((change, further)) => {
             let vars = variables(alloc, pairs, further)?;
             changed(alloc, *change, vars)
@@ -32,22 +30,20 @@ pub(crate) fn variables(
     }
 }
 
-/// The variables of these pairs, each name with its last value.
-fn last_values(
+/// The variables that these pairs say, each name with its first spelling and its last value.
+fn said(
     alloc: Global,
     pairs: &[(String, String)],
-) -> Result<BTreeMap<String, String>, AllocError>
-    ensures values { IfOk result
+) -> Result<BTreeMap<EnvNameString, String>, AllocError>
+    ensures found { IfOk result
         (λ vars. (name : List ℕ)
-        → value_of name (map pair_text vars.entries)
-        ≡ value_of name (reverse (map pair_text pairs.now))) }
-    ensures ordered { IfOk result
-        (λ vars. IsStrictlySortedBy (slice_cmp nat_cmp)
-        (map (λ pair. pair.0) (map pair_text vars.entries))) }
+        → variable_in name (map var_view vars.entries)
+        ≡ said_of name (map pair_text pairs.now)) }
+    ensures ordered { IfOk result (λ vars. AreOrdered (map var_view vars.entries)) }
 {
     let mut vars = BTreeMap::new(alloc);
     for (name, value) in pairs {
-        vars.insert(name.clone()?, value.clone()?)?;
+        vars.insert(EnvNameString::from(name.clone()?), value.clone()?)?;
     }
     Ok(vars)
 }
@@ -56,23 +52,21 @@ fn last_values(
 fn changed(
     alloc: Global,
     change: Change<'_>,
-    vars: BTreeMap<String, String>,
-) -> Result<BTreeMap<String, String>, AllocError>
+    vars: BTreeMap<EnvNameString, String>,
+) -> Result<BTreeMap<EnvNameString, String>, AllocError>
     ensures { IfOk result
-        (λ after. Changes (change_of change.entry) (map pair_text vars.entries)
-        (map pair_text after.entries)) }
+        (λ after. Changes (change_of change.entry) (map var_view vars.entries)
+        (map var_view after.entries)) }
 {
     let mut vars = vars;
     match change {
         Change::Sets(name, value) => {
-            vars.insert(
-                String::from_str(alloc, name)?,
-                String::from_str(alloc, value)?,
-            )?;
+            let name = EnvNameString::from(String::from_str(alloc, name)?);
+            vars.insert(name, String::from_str(alloc, value)?)?;
             Ok(vars)
         }
         Change::Removes(name) => {
-            let _ = vars.remove(name);
+            vars.retain(|other, _| !other.is(name));
             Ok(vars)
         }
         Change::Replaces(whole) => {
@@ -83,10 +77,10 @@ fn changed(
 }
 
 /// A copy of some variables.
-fn copied(vars: &BTreeMap<String, String>) -> Result<BTreeMap<String, String>, AllocError>
-    ensures values { IfOk result
-        (λ copy. map pair_text copy.entries ≡ map pair_text vars.now.entries) }
-    ensures ordered { IfOk result (λ copy. IsOrdered string_cmp copy) }
+fn copied(vars: &BTreeMap<EnvNameString, String>) -> Result<BTreeMap<EnvNameString, String>, AllocError>
+    ensures vars { IfOk result
+        (λ copy. map var_view copy.entries ≡ map var_view vars.now.entries) }
+    ensures ordered { IfOk result (λ copy. IsOrdered name_cmp copy) }
 {
     let copy = vars.clone()?;
     // A map that answers how long it is ensures that its names ascend.

@@ -1,6 +1,6 @@
 //! Hooks that are written as texts. `x` adds the word `x`; `out>0` lets stdout go to the end at the place 0 of those beside the
-//! hook, `out>inherit` to the parent's stream and `out>null` nowhere; `refuse:Other` refuses each spec by `Other`. Several are
-//! parted by `+`: `err>1+x`.
+//! hook, `out>inherit` to the parent's stream and `out>null` nowhere; `set:A:1` gives the variable `A` the value `1`, and
+//! `unset:A` takes it away; `refuse:Other` refuses each spec by `Other`. Several are parted by `+`: `err>1+x`.
 use crate::words::{fault, stream};
 use duct_script::hook::{Change, HookAnswer, ScriptHook, Target};
 use std::alloc::{AllocError, Global};
@@ -17,11 +17,22 @@ pub fn hook(alloc: Global, text: &str) -> Result<ScriptHook, Fail> {
 
 /// Lets a hook do one thing more.
 fn tell(alloc: Global, hook: &mut ScriptHook, part: &str) -> Result<(), Fail> {
-    match part.strip_prefix("refuse:") {
-        Some(kind) => hook.answer = HookAnswer::Refuse(fault(kind)?),
-        None => hook.changes.push(change(alloc, part)?)?,
+    match part.split_once(':') {
+        Some(("refuse", kind)) => hook.answer = HookAnswer::Refuse(fault(kind)?),
+        Some(("set", pair)) => hook.changes.push(set(alloc, pair)?)?,
+        Some(("unset", name)) => {
+            hook.changes
+                .push(Change::NoVar(String::from_str(alloc, name)?))?
+        }
+        _ => hook.changes.push(change(alloc, part)?)?,
     }
     Ok(())
+}
+
+fn set(alloc: Global, pair: &str) -> Result<Change, AllocError> {
+    let (name, value) = pair.split_once(':').unwrap_or((pair, ""));
+    let name = String::from_str(alloc, name)?;
+    Ok(Change::Var(name, String::from_str(alloc, value)?))
 }
 
 fn change(alloc: Global, part: &str) -> Result<Change, Fail> {

@@ -13,6 +13,7 @@
 //! of fault.
 use crate::words::{fault, first_word, owned_pairs, side};
 use duct::{CommandSpec, Entry, Fault, Port, Stdio};
+use duct_base::names::EnvNameString;
 use duct_base::spec::spec_of;
 use std::alloc::{AllocError, Global};
 use std::collections::BTreeMap;
@@ -195,10 +196,10 @@ fn folder(alloc: Global, folder: Option<&str>) -> Result<Option<String>, AllocEr
     }
 }
 
-fn vars(alloc: Global, text: &str) -> Result<BTreeMap<String, String>, AllocError> {
+fn vars(alloc: Global, text: &str) -> Result<BTreeMap<EnvNameString, String>, AllocError> {
     let mut vars = BTreeMap::new(alloc);
     for (name, value) in owned_pairs(alloc, text)? {
-        vars.insert(name, value)?;
+        vars.insert(EnvNameString::from(name), value)?;
     }
     Ok(vars)
 }

@@ -6,8 +6,8 @@
 //!
 //! Each other line is compared.
 //! - The plan: `plan`, `items` as they print, and the `places` of the first four commands.
-//! - What each command finds on its way outwards: where its streams go (`goes`), `folders`, `variables` (of the names `A` to `D`,
-//!   which are also those of its spec) and `hooks`.
+//! - What each command finds on its way outwards: where its streams go (`goes`), `folders`, `variables` (of the names `NAMES`, in
+//!   any spelling, which are also those of its spec) and `hooks`.
 //! - What each command is asked for: the streams that it is `given`, and the words and the folder with which it `starts`. Whether
 //!   the first four are `asked` for anything, or it is too `early` to tell. What the `child` of the first is given once its hooks ran.
 //! - The `message` of the one command where it fails.
@@ -197,6 +197,11 @@ fn said(alloc: Global, said: &str) -> Result<String, Fail> {
     Ok(String::from_str(alloc, said)?)
 }
 
+/// The names of variables that a row may have, in their order.
+const NAMES: &[&str] = &[
+    "[", "_", "a", "b", "c", "d", "foo", "path", "z", "{", "É", "é",
+];
+
 /// The variables that each command finds by their names, where they are those of its spec.
 fn variables(
     alloc: Global,
@@ -205,7 +210,7 @@ fn variables(
     entries: &[Entry],
 ) -> Result<String, Fail> {
     let pairs = owned_pairs(alloc, parent)?;
-    let find = Find::Variables(&["A", "B", "C", "D"], pairs.as_slice());
+    let find = Find::Variables(NAMES, pairs.as_slice());
     let found = found_text(alloc, plan, find)?;
     let given = asked_text(alloc, plan, entries, Look::Variables)?;
     agreed(alloc, found, given.as_str())

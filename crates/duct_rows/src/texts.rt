@@ -79,7 +79,7 @@ pub enum Find<'a> {
     /// Where stdin, stdout and stderr go.
     Streams,
     Folder,
-    /// The values of these names, where the parent has these variables.
+    /// The spellings and the values of these names, where the parent has these variables.
     Variables(&'a [&'a str], &'a [(String, String)]),
     Hooks,
 }
@@ -114,7 +114,7 @@ fn push_found(text: &mut String, found: &TestFound, find: Find) -> Result<(), Al
         Find::Folder => push_folder(text, found.folder),
         Find::Variables(names, parent) => {
             for name in names.iter() {
-                if let Some(value) = variable(parent, found.changes.as_slice(), name) {
+                if let Some((name, value)) = variable(parent, found.changes.as_slice(), name) {
                     push_variable(text, name, value)?;
                 }
             }

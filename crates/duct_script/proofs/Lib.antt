@@ -1,3 +1,4 @@
 pub mod Bytes
 pub mod Changes
+pub mod Paths
 pub mod Said

@@ -1,5 +1,5 @@
 -- What contracts see of a scripted child, feed and drain.
-use Rattle.std.specs.Prelude.{ℕ, ◌+◌, ◌-◌, ◌^◌, min}
+use Rattle.std.specs.Prelude.{◌+◌, ◌-◌, ◌^◌, min}
 use Rattle.duct_system.specs.Child.{ChildView}
 use Rattle.duct_system.specs.Job.{JobView}
 use Rattle.duct_script.specs.Said.{Shared}

@@ -1,7 +1,8 @@
 //! The scripted system.
 ghost use Rattle.std.specs.Prelude.{◌≡◌, ℕ, ◌+◌, ◌-◌, ◌^◌, ◌<◌, ◌≤◌, max, length, map, string_bytes, unwrap_or, IfOk, IfErr, IfSome, OnOk, OnErr, Ok, Err, Some, None, [], ◌∷◌, ◌++◌};
 ghost use Rattle.duct_system.specs.declared.system.Kind.TheVariants.{OutOfMemory, Other};
-ghost use Rattle.duct_system.specs.SpecView.{pair_text, value_of, with_var};
+ghost use Rattle.duct_system.specs.SpecView.{pair_text};
+ghost use Rattle.duct_script.specs.Paths.{canonical_of, with_path};
 ghost use Rattle.duct_script.specs.Obeying.{IsObeying};
 ghost use Rattle.duct_script.specs.declared.child.ChildScript.{ChildScript};
 ghost use Rattle.duct_system.specs.Streams.{stream_of, end_of, ends_of};
@@ -122,7 +123,7 @@ impl Script {
     pub fn canonical(&mut self, path: &str, text: &str) -> Result<(), AllocError>
         ensures ok { OnOk result
             (map pair_text self.new.canonical.entries
-            ≡ with_var path.now text.now (map pair_text self.old.canonical.entries)) }
+            ≡ with_path path.now text.now (map pair_text self.old.canonical.entries)) }
         ensures err { OnErr result (self.new.canonical.entries ≡ self.old.canonical.entries) }
         ensures journal { self.new.journal ≡ self.old.journal }
     {
@@ -336,7 +337,7 @@ impl Script {
     /// What a path is answered as its canonical name: the text that was set for it, or the path itself.
     fn canonical_text<'a>(&'a self, path: &'a str) -> &'a str
         ensures { result.now
-            ≡ unwrap_or (value_of path.now (map pair_text self.now.canonical.entries)) path.now }
+            ≡ unwrap_or (canonical_of path.now (map pair_text self.now.canonical.entries)) path.now }
     {
         match self.canonical.get(path) {
             Some(text) => text.as_str(),

@@ -1,27 +1,131 @@
--- Look-ups of variables, by their texts.
-use Rattle.std.specs.Prelude.{ℕ, List, [], ◌∷◌, map, string_bytes, Some, true, false, cond}
-use Rattle.std.specs.Option.{option_map}
-use Rattle.std.specs.Map.{lookup}
-use Rattle.std.specs.BTreeMap.{is_at}
-use Rattle.std.specs.Cmp.Lexicographic.{slice_cmp}
-use Rattle.std.specs.Ordering.{nat_cmp, is_eq}
-use Rattle.std.specs.declared.string.String.{String}
+-- Look-ups of variables that are put in and taken out.
+use Rattle.std.specs.Prelude.{ℕ, Bool, true, false, cond, not, List, [], ◌∷◌, ◌++◌, Some, None}
 use Rattle.std.specs.declared.option.Option.{Option}
+use Rattle.std.specs.BTreeMap.{is_at}
+use Rattle.std.specs.Cmp.{IsTotalOrder, IsEquivalence, on_total, on_equiv}
+use Rattle.std.specs.Cmp.Lexicographic.{nat_list_cmp_total, nat_list_eq_equiv, texts_ties}
+use Rattle.std.specs.Map.{keys_of}
+use Rattle.std.specs.Ordering.{is_eq, match_ordering}
+use Rattle.std.specs.declared.cmp.Ordering.{Ordering}
+use Rattle.std.specs.declared.cmp.Ordering.TheVariants.{Less, Equal, Greater}
 use Rattle.std.proofs.Common.{◌≡◌, refl, ap, sym, ◌∙◌}
-use Rattle.duct_system.specs.SpecView.{Vars, value_of, pair_text}
+use Rattle.std.proofs.lemmas.Map.{NonePasses}
+use Rattle.std.proofs.lemmas.Map.Entries.{none_below_head}
+use Rattle.std.proofs.lemmas.Map.Keys.{sorted_tail}
+use Rattle.duct_system.specs.Name.{name_form, is_same_name, name_cmp}
+use Rattle.duct_system.specs.SpecView.{Vars, AreOrdered, variable_in, with_var, without_var, spelled, last_value, said_of}
 
--- the value of a name among texts is the text of what the map has at that name
-pub value_of-map : {Z : Type 0} (name : List ℕ) (es : List (String Z × String Z)) →
-    value_of name (map pair_text es) ≡ option_map string_bytes (lookup (is_at (λ k. slice_cmp nat_cmp name (string_bytes k))) es)
-value_of-map name [] = refl
-value_of-map {Z} name (e ∷ es) =
-    elim (is_eq (slice_cmp nat_cmp name (string_bytes e.0))) as (λ b.
-    cond b (Some (string_bytes e.1)) (value_of name (map pair_text es))
-    ≡ option_map string_bytes (cond b (Some e.1) (lookup (is_at (λ k. slice_cmp nat_cmp name (string_bytes k))) es)))
-    [ true ↦ refl | false ↦ value_of-map name es ]
+-- the names are those of a lawful key: one equality, and an order that says equal of equal names alone
+pub name_equiv : IsEquivalence is_same_name
+name_equiv = on_equiv name_form nat_list_eq_equiv
 
--- the text of what the map answers is the value among the texts
-pub value_of-found : {Z : Type 0} (name : List ℕ) (es : List (String Z × String Z)) (vars : Vars)
-    (answer : Option (String Z)) →
-    map pair_text es ≡ vars → answer ≡ lookup (is_at (λ k. slice_cmp nat_cmp name (string_bytes k))) es → option_map string_bytes answer ≡ value_of name vars
-value_of-found name es vars answer texts is = ap (λ o. option_map string_bytes o) is ∙ sym (value_of-map name es) ∙ ap (value_of name) texts
+pub name_total : IsTotalOrder name_cmp
+name_total = on_total name_form nat_list_cmp_total
+
+pub name_ties : (one other : List ℕ) → is_same_name one other ≡ is_eq (name_cmp one other)
+name_ties one other = texts_ties (name_form one) (name_form other)
+
+-- what is done with a name is done with each spelling of it
+pub same_at : (name other third : List ℕ) → is_same_name name other ≡ true
+    → is_same_name name third ≡ is_same_name other third
+same_at name other third same = name_equiv.congr name other third same
+
+module _ (name : List ℕ) where
+  -- a name that no key is, in any spelling, is not found
+  pub none_there : (k : List ℕ) → is_same_name name k ≡ true → (vars : Vars)
+      → NonePasses (is_at (name_cmp k)) vars → variable_in name vars ≡ None
+  none_there k same [] none = refl
+  none_there k same (e ∷ es) none =
+      ap (λ b. cond b (Some e) (variable_in name es)) (same_at name k e.0 same ∙ name_ties k e.0 ∙ none.0) ∙ none_there k same es none.1
+
+  less_case : (b : Bool) (k v : List ℕ) (rest : Option (List ℕ × List ℕ)) → (b ≡ true → rest ≡ None) → cond b (Some (k, v)) rest ≡ cond b (Some (spelled k rest, v)) rest
+  less_case true k v rest none = ap (λ r. Some (spelled k r, v)) (sym (none refl))
+  less_case false k v rest none = refl
+
+  equal_case : (b c : Bool) (e : List ℕ × List ℕ) (k v : List ℕ) (rest : Option (List ℕ × List ℕ)) → b ≡ c → cond c (Some (e.0, v)) rest ≡ cond b (Some (spelled k (cond c (Some e) rest), v)) (cond c (Some e) rest)
+  equal_case true true e k v rest is = refl
+  equal_case false false e k v rest is = refl
+  equal_case true false e k v rest is = absurd (cc)
+  equal_case false true e k v rest is = absurd (cc)
+
+  greater_case : (b c : Bool) (e : List ℕ × List ℕ) (k v : List ℕ) (rest : Option (List ℕ × List ℕ)) → (b ≡ true → c ≡ true → ⊥) →
+      cond c (Some e) (cond b (Some (spelled k rest, v)) rest) ≡ cond b (Some (spelled k (cond c (Some e) rest), v)) (cond c (Some e) rest)
+  greater_case true true e k v rest apart = absurd (apart refl refl)
+  greater_case true false e k v rest apart = refl
+  greater_case false true e k v rest apart = refl
+  greater_case false false e k v rest apart = refl
+
+  -- a name that is as k cannot be as a name that k is not
+  apart : (k other : List ℕ) (o : Ordering) → name_cmp k other ≡ o → is_eq o ≡ false → is_same_name name k ≡ true → is_same_name name other ≡ true → ⊥
+  apart k other o is differ one two = let same = sym (same_at name k other one) ∙ two in let tie = name_ties k other ∙ ap is_eq is ∙ differ in cc
+
+  with_case : (e : List ℕ × List ℕ) (es : Vars) (k v : List ℕ) (o : Ordering) → name_cmp k e.0 ≡ o → AreOrdered (e ∷ es) →
+      variable_in name (with_var k v es) ≡ cond (is_same_name name k) (Some (spelled k (variable_in name es), v)) (variable_in name es) →
+      variable_in name (match_ordering o ((k, v) ∷ e ∷ es) ((e.0, v) ∷ es) (e ∷ with_var k v es)) ≡ cond (is_same_name name k) (Some (spelled k (variable_in name (e ∷ es)), v)) (variable_in name (e ∷ es))
+  with_case e es k v Less is ordered rest =
+      less_case (is_same_name name k) k v (variable_in name (e ∷ es)) (λ same. none_there k same (e ∷ es) (none_below_head name_total k e es ordered is))
+  with_case e es k v Equal is ordered rest =
+      equal_case (is_same_name name k) (is_same_name name e.0) e k v (variable_in name es)
+      (name_equiv.symm name k ∙ same_at k e.0 name (name_ties k e.0 ∙ ap is_eq is) ∙ name_equiv.symm e.0 name)
+  with_case e es k v Greater is ordered rest =
+      ap (λ r. cond (is_same_name name e.0) (Some e) r) rest
+      ∙ greater_case (is_same_name name k) (is_same_name name e.0) e k v (variable_in name es) (apart k e.0 Greater is refl)
+
+  -- a variable that is put in keeps the spelling that stands there, and each other name finds what it found
+  pub variable_in-with : (vars : Vars) (k v : List ℕ) → AreOrdered vars
+      → variable_in name (with_var k v vars)
+      ≡ cond (is_same_name name k) (Some (spelled k (variable_in name vars), v))
+      (variable_in name vars)
+  variable_in-with [] k v ordered = refl
+  variable_in-with (e ∷ es) k v ordered =
+      with_case e es k v (name_cmp k e.0) refl ordered (variable_in-with es k v (sorted_tail name_cmp e.0 (keys_of es) ordered))
+
+  without_case : (b c d : Bool) (e : List ℕ × List ℕ) (rest : Option (List ℕ × List ℕ)) → (b ≡ true → c ≡ d) →
+      cond (not c) (cond b (Some e) (cond d None rest)) (cond d None rest) ≡ cond d None (cond b (Some e) rest)
+  without_case true true true e rest same = refl
+  without_case true false false e rest same = refl
+  without_case true true false e rest same = let is = same refl in absurd (cc)
+  without_case true false true e rest same = let is = same refl in absurd (cc)
+  without_case false true true e rest same = refl
+  without_case false true false e rest same = refl
+  without_case false false true e rest same = refl
+  without_case false false false e rest same = refl
+
+  none_twice : (b : Bool) → variable_in name [] ≡ cond b None (variable_in name [])
+  none_twice true = refl
+  none_twice false = refl
+
+  -- a name that was taken out is not found in any spelling, and each other name finds what it found
+  pub variable_in-without : (vars : Vars) (k : List ℕ)
+      → variable_in name (without_var k vars)
+      ≡ cond (is_same_name name k) None (variable_in name vars)
+  variable_in-without [] k = none_twice (is_same_name name k)
+  variable_in-without (e ∷ es) k =
+      gone (not (is_same_name k e.0))
+      ∙ ap (λ r. cond (not (is_same_name k e.0)) (cond (is_same_name name e.0) (Some e) r) r) (variable_in-without es k)
+      ∙ without_case (is_same_name name e.0) (is_same_name k e.0) (is_same_name name k) e (variable_in name es)
+      (λ same. name_equiv.symm k e.0 ∙ sym (same_at name e.0 k same))
+    where
+      gone : (b : Bool) → variable_in name (cond b (e ∷ without_var k es) (without_var k es)) ≡ cond b (cond (is_same_name name e.0) (Some e) (variable_in name (without_var k es))) (variable_in name (without_var k es))
+      gone true = refl
+      gone false = refl
+
+  last_value-more : (vars : Vars) (value k v : List ℕ) → last_value name value (vars ++ (k, v) ∷ []) ≡ cond (is_same_name name k) v (last_value name value vars)
+  last_value-more [] value k v = refl
+  last_value-more (e ∷ es) value k v = last_value-more es (cond (is_same_name name e.0) e.1 value) k v
+
+  said_case : (b c : Bool) (e : List ℕ × List ℕ) (last k v : List ℕ) (rest : Option (List ℕ × List ℕ)) →
+      cond c (Some (e.0, cond b v last)) (cond b (Some (spelled k rest, v)) rest) ≡ cond b (Some (spelled k (cond c (Some (e.0, last)) rest), v)) (cond c (Some (e.0, last)) rest)
+  said_case true true e last k v rest = refl
+  said_case true false e last k v rest = refl
+  said_case false true e last k v rest = refl
+  said_case false false e last k v rest = refl
+
+  -- one more that is said changes the value of its name, and leaves the spelling that was said first
+  pub said_of-more : (vars : Vars) (k v : List ℕ)
+      → said_of name (vars ++ (k, v) ∷ [])
+      ≡ cond (is_same_name name k) (Some (spelled k (said_of name vars), v)) (said_of name vars)
+  said_of-more [] k v = refl
+  said_of-more (e ∷ es) k v =
+      (λ i. cond (is_same_name name e.0) (Some (e.0, last_value-more es e.1 k v i)) (said_of-more es k v i))
+      ∙ said_case (is_same_name name k) (is_same_name name e.0) e (last_value name e.1 es) k v (said_of name es)

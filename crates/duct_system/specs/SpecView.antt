@@ -1,20 +1,25 @@
 -- What a contract sees of a command's spec.
-use Rattle.std.specs.Prelude.{ℕ, Bool, List, ◌≡◌, map, string_bytes}
+use Rattle.std.specs.Prelude.{ℕ, List, [], ◌∷◌, ◌≡◌, Some, None, if◌then◌else◌, not, map, filter, string_bytes}
 use Rattle.std.specs.Borrow.{Bor}
 use Rattle.std.specs.declared.option.Option.{Option}
 use Rattle.std.specs.declared.string.String.{String}
 use Rattle.std.specs.BTreeMap.{insert_entry}
-use Rattle.std.specs.Map.{lookup, remove_entry}
-use Rattle.std.specs.Cmp.Lexicographic.{slice_cmp}
-use Rattle.std.specs.Ordering.{nat_cmp, is_eq}
+use Rattle.std.specs.List.Sorted.{IsStrictlySortedBy}
+use Rattle.std.specs.Map.{keys_of, lookup_entry}
+use Rattle.std.specs.Option.{option_map}
+use Rattle.duct_system.specs.Name.{is_same_name, name_cmp}
 use Rattle.duct_system.specs.declared.spec.Port.{Port}
 use Rattle.duct_system.specs.declared.spec.Port.TheVariants.{Given}
 use Rattle.duct_system.specs.declared.spec.Stream.{Stream}
 use Rattle.duct_system.specs.declared.spec.Stream.TheVariants.{In, Out, Err}
 
--- variables, in order of name
+-- names with their values, each name in its spelling
 abbrev pub Vars : Type 0
 Vars = List (List ℕ × List ℕ)
+
+-- each name stands once, in any spelling, and the names ascend
+abbrev pub AreOrdered : Vars → Type 0
+AreOrdered vars = IsStrictlySortedBy name_cmp (keys_of vars)
 
 -- the words, the folder, the variables in order of name, and the three streams
 pub record SpecView : Type 0 where
@@ -25,21 +30,43 @@ pub record SpecView : Type 0 where
   pub output : Port
   pub error : Port
 
--- whether two names are the same variable's
-abbrev pub same_name : List ℕ → List ℕ → Bool
-same_name name other = is_eq (slice_cmp nat_cmp name other)
+-- what there is of a name: its spelling and its value
+abbrev pub variable_in : List ℕ → Vars → Option (List ℕ × List ℕ)
+variable_in name vars = lookup_entry (is_same_name name) vars
 
 -- the value of a name
 abbrev pub value_of : List ℕ → Vars → Option (List ℕ)
-value_of name vars = lookup (same_name name) vars
+value_of name vars = option_map (λ pair. pair.1) (variable_in name vars)
 
--- the variables with this value of a name, in place of the one that it had
+-- the variables with this value of a name: the spelling that stands there is kept
 abbrev pub with_var : List ℕ → List ℕ → Vars → Vars
-with_var name value vars = insert_entry (slice_cmp nat_cmp) vars name value
+with_var name value vars = insert_entry name_cmp vars name value
 
--- the variables without this name
+-- the variables without this name, in any spelling
 abbrev pub without_var : List ℕ → Vars → Vars
-without_var name vars = remove_entry (same_name name) vars
+without_var name vars = filter (λ pair. not (is_same_name name pair.0)) vars
+
+-- the spelling of a name: the one that stands there, or else this
+abbrev pub spelled : List ℕ → Option (List ℕ × List ℕ) → List ℕ
+spelled name None = name
+spelled name (Some pair) = pair.0
+
+-- the last value that some variables give a name, or else this
+abbrev pub last_value : List ℕ → List ℕ → Vars → List ℕ
+last_value name value [] = value
+last_value name value (pair ∷ vars) =
+    last_value name (if is_same_name name pair.0 then pair.1 else value) vars
+
+-- what variables say of a name when they are given one after the other: its first spelling and its last value
+abbrev pub said_of : List ℕ → Vars → Option (List ℕ × List ℕ)
+said_of name [] = None
+said_of name (pair ∷ vars) =
+    if is_same_name name pair.0 then Some (pair.0, last_value name pair.1 vars)
+    else said_of name vars
+
+-- a name, and the text of its value
+abbrev pub var_view : {Z : Type 0} → List ℕ × String Z → List ℕ × List ℕ
+var_view p = (p.0, string_bytes p.1)
 
 -- the text of a name and of its value
 abbrev pub pair_text : {Z : Type 0} → String Z × String Z → List ℕ × List ℕ

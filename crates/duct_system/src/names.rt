@@ -10,6 +10,7 @@ ghost use Rattle.std.specs.Cmp.Lexicographic.{nat_list_cmp_total, nat_list_eq_eq
 ghost use Rattle.std.specs.Ordering.{nat_cmp};
 ghost use Rattle.duct_system.specs.Name.{name_form, is_same_name, name_cmp, name_hash_input};
 
+use std::alloc::AllocError;
 use std::cmp::Ordering;
 use std::convert::AsStr;
 use std::fmt;
@@ -45,6 +46,15 @@ impl From<String> for EnvNameString {
 
     fn from(text: String) -> EnvNameString {
         EnvNameString { text }
+    }
+}
+
+impl Clone for EnvNameString {
+    ghost is_clone = { λ name copy. copy ≡ name };
+
+    fn clone(&self) -> Result<EnvNameString, AllocError> {
+        let text = self.text.clone()?;
+        Ok(EnvNameString { text })
     }
 }
 

@@ -1,13 +1,15 @@
 //! The spec of a command: the words, the folder, the variables and the streams that its child is started with.
 ghost use Rattle.std.specs.Prelude.{◌≡◌, ◌≢◌, [], ◌∷◌, ◌++◌, map, string_bytes, Some, IfOk, IfErr, IsOkUnless, OnOk, OnErr};
 ghost use Rattle.std.specs.Option.{option_copied, option_map};
-ghost use Rattle.duct_system.specs.SpecView.{SpecView, value_of, with_var, without_var, pair_text, texts_of, port_of, gives, GivesNothing};
+ghost use Rattle.duct_system.specs.SpecView.{SpecView, value_of, with_var, without_var, var_view, texts_of, port_of, gives, GivesNothing};
 ghost use Rattle.duct_system.specs.declared.system.Fault.{Fault};
 
 use crate::error::Error;
+use crate::names::EnvNameString;
 use crate::system::Fault;
 use std::alloc::Global;
 use std::collections::BTreeMap;
+use std::convert::AsStr;
 use std::marker::Model;
 
 /// Where one of the three streams of a child goes.
@@ -36,7 +38,7 @@ pub enum Stream {
 pub struct CommandSpec {
     words: Vec<String>,
     folder: Option<String>,
-    vars: BTreeMap<String, String>,
+    vars: BTreeMap<EnvNameString, String>,
     stdin: Port,
     stdout: Port,
     stderr: Port,
@@ -45,14 +47,14 @@ pub struct CommandSpec {
 impl Model for CommandSpec {
     ghost use Rattle.std.specs.Prelude.{map, string_bytes};
     ghost use Rattle.std.specs.Option.{option_map};
-    ghost use Rattle.duct_system.specs.SpecView.{SpecView, pair_text};
+    ghost use Rattle.duct_system.specs.SpecView.{SpecView, var_view};
 
     ghost Value = { SpecView };
 
     ghost view = { λ s. record {
       words = map string_bytes s.words.items;
       folder = option_map string_bytes s.folder;
-      vars = map pair_text s.vars.entries;
+      vars = map var_view s.vars.entries;
       input = s.stdin;
       output = s.stdout;
       error = s.stderr;
@@ -64,7 +66,7 @@ impl Model for CommandSpec {
 pub fn spec_of(
     words: Vec<String>,
     folder: Option<String>,
-    vars: BTreeMap<String, String>,
+    vars: BTreeMap<EnvNameString, String>,
     stdin: Port,
     stdout: Port,
     stderr: Port,
@@ -72,7 +74,7 @@ pub fn spec_of(
     ensures { result ≡ record {
       words = map string_bytes words.items;
       folder = option_map string_bytes folder;
-      vars = map pair_text vars.entries;
+      vars = map var_view vars.entries;
       input = stdin;
       output = stdout;
       error = stderr;
@@ -106,17 +108,19 @@ impl CommandSpec {
         }
     }
 
-    /// The value of a variable of the child, if it has one of that name.
+    /// The value of a variable of the child, if it has one of that name, in any spelling.
     pub fn var(&self, name: &str) -> Option<&str>
         ensures { option_copied result ≡ value_of name.now self.now.vars }
     {
-        match self.vars.get(name) {
-            Some(value) => Some(value.as_str()),
-            None => None,
+        for (other, value) in self.vars.iter() {
+            if other.is(name) {
+                return Some(value.as_str());
+            }
         }
+        None
     }
 
-    /// All variables of the child, in order of name. Refused, by `Error::Memory`, only for want of memory.
+    /// All variables of the child, each in its spelling, in order of name. Refused, by `Error::Memory`, only for want of memory.
     pub fn vars(&self) -> Result<Vec<(&str, &str)>, Error>
         ensures vars { IfOk result
             (λ pairs. map (λ p. (p.0.now, p.1.now)) pairs.items ≡ self.now.vars) }
@@ -166,8 +170,8 @@ impl CommandSpec {
         Ok(())
     }
 
-    /// Gives a variable a value, in place of the one that it had. Refused, by `Error::Memory`, only for want of memory; the
-    /// spec is then as it was.
+    /// Gives a variable a value, in place of the one that it had in any spelling: the spelling that is there is kept. Refused,
+    /// by `Error::Memory`, only for want of memory; the spec is then as it was.
     pub fn env(&mut self, name: &str, value: &str) -> Result<(), Error>
         ensures ok { OnOk result
             (self.new ≡ record self.old { vars = with_var name.now value.now self.old.vars }) }
@@ -177,15 +181,15 @@ impl CommandSpec {
         let alloc = *self.words.allocator();
         let name = String::from_str(alloc, name)?;
         let value = String::from_str(alloc, value)?;
-        self.vars.insert(name, value)?;
+        self.vars.insert(EnvNameString::from(name), value)?;
         Ok(())
     }
 
-    /// Takes a variable away, if the child has one of that name.
+    /// Takes a variable away, if the child has one of that name, in any spelling.
     pub fn env_remove(&mut self, name: &str)
         ensures { self.new ≡ record self.old { vars = without_var name.now self.old.vars } }
     {
-        let _ = self.vars.remove(name);
+        self.vars.retain(|other, _| !other.is(name));
     }
 
     /// Takes all variables away.

@@ -1,13 +1,14 @@
 //! The calls that make an expression of an old one. Each adds one node, outermost, and leaves the old expression as it
 //! was. Each is refused, by `Error::Memory`, only for want of memory; what was handed in is then dropped.
 ghost use Rattle.std.specs.Prelude.{◌≡◌, map, IfOk, IsOkUnless};
-ghost use Rattle.duct_system.specs.SpecView.{pair_text};
+ghost use Rattle.duct_system.specs.SpecView.{var_view};
 ghost use Rattle.duct.specs.LastValues.{last_values};
 ghost use Rattle.duct.specs.Pairs.{pairs_of};
 ghost use Rattle.duct.specs.TreeView.{pipe, around, stdin_bytes, stdin_path, stdin_file, stdin_null, stdout_path, stdout_file, stdout_null, stdout_capture, stdout_to_stderr, stderr_path, stderr_file, stderr_null, stderr_capture, stderr_to_stdout, stdout_stderr_swap, dir, env, env_remove, full_env, unchecked, before_spawn, modifier_view, tree_view};
 
 use super::{Expression, Modifier, Node};
 use duct_base::error::Error;
+use duct_base::names::EnvNameString;
 use std::alloc::Global;
 use std::collections::BTreeMap;
 use std::sync::Arc;
@@ -191,7 +192,7 @@ impl<E: Drop, H: Drop> Expression<E, H> {
         self.around(Modifier::Dir(path))
     }
 
-    /// The commands have this variable, whatever is said of it outside.
+    /// The commands have this variable, whatever is said of it outside. A spelling that the name has further outside is kept.
     pub fn env(&self, name: &str, value: &str) -> Result<Expression<E, H>, Error>
         ensures tree { IfOk result
             (λ made. tree_view made ≡ around (env name.now value.now) (tree_view self.now)) }
@@ -199,20 +200,21 @@ impl<E: Drop, H: Drop> Expression<E, H> {
     {
         let name = String::from_str(self.alloc, name)?;
         let value = String::from_str(self.alloc, value)?;
-        self.around(Modifier::Env(name, value))
+        self.around(Modifier::Env(EnvNameString::from(name), value))
     }
 
-    /// The commands don't have this variable, whatever is said of it outside.
+    /// The commands don't have this variable, in any spelling, whatever is said of it outside.
     pub fn env_remove(&self, name: &str) -> Result<Expression<E, H>, Error>
         ensures tree { IfOk result
             (λ made. tree_view made ≡ around (env_remove name.now) (tree_view self.now)) }
         ensures memory { IsOkUnless result Error.Memory }
     {
         let name = String::from_str(self.alloc, name)?;
-        self.around(Modifier::EnvRemove(name))
+        self.around(Modifier::EnvRemove(EnvNameString::from(name)))
     }
 
-    /// The commands have these variables alone, whatever is said outside. Of a name given twice the last value counts.
+    /// The commands have these variables alone, whatever is said outside. Of a name given twice, in any
+    /// spelling, the first spelling and the last value count.
     pub fn full_env(&self, pairs: &[(&str, &str)]) -> Result<Expression<E, H>, Error>
         ensures tree { IfOk result
             (λ made. tree_view made
@@ -242,17 +244,17 @@ impl<E: Drop, H: Drop> Expression<E, H> {
     }
 }
 
-// The pairs as a map, with the last value of a name given twice.
-fn vars(alloc: Global, pairs: &[(&str, &str)]) -> Result<BTreeMap<String, String>, Error>
+// The pairs as a map, with the first spelling and the last value of a name given twice.
+fn vars(alloc: Global, pairs: &[(&str, &str)]) -> Result<BTreeMap<EnvNameString, String>, Error>
     ensures vars { IfOk result
-        (λ vars. map pair_text vars.entries ≡ last_values (pairs_of pairs.now)) }
+        (λ vars. map var_view vars.entries ≡ last_values (pairs_of pairs.now)) }
     ensures memory { IsOkUnless result Error.Memory }
 {
     let mut vars = BTreeMap::new(alloc);
     for (name, value) in pairs {
         let name = String::from_str(alloc, name)?;
         let value = String::from_str(alloc, value)?;
-        vars.insert(name, value)?;
+        vars.insert(EnvNameString::from(name), value)?;
     }
     Ok(vars)
 }

@@ -1,10 +1,11 @@
 //! The debug text of an expression.
 ghost use Rattle.std.specs.Prelude.{codes, map, string_bytes};
 ghost use Rattle.std.specs.Fmt.{DisplaysOnOk};
-ghost use Rattle.duct_system.specs.SpecView.{pair_text};
+ghost use Rattle.duct_system.specs.SpecView.{var_view};
 ghost use Rattle.duct.specs.Text.{named, printed, texts, vars_form};
 
 use super::{Expression, Modifier, Node};
+use duct_base::names::EnvNameString;
 use std::collections::btree_map::Iter;
 use std::fmt;
 
@@ -97,12 +98,12 @@ fn write_command<W: fmt::Write>(words: &[String], f: &mut fmt::Formatter<W>) -> 
 
 // The variables that are left, the first after the lead and each other one after a comma.
 fn write_vars<W: fmt::Write>(
-    mut rest: Iter<'_, String, String>,
+    mut rest: Iter<'_, EnvNameString, String>,
     lead: &str,
     f: &mut fmt::Formatter<W>,
 ) -> fmt::Result
     ensures { DisplaysOnOk W.write_str_gives f.old result
-        (printed (vars_form lead.now (map pair_text rest.entry))) f.new }
+        (printed (vars_form lead.now (map var_view rest.entry))) f.new }
 {
     match rest.next() {
         None => Ok(()),

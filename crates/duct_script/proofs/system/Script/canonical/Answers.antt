@@ -1,6 +1,6 @@
 -- The canonical name of a path is put in.
 use Rattle.std.proofs.Common.{refl}
-use Rattle.duct_system.proofs.Entries.{insert_texts}
+use Rattle.duct_script.proofs.Paths.{insert_texts}
 use Rattle.duct_script.proofs.system.Script.canonical.Goals as goal
 
 pub returns-clause-ok : goal.returns-clause-ok

@@ -1,7 +1,0 @@
--- Names are compared as their bytes are.
-use Rattle.std.proofs.Common.{sym, ◌∙◌}
-use Rattle.std.proofs.lemmas.Map.Text.{is_eq-slice_cmp}
-use Rattle.duct_plan.proofs.found.is_same.Goals as goal
-
-pub returns : goal.returns
-returns c = c.eq.ensures ∙ sym (is_eq-slice_cmp c.args.name.now c.args.other.now)

@@ -1,0 +1,41 @@
+-- Paths that are put into a map and looked up in it, by their texts.
+use Rattle.std.specs.Prelude.{ℕ, List, [], ◌∷◌, map, string_bytes, Some, true, false, cond}
+use Rattle.std.specs.BTreeMap.{insert_entry, is_at}
+use Rattle.std.specs.Map.{lookup}
+use Rattle.std.specs.Option.{option_map}
+use Rattle.std.specs.Cmp.Lexicographic.{slice_cmp}
+use Rattle.std.specs.Ordering.{nat_cmp, match_ordering, is_eq}
+use Rattle.std.specs.declared.cmp.Ordering.TheVariants.{Less, Equal, Greater}
+use Rattle.std.specs.declared.option.Option.{Option}
+use Rattle.std.specs.String.{string_cmp}
+use Rattle.std.specs.declared.string.String.{String}
+use Rattle.std.proofs.Common.{◌≡◌, ap, refl, sym, ◌∙◌}
+use Rattle.duct_system.specs.SpecView.{pair_text}
+use Rattle.duct_script.specs.Paths.{Paths, canonical_of}
+
+-- the texts of a map with one more entry are the texts of the map with the text of that entry
+pub insert_texts : {Z : Type 0} (es : List (String Z × String Z)) (k v : String Z)
+    → map pair_text (insert_entry string_cmp es k v)
+    ≡ insert_entry (slice_cmp nat_cmp) (map pair_text es) (string_bytes k) (string_bytes v)
+insert_texts [] k v = refl
+insert_texts (e ∷ es) k v =
+    elim (slice_cmp nat_cmp (string_bytes k) (string_bytes e.0)) as (λ o.
+    map pair_text (match_ordering o ((k, v) ∷ e ∷ es) ((e.0, v) ∷ es) (e ∷ insert_entry string_cmp es k v))
+    ≡ match_ordering o ((string_bytes k, string_bytes v) ∷ pair_text e ∷ map pair_text es) ((string_bytes e.0, string_bytes v) ∷ map pair_text es) (pair_text e ∷ insert_entry (slice_cmp nat_cmp) (map pair_text es) (string_bytes k) (string_bytes v)))
+    [ Less ↦ refl | Equal ↦ refl | Greater ↦ ap (λ r. pair_text e ∷ r) (insert_texts es k v) ]
+
+-- the value of a name among texts is the text of what the map has at that name
+pub canonical_of-map : {Z : Type 0} (name : List ℕ) (es : List (String Z × String Z)) →
+    canonical_of name (map pair_text es) ≡ option_map string_bytes (lookup (is_at (λ k. slice_cmp nat_cmp name (string_bytes k))) es)
+canonical_of-map name [] = refl
+canonical_of-map {Z} name (e ∷ es) =
+    elim (is_eq (slice_cmp nat_cmp name (string_bytes e.0))) as (λ b.
+    cond b (Some (string_bytes e.1)) (canonical_of name (map pair_text es))
+    ≡ option_map string_bytes (cond b (Some e.1) (lookup (is_at (λ k. slice_cmp nat_cmp name (string_bytes k))) es)))
+    [ true ↦ refl | false ↦ canonical_of-map name es ]
+
+-- the text of what the map answers is the value among the texts
+pub canonical_of-found : {Z : Type 0} (name : List ℕ) (es : List (String Z × String Z)) (vars : Paths)
+    (answer : Option (String Z)) →
+    map pair_text es ≡ vars → answer ≡ lookup (is_at (λ k. slice_cmp nat_cmp name (string_bytes k))) es → option_map string_bytes answer ≡ canonical_of name vars
+canonical_of-found name es vars answer texts is = ap (λ o. option_map string_bytes o) is ∙ sym (canonical_of-map name es) ∙ ap (canonical_of name) texts
