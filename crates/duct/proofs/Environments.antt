@@ -1,15 +1,17 @@
 -- Variables that are put in one after the other, and what a look-up finds of them.
-use Rattle.std.specs.Prelude.{ℕ, List, [], ◌∷◌, ◌++◌, cond, map, string_bytes, Some}
+use Rattle.std.specs.Prelude.{Bool, true, false, ℕ, List, [], ◌∷◌, ◌++◌, cond, map, string_bytes, Some}
 use Rattle.std.specs.declared.string.String.{String}
 use Rattle.std.specs.BTreeMap.{insert_entry}
 use Rattle.std.specs.List.Sorted.{IsStrictlySortedBy}
 use Rattle.std.specs.Map.{keys_of}
-use Rattle.std.proofs.Common.{◌≡◌, ◌+◌, suc, length, refl, ap, sym, ◌∙◌, subst, arith, append_assoc}
+use Rattle.std.proofs.Common.{Option, ◌≡◌, ◌+◌, suc, length, refl, ap, sym, ◌∙◌, subst, arith, append_assoc}
 use Rattle.std.proofs.lemmas.List.{append-nil, map-append}
 use Rattle.duct_system.specs.Name.{is_same_name, name_cmp}
 use Rattle.duct_system.specs.SpecView.{Vars, AreOrdered, pair_text, said_of, spelled, var_view, variable_in}
 use Rattle.duct_system.proofs.Entries.{insert_var}
-use Rattle.duct_system.proofs.Variables.{variable_in-with, said_of-more}
+use Rattle.duct_system.proofs.Variables.{name_equiv, same_at, variable_in-with, said_of-more}
+use Rattle.duct.specs.Found.{Change, Sets, variable, value_found}
+use Rattle.std.specs.Option.{option_map}
 
 keys_seen : {Z : Type 0} (es : List (List ℕ × String Z)) → keys_of (map var_view es) ≡ keys_of es
 keys_seen [] = refl
@@ -39,6 +41,31 @@ finds_more es new pairs item k v finds sorted is same_name same_value = λ name.
     ∙ sym (said_of-more name said k (string_bytes v))
     ∙ (λ i. said_of name (said ++ (same_name i, same_value i) ∷ []))
     ∙ sym (ap (said_of name) (map-append pair_text pairs (item ∷ [])))
+
+-- the value of a name that the nearest change sets is that change's, whatever stands further out
+pub nearest_value : (pairs : Vars) (changes : List Change) (name nearest value : List ℕ)
+    → is_same_name name nearest ≡ true
+    → value_found pairs (Sets nearest value ∷ changes) name ≡ Some value
+nearest_value pairs changes name nearest value same =
+    let further = variable pairs changes name in
+    ap (λ b. option_map (λ pair. pair.1) (cond b (Some (spelled nearest further, value)) further)) same
+
+-- a variable hides one of its name that is set outside of it: no name's value changes with the outer one
+pub inner_hides_outer : (pairs : Vars) (changes : List Change) (name : List ℕ)
+    (inner value outer other : List ℕ) →
+    is_same_name inner outer ≡ true
+    → value_found pairs (Sets inner value ∷ Sets outer other ∷ changes) name
+    ≡ value_found pairs (Sets inner value ∷ changes) name
+inner_hides_outer pairs changes name inner value outer other same =
+    hidden (is_same_name name inner) (is_same_name name outer) (variable pairs changes name)
+    (name_equiv.symm name inner ∙ same_at inner outer name same ∙ name_equiv.symm outer name)
+  where
+    hidden : (b c : Bool) (o : Option (List ℕ × List ℕ)) → b ≡ c →
+        option_map (λ pair. pair.1) (cond b (Some (spelled inner (cond c (Some (spelled outer o, other)) o), value)) (cond c (Some (spelled outer o, other)) o))
+        ≡ option_map (λ pair. pair.1) (cond b (Some (spelled inner o, value)) o)
+    hidden true c o is = refl
+    hidden false false o is = refl
+    hidden false true o is = absurd (cc)
 
 -- what is left of a list, after one more of its items
 pub left_more : {X : Type 0} (all so_far rest left : List X) (x : X) → all ≡ so_far ++ rest

@@ -1,6 +1,7 @@
 -- What a command finds on its way outwards.
 use Rattle.std.specs.Prelude.{ℕ, List, Some, None, if◌then◌else◌, [], ◌∷◌}
 use Rattle.std.specs.declared.option.Option.{Option}
+use Rattle.std.specs.Option.{option_map}
 use Rattle.duct_system.specs.Name.{is_same_name}
 use Rattle.duct_system.specs.SpecView.{Vars, variable_in, said_of, spelled}
 use Rattle.duct_system.specs.declared.spec.Stream.{Stream}
@@ -49,6 +50,10 @@ variable pairs (Sets other value ∷ changes) name =
 variable pairs (Removes other ∷ changes) name =
     if is_same_name name other then None else variable pairs changes name
 variable pairs (Replaces vars ∷ changes) name = variable_in name vars
+
+-- the value of a variable
+abbrev pub value_found : Vars → List Change → List ℕ → Option (List ℕ)
+value_found pairs changes name = option_map (λ pair. pair.1) (variable pairs changes name)
 
 -- what a command finds with nothing round it
 abbrev pub plain : {E H : Type 0} → Found E H
