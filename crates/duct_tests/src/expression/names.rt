@@ -1,7 +1,7 @@
 //! Names of variables.
 use duct_base::names::EnvNameString;
 use std::alloc::{AllocError, Global};
-use std::collections::{BTreeSet, HashSet};
+use std::collections::{BTreeMap, HashSet};
 use std::convert::AsStr;
 use std::test::Fail;
 
@@ -21,11 +21,11 @@ fn push_count(alloc: Global, texts: &str, told: &mut String) -> Result<(), Alloc
     write!(told, "are {count}, ")
 }
 
-/// Adds the names in their order, each as it was spelled first.
+/// Adds the names in their order, each as it was spelled first, with the last place where it stands.
 fn push_order(alloc: Global, texts: &str, told: &mut String) -> Result<(), AllocError> {
-    let mut names = BTreeSet::new(alloc);
-    for text in texts.split(' ') {
-        names.insert(name(alloc, text)?)?;
+    let mut names = BTreeMap::new(alloc);
+    for (place, text) in texts.split(' ').enumerate() {
+        names.insert(name(alloc, text)?, place)?;
     }
     write!(told, "{names:?}, ")
 }
@@ -47,6 +47,7 @@ fn told(alloc: Global) -> Result<String, AllocError> {
     let mut told = String::new(alloc);
     push_count(alloc, "abc abC aBc aBC Abc AbC ABc ABC", &mut told)?;
     push_count(alloc, "abc ABC xyz É é", &mut told)?;
+    push_order(alloc, "aBc abc abC aBC Abc AbC ABc ABC", &mut told)?;
     push_order(alloc, "B a _ Z [ ab A", &mut told)?;
     push_compared(alloc, "a\"B", "A\"b", &mut told)?;
     push_compared(alloc, "a\"b", "a\"c", &mut told)?;
@@ -58,7 +59,7 @@ fn names_are_their_texts_in_any_case(rt: HostRuntime) -> Result<(), Fail> {
     let told = told(rt.alloc())?;
     let wanted = [
         "abc abC aBc aBC Abc AbC ABc ABC are 1, abc ABC xyz É é are 4, ",
-        r#"{"[", "_", "a", "ab", "B", "Z"}, "a\"B" "A\"b" true false, "a\"b" "a\"c" false true, "#,
+        r#"{"aBc": 7}, {"[": 4, "_": 2, "a": 6, "ab": 5, "B": 0, "Z": 3}, "a\"B" "A\"b" true false, "a\"b" "a\"c" false true, "#,
     ];
     assert!(rt; told.as_str().strip_prefix(wanted[0]) == Some(wanted[1]));
     Ok(())

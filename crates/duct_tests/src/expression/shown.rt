@@ -59,6 +59,8 @@ fn pipes_and_modifiers(rt: HostRuntime) -> Result<(), Fail> {
         a dir=/in -> Io(Dir("/in"), Cmd(["a"]))
         @0 env=A,2 -> Io(Env("A", "2"), Cmd(["a"]))
         @0 env_remove=A -> Io(EnvRemove("A"), Cmd(["a"]))
+        @0 env_remove=aB -> Io(EnvRemove("aB"), Cmd(["a"]))
+        @0 env=Ab,2 -> Io(Env("Ab", "2"), Cmd(["a"]))
         @0 full_env=B:y,A:1 -> Io(FullEnv({"A": "1", "B": "y"}), Cmd(["a"]))
         @0 full_env=B:1,a:2,_:3 -> Io(FullEnv({"_": "3", "a": "2", "B": "1"}), Cmd(["a"]))
         @0 full_env=Ab:1,aB:2 -> Io(FullEnv({"Ab": "2"}), Cmd(["a"]))
