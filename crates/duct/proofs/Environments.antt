@@ -1,5 +1,5 @@
 -- Variables that are put in one after the other, and what a look-up finds of them.
-use Rattle.std.specs.Prelude.{Bool, true, false, ℕ, List, [], ◌∷◌, ◌++◌, cond, map, string_bytes, Some}
+use Rattle.std.specs.Prelude.{Bool, true, false, ℕ, List, [], ◌∷◌, ◌++◌, cond, fold, map, string_bytes, Some}
 use Rattle.std.specs.declared.string.String.{String}
 use Rattle.std.specs.BTreeMap.{insert_entry}
 use Rattle.std.specs.List.Sorted.{IsStrictlySortedBy}
@@ -7,20 +7,12 @@ use Rattle.std.specs.Map.{keys_of}
 use Rattle.std.proofs.Common.{Option, ◌≡◌, ◌+◌, suc, length, refl, ap, sym, ◌∙◌, subst, arith, append_assoc}
 use Rattle.std.proofs.lemmas.List.{append-nil, map-append}
 use Rattle.duct_system.specs.Name.{is_same_name, name_cmp}
-use Rattle.duct_system.specs.SpecView.{Vars, AreOrdered, pair_text, said_of, spelled, var_view, variable_in}
-use Rattle.duct_system.proofs.Entries.{insert_var}
-use Rattle.duct_system.proofs.Variables.{name_equiv, same_at, variable_in-with, said_of-more}
-use Rattle.duct.specs.Found.{Change, Sets, variable, value_found}
+use Rattle.duct_system.specs.SpecView.{Vars, AreOrdered, pair_text, said_of, spelled, var_view, variable_in, with_var}
+use Rattle.duct_system.proofs.Entries.{insert_var, are_ordered}
+use Rattle.duct_system.proofs.Variables.{name_equiv, same_at, variable_in-with, said_of-more, with_ordered}
+use Rattle.duct.specs.LastValues.{last_values}
+use Rattle.duct_start.specs.Found.{Change, Sets, variable, value_found}
 use Rattle.std.specs.Option.{option_map}
-
-keys_seen : {Z : Type 0} (es : List (List ℕ × String Z)) → keys_of (map var_view es) ≡ keys_of es
-keys_seen [] = refl
-keys_seen (e ∷ es) = ap (λ names. e.0 ∷ names) (keys_seen es)
-
--- the variables of a map stand in order
-pub are_ordered : {Z : Type 0} (es : List (List ℕ × String Z))
-    → IsStrictlySortedBy name_cmp (keys_of es) → AreOrdered (map var_view es)
-are_ordered es sorted = subst (IsStrictlySortedBy name_cmp) (sym (keys_seen es)) sorted
 
 -- what is found of a name in these variables is what was said of it
 abbrev pub FindsSaid : {Z : Type 0} → List (List ℕ × String Z) → Vars → Type 0
@@ -41,6 +33,21 @@ finds_more es new pairs item k v finds sorted is same_name same_value = λ name.
     ∙ sym (said_of-more name said k (string_bytes v))
     ∙ (λ i. said_of name (said ++ (same_name i, same_value i) ∷ []))
     ∙ sym (ap (said_of name) (map-append pair_text pairs (item ∷ [])))
+
+finds_all : (pairs vars said : Vars) → AreOrdered vars → ((name : List ℕ) → variable_in name vars ≡ said_of name said) →
+    (name : List ℕ) → variable_in name (fold (λ vars pair. with_var pair.0 pair.1 vars) vars pairs) ≡ said_of name (said ++ pairs)
+finds_all [] vars said ordered finds name = finds name ∙ ap (said_of name) (sym (append-nil said))
+finds_all (p ∷ ps) vars said ordered finds name =
+    finds_all ps (with_var p.0 p.1 vars) (said ++ p ∷ []) (with_ordered vars p.0 p.1 ordered)
+    (λ other. variable_in-with other vars p.0 p.1 ordered ∙ ap (λ o. cond (is_same_name other p.0) (Some (spelled p.0 o, p.1)) o) (finds other)
+    ∙ sym (said_of-more other said p.0 p.1)) name
+    ∙ ap (said_of name) (append_assoc said (p ∷ []) ps)
+
+-- a full environment has of each name the first spelling and the last value of its pairs
+pub last_values_say : (pairs : Vars) (name : List ℕ)
+    → variable_in name (last_values pairs) ≡ said_of name pairs
+unfolding IsStrictlySortedBy
+last_values_say pairs name = finds_all pairs [] [] tt (λ other. refl) name
 
 -- the value of a name that the nearest change sets is that change's, whatever stands further out
 pub nearest_value : (pairs : Vars) (changes : List Change) (name nearest value : List ℕ)

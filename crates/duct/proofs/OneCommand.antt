@@ -24,17 +24,17 @@ use Rattle.duct_status.specs.declared.status.Shape.{Shape}
 use Rattle.duct_system.specs.declared.system.Fault.{Fault}
 use Rattle.duct_system.specs.declared.system.Stdio.{Stdio}
 use Rattle.duct_system.specs.declared.system.Stdio.TheVariants.{Inherit}
-use Rattle.duct.specs.Asked.{IsAsked, with_program}
-use Rattle.duct.specs.Causes.{HasCause, AnswersLastFault}
-use Rattle.duct.specs.Chain.{Allows, Refuses, Wired}
-use Rattle.duct.specs.Follows.{Follows, FollowsWhole, IsGiven}
-use Rattle.duct.specs.Found.{plain}
-use Rattle.duct.specs.Left.{StaysInPool, LeavesStarted}
-use Rattle.duct.specs.ShapeOfTree.{shape_of_tree}
-use Rattle.duct.specs.Plan.{Plan, plan_of, program_of}
-use Rattle.duct.specs.Running.{IsRunning}
-use Rattle.duct.specs.Start.{Grows, HoldsFew, StartSucceeds, StartRefused}
-use Rattle.duct.specs.TreeView.{TreeView, command}
+use Rattle.duct_start.specs.Asked.{IsAsked, with_program}
+use Rattle.duct_start.specs.Causes.{HasCause, AnswersLastFault}
+use Rattle.duct_start.specs.Chain.{Allows, Refuses, Wired}
+use Rattle.duct_start.specs.Follows.{Follows, FollowsWhole, IsGiven}
+use Rattle.duct_start.specs.Found.{plain}
+use Rattle.duct_start.specs.Left.{StaysInPool, LeavesStarted}
+use Rattle.duct_start.specs.ShapeOfTree.{shape_of_tree}
+use Rattle.duct_start.specs.Plan.{Plan, plan_of, program_of}
+use Rattle.duct_start.specs.Running.{IsRunning}
+use Rattle.duct_start.specs.Start.{Grows, HoldsFew, StartSucceeds, StartRefused}
+use Rattle.duct_start.specs.TreeView.{TreeView, command}
 
 segment-added : (old xs : List EntryView) → segment old (old ++ xs) ≡ xs
 segment-added [] xs = refl

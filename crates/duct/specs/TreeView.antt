@@ -1,41 +1,12 @@
--- An expression as contracts see it: a tree without pointers, with one constructor for each kind of node.
-use Rattle.std.specs.Prelude.{ℕ, List, map, string_bytes}
-use Rattle.duct_system.specs.SpecView.{Vars, var_view}
+-- The tree of an expression, as contracts see it.
+use Rattle.std.specs.Prelude.{map, string_bytes}
+use Rattle.duct_system.specs.SpecView.{var_view}
 use Rattle.std.specs.Arc.{arc_value}
 use Rattle.duct.specs.declared.expression.Modifier.{Modifier}
 use Rattle.duct.specs.declared.expression.Modifier.TheVariants.{StdinBytes, StdinPath, StdinFile, StdinNull, StdoutPath, StdoutFile, StdoutNull, StdoutCapture, StdoutToStderr, StderrPath, StderrFile, StderrNull, StderrCapture, StderrToStdout, StdoutStderrSwap, Dir, Env, EnvRemove, FullEnv, Unchecked, BeforeSpawn}
 use Rattle.duct.specs.declared.expression.Node.{Node, Cmd, Io', Pipe'}
 use Rattle.duct.specs.declared.expression.Expression.{Expression}
-
--- what a node asks of the one expression that it stands round; texts as their bytes
-pub data ModifierView (E H : Type 0) : Type 0 where
-  stdin_bytes : List ℕ → ModifierView E H
-  stdin_path : List ℕ → ModifierView E H
-  stdin_file : E → ModifierView E H
-  stdin_null : ModifierView E H
-  stdout_path : List ℕ → ModifierView E H
-  stdout_file : E → ModifierView E H
-  stdout_null : ModifierView E H
-  stdout_capture : ModifierView E H
-  stdout_to_stderr : ModifierView E H
-  stderr_path : List ℕ → ModifierView E H
-  stderr_file : E → ModifierView E H
-  stderr_null : ModifierView E H
-  stderr_capture : ModifierView E H
-  stderr_to_stdout : ModifierView E H
-  stdout_stderr_swap : ModifierView E H
-  dir : List ℕ → ModifierView E H
-  env : List ℕ → List ℕ → ModifierView E H
-  env_remove : List ℕ → ModifierView E H
-  full_env : Vars → ModifierView E H
-  unchecked : ModifierView E H
-  before_spawn : H → List E → ModifierView E H
-
--- a command with its words, a pipe from the left to the right, or a modifier round an expression; ends are of type E, hooks of H
-pub data TreeView (E H : Type 0) : Type 0 where
-  command : List (List ℕ) → TreeView E H
-  pipe : TreeView E H → TreeView E H → TreeView E H
-  around : ModifierView E H → TreeView E H → TreeView E H
+use Rattle.duct_start.specs.TreeView.{ModifierView, TreeView, command, pipe, around, stdin_bytes, stdin_path, stdin_file, stdin_null, stdout_path, stdout_file, stdout_null, stdout_capture, stdout_to_stderr, stderr_path, stderr_file, stderr_null, stderr_capture, stderr_to_stdout, stdout_stderr_swap, dir, env, env_remove, full_env, unchecked, before_spawn}
 
 -- what a modifier asks
 abbrev pub modifier_view : {E H : Type 0} → Modifier E H → ModifierView E H

@@ -1,7 +1,8 @@
 //! An expression: a shared tree of commands, pipes between them, and what is asked of them.
 ghost use Rattle.std.specs.Prelude.{◌≡◌, ◌∷◌, map, string_bytes, IfOk, IsOkUnless};
 ghost use Rattle.duct_system.specs.SpecView.{texts_of};
-ghost use Rattle.duct.specs.TreeView.{command, tree_view, node_view};
+ghost use Rattle.duct_start.specs.TreeView.{command};
+ghost use Rattle.duct.specs.TreeView.{tree_view, node_view};
 
 mod builders;
 mod debug;

@@ -25,7 +25,7 @@ impl<S: System> Model for Running<S> {
     ghost use Rattle.std.specs.Coded.{codes};
     ghost use Rattle.duct_status.specs.CoreView.{latest_in};
     ghost use Rattle.duct_status.specs.contracts.status.Shape as shape;
-    ghost use Rattle.duct.specs.Running.{RunningView};
+    ghost use Rattle.duct_start.specs.Running.{RunningView};
     ghost use Rattle.duct.specs.Stored.{stored_latest};
 
     ghost Value = { RunningView S.Child S.Feed S.Drain };

@@ -7,7 +7,7 @@ use Rattle.duct_system.specs.declared.error.Error.{Error}
 use Rattle.duct_system.specs.declared.error.Error.TheVariants.{System, Checked, NotUtf8, Hook, HookEnd, Deadline, Memory}
 use Rattle.duct_system.specs.declared.system.Fault.{Fault}
 use Rattle.duct_system.specs.declared.system.Kind.TheVariants.{OutOfMemory}
-use Rattle.duct.specs.Chain.{Wired, Allows, Refuses, Changes, Chain, Stops, ChainStops, settle}
+use Rattle.duct_start.specs.Chain.{Wired, Allows, Refuses, Changes, Chain, Stops, ChainStops, settle}
 use Rattle.duct_follows.specs.Given.{FoundNoMemory}
 
 -- each hook makes one spec of a spec

@@ -7,9 +7,9 @@ use Rattle.duct_system.specs.Origin.{Origin}
 use Rattle.duct_system.specs.SpecView.{SpecView}
 use Rattle.duct_system.specs.declared.error.Error.{Error}
 use Rattle.duct_system.specs.declared.system.Stdio.{Stdio}
-use Rattle.duct.specs.Chain.{Wired, Chain, ChainStops, lent}
-use Rattle.duct.specs.Follows.{IsGiven, IsAskedAt}
-use Rattle.duct.specs.Found.{Found}
+use Rattle.duct_start.specs.Chain.{Wired, Chain, ChainStops, lent}
+use Rattle.duct_start.specs.Follows.{IsGiven, IsAskedAt}
+use Rattle.duct_start.specs.Found.{Found}
 use Rattle.duct_follows.specs.Given.{AreThese, AreAnswered, FoundNoMemory, Decides}
 use Rattle.duct_follows.specs.ScriptHooks.{allows, refuses}
 use Rattle.duct_follows.specs.Wiring.{wired_of}

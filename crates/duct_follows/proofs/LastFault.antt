@@ -6,7 +6,7 @@ use Rattle.std.proofs.lemmas.List.Elements.{filter-append}
 use Rattle.std.proofs.lemmas.Option.{slice_get_read}
 use Rattle.duct_system.specs.EntryView.{EntryView}
 use Rattle.duct_system.specs.Trace.{is_close, fault_of}
-use Rattle.duct.specs.Causes.{asked_in, last_fault}
+use Rattle.duct_start.specs.Causes.{asked_in, last_fault}
 
 -- the last of a list is the one that was added
 last-push : (entries : List EntryView) (entry : EntryView) → slice_get (entries ++ entry ∷ []) (length (entries ++ entry ∷ []) - 1) ≡ Some entry

@@ -6,7 +6,7 @@ use Rattle.duct_system.specs.declared.error.Error.{Error}
 use Rattle.duct_system.specs.declared.error.Error.TheVariants.{System, Checked, NotUtf8, Hook, HookEnd, Deadline, Memory}
 use Rattle.duct_system.specs.declared.system.Fault.{Fault}
 use Rattle.duct_system.specs.declared.system.Kind.TheVariants.{OutOfMemory}
-use Rattle.duct.specs.Chain.{Wired, Allows, Refuses, Stops, ChainStops}
+use Rattle.duct_start.specs.Chain.{Wired, Allows, Refuses, Stops, ChainStops}
 use Rattle.duct_follows.specs.Cause.{IsSameStop}
 use Rattle.duct_follows.specs.Given.{FoundNoMemory}
 use Rattle.duct_follows.proofs.Chains.{MakesOne, MakesNone, changes_one, stops_none}

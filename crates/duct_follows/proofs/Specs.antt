@@ -7,10 +7,10 @@ use Rattle.duct_system.specs.SpecView.{SpecView, Vars}
 use Rattle.duct_system.specs.declared.spec.Port.{Port}
 use Rattle.duct_system.specs.declared.spec.Stream.TheVariants.{In, Out, Err}
 use Rattle.duct_system.specs.declared.system.Stdio.{Stdio}
-use Rattle.duct.specs.Asked.{IsAsked}
-use Rattle.duct.specs.Chain.{Wired}
-use Rattle.duct.specs.Follows.{IsAskedAt}
-use Rattle.duct.specs.Found.{Found}
+use Rattle.duct_start.specs.Asked.{IsAsked}
+use Rattle.duct_start.specs.Chain.{Wired}
+use Rattle.duct_start.specs.Follows.{IsAskedAt}
+use Rattle.duct_start.specs.Found.{Found}
 use Rattle.duct_follows.proofs.Variables.{same_vars}
 
 -- the spec of these parts

@@ -6,12 +6,12 @@ use Rattle.duct_system.specs.EntryView.{EntryView}
 use Rattle.duct_system.specs.Trace.{trace}
 use Rattle.duct_system.specs.declared.error.Error.{Error}
 use Rattle.duct_system.specs.declared.error.Error.TheVariants.{System, Checked, NotUtf8, Hook, HookEnd, Deadline, Memory}
-use Rattle.duct.specs.Causes.{StoppedBy, StoppedNext}
-use Rattle.duct.specs.Chain.{Wired, Chain, ChainStops, lent}
-use Rattle.duct.specs.Follows.{IsAskedAt}
-use Rattle.duct.specs.Found.{Found}
-use Rattle.duct.specs.Plan.{Plan}
-use Rattle.duct.specs.Step.{Item}
+use Rattle.duct_start.specs.Causes.{StoppedBy, StoppedNext}
+use Rattle.duct_start.specs.Chain.{Wired, Chain, ChainStops, lent}
+use Rattle.duct_start.specs.Follows.{IsAskedAt}
+use Rattle.duct_start.specs.Found.{Found}
+use Rattle.duct_start.specs.Plan.{Plan}
+use Rattle.duct_start.specs.Step.{Item}
 use Rattle.duct_follows.specs.Cause.{TellsStop, Tells}
 use Rattle.duct_follows.specs.Given.{FoundNoMemory}
 use Rattle.duct_follows.specs.ScriptHooks.{allows, refuses}

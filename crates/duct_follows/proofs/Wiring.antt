@@ -5,7 +5,7 @@ use Rattle.duct_system.specs.Origin.{Origin}
 use Rattle.duct_system.specs.SpecView.{SpecView}
 use Rattle.duct_system.specs.Streams.{stream_of}
 use Rattle.duct_system.specs.declared.system.Stdio.{Stdio}
-use Rattle.duct.specs.Chain.{Wired}
+use Rattle.duct_start.specs.Chain.{Wired}
 use Rattle.duct_plain.specs.declared.checker.Source.{Source}
 use Rattle.duct_plain.specs.Source.{origin_of}
 use Rattle.duct_follows.specs.Wiring.{wired_with}

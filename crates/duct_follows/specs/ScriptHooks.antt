@@ -1,7 +1,7 @@
 -- What the hooks of the scripted system may make of a spec, and how they may refuse one: what their impl of `Hook` says, as proofs name it.
 use Rattle.std.specs.Prelude.{◌≡◌, ◌⊎◌, Some, None}
 use Rattle.duct_system.specs.declared.system.Kind.TheVariants.{OutOfMemory}
-use Rattle.duct.specs.Chain.{Allows, Refuses}
+use Rattle.duct_start.specs.Chain.{Allows, Refuses}
 use Rattle.duct_script.specs.Change.{changed, refusal_of}
 use Rattle.duct_script.specs.declared.hook.ScriptHook.{ScriptHook}
 

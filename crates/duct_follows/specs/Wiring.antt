@@ -9,7 +9,7 @@ use Rattle.duct_system.specs.declared.spec.Stream.{Stream}
 use Rattle.duct_system.specs.declared.spec.Stream.TheVariants.{In, Out, Err}
 use Rattle.duct_system.specs.declared.system.Stdio.{Stdio}
 use Rattle.duct_system.specs.declared.system.Stdio.TheVariants.{Inherit}
-use Rattle.duct.specs.Chain.{Wired, found}
+use Rattle.duct_start.specs.Chain.{Wired, found}
 use Rattle.duct_plan.specs.Found.{hook_of}
 use Rattle.duct_plan.specs.declared.asked.Wired as answer
 use Rattle.duct_plain.specs.Source.{origin_of}

@@ -5,9 +5,9 @@ use Rattle.duct_system.specs.EntryView.{EntryView}
 use Rattle.duct_system.specs.SpecView.{Vars}
 use Rattle.duct_system.specs.Streams.{stream_of}
 use Rattle.duct_system.specs.declared.spec.Stream.TheVariants.{In, Out, Err}
-use Rattle.duct.specs.Asked.{IsAsked, stream_to, streams_to}
-use Rattle.duct.specs.Follows.{pairs_in, program_at}
-use Rattle.duct.specs.Found.{Found}
+use Rattle.duct_start.specs.Asked.{IsAsked, stream_to, streams_to}
+use Rattle.duct_start.specs.Follows.{pairs_in, program_at}
+use Rattle.duct_start.specs.Found.{Found}
 use Rattle.duct_plan.specs.AskedOf.{IsAskedThere}
 use Rattle.duct_plan.specs.declared.asked.Wired.{Wired}
 use Rattle.duct_plain.specs.Source.{origin_of}

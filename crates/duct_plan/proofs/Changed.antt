@@ -8,10 +8,9 @@ use Rattle.std.specs.Map.{keys_of}
 use Rattle.std.proofs.Common.{◌≡◌, ap, refl, ◌∙◌}
 use Rattle.duct_system.specs.Name.{is_same_name, name_cmp}
 use Rattle.duct_system.specs.SpecView.{Vars, spelled, var_view, variable_in}
-use Rattle.duct_system.proofs.Entries.{insert_var, filter_vars}
+use Rattle.duct_system.proofs.Entries.{insert_var, filter_vars, are_ordered}
 use Rattle.duct_system.proofs.Variables.{variable_in-with, variable_in-without}
-use Rattle.duct.proofs.Environments.{are_ordered}
-use Rattle.duct.specs.Found.{Sets, Removes, Replaces}
+use Rattle.duct_start.specs.Found.{Sets, Removes, Replaces}
 use Rattle.duct_plan.specs.Variables.{Changes}
 
 -- a copy has the variables of what was copied

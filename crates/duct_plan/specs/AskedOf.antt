@@ -2,11 +2,11 @@
 use Rattle.std.specs.Prelude.{ℕ, ◌<◌, ◌≤◌, List, [], ◌∷◌, ◌≡◌, length, map, slice_get, Some}
 use Rattle.duct_system.specs.EntryView.{EntryView}
 use Rattle.duct_system.specs.Streams.{stream_of}
-use Rattle.duct.specs.Chain.{Wired}
-use Rattle.duct.specs.Follows.{IsAskedAt}
-use Rattle.duct.specs.Found.{Found}
-use Rattle.duct.specs.Plan.{Plan}
-use Rattle.duct.specs.Step.{AskSpawn}
+use Rattle.duct_start.specs.Chain.{Wired}
+use Rattle.duct_start.specs.Follows.{IsAskedAt}
+use Rattle.duct_start.specs.Found.{Found}
+use Rattle.duct_start.specs.Plan.{Plan}
+use Rattle.duct_start.specs.Step.{AskSpawn}
 use Rattle.duct_plan.specs.Commands.{IsCommandAt}
 use Rattle.duct_plan.specs.declared.asked.AskedError.{AskedError}
 use Rattle.duct_plan.specs.declared.asked.AskedError.TheVariants.{TraceTooShort, Memory}

@@ -1,7 +1,7 @@
 -- The commands of a plan, counted from 0 in the order of their items.
 use Rattle.std.specs.Prelude.{ℕ, Bool, true, false, List, ◌≡◌, take, slice_get, count_by, Some}
 use Rattle.std.specs.Option.{option_map}
-use Rattle.duct.specs.Step.{Item, AskSpawn}
+use Rattle.duct_start.specs.Step.{Item, AskSpawn}
 
 -- whether an item asks for the child of a command
 abbrev pub is_spawn : {E H : Type 0} → Item E H → Bool

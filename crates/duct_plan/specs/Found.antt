@@ -3,7 +3,7 @@ use Rattle.std.specs.Prelude.{ℕ, List, map}
 use Rattle.std.specs.Borrow.{Bor}
 use Rattle.std.specs.Option.{option_copied}
 use Rattle.duct_system.specs.SpecView.{var_view}
-use Rattle.duct.specs.Found as outwards
+use Rattle.duct_start.specs.Found as outwards
 use Rattle.duct_plan.specs.declared.found.Change.{Change}
 use Rattle.duct_plan.specs.declared.found.Change.TheVariants.{Sets, Removes, Replaces}
 use Rattle.duct_plan.specs.declared.found.Found.{Found}

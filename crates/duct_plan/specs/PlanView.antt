@@ -1,7 +1,7 @@
 -- A plan of the code as contracts see it.
 use Rattle.std.specs.Prelude.{map, string_bytes}
-use Rattle.duct.specs.Plan as plan
-use Rattle.duct.specs.Step as request
+use Rattle.duct_start.specs.Plan as plan
+use Rattle.duct_start.specs.Step as request
 use Rattle.duct_plan.specs.Found.{found_of}
 use Rattle.duct_plan.specs.declared.items.Item.{Item}
 use Rattle.duct_plan.specs.declared.items.Item.TheVariants.{Environment, Pipe, OpenRead, Create, Canonicalize, Spawn, Feed, Drain, Reader}

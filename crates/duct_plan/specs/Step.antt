@@ -4,8 +4,8 @@ use Rattle.std.specs.Borrow.{Bor}
 use Rattle.std.specs.Option.{option_copied}
 use Rattle.std.specs.declared.option.Option.{Option}
 use Rattle.duct_system.specs.declared.spec.Stream.TheVariants.{In, Out, Err}
-use Rattle.duct.specs.Found as outwards
-use Rattle.duct.specs.Step as node
+use Rattle.duct_start.specs.Found as outwards
+use Rattle.duct_start.specs.Step as node
 use Rattle.duct_plan.specs.Found.{change_of, hook_of}
 use Rattle.duct_plan.specs.declared.found.Change.{Change}
 use Rattle.duct_plan.specs.declared.step.Opening.{Opening}

@@ -1,7 +1,7 @@
 -- The variables that are found outwards, and what one change makes of them.
 use Rattle.std.specs.Prelude.{ℕ, List, ◌∷◌, ◌≡◌}
 use Rattle.duct_system.specs.SpecView.{Vars, AreOrdered, variable_in}
-use Rattle.duct.specs.Found.{Change, variable}
+use Rattle.duct_start.specs.Found.{Change, variable}
 
 -- each name has the spelling and the value that are found outwards, and stands there once and in order
 pub record AreFound (pairs : Vars) (changes : List Change) (vars : Vars) : Type 0 where

@@ -1,8 +1,9 @@
 -- A way of the code as contracts see it.
 use Rattle.std.specs.Prelude.{List, map}
-use Rattle.duct.specs.Path as path
-use Rattle.duct.specs.Path.{Path}
-use Rattle.duct.specs.TreeView.{stdout_capture, modifier_view}
+use Rattle.duct_start.specs.Path as path
+use Rattle.duct_start.specs.Path.{Path}
+use Rattle.duct_start.specs.TreeView.{stdout_capture}
+use Rattle.duct.specs.TreeView.{modifier_view}
 use Rattle.duct_plan.specs.declared.way.Crumb.{Crumb}
 use Rattle.duct_plan.specs.declared.way.Crumb.TheVariants.{LeftOf, RightOf, Within, Captured}
 

@@ -2,8 +2,8 @@
 ghost use Rattle.std.specs.Prelude.{◌≡◌, ◌≤◌, ◌↔◌, length, IsNone, IfOk, IfErr, IfSome, map, string_bytes, count_by, ◌∷◌};
 ghost use Rattle.std.specs.Option.{option_copied, option_map};
 ghost use Rattle.duct_system.specs.SpecView.{pair_text};
-ghost use Rattle.duct.specs.Asked.{with_program, IsAsked};
-ghost use Rattle.duct.specs.Follows.{program_at};
+ghost use Rattle.duct_start.specs.Asked.{with_program, IsAsked};
+ghost use Rattle.duct_start.specs.Follows.{program_at};
 ghost use Rattle.duct_plan.specs.AskedOf.{IsAskedThere, IsAskedOf, EndsBefore};
 ghost use Rattle.duct_plan.specs.Commands.{is_spawn};
 ghost use Rattle.duct_plan.specs.Found.{found_of};

@@ -3,7 +3,7 @@ ghost use Rattle.std.specs.Prelude.{◌≡◌, map};
 ghost use Rattle.std.specs.Option.{option_map};
 ghost use Rattle.duct_system.specs.Name.{is_same_name};
 ghost use Rattle.duct_system.specs.SpecView.{last_value, pair_text, said_of, spelled, var_view, variable_in};
-ghost use Rattle.duct.specs.Found.{variable};
+ghost use Rattle.duct_start.specs.Found.{variable};
 ghost use Rattle.duct_plan.specs.Found.{change_of, pair_seen};
 
 use duct::Stream;
@@ -79,8 +79,10 @@ pub fn variable<'t>(
             }
         }
         Change::Removes(other) => {
-            let found = variable(pairs, further, name);
-            if is_same(name, other) { None } else { found }
+            if is_same(name, other) {
+                return None;
+            }
+            variable(pairs, further, name)
         }
         Change::Replaces(vars) => variable_in(vars, name),
     }
@@ -94,10 +96,7 @@ fn said_of<'t>(pairs: &'t [(String, String)], name: &str) -> Option<(&'t str, &'
         None => None,
         Some((first, rest)) => {
             if is_same(name, first.0.as_str()) {
-                Some((
-                    first.0.as_str(),
-                    last_value(rest, name, first.1.as_str()),
-                ))
+                Some((first.0.as_str(), last_value(rest, name, first.1.as_str())))
             } else {
                 said_of(rest, name)
             }

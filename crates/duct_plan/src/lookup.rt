@@ -1,8 +1,8 @@
 //! The look-up of a command outwards, node by node.
 ghost use Rattle.std.specs.Prelude.{◌≡◌, map, IfOk};
 ghost use Rattle.std.specs.Option.{option_copied};
-ghost use Rattle.duct.specs.Lookup.{goes, folder, changes, hooks, found_on};
-ghost use Rattle.duct.specs.Path.{place_of, step_of};
+ghost use Rattle.duct_start.specs.Lookup.{goes, folder, changes, hooks, found_on};
+ghost use Rattle.duct_start.specs.Path.{place_of, step_of};
 ghost use Rattle.duct_plan.specs.Found.{target_of, change_of, hook_of, found_of};
 ghost use Rattle.duct_plan.specs.Step.{turn_of};
 ghost use Rattle.duct_plan.specs.Way.{crumb_of, way_of};

@@ -1,7 +1,7 @@
 //! Where the streams of a command come from.
 ghost use Rattle.std.specs.Prelude.{◌≡◌, map};
 ghost use Rattle.duct_system.specs.Streams.{stream_of};
-ghost use Rattle.duct.specs.Asked.{port_to, stream_to, streams_to};
+ghost use Rattle.duct_start.specs.Asked.{port_to, stream_to, streams_to};
 ghost use Rattle.duct_plan.specs.Found.{target_of, found_of};
 ghost use Rattle.duct_plan.specs.EntryViews.{entry_views};
 ghost use Rattle.duct_plain.specs.Source.{origin_of};

@@ -3,8 +3,8 @@ ghost use Rattle.std.specs.Prelude.{◌≡◌, [], ◌∷◌, map, Some, slice_g
 ghost use Rattle.duct_system.specs.EntryView.{entry_view};
 ghost use Rattle.duct_system.specs.Ledger.{got_by};
 ghost use Rattle.duct_system.specs.SpecView.{pair_text};
-ghost use Rattle.duct.specs.Asked.{end_at};
-ghost use Rattle.duct.specs.Follows.{pairs_in, text_in};
+ghost use Rattle.duct_start.specs.Asked.{end_at};
+ghost use Rattle.duct_start.specs.Follows.{pairs_in, text_in};
 ghost use Rattle.duct_plan.specs.EntryViews.{entry_views};
 
 use duct::Entry;

@@ -69,15 +69,14 @@ fn changed(
             vars.retain(|other, _| !other.is(name));
             Ok(vars)
         }
-        Change::Replaces(whole) => {
-            let vars = copied(whole)?;
-            Ok(vars)
-        }
+        Change::Replaces(whole) => { copied(whole) }
     }
 }
 
 /// A copy of some variables.
-fn copied(vars: &BTreeMap<EnvNameString, String>) -> Result<BTreeMap<EnvNameString, String>, AllocError>
+fn copied(
+    vars: &BTreeMap<EnvNameString, String>,
+) -> Result<BTreeMap<EnvNameString, String>, AllocError>
     ensures vars { IfOk result
         (λ copy. map var_view copy.entries ≡ map var_view vars.now.entries) }
     ensures ordered { IfOk result (λ copy. IsOrdered name_cmp copy) }

@@ -1,6 +1,6 @@
 //! The way from a command outwards to the root of its tree.
 ghost use Rattle.std.specs.Prelude.{◌≡◌, ◌∷◌, IfOk};
-ghost use Rattle.duct.specs.Path.{place_of, step_of};
+ghost use Rattle.duct_start.specs.Path.{place_of, step_of};
 ghost use Rattle.duct_plan.specs.Step.{IsStep};
 ghost use Rattle.duct_plan.specs.Way.{crumb_of};
 

@@ -4,9 +4,11 @@ use Rattle.std.specs.BTreeMap.{insert_entry}
 use Rattle.std.specs.Ordering.{match_ordering}
 use Rattle.std.specs.declared.cmp.Ordering.TheVariants.{Less, Equal, Greater}
 use Rattle.std.specs.declared.string.String.{String}
-use Rattle.std.proofs.Common.{◌≡◌, ap, refl}
+use Rattle.std.specs.List.Sorted.{IsStrictlySortedBy}
+use Rattle.std.specs.Map.{keys_of}
+use Rattle.std.proofs.Common.{◌≡◌, ap, refl, sym, subst}
 use Rattle.duct_system.specs.Name.{is_same_name, name_cmp}
-use Rattle.duct_system.specs.SpecView.{var_view, with_var, without_var}
+use Rattle.duct_system.specs.SpecView.{AreOrdered, var_view, with_var, without_var}
 
 -- what is seen of a map with one more entry is what is seen of the map, with that variable
 pub insert_var : {Z : Type 0} (es : List (List ℕ × String Z)) (k : List ℕ) (v : String Z)
@@ -27,3 +29,12 @@ filter_vars {Z} name (e ∷ es) =
     map var_view (cond b (e ∷ filter (λ e. not (is_same_name name e.0)) es) (filter (λ e. not (is_same_name name e.0)) es))
     ≡ cond b (var_view e ∷ without_var name (map var_view es)) (without_var name (map var_view es)))
     [ true ↦ ap (λ r. var_view e ∷ r) (filter_vars name es) | false ↦ filter_vars name es ]
+
+keys_seen : {Z : Type 0} (es : List (List ℕ × String Z)) → keys_of (map var_view es) ≡ keys_of es
+keys_seen [] = refl
+keys_seen (e ∷ es) = ap (λ names. e.0 ∷ names) (keys_seen es)
+
+-- the variables of a map stand in order
+pub are_ordered : {Z : Type 0} (es : List (List ℕ × String Z))
+    → IsStrictlySortedBy name_cmp (keys_of es) → AreOrdered (map var_view es)
+are_ordered es sorted = subst (IsStrictlySortedBy name_cmp) (sym (keys_seen es)) sorted

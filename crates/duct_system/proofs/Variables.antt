@@ -5,7 +5,9 @@ use Rattle.std.specs.BTreeMap.{is_at}
 use Rattle.std.specs.Cmp.{IsTotalOrder, IsEquivalence, on_total, on_equiv}
 use Rattle.std.specs.Cmp.Lexicographic.{nat_list_cmp_total, nat_list_eq_equiv, texts_ties}
 use Rattle.std.specs.Map.{keys_of}
-use Rattle.std.specs.Ordering.{is_eq, match_ordering}
+use Rattle.std.specs.List.{AllByRecursion}
+use Rattle.std.specs.List.Sorted.{IsStrictlySortedBy}
+use Rattle.std.specs.Ordering.{is_eq, match_ordering, ordering_reverse}
 use Rattle.std.specs.declared.cmp.Ordering.{Ordering}
 use Rattle.std.specs.declared.cmp.Ordering.TheVariants.{Less, Equal, Greater}
 use Rattle.std.proofs.Common.{◌≡◌, refl, ap, sym, ◌∙◌}
@@ -129,3 +131,27 @@ module _ (name : List ℕ) where
   said_of-more (e ∷ es) k v =
       (λ i. cond (is_same_name name e.0) (Some (e.0, last_value-more es e.1 k v i)) (said_of-more es k v i))
       ∙ said_case (is_same_name name k) (is_same_name name e.0) e (last_value name e.1 es) k v (said_of name es)
+
+-- a name that is below some names is below them with one more
+with_above : (x k v : List ℕ) (es : Vars) → name_cmp x k ≡ Less → AllByRecursion (λ y. name_cmp x y ≡ Less) (keys_of es) →
+    AllByRecursion (λ y. name_cmp x y ≡ Less) (keys_of (with_var k v es))
+with_above x k v [] less all = (less, tt)
+with_above x k v (e ∷ es) less all =
+    elim (name_cmp k e.0) as (λ o. AllByRecursion (λ y. name_cmp x y ≡ Less) (keys_of (match_ordering o ((k, v) ∷ e ∷ es) ((e.0, v) ∷ es) (e ∷ with_var k v es))))
+    [ Less ↦ (less, all) | Equal ↦ all | Greater ↦ (all.0, with_above x k v es less all.1) ]
+
+-- what is below a name is below those above it
+above_all : (x y : List ℕ) (names : List (List ℕ)) → name_cmp x y ≡ Less → AllByRecursion (λ z. name_cmp y z ≡ Less) names → AllByRecursion (λ z. name_cmp x z ≡ Less) names
+above_all x y [] less all = tt
+above_all x y (z ∷ names) less all = (name_total.trans x y z less all.0, above_all x y names less all.1)
+
+-- variables stay in order where one is put in
+pub with_ordered : (es : Vars) (k v : List ℕ) → AreOrdered es → AreOrdered (with_var k v es)
+unfolding IsStrictlySortedBy
+with_ordered [] k v ordered = (tt, tt)
+with_ordered (e ∷ es) k v ordered = by (name_cmp k e.0) refl (with_ordered es k v ordered.1)
+  where
+    by : (o : Ordering) → name_cmp k e.0 ≡ o → AreOrdered (with_var k v es) → AreOrdered (match_ordering o ((k, v) ∷ e ∷ es) ((e.0, v) ∷ es) (e ∷ with_var k v es))
+    by Less is rest = ((is, above_all k e.0 (keys_of es) is ordered.0), ordered)
+    by Equal is rest = ordered
+    by Greater is rest = (with_above e.0 k v es (name_total.antisymm e.0 k ∙ ap ordering_reverse is) ordered.0, rest)

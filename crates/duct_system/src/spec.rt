@@ -1,7 +1,7 @@
 //! The spec of a command: the words, the folder, the variables and the streams that its child is started with.
 ghost use Rattle.std.specs.Prelude.{◌≡◌, ◌≢◌, [], ◌∷◌, ◌++◌, map, string_bytes, Some, IfOk, IfErr, IsOkUnless, OnOk, OnErr};
 ghost use Rattle.std.specs.Option.{option_copied, option_map};
-ghost use Rattle.duct_system.specs.SpecView.{SpecView, value_of, with_var, without_var, var_view, texts_of, port_of, gives, GivesNothing};
+ghost use Rattle.duct_system.specs.SpecView.{SpecView, AreOrdered, value_of, with_var, without_var, var_view, texts_of, port_of, gives, GivesNothing};
 ghost use Rattle.duct_system.specs.declared.system.Fault.{Fault};
 
 use crate::error::Error;
@@ -124,9 +124,10 @@ impl CommandSpec {
     pub fn vars(&self) -> Result<Vec<(&str, &str)>, Error>
         ensures vars { IfOk result
             (λ pairs. map (λ p. (p.0.now, p.1.now)) pairs.items ≡ self.now.vars) }
+        ensures ordered { OnOk result (AreOrdered self.now.vars) }
         ensures memory { IsOkUnless result Error.Memory }
     {
-        let mut pairs = Vec::new(*self.words.allocator());
+        let mut pairs = Vec::with_capacity(*self.words.allocator(), self.vars.len())?;
         for (name, value) in self.vars.iter() {
             pairs.push((name.as_str(), value.as_str()))?;
         }

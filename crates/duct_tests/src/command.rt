@@ -1,6 +1,6 @@
 //! The start of one command over the scripted system, and its polls.
 ghost use Rattle.std.specs.Prelude.{IfOk};
-ghost use Rattle.duct.specs.Start.{IsCommand};
+ghost use Rattle.duct_start.specs.Start.{IsCommand};
 ghost use Rattle.duct.specs.TreeView.{tree_view};
 
 mod bench;

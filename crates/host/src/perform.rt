@@ -1,6 +1,6 @@
 //! What the program does with its arguments: it starts their command, waits for its end, and says what went wrong.
 ghost use Rattle.std.specs.Prelude.{IfOk};
-ghost use Rattle.duct.specs.Start.{IsCommand};
+ghost use Rattle.duct_start.specs.Start.{IsCommand};
 ghost use Rattle.duct.specs.TreeView.{tree_view};
 
 use crate::pause::Pause;

@@ -1,6 +1,7 @@
 use Rattle.std.proofs.Common.{ap, ◌∙◌, map, refl}
+use Rattle.duct_system.proofs.Entries.{are_ordered}
 use Rattle.duct_system.specs.SpecView.{pair_text, said_of}
-use Rattle.duct.proofs.Environments.{finds_more, left_more, length_left, left_none, are_ordered}
+use Rattle.duct.proofs.Environments.{finds_more, left_more, length_left, left_none}
 use Rattle.duct.proofs.start.variables.Goals as goal
 
 pub loop-name-preserved-in_ok-insert : goal.loop-name-preserved-in_ok-insert

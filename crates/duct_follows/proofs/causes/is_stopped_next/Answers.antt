@@ -6,7 +6,7 @@ use Rattle.std.proofs.lemmas.Option.{slice_get-map}
 use Rattle.std.proofs.lemmas.Result.{IfOk-weaker}
 use Rattle.duct_system.specs.EntryView.{entry_view}
 use Rattle.duct_system.specs.Trace.{trace}
-use Rattle.duct.specs.Causes.{StoppedBy}
+use Rattle.duct_start.specs.Causes.{StoppedBy}
 use Rattle.duct_follows.specs.ScriptHooks.{allows, refuses}
 use Rattle.duct_follows.proofs.Stopped.{next_is}
 use Rattle.duct_follows.proofs.causes.is_stopped_next.Goals as goal

@@ -1,6 +1,6 @@
 -- The changes so far, and then those of the nodes that are left, are all.
 use Rattle.std.proofs.Common.{◌≡◌, ◌++◌, map, drop}
-use Rattle.duct.specs.Lookup.{changes}
+use Rattle.duct_start.specs.Lookup.{changes}
 use Rattle.duct_plan.specs.Found.{change_of}
 use Rattle.duct_plan.specs.Way.{way_of}
 use Rattle.duct_plan.proofs.lookup.changes.Given as goal

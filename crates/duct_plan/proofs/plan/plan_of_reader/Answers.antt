@@ -2,10 +2,11 @@
 use Rattle.std.proofs.Common.{◌≡◌, ℕ, List, [], ◌∷◌, ap, sym, ◌∙◌, length, arith}
 use Rattle.std.proofs.lemmas.List.{append-nil, length-map}
 use Rattle.std.proofs.lemmas.Result.{IfOk-weaker}
-use Rattle.duct.specs.Path.{within}
-use Rattle.duct.specs.Plan.{Plan, planned, closed, captures_out, begun, drains, reads, plan_of_reader}
-use Rattle.duct.specs.Step.{Item}
-use Rattle.duct.specs.TreeView.{TreeView, stdout_capture, tree_view}
+use Rattle.duct_start.specs.Path.{within}
+use Rattle.duct_start.specs.Plan.{Plan, planned, closed, captures_out, begun, drains, reads, plan_of_reader}
+use Rattle.duct_start.specs.Step.{Item}
+use Rattle.duct_start.specs.TreeView.{TreeView, stdout_capture}
+use Rattle.duct.specs.TreeView.{tree_view}
 use Rattle.duct_plan.specs.PlanView.{item_of, plan_view}
 use Rattle.duct_plan.proofs.plan.plan_of_reader.Goals as goal
 

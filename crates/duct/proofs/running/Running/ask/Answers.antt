@@ -1,6 +1,6 @@
 use Rattle.std.proofs.Common.{ap, sym, ◌∙◌}
 use Rattle.duct_status.specs.ShapeView.{shape_view}
-use Rattle.duct.specs.Running.{RunningView}
+use Rattle.duct_start.specs.Running.{RunningView}
 use Rattle.duct.proofs.Polls.{not_asked_in, asked_in, words_in_step}
 use Rattle.duct.proofs.running.Running.ask.Goals as goal
 

@@ -1,5 +1,5 @@
 use Rattle.std.proofs.Common.{ap}
-use Rattle.duct.specs.Running.{RunningView}
+use Rattle.duct_start.specs.Running.{RunningView}
 use Rattle.duct.proofs.running.Running.into_parts.Goals as goal
 
 pub returns-clause-children : goal.returns-clause-children

@@ -8,10 +8,10 @@ use Rattle.duct_system.specs.declared.error.Error.{Error}
 use Rattle.duct_system.specs.declared.error.Error.TheVariants.{System, Hook, HookEnd, Memory}
 use Rattle.duct_system.specs.declared.system.Fault.{Fault}
 use Rattle.duct_system.specs.declared.system.Kind.TheVariants.{OutOfMemory}
-use Rattle.duct.specs.Chain.{Wired, Allows, Refuses, ChainStops, lent}
-use Rattle.duct.specs.Follows.{IsAskedAt}
-use Rattle.duct.specs.Plan.{Plan}
-use Rattle.duct.specs.Step.{Item, AskSpawn}
+use Rattle.duct_start.specs.Chain.{Wired, Allows, Refuses, ChainStops, lent}
+use Rattle.duct_start.specs.Follows.{IsAskedAt}
+use Rattle.duct_start.specs.Plan.{Plan}
+use Rattle.duct_start.specs.Step.{Item, AskSpawn}
 
 -- the entries that are no closes
 abbrev pub asked_in : List EntryView → List EntryView

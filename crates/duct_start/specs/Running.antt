@@ -8,8 +8,8 @@ use Rattle.duct_system.specs.EntryView.{EntryView}
 use Rattle.duct_status.specs.ShapeView.{shape_view}
 use Rattle.duct_system.specs.Started.{children_in, feeds_in, drains_in}
 use Rattle.duct_status.specs.declared.status.Shape.{Shape}
-use Rattle.duct.specs.ShapeOfTree.{shape_of_tree}
-use Rattle.duct.specs.TreeView.{TreeView}
+use Rattle.duct_start.specs.ShapeOfTree.{shape_of_tree}
+use Rattle.duct_start.specs.TreeView.{TreeView}
 
 -- its shape, its children from left to right, its input workers in tree order, and the capture workers of stdout and of stderr
 pub record RunningView (C F D : Type 0) : Type 0 where

@@ -1,7 +1,7 @@
 -- The way from a command outwards to the root of its tree.
 use Rattle.std.specs.Prelude.{ℕ, List}
-use Rattle.duct.specs.Step.{Step, left_step, right_step, step}
-use Rattle.duct.specs.TreeView.{ModifierView}
+use Rattle.duct_start.specs.Step.{Step, left_step, right_step, step}
+use Rattle.duct_start.specs.TreeView.{ModifierView}
 
 -- one node round a command: a pipe, met from its left or its right side, or a modifier; each with its place in the plan
 pub data Crumb (E H : Type 0) : Type 0 where

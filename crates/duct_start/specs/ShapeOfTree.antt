@@ -1,7 +1,7 @@
 -- What of a tree counts for the answer of a start: its commands with their words, pipes, input and unchecked.
 use Rattle.duct_status.specs.ShapeView as shape
 use Rattle.duct_status.specs.ShapeView.{ShapeView}
-use Rattle.duct.specs.TreeView.{ModifierView, TreeView, command, pipe, around, stdin_bytes, stdin_path, stdin_file, stdin_null, stdout_path, stdout_file, stdout_null, stdout_capture, stdout_to_stderr, stderr_path, stderr_file, stderr_null, stderr_capture, stderr_to_stdout, stdout_stderr_swap, dir, env, env_remove, full_env, unchecked, before_spawn}
+use Rattle.duct_start.specs.TreeView.{ModifierView, TreeView, command, pipe, around, stdin_bytes, stdin_path, stdin_file, stdin_null, stdout_path, stdout_file, stdout_null, stdout_capture, stdout_to_stderr, stderr_path, stderr_file, stderr_null, stderr_capture, stderr_to_stdout, stdout_stderr_swap, dir, env, env_remove, full_env, unchecked, before_spawn}
 
 -- what a modifier makes of the shape of what it stands round
 abbrev pub shape_around : {E H : Type 0} → ModifierView E H → ShapeView → ShapeView

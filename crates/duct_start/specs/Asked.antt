@@ -12,7 +12,7 @@ use Rattle.duct_system.specs.declared.spec.Stream.TheVariants.{In, Out, Err}
 use Rattle.duct_system.specs.declared.system.Side.TheVariants as side
 use Rattle.duct_system.specs.declared.system.Stdio.{Stdio}
 use Rattle.duct_system.specs.declared.system.Stdio.TheVariants.{Inherit, Null, End}
-use Rattle.duct.specs.Found.{Found, Target, Parents, Nothing, ReaderAt, WriterAt, FileAt, Lends, target_of, variable}
+use Rattle.duct_start.specs.Found.{Found, Target, Parents, Nothing, ReaderAt, WriterAt, FileAt, Lends, target_of, variable}
 
 -- the port of a stream that goes there: the parent's own stream at its own place is inherited
 abbrev pub port_to : {E : Type 0} → Stream → Target E → Port

@@ -4,9 +4,9 @@ use Rattle.std.specs.Option.{option_or}
 use Rattle.std.specs.declared.option.Option.{Option}
 use Rattle.duct_system.specs.declared.spec.Stream.{Stream}
 use Rattle.duct_system.specs.declared.spec.Stream.TheVariants.{In, Out, Err}
-use Rattle.duct.specs.Found.{Found, Target, Parents, Change}
-use Rattle.duct.specs.Path.{Path, place_of, step_of}
-use Rattle.duct.specs.Step.{Turn, Decides, Follows}
+use Rattle.duct_start.specs.Found.{Found, Target, Parents, Change}
+use Rattle.duct_start.specs.Path.{Path, place_of, step_of}
+use Rattle.duct_start.specs.Step.{Turn, Decides, Follows}
 
 -- where a stream goes by a node's turn and what is found further out
 abbrev pub turned : {E : Type 0} → Turn E → (Stream → Target E) → Target E

@@ -2,11 +2,11 @@
 use Rattle.std.specs.Prelude.{ℕ, Bool, List, [], ◌∷◌, ◌++◌, length, Some, None, is_some, if◌then◌else◌, slice_get, unwrap_or}
 use Rattle.std.specs.declared.option.Option.{Option}
 use Rattle.duct_base.specs.Executable.{asks_canonical}
-use Rattle.duct.specs.Found.{Found}
-use Rattle.duct.specs.Lookup.{found_on}
-use Rattle.duct.specs.Path.{Path, left_of, right_of, within}
-use Rattle.duct.specs.Step.{Item, AskEnvironment, AskPipe, AskCanonicalize, AskSpawn, AskDrain, AskReader, Opening, OpensNothing, Opens, CapturesOut, CapturesErr, step}
-use Rattle.duct.specs.TreeView.{TreeView, command, pipe, around, stdout_capture}
+use Rattle.duct_start.specs.Found.{Found}
+use Rattle.duct_start.specs.Lookup.{found_on}
+use Rattle.duct_start.specs.Path.{Path, left_of, right_of, within}
+use Rattle.duct_start.specs.Step.{Item, AskEnvironment, AskPipe, AskCanonicalize, AskSpawn, AskDrain, AskReader, Opening, OpensNothing, Opens, CapturesOut, CapturesErr, step}
+use Rattle.duct_start.specs.TreeView.{TreeView, command, pipe, around, stdout_capture}
 
 -- the items so far, and the places of the capture pipes of stdout and stderr once they are open
 pub record Plan (E H : Type 0) : Type 0 where

@@ -7,11 +7,11 @@ use Rattle.duct_system.specs.SpecView.{SpecView, Vars}
 use Rattle.duct_system.specs.Streams.{stream_of}
 use Rattle.duct_system.specs.Trace.{trace, IsClean, StopsAtFault}
 use Rattle.duct_system.specs.declared.system.Stdio.{Stdio}
-use Rattle.duct.specs.Asked.{IsAsked, end_at, streams_to}
-use Rattle.duct.specs.Chain.{Wired, Allows, Chain, lent}
-use Rattle.duct.specs.Found.{Found}
-use Rattle.duct.specs.Plan.{Plan, is_canonical, program_of}
-use Rattle.duct.specs.Step.{Item, AskEnvironment, AskPipe, AskOpenRead, AskCreate, AskCanonicalize, AskSpawn, AskFeed, AskDrain, AskReader}
+use Rattle.duct_start.specs.Asked.{IsAsked, end_at, streams_to}
+use Rattle.duct_start.specs.Chain.{Wired, Allows, Chain, lent}
+use Rattle.duct_start.specs.Found.{Found}
+use Rattle.duct_start.specs.Plan.{Plan, is_canonical, program_of}
+use Rattle.duct_start.specs.Step.{Item, AskEnvironment, AskPipe, AskOpenRead, AskCreate, AskCanonicalize, AskSpawn, AskFeed, AskDrain, AskReader}
 
 -- the variables that the system answered, at the front of a trace
 abbrev pub pairs_in : List EntryView → Vars

@@ -5,11 +5,11 @@ use Rattle.duct_system.specs.Ledger.{IsBalanced, held}
 use Rattle.duct_system.specs.EntryView.{EntryView}
 use Rattle.duct_system.specs.Trace.{segment}
 use Rattle.duct_system.specs.declared.error.Error.{Error}
-use Rattle.duct.specs.Causes.{HasCause, AnswersLastFault}
-use Rattle.duct.specs.Chain.{Allows, Refuses}
-use Rattle.duct.specs.Follows.{Follows, FollowsWhole}
-use Rattle.duct.specs.Plan.{Plan}
-use Rattle.duct.specs.TreeView.{ModifierView, TreeView, command, pipe, around, stdin_bytes, stdin_path, stdin_file, stdin_null, stdout_path, stdout_file, stdout_null, stdout_capture, stdout_to_stderr, stderr_path, stderr_file, stderr_null, stderr_capture, stderr_to_stdout, stdout_stderr_swap, dir, env, env_remove, full_env, unchecked, before_spawn}
+use Rattle.duct_start.specs.Causes.{HasCause, AnswersLastFault}
+use Rattle.duct_start.specs.Chain.{Allows, Refuses}
+use Rattle.duct_start.specs.Follows.{Follows, FollowsWhole}
+use Rattle.duct_start.specs.Plan.{Plan}
+use Rattle.duct_start.specs.TreeView.{ModifierView, TreeView, command, pipe, around, stdin_bytes, stdin_path, stdin_file, stdin_null, stdout_path, stdout_file, stdout_null, stdout_capture, stdout_to_stderr, stderr_path, stderr_file, stderr_null, stderr_capture, stderr_to_stdout, stdout_stderr_swap, dir, env, env_remove, full_env, unchecked, before_spawn}
 
 -- the ends of the caller that a node holds
 abbrev pub modifier_ends : {E H : Type 0} → ModifierView E H → List E

@@ -1,0 +1,182 @@
+-- A command fetches what its streams are wired to, and is spawned with it.
+use Rattle.std.proofs.Common.{◌≡◌, ℕ, ◌+◌, ◌≤◌, List, [], ◌∷◌, length, refl, ap, sym, ◌∙◌, arith, subst}
+use Rattle.std.specs.Prelude.{Bool, true, false, Some, IsSome, if◌then◌else◌, is_some, unwrap_or}
+use Rattle.duct_base.specs.Executable.{asks_canonical}
+use Rattle.duct_system.specs.declared.spec.Port.{Port}
+use Rattle.duct_system.specs.declared.spec.Port.TheVariants as port
+use Rattle.duct_system.specs.declared.system.Side.TheVariants as side
+use Rattle.duct_system.specs.declared.spec.Stream.{Stream}
+use Rattle.duct_system.specs.declared.spec.Stream.TheVariants.{In, Out, Err}
+use Rattle.duct_start.specs.Actions as action
+use Rattle.duct_start.specs.Actions.{Action, Scope, State, Three, Leads, IsPlain, advance, level, given, less, many, left_by, found_by}
+use Rattle.duct_start.specs.Flat.{Wire, fetches, port_at, ports_at, commands, WireIs, is_stdin, is_in, is_out, is_err, is_nothing, is_slot, is_captured, is_lent, Fits}
+use Rattle.duct_start.specs.Found.{Found, Target, Nothing, ReaderAt, WriterAt, FileAt}
+use Rattle.duct_start.specs.Plan.{Plan, asks, program_of, commanded}
+use Rattle.duct_start.specs.Step.{AskCanonicalize, AskSpawn}
+use Rattle.duct_start.proofs.Keeping.{Keeps, keeps_same, keeps_canonical}
+use Rattle.duct_start.proofs.Stacks.{level_under, level_within, leads_none, leads_one, leads_append}
+
+-- a stack with the end that a port is given
+abbrev pub put : {A : Type 0} → Port → A → List A → List A
+put port.Given x stack = x ∷ stack
+put p x stack = stack
+
+less_is : {A : Type 0} (p : Port) (x : A) (stack : List A) → less p (put p x stack) ≡ stack
+less_is port.Inherit x stack = refl
+less_is port.Null x stack = refl
+less_is port.Given x stack = refl
+less_is (port.Place place) x stack = refl
+
+long_is : {A : Type 0} (p : Port) (x : A) (stack : List A) → length (put p x stack) ≡ many p + length stack
+long_is port.Inherit x stack = omega arith
+long_is port.Null x stack = omega arith
+long_is port.Given x stack = omega arith
+long_is (port.Place place) x stack = omega arith
+
+few : (p : Port) → many p ≤ 1
+few port.Inherit = omega arith
+few port.Null = omega arith
+few port.Given = omega arith
+few (port.Place place) = omega arith
+
+-- what a wire leads to stays, as long as what it names stays
+pub record Grows {E H : Type 0} (state next : State E H) : Type 0 where
+  pub levels : (n : ℕ) (x : Target E) → level state.stack n ≡ Some x → level next.stack n ≡ Some x
+  pub keeps : Keeps state.plan next.plan
+
+module _ {E H : Type 0} where
+  pub grows_by : (stack : List (Target E)) (x : Target E) (p q : Plan E H) → Keeps p q
+      → Grows (record { stack = stack; plan = p }) (record { stack = x ∷ stack; plan = q })
+  grows_by stack x p q keeps = record { levels = λ n y is. level_under stack x y n is; keeps = keeps }
+
+  pub grows_plan : (stack : List (Target E)) (p q : Plan E H) → Keeps p q
+      → Grows (record { stack = stack; plan = p }) (record { stack = stack; plan = q })
+  grows_plan stack p q keeps = record { levels = λ n x is. is; keeps = keeps }
+
+  pub grows_on : {state mid next : State E H} → Grows state mid → Grows mid next
+      → Grows state next
+  grows_on a b = record {
+    levels = λ n x is. b.levels n x (a.levels n x is);
+    keeps = record { out = λ p is. b.keeps.out p (a.keeps.out p is); err = λ p is. b.keeps.err p (a.keeps.err p is) };
+  }
+
+  put_grows : (state : State E H) (p : Port) (x : Target E) → Grows state (record { stack = put p x state.stack; plan = state.plan })
+  put_grows state port.Inherit x = grows_plan state.stack state.plan state.plan (keeps_same state.plan state.plan refl refl)
+  put_grows state port.Null x = grows_plan state.stack state.plan state.plan (keeps_same state.plan state.plan refl refl)
+  put_grows state port.Given x = grows_by state.stack x state.plan state.plan (keeps_same state.plan state.plan refl refl)
+  put_grows state (port.Place place) x = grows_plan state.stack state.plan state.plan (keeps_same state.plan state.plan refl refl)
+
+module _ {E H : Type 0} (number_of : E → ℕ) (base : ℕ) where
+  wire_grows : (state next : State E H) (b : Bool) (w : Wire E) (t : Target E) → Grows state next → WireIs number_of base state b w t → WireIs number_of base next b w t
+  wire_grows state next b w t grows is_in = is_in
+  wire_grows state next b w t grows is_out = is_out
+  wire_grows state next b w t grows is_err = is_err
+  wire_grows state next b w t grows (is_nothing c) = is_nothing c
+  wire_grows state next b w t grows (is_slot c n x got is) = is_slot c n x got (grows.levels n x is)
+  wire_grows state next b w t grows (is_captured c side.Out place is) = is_captured c side.Out place (grows.keeps.out place is)
+  wire_grows state next b w t grows (is_captured c side.Err place is) = is_captured c side.Err place (grows.keeps.err place is)
+  wire_grows state next b w t grows (is_lent c end is) = is_lent c end is
+
+  pub fits_grow : (state next : State E H) (scope : Scope E H) (wires : Three (Wire E))
+      (found : Found E H) → Grows state next → Fits number_of base state scope wires found
+      → Fits number_of base next scope wires found
+  fits_grow state next scope wires found grows fits = record {
+    folder = fits.folder;
+    changes = fits.changes;
+    hooks = fits.hooks;
+    input = wire_grows state next true wires.input found.input grows fits.input;
+    output = wire_grows state next false wires.output found.output grows fits.output;
+    error = wire_grows state next false wires.error found.error grows fits.error;
+  }
+
+  -- what a stream is wired to is fetched, its port is plain, and by it the stream goes where it should
+  record IsFetched (bound : ℕ) (state : State E H) (s : Stream) (w : Wire E) (t : Target E) : Type 0 where
+    leads : Leads number_of base bound state (fetches w s) (record { stack = put (port_at w s) t state.stack; plan = state.plan })
+    plain : IsPlain (port_at w s)
+    goes : (stack : List (Target E)) → given s (port_at w s) (put (port_at w s) t stack) ≡ t
+
+  module _ (bound : ℕ) where
+    -- by one action that pushes it
+    by_one : (state : State E H) (s : Stream) (w : Wire E) (t : Target E) (x : Action E H) → fetches {E = E} {H = H} w s ≡ x ∷ [] → port_at w s ≡ port.Given →
+        action.pops x ≡ 0 → action.Needs number_of base state x → advance state x ≡ action.pushes t state → length state.stack + 1 ≤ bound → IsFetched bound state s w t
+    by_one state s w t x one port_is none needs is low = record {
+      leads = subst (λ (p : Port). Leads number_of base bound state (fetches w s) (record { stack = put p t state.stack; plan = state.plan })) (sym port_is)
+          (subst (λ (l : List (Action E H)). Leads number_of base bound state l (action.pushes t state)) (sym one) (leads_one number_of base bound state x _ none needs is (omega (arith, low))));
+      plain = subst IsPlain (sym port_is) tt;
+      goes = λ stack. ap (λ p. given s p (put p t stack)) port_is;
+    }
+
+    fetched : (state : State E H) (s : Stream) (b : Bool) (w : Wire E) (t : Target E) → is_stdin s ≡ b → WireIs number_of base state b w t → length state.stack + 1 ≤ bound →
+        IsFetched bound state s w t
+    fetched state s b w t which (is_nothing c) low = record { leads = leads_none number_of base bound state; plain = tt; goes = λ stack. refl }
+    fetched state s b w t which (is_slot c n x got is) low =
+        by_one state s w t (action.duplicate n) refl refl refl (level_within state.stack x n is) (ap (λ o. action.pushes (unwrap_or o Nothing) state) is) low
+    fetched state s b w t which (is_captured c capture place is) low =
+        by_one state s w t (action.tap capture) refl refl refl (subst IsSome (sym is) refl) (ap (λ o. action.pushes (WriterAt (unwrap_or o 0)) state) is) low
+    fetched state s b w t which (is_lent c end is) low = by_one state s w t (action.lend end) refl refl refl is refl low
+    fetched state In b w t which is_in low = record { leads = leads_none number_of base bound state; plain = tt; goes = λ stack. refl }
+    fetched state In b w t which is_out low = absurd (cc)
+    fetched state In b w t which is_err low = absurd (cc)
+    fetched state Out b w t which is_in low = absurd (cc)
+    fetched state Out b w t which is_out low = record { leads = leads_none number_of base bound state; plain = tt; goes = λ stack. refl }
+    fetched state Out b w t which is_err low = by_one state Out w t (action.parent side.Err) refl refl refl tt refl low
+    fetched state Err b w t which is_in low = absurd (cc)
+    fetched state Err b w t which is_out low = by_one state Err w t (action.parent side.Out) refl refl refl tt refl low
+    fetched state Err b w t which is_err low = record { leads = leads_none number_of base bound state; plain = tt; goes = λ stack. refl }
+
+    canonical_leads : (state : State E H) (b : Bool) (path : List ℕ) → length state.stack ≤ bound →
+        Leads number_of base bound state (if b then action.canonicalize path ∷ [] else []) (record { stack = state.stack; plan = if b then asks (AskCanonicalize path) state.plan else state.plan })
+    canonical_leads state true path low = leads_one number_of base bound state (action.canonicalize path) _ refl tt refl low
+    canonical_leads state false path low = leads_none number_of base bound state
+
+    -- a command's actions lead to its item, and leave the stack as it was
+    pub command_leads : (state : State E H) (scope : Scope E H) (wires : Three (Wire E))
+        (found : Found E H) (words : List (List ℕ)) →
+        Fits number_of base state scope wires found → length state.stack + 3 ≤ bound →
+        Leads number_of base bound state (commands scope wires words)
+        (record { stack = state.stack; plan = commanded found words state.plan })
+    command_leads state scope wires found words fits low =
+        let b = asks_canonical (program_of words) (is_some scope.folder) in
+        let pi = port_at wires.input In in
+        let po = port_at wires.output Out in
+        let pe = port_at wires.error Err in
+        let p = if b then asks (AskCanonicalize (program_of words)) state.plan else state.plan in
+        let st0 : State E H = record { stack = state.stack; plan = p } in
+        let st1 : State E H = record { stack = put pi found.input state.stack; plan = p } in
+        let st2 : State E H = record { stack = put po found.output st1.stack; plan = p } in
+        let st3 : State E H = record { stack = put pe found.error st2.stack; plan = p } in
+        let fits0 = fits_grow state st0 scope wires found (grows_plan state.stack state.plan p (keeps_canonical b (program_of words) state.plan)) fits in
+        let fits1 = fits_grow st0 st1 scope wires found (put_grows st0 pi found.input) fits0 in
+        let fits2 = fits_grow st1 st2 scope wires found (put_grows st1 po found.output) fits1 in
+        let li = long_is pi found.input state.stack in
+        let lo = long_is po found.output st1.stack in
+        let le = long_is pe found.error st2.stack in
+        let fi = few pi in
+        let fo = few po in
+        let fe = few pe in
+        let i = fetched st0 In true wires.input found.input refl fits0.input (omega (arith, low)) in
+        let o = fetched st1 Out false wires.output found.output refl fits1.output (omega (arith, low, li, fi)) in
+        let e = fetched st2 Err false wires.error found.error refl fits2.error (omega (arith, low, li, lo, fi, fo)) in
+        let ae : less pe st3.stack ≡ st2.stack = less_is pe found.error st2.stack in
+        let ao : less po st2.stack ≡ st1.stack = less_is po found.output st1.stack in
+        let ai : less pi st1.stack ≡ state.stack = less_is pi found.input state.stack in
+        let left : left_by (ports_at wires) st3.stack ≡ state.stack = ap (λ l. less pi (less po l)) ae ∙ ap (less pi) ao ∙ ai in
+        let folder = sym fits.folder in
+        let changes = sym fits.changes in
+        let hooks = sym fits.hooks in
+        let input = ap (λ l. given In pi (less po l)) ae ∙ ap (given In pi) ao ∙ i.goes state.stack in
+        let output = ap (given Out po) ae ∙ o.goes st1.stack in
+        let all : found_by scope (ports_at wires) st3.stack ≡ found =
+        λ j. record { folder = folder j; changes = changes j; input = input j; output = output j; error = e.goes st2.stack j; hooks = hooks j } in
+        let next : State E H = record { stack = state.stack; plan = commanded found words state.plan } in
+        let same : p ≡ (if asks_canonical (program_of words) (is_some found.folder) then asks (AskCanonicalize (program_of words)) state.plan else state.plan) =
+        ap (λ f. if asks_canonical (program_of words) (is_some f) then asks (AskCanonicalize (program_of words)) state.plan else state.plan) (sym fits.folder) in
+        let is : advance st3 (action.spawn scope words (ports_at wires)) ≡ next = λ j. record { stack = left j; plan = asks (AskSpawn (all j) words) (same j) } in
+        let spawns : Leads number_of base bound st3 (action.spawn scope words (ports_at wires) ∷ []) next = record {
+          ready = (record { full = omega (arith, li, lo, le); needs = (i.plain, o.plain, e.plain); low = omega (arith, ap (λ (x : List (Target E)). length x) left, low) }, tt);
+          is = is;
+        } in
+        leads_append number_of base bound state st0 next _ _ (canonical_leads state b (program_of words) (omega (arith, low)))
+        (leads_append number_of base bound st0 st1 next _ _ i.leads
+        (leads_append number_of base bound st1 st2 next _ _ o.leads
+        (leads_append number_of base bound st2 st3 next _ _ e.leads spawns)))

@@ -1,0 +1,5 @@
+pub mod Fetched
+pub mod Inward
+pub mod Joined
+pub mod Keeping
+pub mod Stacks

@@ -1,0 +1,203 @@
+-- The actions of a start, in a list: what each gets is pushed onto a stack of ends, what it gives is popped. No system is asked here.
+use Rattle.std.specs.Prelude.{ℕ, ◌+◌, ◌<◌, ◌≤◌, ◌≡◌, List, [], ◌∷◌, ◌++◌, length, drop, reverse, slice_get, unwrap_or, Some, None, IsSome}
+use Rattle.std.specs.declared.option.Option.{Option}
+use Rattle.duct_system.specs.declared.spec.Port.{Port}
+use Rattle.duct_system.specs.declared.spec.Port.TheVariants as port
+use Rattle.duct_system.specs.declared.spec.Stream.{Stream}
+use Rattle.duct_system.specs.declared.spec.Stream.TheVariants.{In, Out, Err}
+use Rattle.duct_system.specs.declared.system.Side.{Side}
+use Rattle.duct_system.specs.declared.system.Side.TheVariants as side
+use Rattle.duct_start.specs.Found.{Found, Target, Parents, Nothing, ReaderAt, WriterAt, FileAt, Lends, Change}
+use Rattle.duct_start.specs.Plan.{Plan, asks, captures_out, captures_err, drains}
+use Rattle.duct_start.specs.Step.{Item, AskEnvironment, AskPipe, AskOpenRead, AskCreate, AskCanonicalize, AskSpawn, AskFeed}
+
+-- something for each of the three streams
+pub record Three (X : Type 0) : Type 0 where
+  pub input : X
+  pub output : X
+  pub error : X
+
+-- what stands round a command beside its streams: the folder, the changes of variables with the nearest first, and the hooks with
+-- the outermost first
+pub record Scope (E H : Type 0) : Type 0 where
+  pub folder : Option (List ℕ)
+  pub changes : List Change
+  pub hooks : List (H × List E)
+
+-- one action. A pipe leaves its write end on top, an input its read end. A depth is counted from the bottom of the stack; `tap`
+-- duplicates the write end of a capture pipe, `finish` closes it and starts the worker of its read end
+pub data Action (E H : Type 0) : Type 0 where
+  environment : Action E H
+  canonicalize : List ℕ → Action E H
+  open_read : List ℕ → Action E H
+  create : List ℕ → Action E H
+  pipe : Action E H
+  input : Action E H
+  capture : Side → Action E H
+  duplicate : ℕ → Action E H
+  tap : Side → Action E H
+  lend : E → Action E H
+  parent : Side → Action E H
+  close : Action E H
+  spawn : Scope E H → List (List ℕ) → Three Port → Action E H
+  feed : List ℕ → Action E H
+  finish : Side → Action E H
+
+-- the stack by where its ends come from, its top first, and the plan so far with the places of the capture pipes that are open
+pub record State (E H : Type 0) : Type 0 where
+  pub stack : List (Target E)
+  pub plan : Plan E H
+
+-- what stands at a depth of a stack
+abbrev pub level : {A : Type 0} → List A → ℕ → Option A
+level stack depth = slice_get (reverse stack) depth
+
+-- the place of the pipe of which an end stands on top
+abbrev pub place_of : {E : Type 0} → List (Target E) → ℕ
+place_of (ReaderAt place ∷ stack) = place
+place_of (WriterAt place ∷ stack) = place
+place_of stack = 0
+
+-- where a stream goes by its port, with what stands on top
+abbrev pub given : {E : Type 0} → Stream → Port → List (Target E) → Target E
+given stream port.Given (top ∷ stack) = top
+given stream port.Null stack = Nothing
+given stream p stack = Parents stream
+
+-- what a port leaves of a stack
+abbrev pub less : {A : Type 0} → Port → List A → List A
+less port.Given stack = drop 1 stack
+less p stack = stack
+
+-- how many ends a port takes
+abbrev pub many : Port → ℕ
+many port.Given = 1
+many p = 0
+
+-- what three ports leave of a stack; stderr's end is on top
+abbrev pub left_by : {A : Type 0} → Three Port → List A → List A
+left_by ports stack = less ports.input (less ports.output (less ports.error stack))
+
+-- what a command finds by what stands round it and by what its ports are given
+abbrev pub found_by : {E H : Type 0} → Scope E H → Three Port → List (Target E) → Found E H
+found_by scope ports stack = record {
+  folder = scope.folder;
+  changes = scope.changes;
+  input = given In ports.input (less ports.output (less ports.error stack));
+  output = given Out ports.output (less ports.error stack);
+  error = given Err ports.error stack;
+  hooks = scope.hooks;
+}
+
+-- a plan in which a capture pipe is open
+abbrev pub captures : {E H : Type 0} → Side → Plan E H → Plan E H
+captures side.Out plan = captures_out plan
+captures side.Err plan = captures_err plan
+
+-- the place of a capture pipe
+abbrev pub capture_at : {E H : Type 0} → Side → Plan E H → Option ℕ
+capture_at side.Out plan = plan.out
+capture_at side.Err plan = plan.err
+
+-- a plan in which a capture pipe is done with
+abbrev pub finished : {E H : Type 0} → Side → Plan E H → Plan E H
+finished side.Out plan =
+    record { items = (drains plan.out plan).items; out = None; err = plan.err }
+finished side.Err plan =
+    record { items = (drains plan.err plan).items; out = plan.out; err = None }
+
+-- nothing on the stack, and nothing asked
+abbrev pub nothing_yet : {E H : Type 0} → State E H
+nothing_yet = record { stack = []; plan = record { items = []; out = None; err = None } }
+
+-- nothing on the stack, and this asked, with its capture pipes done with
+abbrev pub all_of : {E H : Type 0} → Plan E H → State E H
+all_of plan = record { stack = []; plan = record plan { out = None; err = None } }
+
+-- with these on the stack, and one item more
+abbrev pub gets : {E H : Type 0} → List (Target E) → Item E H → State E H → State E H
+gets tops item state = record { stack = tops ++ state.stack; plan = asks item state.plan }
+
+-- with one end more on the stack
+abbrev pub pushes : {E H : Type 0} → Target E → State E H → State E H
+pushes top state = record { stack = top ∷ state.stack; plan = state.plan }
+
+-- after an action
+abbrev pub advance : {E H : Type 0} → State E H → Action E H → State E H
+advance state environment = gets [] AskEnvironment state
+advance state (canonicalize path) = gets [] (AskCanonicalize path) state
+advance state (open_read path) =
+    gets (FileAt (length state.plan.items) ∷ []) (AskOpenRead path) state
+advance state (create path) = gets (FileAt (length state.plan.items) ∷ []) (AskCreate path) state
+advance state pipe =
+    let place = length state.plan.items in gets (WriterAt place ∷ ReaderAt place ∷ []) AskPipe state
+advance state input =
+    let place = length state.plan.items in gets (ReaderAt place ∷ WriterAt place ∷ []) AskPipe state
+advance state (capture which) = record { stack = state.stack; plan = captures which state.plan }
+advance state (duplicate depth) = pushes (unwrap_or (level state.stack depth) Nothing) state
+advance state (tap which) = pushes (WriterAt (unwrap_or (capture_at which state.plan) 0)) state
+advance state (lend end) = pushes (Lends end) state
+advance state (parent side.Out) = pushes (Parents Out) state
+advance state (parent side.Err) = pushes (Parents Err) state
+advance state close = record { stack = drop 1 state.stack; plan = state.plan }
+advance state (spawn scope words ports) = record {
+  stack = left_by ports state.stack;
+  plan = asks (AskSpawn (found_by scope ports state.stack) words) state.plan;
+}
+advance state (feed bytes) = record {
+  stack = drop 1 state.stack;
+  plan = asks (AskFeed (place_of state.stack) bytes) state.plan;
+}
+advance state (finish which) = record { stack = state.stack; plan = finished which state.plan }
+
+-- after a list of actions
+abbrev pub after : {E H : Type 0} → State E H → List (Action E H) → State E H
+after state [] = state
+after state (action ∷ actions) = after (advance state action) actions
+
+-- on top stands the write end of a pipe
+abbrev pub IsWriter : {E : Type 0} → List (Target E) → Type 0
+IsWriter (WriterAt place ∷ stack) = Unit {0}
+IsWriter stack = ⊥
+
+-- a port that no hook made
+abbrev pub IsPlain : Port → Type 0
+IsPlain (port.Place place) = ⊥
+IsPlain p = Unit {0}
+
+-- how many ends an action pops
+abbrev pub pops : {E H : Type 0} → Action E H → ℕ
+pops close = 1
+pops (feed bytes) = 1
+pops (spawn scope words ports) = many ports.input + (many ports.output + many ports.error)
+pops action = 0
+
+-- what an action needs beside what it pops; a lent end has a number below this one
+abbrev pub Needs : {E H : Type 0} → (E → ℕ) → ℕ → State E H → Action E H → Type 0
+Needs number_of base state (duplicate depth) = depth < length state.stack
+Needs number_of base state (tap which) = IsSome (capture_at which state.plan)
+Needs number_of base state (lend end) = number_of end < base
+Needs number_of base state (feed bytes) = IsWriter state.stack
+Needs number_of base state (spawn scope words ports) =
+    IsPlain ports.input × IsPlain ports.output × IsPlain ports.error
+Needs number_of base state action = Unit {0}
+
+-- an action finds what it names, and leaves no more than so many ends on the stack
+pub record IsReady {E H : Type 0} (number_of : E → ℕ) (base bound : ℕ) (state : State E H)
+    (action : Action E H) : Type 0 where
+  pub full : pops action ≤ length state.stack
+  pub needs : Needs number_of base state action
+  pub low : length (advance state action).stack ≤ bound
+
+-- each action of a list does, when its turn comes
+abbrev pub AreReady : {E H : Type 0} → (E → ℕ) → ℕ → ℕ → State E H → List (Action E H) → Type 0
+AreReady number_of base bound state [] = Unit {0}
+AreReady number_of base bound state (action ∷ actions) =
+    IsReady number_of base bound state action
+    × AreReady number_of base bound (advance state action) actions
+
+-- actions lead from one state to another
+pub record Leads {E H : Type 0} (number_of : E → ℕ) (base bound : ℕ) (state : State E H)
+    (actions : List (Action E H)) (next : State E H) : Type 0 where
+  pub ready : AreReady number_of base bound state actions
+  pub is : after state actions ≡ next

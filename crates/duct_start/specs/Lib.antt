@@ -1,0 +1,17 @@
+pub mod Actions
+pub mod Asked
+pub mod Causes
+pub mod Chain
+pub mod Flat
+pub mod Follows
+pub mod Found
+pub mod Inward
+pub mod Left
+pub mod Lookup
+pub mod Path
+pub mod Plan
+pub mod Running
+pub mod ShapeOfTree
+pub mod Start
+pub mod Step
+pub mod TreeView
