@@ -69,7 +69,10 @@ fn changed(
             vars.retain(|other, _| !other.is(name));
             Ok(vars)
         }
-        Change::Replaces(whole) => { copied(whole) }
+        Change::Replaces(whole) => {
+            let vars = copied(whole)?;
+            Ok(vars)
+        }
     }
 }
 
