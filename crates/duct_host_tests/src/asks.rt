@@ -1,155 +1,147 @@
-//! A list of requests that is asked of the host on the real machine, and what comes of it, in words.
+//! Requests of a host on the real machine that are written as texts, so that a test can be a table. Empty lines part its rows,
+//! each of which has a host of its own. A line is a request, or what stands round requests in a test; an end is named by its
+//! number, and a child is the last one. `says` has what was said so far.
+//!
+//! - `pipe`, `open_read f`, `create f`, `duplicate 3`, `parent out`, `canonicalize ./x`, `feed 2`, `drain 1`, `close 1`, and
+//!   `clear`, which empties the journal.
+//! - `spawn null 2 inherit (/bin/echo,a b)` has the words of a command in brackets, and none without them. `folder /in` and
+//!   `variables A=1,B=2` are those of the commands that follow. Then `poll`, `kill`, `signal 15`, and `ending`, which waits for the
+//!   child's end and says how it ended.
+//! - `read 1` reads to the end and says the text, `stars 1` how many bytes there were and whether each was a star, `read_id 1`
+//!   whether the text is the child's id and a line feed; `ready 1` reads the line `ready`.
+//! - `journal` says the journal, and `opened` how many more descriptors are open than at first.
+//! - `adopt_pipe xyz` adopts the ends of a pipe of somebody else with this text in it, and `adopt_file f` a file; `lend 1` asks for
+//!   a duplicate of an adopted end, and `drop 1` drops one.
+//! - `write f text`, `mode f rw-r--r--`, `make_folder f`, `remove_folder f`, `remove f`, and `clean f`, which removes a file if it is
+//!   there.
+//!
+//! In each line `{place}` begins the path of a file of this process, `{id}` is the number of this process, `{nul}` a NUL and `{feed}`
+//! a line feed.
 
 use crate::held::{Held, taken};
-use crate::support::{Started, command, ending, open_descriptors, same, say, story, tell};
-use duct_base::system::{Child, Numbered, Side, Stdio, System};
+use crate::support::{Started, command, ending, open_descriptors, place, same, say, story, tell};
+use duct_base::system::{Child, Numbered, System};
 use duct_host::end::End;
+use std::alloc::{AllocError, Global};
 use std::fs::{File, Permissions};
 use std::io::Write;
 use std::os::unix::fs::PermissionsExt;
 use std::test::Fail;
-use std::{fs, io};
-
-/// A request, or what stands round requests in a test. An end is named by its number, and a child is the last one.
-#[derive(Clone, Copy)]
-pub enum Ask<'a> {
-    Pipe,
-    OpenRead(&'a str),
-    Create(&'a str),
-    Duplicate(u64),
-    Parent(Side),
-    Canonicalize(&'a str),
-    Feed(u64),
-    Drain(u64),
-    Close(u64),
-    Clear,
-    /// The folder of the commands that follow.
-    Folder(&'a str),
-    /// The variables of the commands that follow.
-    Variables(&'a [(&'a str, &'a str)]),
-    Spawn(&'a [&'a str], Stdio<u64>, Stdio<u64>, Stdio<u64>),
-    Poll,
-    Kill,
-    Signal(i32),
-    /// Waits for the child's end, and says how it ended.
-    Ending,
-    /// Reads to the end, and says the text.
-    Read(u64),
-    /// Reads to the end, and says how many bytes there were and whether each was a star.
-    Stars(u64),
-    /// Reads to the end, and says whether the text is the child's id and a line feed.
-    ReadId(u64),
-    /// Reads the line `ready`.
-    Ready(u64),
-    /// Says the journal.
-    Journal,
-    /// Says how many more descriptors are open than at first.
-    Opened,
-    /// A pipe of somebody else, with this text in it, whose ends are adopted.
-    AdoptPipe(&'a str),
-    /// A file of somebody else, which is adopted.
-    AdoptFile(&'a str),
-    /// A duplicate of an adopted end.
-    Lend(u64),
-    /// Drops an adopted end.
-    Drop(u64),
-    /// Writes a file of this text.
-    Write(&'a str, &'a str),
-    /// Sets a file's mode.
-    Mode(&'a str, u32),
-    MakeFolder(&'a str),
-    RemoveFolder(&'a str),
-    Remove(&'a str),
-    /// Removes a file, if it is there.
-    Clean(&'a str),
-}
+use std::{fs, io, process};
 
 /// A host with its ends, the ends that it adopted, the last child, and what was said so far.
 #[derive(Drop)]
-struct Bench<'a> {
+struct Bench {
     rt: HostRuntime,
     held: Held,
     adopted: Vec<End>,
     child: Option<Started>,
-    folder: Option<&'a str>,
-    variables: &'a [(&'a str, &'a str)],
+    folder: String,
+    variables: String,
     said: String,
     opened: usize,
 }
 
-/// Fails unless these requests, asked of a new host in order, say this.
-pub fn tells(rt: &HostRuntime, asks: &[Ask<'_>], expected: &str) -> Result<(), Fail> {
-    let mut bench = Bench::new(rt)?;
-    bench.ask_all(asks)?;
-    same(bench.said.as_str(), expected)
+/// Tries all rows of a table.
+pub fn rows(rt: &HostRuntime, table: &str) -> Result<(), Fail> {
+    let place = place(rt, rt.process(), "")?;
+    for row in table.split("\n\n") {
+        try_row(rt, place.as_str(), row)?;
+    }
+    Ok(())
 }
 
-impl<'a> Bench<'a> {
-    fn new(rt: &HostRuntime) -> Result<Bench<'a>, Fail> {
-        let alloc = rt.alloc();
-        let opened = open_descriptors(rt)?;
-        let own = rt.clone()?;
-        let held = Held::new(rt.clone()?);
-        Ok(Bench {
-            rt: own,
-            held,
-            adopted: Vec::new(alloc),
-            child: None,
-            folder: None,
-            variables: &[],
-            said: String::new(alloc),
-            opened,
-        })
-    }
+fn try_row(rt: &HostRuntime, place: &str, row: &str) -> Result<(), Fail> {
+    new_bench(rt)?.lines(place, row)
+}
 
-    fn ask_all(&mut self, asks: &[Ask<'a>]) -> Result<(), Fail> {
-        for ask in asks {
-            self.ask(*ask)?;
+fn new_bench(rt: &HostRuntime) -> Result<Bench, Fail> {
+    let alloc = rt.alloc();
+    let opened = open_descriptors(rt)?;
+    let own = rt.clone()?;
+    let held = Held::new(rt.clone()?);
+    Ok(Bench {
+        rt: own,
+        held,
+        adopted: Vec::new(alloc),
+        child: None,
+        folder: String::new(alloc),
+        variables: String::new(alloc),
+        said: String::new(alloc),
+        opened,
+    })
+}
+
+/// The text of a line.
+fn filled(alloc: Global, line: &str, place: &str, id: u32) -> Result<String, AllocError> {
+    let line = line.replace(alloc, "{nul}", "\0")?;
+    let line = line.replace(alloc, "{feed}", "\n")?;
+    let line = line.replace(alloc, "{place}", place)?;
+    with_id(alloc, line.as_str(), id)
+}
+
+fn with_id(alloc: Global, line: &str, id: u32) -> Result<String, AllocError> {
+    let id = format!(in alloc; "{id}")?;
+    line.replace(alloc, "{id}", id.as_str())
+}
+
+/// The text before the first space, and the text after it.
+fn first_word(text: &str) -> (&str, &str) {
+    text.split_once(' ').unwrap_or((text, ""))
+}
+
+impl Bench {
+    fn lines(&mut self, place: &str, row: &str) -> Result<(), Fail> {
+        for line in row.trim().lines() {
+            self.fill(place, line.trim())?;
         }
         Ok(())
     }
 
-    fn ask(&mut self, ask: Ask<'a>) -> Result<(), Fail> {
-        match ask {
-            Ask::Pipe => self.held.pipe(&mut self.said),
-            Ask::OpenRead(path) => self.held.open_read(path, &mut self.said),
-            Ask::Create(path) => self.held.create(path, &mut self.said),
-            Ask::Duplicate(number) => self.held.duplicate(number, &mut self.said),
-            Ask::Parent(side) => self.held.parent(side, &mut self.said),
-            Ask::Canonicalize(path) => self.held.canonicalize(path, &mut self.said),
-            Ask::Feed(number) => self.held.feed(number, &mut self.said),
-            Ask::Drain(number) => self.held.drain(number, &mut self.said),
-            Ask::Close(number) => self.held.close(number),
-            Ask::Clear => {
-                self.held.clear();
-                Ok(())
-            }
-            other => self.ask_of_child(other),
+    fn fill(&mut self, place: &str, line: &str) -> Result<(), Fail> {
+        let id = process::id(self.rt.process());
+        let line = filled(self.rt.alloc(), line, place, id)?;
+        self.line(line.as_str())
+    }
+
+    fn line(&mut self, line: &str) -> Result<(), Fail> {
+        let (word, rest) = first_word(line);
+        match word {
+            "says" => same(self.said.as_str().trim_end(), rest),
+            "spawn" => self.spawn(rest),
+            "folder" => set(&mut self.folder, rest),
+            "variables" => set(&mut self.variables, rest),
+            "poll" | "kill" | "signal" | "ending" => self.order(word, rest),
+            "read" | "stars" | "read_id" | "ready" => self.read(word, rest.parse()?),
+            "journal" => self.tell_journal(),
+            "opened" => self.tell_opened(),
+            "adopt_pipe" | "adopt_file" | "lend" | "drop" => self.adopt(word, rest),
+            _ => self.ask(word, rest),
         }
     }
 
-    /// What is asked of a child, and what comes before it is started.
-    fn ask_of_child(&mut self, ask: Ask<'a>) -> Result<(), Fail> {
-        match ask {
-            Ask::Folder(folder) => {
-                self.folder = Some(folder);
-                Ok(())
-            }
-            Ask::Variables(variables) => {
-                self.variables = variables;
-                Ok(())
-            }
-            Ask::Spawn(words, input, output, error) => self.spawn(words, [input, output, error]),
-            Ask::Poll | Ask::Kill | Ask::Signal(_) | Ask::Ending => match &mut self.child {
-                Some(child) => order(&self.rt, child, ask, &mut self.said),
-                None => Err(Fail::new("there is no child")),
-            },
-            other => self.look(other),
+    fn ask(&mut self, word: &str, rest: &str) -> Result<(), Fail> {
+        if self.held.ask(word, rest, &mut self.said)? {
+            return Ok(());
+        }
+        Ok(arrange(&self.rt, word, rest)?)
+    }
+
+    fn order(&mut self, word: &str, rest: &str) -> Result<(), Fail> {
+        match &mut self.child {
+            Some(child) => order(&self.rt, child, word, rest, &mut self.said),
+            None => Err(Fail::new("there is no child")),
         }
     }
 
-    fn spawn(&mut self, words: &[&str], io: [Stdio<u64>; 3]) -> Result<(), Fail> {
-        let spec = command(self.rt.alloc(), words, self.folder, self.variables)?;
+    fn spawn(&mut self, rest: &str) -> Result<(), Fail> {
+        let (io, words) = words_of(rest);
+        let spec = command(
+            self.rt.alloc(),
+            words,
+            self.folder.as_str(),
+            self.variables.as_str(),
+        )?;
         match self.held.spawn(spec, io)? {
             Ok(child) => {
                 let number = child.number();
@@ -160,60 +152,48 @@ impl<'a> Bench<'a> {
         }
     }
 
-    /// What is read, and what is seen of the host and of this process.
-    fn look(&mut self, ask: Ask<'a>) -> Result<(), Fail> {
-        match ask {
-            Ask::Read(number) => {
-                let text = self.held.read(number)?;
-                say(&mut self.said, &text)
-            }
-            Ask::Stars(number) => {
-                let text = self.held.read(number)?;
+    /// What is read.
+    fn read(&mut self, word: &str, number: u64) -> Result<(), Fail> {
+        if word == "ready" {
+            return self.held.ready(number);
+        }
+        let text = self.held.read(number)?;
+        match word {
+            "read" => say(&mut self.said, &text),
+            "stars" => {
                 let is_starry = text.as_bytes().iter().all(|b| *b == b'*');
                 say(&mut self.said, &(text.len(), is_starry))
             }
-            Ask::ReadId(number) => self.read_id(number),
-            Ask::Ready(number) => self.held.ready(number),
-            Ask::Journal => {
-                let text = story(self.rt.alloc(), self.held.host.journal())?;
-                self.said.push_str(text.as_str())?;
-                Ok(())
+            _ => {
+                let found = id_in(text.as_str());
+                let id = self.child.as_ref().map(|child| child.id());
+                say(&mut self.said, &(id.is_some() && found == id))
             }
-            Ask::Opened => {
-                let more = open_descriptors(&self.rt)?.checked_sub(self.opened);
-                say(&mut self.said, &more)
-            }
-            other => self.adopt(other),
         }
     }
 
-    fn read_id(&mut self, number: u64) -> Result<(), Fail> {
-        let text = self.held.read(number)?;
-        let id = self.child.as_ref().map(|child| child.id());
-        let found = text
-            .strip_suffix('\n')
-            .and_then(|text| text.parse::<u32>().ok());
-        say(&mut self.said, &(id.is_some() && found == id))
+    fn tell_journal(&mut self) -> Result<(), Fail> {
+        Ok(story(&mut self.said, self.held.host.journal())?)
+    }
+
+    fn tell_opened(&mut self) -> Result<(), Fail> {
+        let more = open_descriptors(&self.rt)?.checked_sub(self.opened);
+        say(&mut self.said, &more)
     }
 
     /// What is done with ends of somebody else.
-    fn adopt(&mut self, ask: Ask<'a>) -> Result<(), Fail> {
-        match ask {
-            Ask::AdoptPipe(text) => {
-                let (read, write) = adopted_pipe(&self.rt, &mut self.held, text)?;
+    fn adopt(&mut self, word: &str, rest: &str) -> Result<(), Fail> {
+        match word {
+            "adopt_pipe" => {
+                let (read, write) = adopted_pipe(&self.rt, &mut self.held, rest)?;
                 self.keep_adopted(read)?;
                 self.keep_adopted(write)
             }
-            Ask::AdoptFile(path) => {
-                let end = adopted_file(&self.rt, &mut self.held, path)?;
+            "adopt_file" => {
+                let end = adopted_file(&self.rt, &mut self.held, rest)?;
                 self.keep_adopted(end)
             }
-            Ask::Lend(number) => self.lend(number),
-            Ask::Drop(number) => {
-                drop(taken(&mut self.adopted, number)?);
-                Ok(())
-            }
-            other => Ok(arrange(&self.rt, other)?),
+            _ => self.take_adopted(word, rest.parse()?),
         }
     }
 
@@ -223,25 +203,47 @@ impl<'a> Bench<'a> {
         say(&mut self.said, &number)
     }
 
-    fn lend(&mut self, number: u64) -> Result<(), Fail> {
+    /// Drops an adopted end, or asks for a duplicate of it.
+    fn take_adopted(&mut self, word: &str, number: u64) -> Result<(), Fail> {
         let end = taken(&mut self.adopted, number)?;
-        self.held.duplicate_of(&end, &mut self.said)?;
-        self.adopted.push(end)?;
+        if word == "lend" {
+            self.held.duplicate_of(&end, &mut self.said)?;
+            self.adopted.push(end)?;
+        }
         Ok(())
     }
+}
+
+fn set(text: &mut String, value: &str) -> Result<(), Fail> {
+    text.clear();
+    Ok(text.push_str(value)?)
+}
+
+/// The streams of a spawn, and the words of its command, if it has any.
+fn words_of(rest: &str) -> (&str, Option<&str>) {
+    match rest.split_once(" (") {
+        Some((io, words)) => (io, words.strip_suffix(')')),
+        None => (rest, None),
+    }
+}
+
+/// The number that a line has.
+fn id_in(text: &str) -> Option<u32> {
+    text.strip_suffix('\n').and_then(|text| text.parse().ok())
 }
 
 /// Asks a child.
 fn order(
     rt: &HostRuntime,
     child: &mut Started,
-    ask: Ask<'_>,
+    word: &str,
+    rest: &str,
     said: &mut String,
 ) -> Result<(), Fail> {
-    match ask {
-        Ask::Poll => tell(said, &child.poll()),
-        Ask::Kill => tell(said, &child.kill()),
-        Ask::Signal(signal) => tell(said, &child.signal(signal)),
+    match word {
+        "poll" => tell(said, &child.poll()),
+        "kill" => tell(said, &child.kill()),
+        "signal" => tell(said, &child.signal(rest.parse()?)),
         _ => end(rt, child, said),
     }
 }
@@ -274,17 +276,28 @@ fn adopted_file(rt: &HostRuntime, held: &mut Held, path: &str) -> Result<End, Fa
 }
 
 /// Changes files.
-fn arrange(rt: &HostRuntime, ask: Ask<'_>) -> io::Result<()> {
-    match ask {
-        Ask::Write(path, text) => fs::write(rt, path, text),
-        Ask::Mode(path, mode) => fs::set_permissions(rt, path, Permissions::from_mode(mode)),
-        Ask::MakeFolder(path) => fs::create_dir(rt, path),
-        Ask::RemoveFolder(path) => fs::remove_dir(rt, path),
-        Ask::Remove(path) => fs::remove_file(rt, path),
-        Ask::Clean(path) => {
+fn arrange(rt: &HostRuntime, word: &str, rest: &str) -> io::Result<()> {
+    let (path, more) = first_word(rest);
+    match word {
+        "write" => fs::write(rt, path, more),
+        "mode" => fs::set_permissions(rt, path, Permissions::from_mode(mode(more))),
+        "make_folder" => fs::create_dir(rt, path),
+        "remove_folder" => fs::remove_dir(rt, path),
+        "remove" => fs::remove_file(rt, path),
+        "clean" => {
             let _ = fs::remove_file(rt, path);
             Ok(())
         }
         _ => Err(io::Error::from(io::ErrorKind::Unsupported)),
+    }
+}
+
+/// The mode that a listing shows so.
+fn mode(shown: &str) -> u32 {
+    match shown {
+        "rw-r--r--" => 0o644,
+        "r-x------" => 0o500,
+        "-w-------" => 0o200,
+        _ => 0,
     }
 }

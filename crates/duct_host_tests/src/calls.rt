@@ -1,16 +1,12 @@
 //! Each call of the host once, with its answer and its entry.
-use crate::asks::{Ask, tells};
-use crate::support::{Machine, place, same};
-use duct_base::system::{Entry, Side, Stdio, System};
+use crate::asks::rows;
+use crate::support::{Machine, same};
+use duct_base::system::{Entry, System};
 use duct_host::host::Host;
 use std::alloc::{AllocError, Global};
 use std::fmt::Write;
+use std::fs;
 use std::test::Fail;
-use std::{fs, process};
-
-const INHERIT: Stdio<u64> = Stdio::Inherit;
-
-const NULL: Stdio<u64> = Stdio::Null;
 
 /// The entries of an environment that are UTF-8, each ended by a NUL.
 fn readable(alloc: Global, environ: &[u8]) -> Result<String, AllocError> {
@@ -70,216 +66,134 @@ fn the_environment_is_the_parents(rt: HostRuntime) -> Result<(), Fail> {
     has_environment(&mut host, expected.as_str())
 }
 
+/// A pipe carries what a child writes, and a duplicate writes to the same pipe; a file is emptied, written and read; a canonical
+/// name follows links; numbers go on after the journal is emptied; workers are refused.
 #[test]
-fn a_pipe_carries_what_a_child_writes(rt: HostRuntime) -> Result<(), Fail> {
-    tells(
+fn requests(rt: HostRuntime) -> Result<(), Fail> {
+    rows(
         &rt,
-        &[
-            Ask::Pipe,
-            Ask::Spawn(&["/bin/echo", "a b", "c"], NULL, Stdio::End(2), INHERIT),
-            Ask::Read(1),
-            Ask::Ending,
-            Ask::Journal,
-        ],
-        r#"(1, 2); 3; "a b c\n"; Code(0); Pipe Ok((1, 2)); Spawn [Null, End(2), Inherit] Ok(3); Reader 1; "#,
+        r#"
+        pipe
+        spawn null 2 inherit (/bin/echo,a b,c)
+        read 1
+        ending
+        journal
+        says (1, 2); 3; "a b c\n"; Code(0); Pipe Ok((1, 2)); Spawn [Null, End(2), Inherit] Ok(3); Reader 1;
+
+        write {place}file a longer text than the new one
+        create {place}file
+        spawn null 1 null (/bin/echo,new)
+        ending
+        open_read {place}file
+        read 3
+        remove {place}file
+        journal
+        says 1; 2; Code(0); 3; "new\n"; Create {place}file Ok(1); Spawn [Null, End(1), Null] Ok(2); OpenRead {place}file Ok(3); Reader 3;
+
+        pipe
+        duplicate 2
+        close 2
+        spawn null 3 inherit (/bin/echo,hi)
+        read 1
+        ending
+        journal
+        says (1, 2); 3; 4; "hi\n"; Code(0); Pipe Ok((1, 2)); Duplicate 2 Ok(3); Close 2; Spawn [Null, End(3), Inherit] Ok(4); Reader 1;
+
+        canonicalize /proc/./self/fd/..
+        journal
+        says "/proc/{id}"; Canonicalize /proc/./self/fd/.. Ok("/proc/{id}");
+
+        pipe
+        clear
+        journal
+        duplicate 1
+        close 1
+        close 2
+        close 3
+        journal
+        says (1, 2); 3; Duplicate 1 Ok(3); Close 1; Close 2; Close 3;
+
+        pipe
+        feed 2
+        drain 1
+        journal
+        says (1, 2); Unsupported; Unsupported; Pipe Ok((1, 2)); Feed 2 Err(Fault { kind: Unsupported }); Drain 1 Err(Fault { kind: Unsupported });
+        "#,
     )
 }
 
+/// The parent's streams are given to a child; a child inherits streams or has none, and each stream is its own; it has the folder
+/// and the variables of its spec; it reads an end.
 #[test]
-fn a_file_is_emptied_and_written_and_read(rt: HostRuntime) -> Result<(), Fail> {
-    let path = place(&rt, rt.process(), "file")?;
-    let path = path.as_str();
-    let expected = format!(in rt.alloc();
-        "1; 2; Code(0); 3; \"new\\n\"; Create {path} Ok(1); Spawn [Null, End(1), Null] Ok(2); OpenRead {path} Ok(3); Reader 3; "
-    )?;
-    let asks = [
-        Ask::Write(path, "a longer text than the new one"),
-        Ask::Create(path),
-        Ask::Spawn(&["/bin/echo", "new"], NULL, Stdio::End(1), NULL),
-        Ask::Ending,
-        Ask::OpenRead(path),
-        Ask::Read(3),
-        Ask::Remove(path),
-        Ask::Journal,
-    ];
-    tells(&rt, &asks, expected.as_str())
-}
-
-#[test]
-fn a_duplicate_writes_to_the_same_pipe(rt: HostRuntime) -> Result<(), Fail> {
-    tells(
+fn streams_and_specs(rt: HostRuntime) -> Result<(), Fail> {
+    rows(
         &rt,
-        &[
-            Ask::Pipe,
-            Ask::Duplicate(2),
-            Ask::Close(2),
-            Ask::Spawn(&["/bin/echo", "hi"], NULL, Stdio::End(3), INHERIT),
-            Ask::Read(1),
-            Ask::Ending,
-            Ask::Journal,
-        ],
-        r#"(1, 2); 3; 4; "hi\n"; Code(0); Pipe Ok((1, 2)); Duplicate 2 Ok(3); Close 2; Spawn [Null, End(3), Inherit] Ok(4); Reader 1; "#,
+        r#"
+        parent out
+        parent err
+        spawn inherit 2 1 (/bin/sh,-c,[ /proc/$$/fd/1 -ef /proc/$PPID/fd/2 ] && [ /proc/$$/fd/2 -ef /proc/$PPID/fd/1 ])
+        ending
+        journal
+        says 1; 2; 3; Code(0); Parent Out Ok(1); Parent Err Ok(2); Spawn [Inherit, End(2), End(1)] Ok(3);
+
+        spawn inherit inherit null (/bin/sh,-c,[ /proc/$$/fd/0 -ef /proc/$PPID/fd/0 ] && [ /proc/$$/fd/1 -ef /proc/$PPID/fd/1 ] && [ /proc/$$/fd/2 -ef /dev/null ])
+        ending
+        journal
+        says 1; Code(0); Spawn [Inherit, Inherit, Null] Ok(1);
+
+        adopt_pipe foobar
+        drop 2
+        lend 1
+        pipe
+        pipe
+        spawn 3 5 7 (/bin/sh,-c,cat; echo wrong >&2)
+        read 4
+        read 6
+        ending
+        says 1; 2; 3; (4, 5); (6, 7); 8; "foobar"; "wrong\n"; Code(0);
+
+        variables A=1,B=x=y,C=
+        pipe
+        spawn null 2 inherit (/usr/bin/env)
+        read 1
+        ending
+        variables
+        folder /proc
+        pipe
+        spawn null 5 inherit (/bin/pwd,-P)
+        read 4
+        ending
+        says (1, 2); 3; "A=1\nB=x=y\nC=\n"; Code(0); (4, 5); 6; "/proc\n"; Code(0);
+
+        pipe
+        spawn 1 null inherit (/bin/cat)
+        poll
+        close 2
+        ending
+        says (1, 2); 3; None; Code(0);
+        "#,
     )
 }
 
+/// Adopted ends take numbers and add no entry; a reader gives more than a pipe holds.
 #[test]
-fn the_parents_streams_are_given_to_a_child(rt: HostRuntime) -> Result<(), Fail> {
-    let script = "[ /proc/$$/fd/1 -ef /proc/$PPID/fd/2 ] && [ /proc/$$/fd/2 -ef /proc/$PPID/fd/1 ]";
-    let words = ["/bin/sh", "-c", script];
-    let asks = [
-        Ask::Parent(Side::Out),
-        Ask::Parent(Side::Err),
-        Ask::Spawn(&words, INHERIT, Stdio::End(2), Stdio::End(1)),
-        Ask::Ending,
-        Ask::Journal,
-    ];
-    let expected =
-        "1; 2; 3; Code(0); Parent Out Ok(1); Parent Err Ok(2); Spawn [Inherit, End(2), End(1)] Ok(3); ";
-    tells(&rt, &asks, expected)
-}
-
-#[test]
-fn a_child_inherits_streams_or_has_none(rt: HostRuntime) -> Result<(), Fail> {
-    let script = "[ /proc/$$/fd/0 -ef /proc/$PPID/fd/0 ] && [ /proc/$$/fd/1 -ef /proc/$PPID/fd/1 ] \
-        && [ /proc/$$/fd/2 -ef /dev/null ]";
-    let words = ["/bin/sh", "-c", script];
-    let asks = [
-        Ask::Spawn(&words, INHERIT, INHERIT, NULL),
-        Ask::Ending,
-        Ask::Journal,
-    ];
-    tells(
+fn adopted_ends_and_readers(rt: HostRuntime) -> Result<(), Fail> {
+    rows(
         &rt,
-        &asks,
-        "1; Code(0); Spawn [Inherit, Inherit, Null] Ok(1); ",
-    )
-}
+        r#"
+        adopt_pipe foobar
+        adopt_file /dev/null
+        drop 2
+        lend 1
+        read 4
+        journal
+        says 1; 2; 3; 4; "foobar"; Duplicate 1 Ok(4); Reader 4;
 
-#[test]
-fn each_stream_of_a_child_is_its_own(rt: HostRuntime) -> Result<(), Fail> {
-    tells(
-        &rt,
-        &[
-            Ask::AdoptPipe("foobar"),
-            Ask::Drop(2),
-            Ask::Lend(1),
-            Ask::Pipe,
-            Ask::Pipe,
-            Ask::Spawn(
-                &["/bin/sh", "-c", "cat; echo wrong >&2"],
-                Stdio::End(3),
-                Stdio::End(5),
-                Stdio::End(7),
-            ),
-            Ask::Read(4),
-            Ask::Read(6),
-            Ask::Ending,
-        ],
-        r#"1; 2; 3; (4, 5); (6, 7); 8; "foobar"; "wrong\n"; Code(0); "#,
-    )
-}
-
-#[test]
-fn a_canonical_name_follows_links(rt: HostRuntime) -> Result<(), Fail> {
-    let id = process::id(rt.process());
-    let expected = format!(in rt.alloc();
-        "\"/proc/{id}\"; Canonicalize /proc/./self/fd/.. Ok(\"/proc/{id}\"); "
-    )?;
-    let asks = [Ask::Canonicalize("/proc/./self/fd/.."), Ask::Journal];
-    tells(&rt, &asks, expected.as_str())
-}
-
-const VARIABLES: [(&str, &str); 3] = [("A", "1"), ("B", "x=y"), ("C", "")];
-
-const NONE: [(&str, &str); 0] = [];
-
-#[test]
-fn a_child_has_the_folder_and_the_variables_of_its_spec(rt: HostRuntime) -> Result<(), Fail> {
-    tells(
-        &rt,
-        &[
-            Ask::Variables(&VARIABLES),
-            Ask::Pipe,
-            Ask::Spawn(&["/usr/bin/env"], NULL, Stdio::End(2), INHERIT),
-            Ask::Read(1),
-            Ask::Ending,
-            Ask::Variables(&NONE),
-            Ask::Folder("/proc"),
-            Ask::Pipe,
-            Ask::Spawn(&["/bin/pwd", "-P"], NULL, Stdio::End(5), INHERIT),
-            Ask::Read(4),
-            Ask::Ending,
-        ],
-        r#"(1, 2); 3; "A=1\nB=x=y\nC=\n"; Code(0); (4, 5); 6; "/proc\n"; Code(0); "#,
-    )
-}
-
-#[test]
-fn adopted_ends_take_numbers_and_add_no_entry(rt: HostRuntime) -> Result<(), Fail> {
-    tells(
-        &rt,
-        &[
-            Ask::AdoptPipe("foobar"),
-            Ask::AdoptFile("/dev/null"),
-            Ask::Drop(2),
-            Ask::Lend(1),
-            Ask::Read(4),
-            Ask::Journal,
-        ],
-        r#"1; 2; 3; 4; "foobar"; Duplicate 1 Ok(4); Reader 4; "#,
-    )
-}
-
-#[test]
-fn numbers_go_on_after_the_journal_is_emptied(rt: HostRuntime) -> Result<(), Fail> {
-    tells(
-        &rt,
-        &[
-            Ask::Pipe,
-            Ask::Clear,
-            Ask::Journal,
-            Ask::Duplicate(1),
-            Ask::Close(1),
-            Ask::Close(2),
-            Ask::Close(3),
-            Ask::Journal,
-        ],
-        "(1, 2); 3; Duplicate 1 Ok(3); Close 1; Close 2; Close 3; ",
-    )
-}
-
-#[test]
-fn workers_are_refused(rt: HostRuntime) -> Result<(), Fail> {
-    tells(
-        &rt,
-        &[Ask::Pipe, Ask::Feed(2), Ask::Drain(1), Ask::Journal],
-        "(1, 2); Unsupported; Unsupported; Pipe Ok((1, 2)); Feed 2 Err(Fault { kind: Unsupported }); Drain 1 Err(Fault { kind: Unsupported }); ",
-    )
-}
-
-#[test]
-fn a_reader_gives_more_than_a_pipe_holds(rt: HostRuntime) -> Result<(), Fail> {
-    let words = ["/bin/sh", "-c", "head -c 1000000 /dev/zero | tr '\\0' '*'"];
-    let asks = [
-        Ask::Pipe,
-        Ask::Spawn(&words, NULL, Stdio::End(2), INHERIT),
-        Ask::Stars(1),
-        Ask::Ending,
-    ];
-    tells(&rt, &asks, "(1, 2); 3; (1000000, true); Code(0); ")
-}
-
-#[test]
-fn a_child_reads_an_end(rt: HostRuntime) -> Result<(), Fail> {
-    tells(
-        &rt,
-        &[
-            Ask::Pipe,
-            Ask::Spawn(&["/bin/cat"], Stdio::End(1), NULL, INHERIT),
-            Ask::Poll,
-            Ask::Close(2),
-            Ask::Ending,
-        ],
-        "(1, 2); 3; None; Code(0); ",
+        pipe
+        spawn null 2 inherit (/bin/sh,-c,head -c 1000000 /dev/zero | tr '\0' '*')
+        stars 1
+        ending
+        says (1, 2); 3; (1000000, true); Code(0);
+        "#,
     )
 }

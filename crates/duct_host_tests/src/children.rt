@@ -1,152 +1,151 @@
 //! Children: their endings, and what kills and signals do to them.
-use crate::asks::{Ask, tells};
-use duct_base::system::Stdio;
+use crate::asks::rows;
 use std::test::Fail;
 
-const INHERIT: Stdio<u64> = Stdio::Inherit;
-
-const NULL: Stdio<u64> = Stdio::Null;
-
-/// The words of a child that sleeps, and that each signal would end. It is there once it has said so.
-const SLEEPING: [&str; 5] = [
-    "/usr/bin/env",
-    "--default-signal",
-    "/bin/sh",
-    "-c",
-    "echo ready; exec sleep 100",
-];
-
-/// Fails unless a sleeping child goes on until it is sent this signal, and then ends by it.
-fn ends_by(rt: &HostRuntime, signal: i32) -> Result<(), Fail> {
-    let expected = format!(in rt.alloc(); "(1, 2); 3; None; (); Signal({signal}); ")?;
-    let asks = [
-        Ask::Pipe,
-        Ask::Spawn(&SLEEPING, NULL, Stdio::End(2), INHERIT),
-        Ask::Ready(1),
-        Ask::Poll,
-        Ask::Signal(signal),
-        Ask::Ending,
-    ];
-    tells(rt, &asks, expected.as_str())
-}
-
+/// Each signal that is served ends a child. It sleeps, each signal would end it, and it is there once it has said so.
 #[test]
-fn each_signal_that_is_served_ends_a_child(rt: HostRuntime) -> Result<(), Fail> {
-    for signal in [1, 2, 3, 6, 9, 14, 15] {
-        ends_by(&rt, signal)?;
-    }
-    Ok(())
-}
-
-#[test]
-fn other_signals_are_refused_and_not_sent(rt: HostRuntime) -> Result<(), Fail> {
-    tells(
+fn signals_that_are_served(rt: HostRuntime) -> Result<(), Fail> {
+    rows(
         &rt,
-        &[
-            Ask::Pipe,
-            Ask::Spawn(&SLEEPING, NULL, Stdio::End(2), INHERIT),
-            Ask::Ready(1),
-            Ask::Signal(-1),
-            Ask::Signal(0),
-            Ask::Signal(4),
-            Ask::Signal(5),
-            Ask::Signal(7),
-            Ask::Signal(8),
-            Ask::Signal(10),
-            Ask::Signal(12),
-            Ask::Signal(13),
-            Ask::Signal(16),
-            Ask::Signal(64),
-            Ask::Signal(i32::MIN),
-            Ask::Signal(i32::MAX),
-            Ask::Poll,
-            Ask::Kill,
-            Ask::Ending,
-        ],
-        "(1, 2); 3; InvalidInput; InvalidInput; InvalidInput; InvalidInput; InvalidInput; InvalidInput; InvalidInput; \
-         InvalidInput; InvalidInput; InvalidInput; InvalidInput; InvalidInput; InvalidInput; None; (); Signal(9); ",
+        r#"
+        pipe
+        spawn null 2 inherit (/usr/bin/env,--default-signal,/bin/sh,-c,echo ready; exec sleep 100)
+        ready 1
+        poll
+        signal 1
+        ending
+        says (1, 2); 3; None; (); Signal(1);
+
+        pipe
+        spawn null 2 inherit (/usr/bin/env,--default-signal,/bin/sh,-c,echo ready; exec sleep 100)
+        ready 1
+        poll
+        signal 2
+        ending
+        says (1, 2); 3; None; (); Signal(2);
+
+        pipe
+        spawn null 2 inherit (/usr/bin/env,--default-signal,/bin/sh,-c,echo ready; exec sleep 100)
+        ready 1
+        poll
+        signal 3
+        ending
+        says (1, 2); 3; None; (); Signal(3);
+
+        pipe
+        spawn null 2 inherit (/usr/bin/env,--default-signal,/bin/sh,-c,echo ready; exec sleep 100)
+        ready 1
+        poll
+        signal 6
+        ending
+        says (1, 2); 3; None; (); Signal(6);
+
+        pipe
+        spawn null 2 inherit (/usr/bin/env,--default-signal,/bin/sh,-c,echo ready; exec sleep 100)
+        ready 1
+        poll
+        signal 9
+        ending
+        says (1, 2); 3; None; (); Signal(9);
+
+        pipe
+        spawn null 2 inherit (/usr/bin/env,--default-signal,/bin/sh,-c,echo ready; exec sleep 100)
+        ready 1
+        poll
+        signal 14
+        ending
+        says (1, 2); 3; None; (); Signal(14);
+
+        pipe
+        spawn null 2 inherit (/usr/bin/env,--default-signal,/bin/sh,-c,echo ready; exec sleep 100)
+        ready 1
+        poll
+        signal 15
+        ending
+        says (1, 2); 3; None; (); Signal(15);
+        "#,
     )
 }
 
+/// Other signals are refused and not sent; a child that was seen to end is sent nothing; a child that ended unseen keeps its
+/// ending.
 #[test]
-fn a_child_that_was_seen_to_end_is_sent_nothing(rt: HostRuntime) -> Result<(), Fail> {
-    tells(
+fn signals_that_are_not_sent(rt: HostRuntime) -> Result<(), Fail> {
+    rows(
         &rt,
-        &[
-            Ask::Pipe,
-            Ask::Spawn(&SLEEPING, NULL, Stdio::End(2), INHERIT),
-            Ask::Ready(1),
-            Ask::Kill,
-            Ask::Ending,
-            Ask::Kill,
-            Ask::Signal(1),
-            Ask::Signal(9),
-            Ask::Signal(15),
-            Ask::Signal(10),
-            Ask::Poll,
-        ],
-        "(1, 2); 3; (); Signal(9); (); (); (); (); InvalidInput; Some(Signal(9)); ",
+        r#"
+        pipe
+        spawn null 2 inherit (/usr/bin/env,--default-signal,/bin/sh,-c,echo ready; exec sleep 100)
+        ready 1
+        signal -1
+        signal 0
+        signal 4
+        signal 5
+        signal 7
+        signal 8
+        signal 10
+        signal 12
+        signal 13
+        signal 16
+        signal 64
+        signal -2147483648
+        signal 2147483647
+        poll
+        kill
+        ending
+        says (1, 2); 3; InvalidInput; InvalidInput; InvalidInput; InvalidInput; InvalidInput; InvalidInput; InvalidInput; InvalidInput; InvalidInput; InvalidInput; InvalidInput; InvalidInput; InvalidInput; None; (); Signal(9);
+
+        pipe
+        spawn null 2 inherit (/usr/bin/env,--default-signal,/bin/sh,-c,echo ready; exec sleep 100)
+        ready 1
+        kill
+        ending
+        kill
+        signal 1
+        signal 9
+        signal 15
+        signal 10
+        poll
+        says (1, 2); 3; (); Signal(9); (); (); (); (); InvalidInput; Some(Signal(9));
+
+        pipe
+        spawn null 2 inherit (/bin/sh,-c,exit 3)
+        read 1
+        signal 15
+        ending
+        poll
+        says (1, 2); 3; ""; (); Code(3); Some(Code(3));
+        "#,
     )
 }
 
+/// Endings are codes and signals; the id is the number of the process; a poll does not wait.
 #[test]
-fn a_child_that_ended_unseen_keeps_its_ending(rt: HostRuntime) -> Result<(), Fail> {
-    tells(
+fn endings_and_polls(rt: HostRuntime) -> Result<(), Fail> {
+    rows(
         &rt,
-        &[
-            Ask::Pipe,
-            Ask::Spawn(&["/bin/sh", "-c", "exit 3"], NULL, Stdio::End(2), INHERIT),
-            Ask::Read(1),
-            Ask::Signal(15),
-            Ask::Ending,
-            Ask::Poll,
-        ],
-        r#"(1, 2); 3; ""; (); Code(3); Some(Code(3)); "#,
-    )
-}
+        r#"
+        spawn null null null (/bin/sh,-c,exit 0)
+        ending
+        spawn null null null (/bin/sh,-c,exit 255)
+        ending
+        spawn null null null (/bin/sh,-c,kill -6 $$)
+        ending
+        spawn null null null (/bin/sh,-c,kill -9 $$)
+        ending
+        says 1; Code(0); 2; Code(255); 3; Signal(6); 4; Signal(9);
 
-#[test]
-fn endings_are_codes_and_signals(rt: HostRuntime) -> Result<(), Fail> {
-    tells(
-        &rt,
-        &[
-            Ask::Spawn(&["/bin/sh", "-c", "exit 0"], NULL, NULL, NULL),
-            Ask::Ending,
-            Ask::Spawn(&["/bin/sh", "-c", "exit 255"], NULL, NULL, NULL),
-            Ask::Ending,
-            Ask::Spawn(&["/bin/sh", "-c", "kill -6 $$"], NULL, NULL, NULL),
-            Ask::Ending,
-            Ask::Spawn(&["/bin/sh", "-c", "kill -9 $$"], NULL, NULL, NULL),
-            Ask::Ending,
-        ],
-        "1; Code(0); 2; Code(255); 3; Signal(6); 4; Signal(9); ",
-    )
-}
+        pipe
+        spawn null 2 inherit (/bin/sh,-c,echo $$)
+        read_id 1
+        ending
+        says (1, 2); 3; true; Code(0);
 
-#[test]
-fn the_id_is_the_number_of_the_process(rt: HostRuntime) -> Result<(), Fail> {
-    tells(
-        &rt,
-        &[
-            Ask::Pipe,
-            Ask::Spawn(&["/bin/sh", "-c", "echo $$"], NULL, Stdio::End(2), INHERIT),
-            Ask::ReadId(1),
-            Ask::Ending,
-        ],
-        "(1, 2); 3; true; Code(0); ",
-    )
-}
-
-#[test]
-fn a_poll_does_not_wait(rt: HostRuntime) -> Result<(), Fail> {
-    tells(
-        &rt,
-        &[
-            Ask::Spawn(&["/bin/sleep", "2"], NULL, NULL, NULL),
-            Ask::Poll,
-            Ask::Kill,
-            Ask::Ending,
-        ],
-        "1; None; (); Signal(9); ",
+        spawn null null null (/bin/sleep,2)
+        poll
+        kill
+        ending
+        says 1; None; (); Signal(9);
+        "#,
     )
 }

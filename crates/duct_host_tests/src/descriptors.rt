@@ -1,125 +1,84 @@
 //! That a child gets no descriptor above 2, and that nothing stays open once each end is spent.
-use crate::asks::{Ask, tells};
-use crate::support::place;
-use duct_base::system::{Side, Stdio};
+use crate::asks::rows;
 use std::test::Fail;
 
-const INHERIT: Stdio<u64> = Stdio::Inherit;
-
-const NULL: Stdio<u64> = Stdio::Null;
-
-/// Names the descriptors of the shell that runs it.
-const LIST: &str = "for f in /proc/$$/fd/*; do [ -L \"$f\" ] && echo \"${f##*/}\"; done; exit 0";
-
+/// The child names the descriptors of the shell that runs it.
 #[test]
 fn a_child_gets_no_descriptor_above_2(rt: HostRuntime) -> Result<(), Fail> {
-    tells(
+    rows(
         &rt,
-        &[
-            Ask::Pipe,
-            Ask::OpenRead("/dev/null"),
-            Ask::Duplicate(3),
-            Ask::Parent(Side::Out),
-            Ask::AdoptFile("/dev/null"),
-            Ask::Pipe,
-            Ask::Spawn(&["/bin/sh", "-c", LIST], NULL, Stdio::End(8), INHERIT),
-            Ask::Read(7),
-            Ask::Ending,
-        ],
-        r#"(1, 2); 3; 4; 5; 6; (7, 8); 9; "0\n1\n2\n"; Code(0); "#,
+        r#"
+        pipe
+        open_read /dev/null
+        duplicate 3
+        parent out
+        adopt_file /dev/null
+        pipe
+        spawn null 8 inherit (/bin/sh,-c,for f in /proc/$$/fd/*; do [ -L "$f" ] && echo "${f##*/}"; done; exit 0)
+        read 7
+        ending
+        says (1, 2); 3; 4; 5; 6; (7, 8); 9; "0\n1\n2\n"; Code(0);
+        "#,
     )
 }
 
-/// Fails unless five ends, one of them of this file, leave nothing open.
-fn all_closed(rt: &HostRuntime, path: &str) -> Result<(), Fail> {
-    let asks = [
-        Ask::Pipe,
-        Ask::Duplicate(2),
-        Ask::Create(path),
-        Ask::Parent(Side::Err),
-        Ask::Opened,
-        Ask::Close(1),
-        Ask::Close(2),
-        Ask::Close(3),
-        Ask::Close(4),
-        Ask::Close(5),
-        Ask::Remove(path),
-        Ask::Opened,
-    ];
-    tells(rt, &asks, "(1, 2); 3; 4; 5; Some(5); Some(0); ")
-}
-
+/// Ends that are closed leave nothing open, nor do ends that a child gets, ends of refused workers, adopted ends that are dropped,
+/// and signals.
 #[test]
-fn ends_that_are_closed_leave_nothing_open(rt: HostRuntime) -> Result<(), Fail> {
-    let path = place(&rt, rt.process(), "closed")?;
-    all_closed(&rt, path.as_str())
-}
-
-#[test]
-fn ends_that_a_child_gets_are_closed_here(rt: HostRuntime) -> Result<(), Fail> {
-    tells(
+fn nothing_stays_open(rt: HostRuntime) -> Result<(), Fail> {
+    rows(
         &rt,
-        &[
-            Ask::Pipe,
-            Ask::OpenRead("/dev/null"),
-            Ask::Duplicate(2),
-            Ask::Spawn(&["/bin/cat"], Stdio::End(3), Stdio::End(2), Stdio::End(4)),
-            Ask::Opened,
-            Ask::Read(1),
-            Ask::Opened,
-            Ask::Pipe,
-            Ask::OpenRead("/dev/null"),
-            Ask::Duplicate(7),
-            Ask::Spawn(
-                &["/no-such-program"],
-                Stdio::End(8),
-                Stdio::End(7),
-                Stdio::End(9),
-            ),
-            Ask::Opened,
-            Ask::Read(6),
-            Ask::Opened,
-        ],
-        r#"(1, 2); 3; 4; 5; Some(1); ""; Some(0); (6, 7); 8; 9; NotFound; Some(1); ""; Some(0); "#,
-    )
-}
+        r#"
+        pipe
+        duplicate 2
+        create {place}closed
+        parent err
+        opened
+        close 1
+        close 2
+        close 3
+        close 4
+        close 5
+        remove {place}closed
+        opened
+        says (1, 2); 3; 4; 5; Some(5); Some(0);
 
-#[test]
-fn ends_of_refused_workers_are_closed(rt: HostRuntime) -> Result<(), Fail> {
-    tells(
-        &rt,
-        &[Ask::Pipe, Ask::Feed(2), Ask::Drain(1), Ask::Opened],
-        "(1, 2); Unsupported; Unsupported; Some(0); ",
-    )
-}
+        pipe
+        open_read /dev/null
+        duplicate 2
+        spawn 3 2 4 (/bin/cat)
+        opened
+        read 1
+        opened
+        pipe
+        open_read /dev/null
+        duplicate 7
+        spawn 8 7 9 (/no-such-program)
+        opened
+        read 6
+        opened
+        says (1, 2); 3; 4; 5; Some(1); ""; Some(0); (6, 7); 8; 9; NotFound; Some(1); ""; Some(0);
 
-#[test]
-fn adopted_ends_are_closed_where_they_are_dropped(rt: HostRuntime) -> Result<(), Fail> {
-    tells(
-        &rt,
-        &[
-            Ask::AdoptPipe(""),
-            Ask::AdoptFile("/dev/null"),
-            Ask::Opened,
-            Ask::Drop(1),
-            Ask::Drop(2),
-            Ask::Drop(3),
-            Ask::Opened,
-        ],
-        "1; 2; 3; Some(3); Some(0); ",
-    )
-}
+        pipe
+        feed 2
+        drain 1
+        opened
+        says (1, 2); Unsupported; Unsupported; Some(0);
 
-#[test]
-fn signals_leave_nothing_open(rt: HostRuntime) -> Result<(), Fail> {
-    tells(
-        &rt,
-        &[
-            Ask::Spawn(&["/bin/sleep", "100"], NULL, NULL, NULL),
-            Ask::Signal(15),
-            Ask::Ending,
-            Ask::Opened,
-        ],
-        "1; (); Signal(15); Some(0); ",
+        adopt_pipe
+        adopt_file /dev/null
+        opened
+        drop 1
+        drop 2
+        drop 3
+        opened
+        says 1; 2; 3; Some(3); Some(0);
+
+        spawn null null null (/bin/sleep,100)
+        signal 15
+        ending
+        opened
+        says 1; (); Signal(15); Some(0);
+        "#,
     )
 }

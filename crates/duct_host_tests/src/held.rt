@@ -37,7 +37,32 @@ impl Held {
         say(said, &number)
     }
 
-    pub fn pipe(&mut self, said: &mut String) -> Result<(), Fail> {
+    /// Asks the host for what this word says, and answers whether it says a request.
+    pub fn ask(&mut self, word: &str, rest: &str, said: &mut String) -> Result<bool, Fail> {
+        match word {
+            "pipe" => self.pipe(said)?,
+            "open_read" => self.open_read(rest, said)?,
+            "create" => self.create(rest, said)?,
+            "parent" => self.parent(side(rest)?, said)?,
+            "canonicalize" => self.canonicalize(rest, said)?,
+            "clear" => self.host.clear_journal(),
+            "duplicate" | "feed" | "drain" | "close" => self.ask_with(word, rest.parse()?, said)?,
+            _ => return Ok(false),
+        }
+        Ok(true)
+    }
+
+    /// Asks what has an end.
+    fn ask_with(&mut self, word: &str, number: u64, said: &mut String) -> Result<(), Fail> {
+        match word {
+            "duplicate" => self.duplicate(number, said),
+            "feed" => self.feed(number, said),
+            "drain" => self.drain(number, said),
+            _ => self.close(number),
+        }
+    }
+
+    fn pipe(&mut self, said: &mut String) -> Result<(), Fail> {
         self.ends.reserve(2)?;
         let (read, write) = self.host.pipe()?;
         let numbers = (read.number(), write.number());
@@ -46,21 +71,21 @@ impl Held {
         say(said, &numbers)
     }
 
-    pub fn open_read(&mut self, path: &str, said: &mut String) -> Result<(), Fail> {
+    fn open_read(&mut self, path: &str, said: &mut String) -> Result<(), Fail> {
         match self.host.open_read(path) {
             Ok(end) => self.keep(end, said),
             Err(fault) => say(said, &fault.kind),
         }
     }
 
-    pub fn create(&mut self, path: &str, said: &mut String) -> Result<(), Fail> {
+    fn create(&mut self, path: &str, said: &mut String) -> Result<(), Fail> {
         match self.host.create(path) {
             Ok(end) => self.keep(end, said),
             Err(fault) => say(said, &fault.kind),
         }
     }
 
-    pub fn duplicate(&mut self, number: u64, said: &mut String) -> Result<(), Fail> {
+    fn duplicate(&mut self, number: u64, said: &mut String) -> Result<(), Fail> {
         let end = taken(&mut self.ends, number)?;
         let made = self.host.duplicate(&end)?;
         self.ends.push(end)?;
@@ -73,17 +98,17 @@ impl Held {
         self.keep(made, said)
     }
 
-    pub fn parent(&mut self, side: Side, said: &mut String) -> Result<(), Fail> {
+    fn parent(&mut self, side: Side, said: &mut String) -> Result<(), Fail> {
         let end = self.host.parent(side)?;
         self.keep(end, said)
     }
 
-    pub fn canonicalize(&mut self, path: &str, said: &mut String) -> Result<(), Fail> {
+    fn canonicalize(&mut self, path: &str, said: &mut String) -> Result<(), Fail> {
         let answer = self.host.canonicalize(path);
         tell(said, &answer)
     }
 
-    pub fn feed(&mut self, number: u64, said: &mut String) -> Result<(), Fail> {
+    fn feed(&mut self, number: u64, said: &mut String) -> Result<(), Fail> {
         let alloc = self.host.allocator();
         let bytes = Arc::new(alloc, Vec::from_slice(alloc, b"xyz")?)?;
         let end = taken(&mut self.ends, number)?;
@@ -91,13 +116,13 @@ impl Held {
         tell(said, &answer)
     }
 
-    pub fn drain(&mut self, number: u64, said: &mut String) -> Result<(), Fail> {
+    fn drain(&mut self, number: u64, said: &mut String) -> Result<(), Fail> {
         let end = taken(&mut self.ends, number)?;
         let answer = self.host.start_drain(end).map(drop);
         tell(said, &answer)
     }
 
-    pub fn close(&mut self, number: u64) -> Result<(), Fail> {
+    fn close(&mut self, number: u64) -> Result<(), Fail> {
         let end = taken(&mut self.ends, number)?;
         self.host.close(end);
         Ok(())
@@ -118,17 +143,18 @@ impl Held {
         same(&line, b"ready\n")
     }
 
-    pub fn spawn(
-        &mut self,
-        spec: CommandSpec,
-        io: [Stdio<u64>; 3],
-    ) -> Result<Result<Started, Fault>, Fail> {
+    pub fn spawn(&mut self, spec: CommandSpec, io: &str) -> Result<Result<Started, Fault>, Fail> {
         let io = streams(&mut self.ends, io)?;
         Ok(self.host.spawn(spec, io))
     }
+}
 
-    pub fn clear(&mut self) {
-        self.host.clear_journal();
+/// The stream of the parent of this name.
+fn side(name: &str) -> Result<Side, Fail> {
+    match name {
+        "out" => Ok(Side::Out),
+        "err" => Ok(Side::Err),
+        _ => Err(Fail::new("no such stream of the parent")),
     }
 }
 
@@ -143,26 +169,27 @@ pub fn taken(ends: &mut Vec<End>, number: u64) -> Result<End, Fail>
     }
 }
 
-/// A stream, whose end is taken out of others.
-fn stream(ends: &mut Vec<End>, stream: Stdio<u64>) -> Result<Stdio<End>, Fail>
+/// A stream, `inherit`, `null` or an end by its number, which is taken out of others.
+fn stream(ends: &mut Vec<End>, word: Option<&str>) -> Result<Stdio<End>, Fail>
     ensures taken { IfOk result (λ made. vec_len ends.old ≡ vec_len ends.new + length (ends_of (made ∷ []))) }
     ensures left { OnErr result (vec_len ends.old ≡ vec_len ends.new) }
 {
-    match stream {
-        Stdio::Inherit => Ok(Stdio::Inherit),
-        Stdio::Null => Ok(Stdio::Null),
-        Stdio::End(number) => Ok(Stdio::End(taken(ends, number)?)),
+    match word {
+        Some("inherit") => Ok(Stdio::Inherit),
+        Some("null") => Ok(Stdio::Null),
+        Some(number) => Ok(Stdio::End(taken(ends, number.parse()?)?)),
+        None => Err(Fail::new("a stream is missing")),
     }
 }
 
 /// Three streams, whose ends are taken out of others.
-fn streams(ends: &mut Vec<End>, io: [Stdio<u64>; 3]) -> Result<[Stdio<End>; 3], Fail>
+fn streams(ends: &mut Vec<End>, io: &str) -> Result<[Stdio<End>; 3], Fail>
     ensures taken { IfOk result (λ made. vec_len ends.old ≡ vec_len ends.new + length (ends_of made)) }
     ensures left { vec_len ends.new ≤ vec_len ends.old }
 {
-    let [input, output, error] = io;
-    let input = stream(ends, input)?;
-    let output = stream(ends, output)?;
-    let error = stream(ends, error)?;
+    let mut words = io.split(' ');
+    let input = stream(ends, words.next())?;
+    let output = stream(ends, words.next())?;
+    let error = stream(ends, words.next())?;
     Ok([input, output, error])
 }

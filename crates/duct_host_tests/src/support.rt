@@ -42,44 +42,43 @@ pub fn tell<T: Debug>(said: &mut String, answer: &Result<T, Fault>) -> Result<()
     }
 }
 
-/// The spec of a command with these words, this folder and these variables.
+/// The spec of a command: the words that commas part, a folder if the text isn't empty, and variables, as `A=1,B=2`.
 pub fn command(
     alloc: Global,
-    words: &[&str],
-    folder: Option<&str>,
-    variables: &[(&str, &str)],
+    words: Option<&str>,
+    folder: &str,
+    variables: &str,
 ) -> Result<CommandSpec, AllocError> {
     let texts = texts_of(alloc, words)?;
-    let folder = match folder {
-        Some(folder) => Some(String::from_str(alloc, folder)?),
-        None => None,
-    };
     let vars = vars_of(alloc, variables)?;
+    let folder = folder_of(alloc, folder)?;
     let inherit = Port::Inherit;
     Ok(spec_of(texts, folder, vars, inherit, inherit, inherit))
 }
 
-fn texts_of(alloc: Global, words: &[&str]) -> Result<Vec<String>, AllocError> {
+fn texts_of(alloc: Global, words: Option<&str>) -> Result<Vec<String>, AllocError> {
     let mut texts = Vec::new(alloc);
-    for word in words {
-        push_text(&mut texts, word)?;
+    if let Some(words) = words {
+        for word in words.split(',') {
+            texts.push(String::from_str(alloc, word)?)?;
+        }
     }
     Ok(texts)
 }
 
-fn push_text(texts: &mut Vec<String>, word: &str) -> Result<(), AllocError> {
-    let text = String::from_str(*texts.allocator(), word)?;
-    texts.push(text)?;
-    Ok(())
+fn folder_of(alloc: Global, folder: &str) -> Result<Option<String>, AllocError> {
+    if folder.is_empty() {
+        return Ok(None);
+    }
+    Ok(Some(String::from_str(alloc, folder)?))
 }
 
-fn vars_of(
-    alloc: Global,
-    variables: &[(&str, &str)],
-) -> Result<BTreeMap<EnvNameString, String>, AllocError> {
+fn vars_of(alloc: Global, variables: &str) -> Result<BTreeMap<EnvNameString, String>, AllocError> {
     let mut vars = BTreeMap::new(alloc);
-    for variable in variables {
-        set(alloc, &mut vars, variable.0, variable.1)?;
+    for variable in variables.split(',') {
+        if let Some((name, value)) = variable.split_once('=') {
+            set(alloc, &mut vars, name, value)?;
+        }
     }
     Ok(vars)
 }
@@ -117,13 +116,12 @@ where
     Ok(text)
 }
 
-/// A journal as text, a few words for each entry.
-pub fn story(alloc: Global, entries: &[Entry]) -> Result<String, AllocError> {
-    let mut text = String::new(alloc);
+/// Adds a journal, a few words for each entry.
+pub fn story(text: &mut String, entries: &[Entry]) -> Result<(), AllocError> {
     for entry in entries {
-        push_entry(&mut text, entry)?;
+        push_entry(text, entry)?;
     }
-    Ok(text)
+    Ok(())
 }
 
 /// The words for an entry.

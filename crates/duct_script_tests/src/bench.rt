@@ -37,9 +37,13 @@ pub struct Bench {
 /// Tries all rows of a table.
 pub fn rows(alloc: Global, table: &str) -> Result<(), Fail> {
     for row in table.split("\n\n") {
-        Bench::new(alloc)?.try_lines(row)?;
+        try_row(alloc, row)?;
     }
     Ok(())
+}
+
+fn try_row(alloc: Global, row: &str) -> Result<(), Fail> {
+    Bench::new(alloc)?.try_lines(row)
 }
 
 impl Bench {

@@ -57,7 +57,7 @@ impl Made {
     /// What a step makes.
     fn made(&self, step: &str) -> Result<Expression<u64>, Stop> {
         match step.split_once('=') {
-            Some(("pipe", place)) => Ok(at(self, self.hand)?.pipe(at(self, place.parse()?)?)?),
+            Some(("pipe", place)) => piped(at(self, self.hand)?, at(self, place.parse()?)?),
             Some((call, values)) => with_values(self.alloc, at(self, self.hand)?, call, values),
             None if is_call(step) => bare(at(self, self.hand)?, step),
             None => command(self.alloc, step),
@@ -138,6 +138,10 @@ fn bare(inner: &Expression<u64>, call: &str) -> Result<Expression<u64>, Stop> {
     Ok(made?)
 }
 
+fn piped(left: &Expression<u64>, right: &Expression<u64>) -> Result<Expression<u64>, Stop> {
+    Ok(left.pipe(right)?)
+}
+
 /// A call with arguments.
 fn with_values(
     alloc: Global,
@@ -146,34 +150,51 @@ fn with_values(
     values: &str,
 ) -> Result<Expression<u64>, Stop> {
     let made = match call {
-        "stdin_bytes" => inner.stdin_bytes(Vec::from_slice(alloc, values.as_bytes())?),
+        "stdin_bytes" => with_bytes(alloc, inner, values),
         "stdin_path" => inner.stdin_path(values),
         "stdout_path" => inner.stdout_path(values),
         "stderr_path" => inner.stderr_path(values),
-        "stdin_file" => inner.stdin_file(values.parse()?),
-        "stdout_file" => inner.stdout_file(values.parse()?),
-        "stderr_file" => inner.stderr_file(values.parse()?),
-        _ => return surrounded(alloc, inner, call, values),
+        "dir" => inner.dir(values),
+        "env" => with_variable(inner, values),
+        "env_remove" => inner.env_remove(values),
+        "full_env" => with_variables(alloc, inner, values),
+        "before_spawn" => return hooked(alloc, inner, values),
+        _ => return with_end(inner, call, values.parse()?),
     };
     Ok(made?)
 }
 
-/// A call with arguments that is on no stream.
-fn surrounded(
+fn with_bytes(
     alloc: Global,
     inner: &Expression<u64>,
-    call: &str,
+    text: &str,
+) -> Result<Expression<u64>, Error> {
+    inner.stdin_bytes(Vec::from_slice(alloc, text.as_bytes())?)
+}
+
+fn with_variable(inner: &Expression<u64>, values: &str) -> Result<Expression<u64>, Error> {
+    let (name, value) = values.split_once(',').unwrap_or((values, ""));
+    inner.env(name, value)
+}
+
+fn with_variables(
+    alloc: Global,
+    inner: &Expression<u64>,
     values: &str,
-) -> Result<Expression<u64>, Stop> {
-    let (first, rest) = values.split_once(',').unwrap_or((values, ""));
-    match call {
-        "dir" => Ok(inner.dir(values)?),
-        "env" => Ok(inner.env(first, rest)?),
-        "env_remove" => Ok(inner.env_remove(values)?),
-        "full_env" => Ok(inner.full_env(pairs(alloc, values)?.as_slice())?),
-        "before_spawn" => hooked(alloc, inner, values),
-        _ => Err(Stop::Word),
-    }
+) -> Result<Expression<u64>, Error> {
+    let pairs = pairs(alloc, values)?;
+    inner.full_env(pairs.as_slice())
+}
+
+/// A stream that goes to an end.
+fn with_end(inner: &Expression<u64>, call: &str, end: u64) -> Result<Expression<u64>, Stop> {
+    let made = match call {
+        "stdin_file" => inner.stdin_file(end),
+        "stdout_file" => inner.stdout_file(end),
+        "stderr_file" => inner.stderr_file(end),
+        _ => return Err(Stop::Word),
+    };
+    Ok(made?)
 }
 
 /// A quiet hook with the ends of these numbers.

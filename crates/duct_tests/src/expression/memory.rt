@@ -131,9 +131,13 @@ fn wrote(alloc: Global, spec: &mut CommandSpec, line: &str) -> Result<Came, Stop
 fn write_all(alloc: Global) -> Result<Came, Stop> {
     let mut came = Came::Whole;
     for text in WRITES.trim().lines() {
-        came = came.then(wrote(alloc, &mut spec(alloc)?, text.trim())?);
+        came = came.then(wrote_anew(alloc, text.trim())?);
     }
     Ok(came)
+}
+
+fn wrote_anew(alloc: Global, line: &str) -> Result<Came, Stop> {
+    wrote(alloc, &mut spec(alloc)?, line)
 }
 
 pub fn writes(alloc: Global) -> Came {

@@ -15,9 +15,20 @@ fn line(alloc: Global, spec: &mut CommandSpec, line: &str) -> Result<(), Stop> {
 }
 
 /// Tries all lines of a paragraph on one spec.
+fn paragraph(alloc: Global, text: &str) -> Result<(), Fail> {
+    lines(alloc, &mut spec(alloc)?, text)
+}
+
 fn lines(alloc: Global, spec: &mut CommandSpec, paragraph: &str) -> Result<(), Fail> {
     for text in paragraph.trim().lines() {
         tried(text, line(alloc, spec, text.trim()))?;
+    }
+    Ok(())
+}
+
+fn paragraphs(alloc: Global, table: &str) -> Result<(), Fail> {
+    for text in table.split("\n\n") {
+        paragraph(alloc, text)?;
     }
     Ok(())
 }
@@ -40,8 +51,5 @@ fn writes(rt: HostRuntime) -> Result<(), Fail> {
         stderr_to_inherit -> ["a"] None A=1 B=1 [Place(7), Null, Inherit]
         give_stdin -> ["a"] None A=1 B=1 [Given, Null, Inherit]
         "#;
-    for paragraph in table.split("\n\n") {
-        lines(rt.alloc(), &mut spec(rt.alloc())?, paragraph)?;
-    }
-    Ok(())
+    paragraphs(rt.alloc(), table)
 }
