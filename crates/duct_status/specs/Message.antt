@@ -24,6 +24,6 @@ IsMessage texts status text = list_all is_printable texts ≡ true → text ≡ 
 abbrev pub printed_message : List (List ℕ) → ExitStatus → Option (List ℕ)
 printed_message texts status =
     Some (codes "command ")
-        ++? debug_list debug_str texts
-        ++? Some (codes " exited with code ")
-        ++? Some (status_text status)
+    ++? debug_list debug_str texts
+    ++? Some (codes " exited with code ")
+    ++? Some (status_text status)
