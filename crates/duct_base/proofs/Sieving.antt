@@ -1,5 +1,5 @@
 -- Children that are asked one after the other, in a pool and as they are given to it.
-use Rattle.std.proofs.Common.{◌≡◌, ℕ, zero, suc, ◌+◌, ◌^◌, ◌<◌, ◌≤◌, List, [], ◌∷◌, ◌++◌, length, refl, ap, sym, ◌∙◌, arith, append_assoc, length-append, subst, inl, inr, take, drop, add-one, add-zero, zero-add}
+use Rattle.std.proofs.Common.{◌≡◌, ℕ, zero, suc, ◌+◌, ◌^◌, ◌<◌, ◌≤◌, List, [], ◌∷◌, ◌++◌, length, refl, ap, sym, ◌∙◌, arith, append_assoc, subst, inl, inr, take, drop, add-one, add-zero, zero-add}
 use Rattle.std.proofs.lemmas.List.{append-nil, take_all, drop_all}
 use Rattle.std.specs.Prelude.{map, Some, None, Ok, Err}
 use Rattle.std.specs.declared.option.Option.{Option}

@@ -10,7 +10,7 @@ use Rattle.duct_system.specs.declared.spec.Stream.TheVariants.{In, Out, Err}
 use Rattle.duct_start.specs.Actions as action
 use Rattle.duct_start.specs.Actions.{Action, Scope, State, Three, Leads, IsPlain, advance, level, given, less, many, left_by, found_by}
 use Rattle.duct_start.specs.Flat.{Wire, fetches, port_at, ports_at, commands, WireIs, is_stdin, is_in, is_out, is_err, is_nothing, is_slot, is_captured, is_lent, Fits}
-use Rattle.duct_start.specs.Found.{Found, Target, Nothing, ReaderAt, WriterAt, FileAt}
+use Rattle.duct_start.specs.Found.{Found, Target, Nothing, WriterAt}
 use Rattle.duct_start.specs.Plan.{Plan, asks, program_of, commanded}
 use Rattle.duct_start.specs.Step.{AskCanonicalize, AskSpawn}
 use Rattle.duct_start.proofs.Keeping.{Keeps, keeps_same, keeps_canonical}

@@ -1,15 +1,12 @@
 -- The plan made inwards is the plan looked up outwards, and it keeps the places of its capture pipes.
-use Rattle.std.proofs.Common.{◌≡◌, ℕ, List, [], ◌∷◌, ◌++◌, length, refl, ap, sym, ◌∙◌}
-use Rattle.std.specs.Prelude.{Bool, true, false, Some, None, is_some, if◌then◌else◌, unwrap_or}
-use Rattle.std.specs.declared.option.Option.{Option}
-use Rattle.duct_system.specs.declared.spec.Stream.{Stream}
+use Rattle.std.proofs.Common.{◌≡◌, ◌∷◌, length, refl, ap, ◌∙◌}
 use Rattle.duct_system.specs.declared.spec.Stream.TheVariants.{In, Out, Err}
-use Rattle.duct_start.specs.Found.{Found, target_of}
+use Rattle.duct_start.specs.Found.{target_of}
 use Rattle.duct_start.specs.Inward.{found_within, walked}
 use Rattle.duct_start.specs.Lookup.{goes, turned, found_on}
 use Rattle.duct_start.specs.Path.{Path, Crumb, left_of, right_of, within, place_of, step_of}
-use Rattle.duct_start.specs.Plan.{Plan, asks, captures_out, captures_err, opened, place_for, closed, planned}
-use Rattle.duct_start.specs.Step.{Turn, Decides, Follows, Opening, OpensNothing, Opens, CapturesOut, CapturesErr, AskPipe, step}
+use Rattle.duct_start.specs.Plan.{Plan, asks, opened, place_for, closed, planned}
+use Rattle.duct_start.specs.Step.{Turn, Decides, Follows, AskPipe, step}
 use Rattle.duct_start.specs.TreeView.{TreeView, command, pipe, around}
 
 turned_same : {E H : Type 0} (turn : Turn E) (up : Path E H) → turned turn (λ outer. goes up outer) ≡ turned turn (target_of (found_on up))

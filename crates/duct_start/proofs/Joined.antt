@@ -18,7 +18,7 @@ use Rattle.duct_start.specs.Inward.{found_within, walked}
 use Rattle.duct_start.specs.Plan.{Plan, asks, captures_out, captures_err, closed, begun, drains, plan_of, planned}
 use Rattle.duct_start.specs.Start.{depth, ends_in}
 use Rattle.duct_start.specs.Step.{Step, Follows, Item, AskPipe, AskFeed, AskOpenRead, AskCreate, AskDrain, left_step, right_step, step}
-use Rattle.duct_start.specs.TreeView.{TreeView, ModifierView, command, pipe, around, stdin_bytes, stdin_path, stdin_file, stdin_null, stdout_path, stdout_file, stdout_null, stdout_capture, stdout_to_stderr, stderr_path, stderr_file, stderr_null, stderr_capture, stderr_to_stdout, stdout_stderr_swap, dir, env, env_remove, full_env, unchecked, before_spawn}
+use Rattle.duct_start.specs.TreeView.{TreeView, command, pipe, around, stdin_bytes, stdin_path, stdin_file, stdin_null, stdout_path, stdout_file, stdout_null, stdout_capture, stdout_to_stderr, stderr_path, stderr_file, stderr_null, stderr_capture, stderr_to_stdout, stdout_stderr_swap, dir, env, env_remove, full_env, unchecked, before_spawn}
 use Rattle.duct_start.proofs.Inward.{joined}
 use Rattle.duct_start.proofs.Keeping.{keeps, keeps_same, keeps_out, keeps_err, out_opens, err_opens}
 use Rattle.duct_start.proofs.Stacks.{level_top, leads_none, leads_cons, leads_append}

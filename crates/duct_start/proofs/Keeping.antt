@@ -1,5 +1,5 @@
 -- A plan that goes on keeps the places of its capture pipes.
-use Rattle.std.proofs.Common.{◌≡◌, ℕ, List, ◌++◌, length, refl, ◌∙◌}
+use Rattle.std.proofs.Common.{◌≡◌, ℕ, List, length, refl, ◌∙◌}
 use Rattle.std.specs.Prelude.{Bool, true, false, Some, None, is_some, if◌then◌else◌, unwrap_or}
 use Rattle.std.specs.declared.option.Option.{Option}
 use Rattle.duct_start.specs.Found.{Found}

@@ -1,9 +1,8 @@
 -- The plan made inwards: what is found outwards goes along from the root to each command.
 use Rattle.std.specs.Prelude.{ℕ, ◌++◌, length}
 use Rattle.std.specs.Option.{option_or}
-use Rattle.std.specs.declared.option.Option.{Option}
 use Rattle.duct_system.specs.declared.spec.Stream.TheVariants.{In, Out, Err}
-use Rattle.duct_start.specs.Found.{Found, Change, target_of}
+use Rattle.duct_start.specs.Found.{Found, target_of}
 use Rattle.duct_start.specs.Lookup.{turned}
 use Rattle.duct_start.specs.Plan.{Plan, asks, opened, place_for, closed, commanded}
 use Rattle.duct_start.specs.Step.{Step, AskPipe, left_step, right_step, step}

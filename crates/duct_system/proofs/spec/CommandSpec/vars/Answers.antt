@@ -1,5 +1,5 @@
 -- A map's names ascend.
-use Rattle.std.proofs.Common.{subst, ap, sym}
+use Rattle.std.proofs.Common.{subst, ap}
 use Rattle.duct_system.proofs.Entries.{are_ordered}
 use Rattle.duct_system.specs.SpecView.{AreOrdered}
 use Rattle.duct_system.proofs.spec.CommandSpec.vars.Goals as goal
