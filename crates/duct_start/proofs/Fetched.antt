@@ -97,7 +97,7 @@ module _ {E H : Type 0} (number_of : E → ℕ) (base : ℕ) where
 
   module _ (bound : ℕ) where
     -- by one action that pushes it
-    by_one : (state : State E H) (s : Stream) (w : Wire E) (t : Target E) (x : Action E H) → fetches {E = E} {H = H} w s ≡ x ∷ [] → port_at w s ≡ port.Given →
+    by_one : (state : State E H) (s : Stream) (w : Wire E) (t : Target E) (x : Action E H) → fetches {E = E} {K = Scope E H} w s ≡ x ∷ [] → port_at w s ≡ port.Given →
         action.pops x ≡ 0 → action.Needs number_of base state x → advance state x ≡ action.pushes t state → length state.stack + 1 ≤ bound → IsFetched bound state s w t
     by_one state s w t x one port_is none needs is low = record {
       leads = subst (λ (p : Port). Leads number_of base bound state (fetches w s) (record { stack = put p t state.stack; plan = state.plan })) (sym port_is)
@@ -133,7 +133,7 @@ module _ {E H : Type 0} (number_of : E → ℕ) (base : ℕ) where
     pub command_leads : (state : State E H) (scope : Scope E H) (wires : Three (Wire E))
         (found : Found E H) (words : List (List ℕ)) →
         Fits number_of base state scope wires found → length state.stack + 3 ≤ bound →
-        Leads number_of base bound state (commands scope wires words)
+        Leads number_of base bound state (commands scope (is_some scope.folder) wires words)
         (record { stack = state.stack; plan = commanded found words state.plan })
     command_leads state scope wires found words fits low =
         let b = asks_canonical (program_of words) (is_some scope.folder) in

@@ -1,5 +1,13 @@
+pub mod Captured
+pub mod Counts
+pub mod Ending
 pub mod Fetched
+pub mod Going
 pub mod Inward
 pub mod Joined
 pub mod Keeping
+pub mod Origins
+pub mod Resolved
+pub mod Running
 pub mod Stacks
+pub mod Standing

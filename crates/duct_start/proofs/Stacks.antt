@@ -5,11 +5,12 @@ use Rattle.std.proofs.lemmas.Option.{slice_get_within}
 use Rattle.std.specs.Prelude.{Some, slice_get, reverse}
 use Rattle.duct_start.specs.Actions.{Action, State, level, pops, Needs, IsReady, AreReady, Leads, after, advance}
 
-get_seam : {A : Type 0} (xs : List A) (x : A) → slice_get (xs ++ x ∷ []) (length xs) ≡ Some x
+pub get_seam : {A : Type 0} (xs : List A) (x : A) → slice_get (xs ++ x ∷ []) (length xs) ≡ Some x
 get_seam [] x = refl
 get_seam (y ∷ xs) x = get_seam xs x
 
-get_front : {A : Type 0} (xs ys : List A) (n : ℕ) (x : A) → slice_get xs n ≡ Some x → slice_get (xs ++ ys) n ≡ Some x
+pub get_front : {A : Type 0} (xs ys : List A) (n : ℕ) (x : A) → slice_get xs n ≡ Some x
+    → slice_get (xs ++ ys) n ≡ Some x
 get_front [] ys n x is = cc
 get_front (y ∷ xs) ys zero x is = is
 get_front (y ∷ xs) ys (suc n) x is = get_front xs ys n x is

@@ -24,24 +24,29 @@ pub record Scope (E H : Type 0) : Type 0 where
   pub changes : List Change
   pub hooks : List (H × List E)
 
--- one action. A pipe leaves its write end on top, an input its read end. A depth is counted from the bottom of the stack; `tap`
--- duplicates the write end of a capture pipe, `finish` closes it and starts the worker of its read end
-pub data Action (E H : Type 0) : Type 0 where
-  environment : Action E H
-  canonicalize : List ℕ → Action E H
-  open_read : List ℕ → Action E H
-  create : List ℕ → Action E H
-  pipe : Action E H
-  input : Action E H
-  capture : Side → Action E H
-  duplicate : ℕ → Action E H
-  tap : Side → Action E H
-  lend : E → Action E H
-  parent : Side → Action E H
-  close : Action E H
-  spawn : Scope E H → List (List ℕ) → Three Port → Action E H
-  feed : List ℕ → Action E H
-  finish : Side → Action E H
+-- one action, with something for what stands round a command. A pipe leaves its write end on top, an input its read end. A depth is
+-- counted from the bottom of the stack; `tap` duplicates the write end of a capture pipe, `finish` closes it and starts the worker
+-- of its read end
+pub data ActionOf (E K : Type 0) : Type 0 where
+  environment : ActionOf E K
+  canonicalize : List ℕ → ActionOf E K
+  open_read : List ℕ → ActionOf E K
+  create : List ℕ → ActionOf E K
+  pipe : ActionOf E K
+  input : ActionOf E K
+  capture : Side → ActionOf E K
+  duplicate : ℕ → ActionOf E K
+  tap : Side → ActionOf E K
+  lend : E → ActionOf E K
+  parent : Side → ActionOf E K
+  close : ActionOf E K
+  spawn : K → List (List ℕ) → Three Port → ActionOf E K
+  feed : List ℕ → ActionOf E K
+  finish : Side → ActionOf E K
+
+-- an action in which stands what stands round its command
+abbrev pub Action : Type 0 → Type 0 → Type 0
+Action E H = ActionOf E (Scope E H)
 
 -- the stack by where its ends come from, its top first, and the plan so far with the places of the capture pipes that are open
 pub record State (E H : Type 0) : Type 0 where
@@ -166,7 +171,7 @@ IsPlain (port.Place place) = ⊥
 IsPlain p = Unit {0}
 
 -- how many ends an action pops
-abbrev pub pops : {E H : Type 0} → Action E H → ℕ
+abbrev pub pops : {E K : Type 0} → ActionOf E K → ℕ
 pops close = 1
 pops (feed bytes) = 1
 pops (spawn scope words ports) = many ports.input + (many ports.output + many ports.error)

@@ -9,7 +9,7 @@ use Rattle.duct_system.specs.declared.spec.Stream.TheVariants.{In, Out, Err}
 use Rattle.duct_system.specs.declared.system.Side.{Side}
 use Rattle.duct_system.specs.declared.system.Side.TheVariants as side
 use Rattle.duct_start.specs.Actions as action
-use Rattle.duct_start.specs.Actions.{Action, Scope, State, Three, capture_at, level}
+use Rattle.duct_start.specs.Actions.{Action, ActionOf, Scope, State, Three, capture_at, level}
 use Rattle.duct_start.specs.Found.{Found, Target, Parents, Nothing, ReaderAt, WriterAt, FileAt, Lends}
 use Rattle.duct_start.specs.Plan.{program_of}
 use Rattle.duct_start.specs.Step.{Step, step}
@@ -25,7 +25,7 @@ pub data Wire (E : Type 0) : Type 0 where
   lent : E → Wire E
 
 -- the actions by which a command gets what a stream of it is wired to
-abbrev pub fetches : {E H : Type 0} → Wire E → Stream → List (Action E H)
+abbrev pub fetches : {E K : Type 0} → Wire E → Stream → List (ActionOf E K)
 fetches nothing stream = []
 fetches (slot depth) stream = action.duplicate depth ∷ []
 fetches (captured which) stream = action.tap which ∷ []
@@ -56,11 +56,11 @@ ports_at wires = record {
   error = port_at wires.error Err;
 }
 
--- the actions of a command
-abbrev pub commands : {E H : Type 0} → Scope E H → Three (Wire E) → List (List ℕ)
-    → List (Action E H)
-commands scope wires words =
-    (if asks_canonical (program_of words) (is_some scope.folder)
+-- the actions of a command, where a folder is set or none
+abbrev pub commands : {E K : Type 0} → K → Bool → Three (Wire E) → List (List ℕ)
+    → List (ActionOf E K)
+commands scope folder wires words =
+    (if asks_canonical (program_of words) folder
     then action.canonicalize (program_of words) ∷ [] else [])
     ++ (fetches wires.input In ++ (fetches wires.output Out ++ (fetches wires.error Err
     ++ action.spawn scope words (ports_at wires) ∷ [])))
@@ -85,7 +85,7 @@ errors x three = record three { error = x }
 
 -- the actions of a tree inside this scope and these wires, over a stack of this depth
 abbrev pub flat : {E H : Type 0} → Scope E H → Three (Wire E) → TreeView E H → ℕ → List (Action E H)
-flat s w (command words) n = commands s w words
+flat s w (command words) n = commands s (is_some s.folder) w words
 flat s w (pipe left right) n =
     action.pipe ∷ (flat s (outputs (slot (n + 1)) w) left (n + 2)
     ++ (action.close ∷ (flat s (inputs (slot n) w) right (n + 1) ++ action.close ∷ [])))
@@ -114,7 +114,8 @@ flat s w (around stdout_stderr_swap inner) n =
     flat s (record w { output = w.error; error = w.output }) inner n
 flat s w (around (dir path) inner) n = flat (scope_within (step (dir path)) s) w inner n
 flat s w (around (env name value) inner) n = flat (scope_within (step (env name value)) s) w inner n
-flat s w (around (env_remove name) inner) n = flat (scope_within (step (env_remove name)) s) w inner n
+flat s w (around (env_remove name) inner) n =
+    flat (scope_within (step (env_remove name)) s) w inner n
 flat s w (around (full_env vars) inner) n = flat (scope_within (step (full_env vars)) s) w inner n
 flat s w (around unchecked inner) n = flat s w inner n
 flat s w (around (before_spawn hook ends) inner) n =

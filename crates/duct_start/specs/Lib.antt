@@ -5,13 +5,16 @@ pub mod Chain
 pub mod Flat
 pub mod Follows
 pub mod Found
+pub mod Holdings
 pub mod Inward
 pub mod Left
+pub mod Listed
 pub mod Lookup
 pub mod Path
 pub mod Plan
 pub mod Running
 pub mod ShapeOfTree
+pub mod Standing
 pub mod Start
 pub mod Step
 pub mod TreeView

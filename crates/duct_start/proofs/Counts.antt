@@ -1,0 +1,57 @@
+-- Counts of numbers in lists.
+use Rattle.std.proofs.Common.{◌≡◌, ◌≢◌, ℕ, ◌+◌, ◌<◌, ◌≤◌, List, [], ◌∷◌, ◌++◌, refl, arith, inl, inr}
+use Rattle.std.proofs.lemmas.Bool.{cases_lt}
+use Rattle.std.proofs.lemmas.Grind.{common_steps}
+use Rattle.std.proofs.lemmas.Bool.Decides.{nat_tests}
+use Rattle.std.specs.Prelude.{◌==◌, true, false}
+use Rattle.duct_system.specs.Ledger.{count_of}
+use Rattle.duct_start.specs.Standing.{AreFresh}
+
+-- two counts of which one is none
+pub once_of : (next n a b : ℕ) → a ≤ 1 → b ≤ 1 → (next ≤ n → a ≡ 0) → (n < next → b ≡ 0) → a + b ≤ 1
+once_of next n a b first second old new = elim (cases_lt n next) [ inl lt ↦ omega (arith, new lt) | inr le ↦ omega (arith, old le) ]
+
+pub count-append : (n : ℕ) (xs ys : List ℕ) → count_of n (xs ++ ys) ≡ count_of n xs + count_of n ys
+count-append n xs ys = grind (arith, common_steps)
+
+pub count_same : (n : ℕ) → count_of n (n ∷ []) ≡ 1
+count_same n = grind (arith, nat_tests)
+
+pub count_other : (n m : ℕ) → n ≢ m → count_of n (m ∷ []) ≡ 0
+count_other n m other = grind (arith, nat_tests)
+
+pub count_le : (n m : ℕ) → count_of n (m ∷ []) ≤ 1
+count_le n m = grind (arith, nat_tests)
+
+pub count-cons : (n m : ℕ) (xs : List ℕ) → count_of n (m ∷ xs) ≡ count_of n (m ∷ []) + count_of n xs
+count-cons n m xs = count-append n (m ∷ []) xs
+
+-- a number that does not stand in a list is another than its first
+pub other_than : (n m : ℕ) → count_of n (m ∷ []) ≡ 0 → (n == m) ≡ false
+other_than n m none = grind (arith, nat_tests)
+
+pub is_itself : (n : ℕ) → (n == n) ≡ true
+is_itself n = grind (arith, nat_tests)
+
+-- numbers that a request got
+
+pub fresh_none : (next then : ℕ) → next ≤ then → AreFresh next then []
+fresh_none next then le = record { newer = le; once = λ n. omega arith; above = λ n lt. refl; below = λ n lt. refl }
+
+pub fresh_one : (next then m : ℕ) → next ≤ m → m < then → AreFresh next then (m ∷ [])
+fresh_one next then m low high = record {
+  newer = omega arith;
+  once = λ n. count_le n m;
+  above = λ n lt. let ne : n ≢ m = omega arith in count_other n m ne;
+  below = λ n lt. let ne : n ≢ m = omega arith in count_other n m ne;
+}
+
+pub fresh_two : (next then m k : ℕ) → next ≤ m → m < then → next ≤ k → k < then → m ≢ k
+    → AreFresh next then (m ∷ k ∷ [])
+fresh_two next then m k low high low' high' differ =
+    let one = fresh_one next then m low high in let two = fresh_one next then k low' high' in record {
+      newer = omega arith;
+      once = λ n. grind (arith, nat_tests);
+      above = λ n lt. omega (arith, count-cons n m (k ∷ []), one.above n lt, two.above n lt);
+      below = λ n le. omega (arith, count-cons n m (k ∷ []), one.below n le, two.below n le);
+    }

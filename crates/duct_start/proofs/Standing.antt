@@ -1,0 +1,219 @@
+-- A run stands one entry further, or stops there.
+use Rattle.std.proofs.Common.{◌≡◌, ℕ, zero, suc, take, refl, inl, inr, ◌+◌, ◌<◌, ◌≤◌, List, [], ◌∷◌, ◌++◌, length, ap, sym, ◌∙◌, arith, subst, append_assoc, length-append}
+use Rattle.std.proofs.lemmas.List.{append-nil, length-map}
+use Rattle.std.proofs.lemmas.Bool.{cases_lt}
+use Rattle.std.specs.declared.option.Option.{Option}
+use Rattle.std.proofs.lemmas.Grind.{flat_map-append}
+use Rattle.std.specs.Prelude.{Some, None}
+use Rattle.duct_system.specs.EntryView.{EntryView}
+use Rattle.duct_system.specs.Journal.{JournalView, Adds, AddsNothing}
+use Rattle.duct_system.specs.Ledger.{got, spent, held, got_by, spent_by, count_of}
+use Rattle.duct_system.specs.Origin.{origin}
+use Rattle.duct_system.specs.Started.{children_in, feeds_in, drains_in, child_by, feed_by, drain_by}
+use Rattle.duct_system.specs.Trace.{trace, IsClean, fault_of}
+use Rattle.duct_system.specs.declared.error.Error.{Error}
+use Rattle.duct_system.specs.declared.error.Error.TheVariants.{System}
+use Rattle.duct_system.specs.declared.system.Fault.{Fault}
+use Rattle.duct_start.specs.Actions.{State}
+use Rattle.duct_start.specs.Chain.{Allows}
+use Rattle.duct_start.specs.Follows.{AnswersFrom}
+use Rattle.duct_start.specs.Holdings.{Holdings, ends, pair_of}
+use Rattle.duct_start.specs.Standing.{AreFresh, HeldFew, IsLater, Books, origin_to, Sourced, Stands, Stopped, refused, unasked, IsUnasked}
+use Rattle.duct_start.specs.Step.{Item}
+use Rattle.duct_start.proofs.Counts.{once_of}
+use Rattle.duct_start.proofs.Origins.{got-append, spent-append, count_got-append, count_spent-append, trace-append, later_more}
+
+module _ {E H : Type 0} (allows : Allows H) (number_of : E → ℕ) where
+  -- the entries that some items are answered by, one after the other
+  answers-append : (L : List EntryView) (place : ℕ) (items more : List (Item E H)) (entries rest : List EntryView) → length entries ≡ length items →
+      AnswersFrom allows number_of L place items entries → AnswersFrom allows number_of L (place + length items) more rest → AnswersFrom allows number_of L place (items ++ more) (entries ++ rest)
+  answers-append L place [] more [] rest same first second = subst (λ (k : ℕ). AnswersFrom allows number_of L k more rest) (omega arith) second
+  answers-append L place [] more (entry ∷ entries) rest same first second = absurd first
+  answers-append L place (item ∷ items) more [] rest same first second = absurd (omega (arith, same))
+  answers-append L place (item ∷ items) more (entry ∷ entries) rest same first second =
+      let less : length entries ≡ length items = omega (arith, same) in
+      (first.0, answers-append L (place + 1) items more entries rest less first.1 (subst (λ (k : ℕ). AnswersFrom allows number_of L k more rest) (omega arith) second))
+
+  -- a front of what was asked
+  pub answers_front : (L : List EntryView) (place : ℕ) (items more : List (Item E H))
+      (entries : List EntryView) → AnswersFrom allows number_of L place items entries
+      → AnswersFrom allows number_of L place (items ++ more) entries
+  answers_front L place items more [] first = tt
+  answers_front L place [] more (entry ∷ entries) first = absurd first
+  answers_front L place (item ∷ items) more (entry ∷ entries) first = (first.0, answers_front L (place + 1) items more entries first.1)
+
+clean_more : (xs : List EntryView) (entry : EntryView) → IsClean xs → fault_of entry ≡ None → IsClean (xs ++ entry ∷ [])
+clean_more [] entry clean one = (one, tt)
+clean_more (x ∷ xs) entry clean one = (clean.0, clean_more xs entry clean.1 one)
+
+-- what one entry changes in what is held, where so many ends were got and given
+pub record Changes (entry : EntryView) (now then : JournalView) (held kept : Holdings) : Type 0 where
+  pub adds : Adds entry (length (got_by entry)) (length (spent_by entry)) now then
+  pub fresh : AreFresh now.next then.next (got_by entry)
+  pub even : (n : ℕ) → count_of n (got_by entry) + count_of n (ends held)
+      ≡ count_of n (spent_by entry) + count_of n (ends kept)
+  pub long : length (got_by entry) + length (ends held)
+      ≡ length (spent_by entry) + length (ends kept)
+  pub children_are : kept.children ≡ held.children ++ child_by entry
+  pub feeds_are : kept.feeds ≡ held.feeds ++ feed_by entry
+  pub drains_are : kept.drains ≡ held.drains ++ drain_by entry
+
+books_more : (old now then : JournalView) (added : List EntryView) (entry : EntryView) (held kept : Holdings) → Changes entry now then held kept → Books old now added held →
+    Books old then (added ++ entry ∷ []) kept
+books_more old now then added entry held kept ch books =
+    let nil = λ (n : ℕ). ap (λ (l : List ℕ). count_of n l) (append-nil (got_by entry)) in
+    let none = λ (n : ℕ). ap (λ (l : List ℕ). count_of n l) (append-nil (spent_by entry)) in
+    record {
+      entries_are = ch.adds.entries_are ∙ ap (λ (l : List EntryView). l ++ entry ∷ []) books.entries_are ∙ append_assoc old.entries added (entry ∷ []);
+      counted = omega (arith, ch.adds.added_is, books.counted, length-append added (entry ∷ []));
+      even = λ n. omega (arith, count_got-append n added (entry ∷ []), count_spent-append n added (entry ∷ []), nil n, none n, ch.even n, books.even n);
+      once = λ n. omega (arith, count_got-append n added (entry ∷ []), nil n, once_of now.next n (count_of n (got added)) (count_of n (got_by entry)) (books.once n) (ch.fresh.once n) (books.below n) (ch.fresh.above n));
+      below = λ n le. let le' : now.next ≤ n = omega (arith, ch.fresh.newer) in omega (arith, count_got-append n added (entry ∷ []), nil n, books.below n le', ch.fresh.below n le);
+      above = λ n lt. let lt' : n < now.next = omega (arith, books.next_grows) in omega (arith, count_got-append n added (entry ∷ []), nil n, books.above n lt, ch.fresh.above n lt');
+      next_grows = omega (arith, books.next_grows, ch.fresh.newer);
+      long = omega (arith, books.long, ch.long, ap (λ l. length l) (got-append added (entry ∷ [])), ap (λ l. length l) (spent-append added (entry ∷ [])), length-append (got added) (got (entry ∷ [])), length-append (spent added) (spent (entry ∷ [])), ap (λ l. length l) (append-nil (got_by entry)), ap (λ l. length l) (append-nil (spent_by entry)));
+      room_is = omega (arith, ch.long, books.room_is, ch.adds.room_is);
+      children_are = ch.children_are ∙ ap (λ (l : List ℕ). l ++ child_by entry) books.children_are ∙ sym (flat_map-append child_by added (entry ∷ []) ∙ ap (λ (l : List ℕ). children_in added ++ l) (append-nil (child_by entry)));
+      feeds_are = ch.feeds_are ∙ ap (λ (l : List ℕ). l ++ feed_by entry) books.feeds_are ∙ sym (flat_map-append feed_by added (entry ∷ []) ∙ ap (λ (l : List ℕ). feeds_in added ++ l) (append-nil (feed_by entry)));
+      drains_are = ch.drains_are ∙ ap (λ (l : List ℕ). l ++ drain_by entry) books.drains_are ∙ sym (flat_map-append drain_by added (entry ∷ []) ∙ ap (λ (l : List ℕ). drains_in added ++ l) (append-nil (drain_by entry)));
+    }
+
+take_front : {A : Type 0} (xs ys : List A) (count : ℕ) → count ≤ length xs → take count (xs ++ ys) ≡ take count xs
+take_front [] ys zero low = refl
+take_front [] ys (suc count) low = absurd (omega (arith, low))
+take_front (x ∷ xs) ys zero low = refl
+take_front (x ∷ xs) ys (suc count) low = ap (λ l. x ∷ l) (take_front xs ys count (omega (arith, low)))
+
+take_whole : {A : Type 0} (xs : List A) (count : ℕ) → length xs ≤ count → take count xs ≡ xs
+take_whole [] zero low = refl
+take_whole [] (suc count) low = refl
+take_whole (x ∷ xs) zero low = absurd (omega (arith, low))
+take_whole (x ∷ xs) (suc count) low = ap (λ l. x ∷ l) (take_whole xs count (omega (arith, low)))
+
+-- what is held after one entry more
+few_more : (bound : ℕ) (old then : JournalView) (added : List EntryView) (entry : EntryView) (kept : Holdings) → HeldFew bound added → Books old then (added ++ entry ∷ []) kept →
+    length (ends kept) ≤ bound + 9 → HeldFew bound (added ++ entry ∷ [])
+few_more bound old then added entry kept few books low = λ count. elim (cases_lt (length added) count) [
+  | inl lt ↦
+      let whole = ap (λ l. length (got l)) (take_whole (added ++ entry ∷ []) count (omega (arith, lt, length-append added (entry ∷ [])))) in
+      let all = ap (λ l. length (spent l)) (take_whole (added ++ entry ∷ []) count (omega (arith, lt, length-append added (entry ∷ [])))) in
+      omega (arith, whole, all, books.long, low)
+  | inr le ↦ let same = ap (λ l. held l) (take_front added (entry ∷ []) count le) in omega (arith, few count, same)
+]
+
+-- the ends that are held now
+pub few_now : {E H : Type 0} (allows : Allows H) (number_of : E → ℕ) (bound : ℕ)
+    (old : JournalView) (state : State E H) (now : JournalView) (held : Holdings)
+    → Stands allows number_of bound old state now held → length (ends held) ≤ bound + 9
+few_now allows number_of bound old state now held stands =
+    let whole = ap (λ l. length (got l)) (take_whole stands.added (length stands.added) (omega arith)) in
+    let all = ap (λ l. length (spent l)) (take_whole stands.added (length stands.added) (omega arith)) in
+    omega (arith, stands.few (length stands.added), whole, all, stands.books.long)
+
+pair_few : (o : Option (ℕ × ℕ)) → length (pair_of o) ≤ 2
+pair_few None = omega arith
+pair_few (Some pair) = omega arith
+
+-- at most four ends stand beside the stack
+pub few_of : (bound : ℕ) (held : Holdings) → length held.stack ≤ bound + 5
+    → length (ends held) ≤ bound + 9
+few_of bound held low =
+    omega (arith, low, pair_few held.out, pair_few held.err, length-append held.stack (pair_of held.out ++ pair_of held.err), length-append (pair_of held.out) (pair_of held.err))
+
+-- the stack by numbers is as long as the stack by where its ends come from
+pub as_long : {E H : Type 0} (allows : Allows H) (number_of : E → ℕ) (bound : ℕ)
+    (old : JournalView) (state : State E H) (now : JournalView) (held : Holdings)
+    → Stands allows number_of bound old state now held → length held.stack ≡ length state.stack
+as_long allows number_of bound old state now held stands =
+    let sources = stands.sources [] (λ n lt. refl) in
+    let L = stands.added ++ [] in
+    sym (length-map held.stack (λ k. Some (origin L k))) ∙ ap (λ l. length l) sources.stack ∙ length-map state.stack (origin_to (trace L) number_of)
+
+module _ {E H : Type 0} (allows : Allows H) (number_of : E → ℕ) (bound : ℕ) (old : JournalView) (state then_state : State E H) (asked : List (Item E H)) (now then : JournalView) (held kept : Holdings)
+    (entry : EntryView) (stands : Stands allows number_of bound old state now held) (items_are : then_state.plan.items ≡ state.plan.items ++ asked) (ch : Changes entry now then held kept) where
+  abbrev pub then_added : List EntryView
+  then_added = stands.added ++ entry ∷ []
+
+  -- what the sources are, where this comes later
+  pub sources_now : (more : List EntryView) → IsLater then.next more
+      → Sourced number_of (then_added ++ more) state held
+  sources_now more later =
+      subst (λ (l : List EntryView). Sourced number_of l state held) (sym (append_assoc stands.added (entry ∷ []) more))
+      (stands.sources (entry ∷ more) (later_more now.next then.next entry more ch.fresh later))
+
+  answers_then : ((more : List EntryView) → IsLater then.next more → AnswersFrom allows number_of (then_added ++ more) (length state.plan.items) asked (trace (entry ∷ []))) →
+      (more : List EntryView) → IsLater then.next more → AnswersFrom allows number_of (then_added ++ more) 0 then_state.plan.items (trace then_added)
+  answers_then matches = λ more later.
+      let before : AnswersFrom allows number_of (then_added ++ more) 0 state.plan.items (trace stands.added) =
+      subst (λ (l : List EntryView). AnswersFrom allows number_of l 0 state.plan.items (trace stands.added)) (sym (append_assoc stands.added (entry ∷ []) more))
+      (stands.answers (entry ∷ more) (later_more now.next then.next entry more ch.fresh later)) in
+      subst (λ (l : List (Item E H)). AnswersFrom allows number_of (then_added ++ more) 0 l (trace then_added)) (sym items_are)
+      (subst (λ (l : List EntryView). AnswersFrom allows number_of (then_added ++ more) 0 (state.plan.items ++ asked) l) (sym (trace-append stands.added (entry ∷ [])))
+      (answers-append allows number_of (then_added ++ more) 0 state.plan.items asked (trace stands.added) (trace (entry ∷ [])) stands.as_many before
+      (subst (λ (k : ℕ). AnswersFrom allows number_of (then_added ++ more) k asked (trace (entry ∷ []))) (omega arith) (matches more later))))
+
+  -- one entry that went well
+  pub stands_more : length (ends kept) ≤ bound + 9 → fault_of entry ≡ None
+      → length (trace (entry ∷ [])) ≡ length asked
+      → ((more : List EntryView) → IsLater then.next more
+      → AnswersFrom allows number_of (then_added ++ more) (length state.plan.items) asked
+      (trace (entry ∷ [])))
+      → ((more : List EntryView) → IsLater then.next more
+      → Sourced number_of (then_added ++ more) then_state kept)
+      → Stands allows number_of bound old then_state then kept
+  stands_more few clean many matches sourced = record {
+    added = then_added;
+    books = books_more old now then stands.added entry held kept ch stands.books;
+    few = few_more bound old then stands.added entry kept stands.few (books_more old now then stands.added entry held kept ch stands.books) few;
+    as_many = ap (λ (l : List EntryView). length l) (trace-append stands.added (entry ∷ [])) ∙ length-append (trace stands.added) (trace (entry ∷ []))
+        ∙ omega (arith, many, stands.as_many, ap (λ (l : List (Item E H)). length l) items_are, length-append state.plan.items asked);
+    answers = answers_then matches;
+    sources = sourced;
+    clean = clean_more stands.added entry stands.clean clean;
+  }
+
+  -- one entry that was refused
+  pub stops_more : length (ends kept) ≤ bound + 9 → (fault : Fault) → fault_of entry ≡ Some fault
+      → ((more : List EntryView) → IsLater then.next more
+      → AnswersFrom allows number_of (then_added ++ more) (length state.plan.items) asked
+      (trace (entry ∷ [])))
+      → Stopped allows number_of bound old then_state.plan.items then kept (System fault)
+  stops_more few fault refuses matches = record {
+    added = then_added;
+    books = books_more old now then stands.added entry held kept ch stands.books;
+    few = few_more bound old then stands.added entry kept stands.few (books_more old now then stands.added entry held kept ch stands.books) few;
+    answers = answers_then matches;
+    ended = refused stands.added entry fault stands.clean refuses;
+  }
+
+-- nothing was asked, for want of memory
+pub stops_unasked : {E H : Type 0} (allows : Allows H) (number_of : E → ℕ) (bound : ℕ)
+    (old : JournalView) (state : State E H) (items more_items : List (Item E H))
+    (now then : JournalView) (held : Holdings) (error : Error) →
+    Stands allows number_of bound old state now held → items ≡ state.plan.items ++ more_items
+    → AddsNothing now then → IsUnasked error
+    → Stopped allows number_of bound old items then held error
+stops_unasked {E} {H} allows number_of bound old state items more_items now then held error stands is nothing un =
+    let b = stands.books in
+    let later = λ (more : List EntryView) (l : IsLater then.next more). λ (n : ℕ) (lt : n < now.next). let lt' : n < then.next = omega (arith, nothing.next_grows) in l n lt' in
+    record {
+      added = stands.added;
+      books = record {
+        entries_are = nothing.entries_are ∙ b.entries_are;
+        counted = nothing.added_is ∙ b.counted;
+        even = b.even;
+        once = b.once;
+        below = λ n le. let le' : now.next ≤ n = omega (arith, nothing.next_grows) in b.below n le';
+        above = b.above;
+        next_grows = omega (arith, b.next_grows, nothing.next_grows);
+        long = b.long;
+        room_is = omega (arith, b.room_is, nothing.room_grows);
+        children_are = b.children_are;
+        feeds_are = b.feeds_are;
+        drains_are = b.drains_are;
+      };
+      few = stands.few;
+      answers = λ more l. subst (λ (x : List (Item E H)). AnswersFrom allows number_of (stands.added ++ more) 0 x (trace stands.added)) (sym is)
+          (answers_front allows number_of (stands.added ++ more) 0 state.plan.items more_items (trace stands.added) (stands.answers more (later more l)));
+      ended = unasked stands.clean un;
+    }

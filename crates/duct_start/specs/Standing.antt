@@ -1,0 +1,152 @@
+-- What holds between the requests of a run of actions: of the journal, of the ledger and of what is held.
+use Rattle.std.specs.Prelude.{ℕ, ◌+◌, ◌<◌, ◌≤◌, List, [], ◌∷◌, ◌++◌, ◌≡◌, length, map, take, Some, None, IsSome}
+use Rattle.std.specs.declared.option.Option.{Option}
+use Rattle.duct_system.specs.EntryView.{EntryView}
+use Rattle.duct_system.specs.Journal.{JournalView}
+use Rattle.duct_system.specs.Ledger.{got, spent, count_of, held}
+use Rattle.duct_system.specs.Origin.{Origin, Opened, ParentOf, Lent, origin}
+use Rattle.duct_system.specs.Started.{children_in, feeds_in, drains_in}
+use Rattle.duct_system.specs.Trace.{trace, IsClean, fault_of}
+use Rattle.duct_system.specs.declared.error.Error.{Error}
+use Rattle.duct_system.specs.declared.error.Error.TheVariants.{System, Memory}
+use Rattle.duct_system.specs.declared.spec.Stream.TheVariants.{In, Out, Err}
+use Rattle.duct_system.specs.declared.system.Fault.{Fault}
+use Rattle.duct_system.specs.declared.system.Kind.TheVariants.{OutOfMemory}
+use Rattle.duct_system.specs.declared.system.Side.TheVariants as side
+use Rattle.duct_start.specs.Actions as action
+use Rattle.duct_start.specs.Actions.{Action, State, IsReady, AreReady, advance, after}
+use Rattle.duct_start.specs.Asked.{end_at}
+use Rattle.duct_start.specs.Chain.{Allows}
+use Rattle.duct_start.specs.Follows.{AnswersFrom}
+use Rattle.duct_start.specs.Found.{Target, Parents, Nothing, ReaderAt, WriterAt, FileAt, Lends}
+use Rattle.duct_start.specs.Holdings.{Holdings, ends}
+use Rattle.duct_start.specs.Step.{Item}
+
+-- where an end comes from that stands for this target, by the numbers of a trace
+abbrev pub origin_to : {E : Type 0} → List EntryView → (E → ℕ) → Target E → Option Origin
+origin_to entries number_of (Parents In) = None
+origin_to entries number_of (Parents Out) = Some (ParentOf side.Out)
+origin_to entries number_of (Parents Err) = Some (ParentOf side.Err)
+origin_to entries number_of Nothing = None
+origin_to entries number_of (ReaderAt place) = Some (Opened (end_at entries place 0))
+origin_to entries number_of (WriterAt place) = Some (Opened (end_at entries place 1))
+origin_to entries number_of (FileAt place) = Some (Opened (end_at entries place 0))
+origin_to entries number_of (Lends end) = Some (Lent (number_of end))
+
+-- numbers that were given in between, each once
+pub record AreFresh (next then : ℕ) (numbers : List ℕ) : Type 0 where
+  pub newer : next ≤ then
+  pub once : (n : ℕ) → count_of n numbers ≤ 1
+  pub above : (n : ℕ) → n < next → count_of n numbers ≡ 0
+  pub below : (n : ℕ) → then ≤ n → count_of n numbers ≡ 0
+
+-- none of these entries got a number below this one
+abbrev pub IsLater : ℕ → List EntryView → Type 0
+IsLater next more = (number : ℕ) → number < next → count_of number (got more) ≡ 0
+
+-- the ends of a capture pipe are those of the request at its place
+abbrev pub IsPair : List EntryView → Option ℕ → Option (ℕ × ℕ) → Type 0
+IsPair added None None = Unit {0}
+IsPair added (Some place) (Some pair) =
+    (origin added pair.0 ≡ Opened (end_at (trace added) place 0))
+    × (origin added pair.1 ≡ Opened (end_at (trace added) place 1))
+IsPair added place pair = ⊥
+
+-- each end that is held comes from where its target says
+pub record Sourced {E H : Type 0} (number_of : E → ℕ) (added : List EntryView)
+    (state : State E H) (held : Holdings) : Type 0 where
+  pub stack : map (λ number. Some (origin added number)) held.stack
+      ≡ map (origin_to (trace added) number_of) state.stack
+  pub out : IsPair added state.plan.out held.out
+  pub err : IsPair added state.plan.err held.err
+
+-- the ledger is even with what is held; each number was got once, not below the first and below the next; room is left to give
+-- back what is held; and what was started is held
+pub record Books (old now : JournalView) (added : List EntryView) (held : Holdings) : Type 0 where
+  pub entries_are : now.entries ≡ old.entries ++ added
+  pub counted : now.added ≡ old.added + length added
+  pub even : (n : ℕ) → count_of n (got added) ≡ count_of n (spent added) + count_of n (ends held)
+  pub once : (n : ℕ) → count_of n (got added) ≤ 1
+  pub below : (n : ℕ) → now.next ≤ n → count_of n (got added) ≡ 0
+  pub above : (n : ℕ) → n < old.next → count_of n (got added) ≡ 0
+  pub next_grows : old.next ≤ now.next
+  pub long : length (got added) ≡ length (spent added) + length (ends held)
+  pub room_is : old.room + length (ends held) ≤ now.room
+  pub children_are : held.children ≡ children_in added
+  pub feeds_are : held.feeds ≡ feeds_in added
+  pub drains_are : held.drains ≡ drains_in added
+
+-- after every entry at most so many ends and nine were held
+abbrev pub HeldFew : ℕ → List EntryView → Type 0
+HeldFew bound added = (count : ℕ) → held (take count added) ≤ bound + 9
+
+-- so far all went well: the trace answers what was asked, and each end that is held comes from where it should, whatever comes later
+pub record Stands {E H : Type 0} (allows : Allows H) (number_of : E → ℕ) (bound : ℕ)
+    (old : JournalView) (state : State E H) (now : JournalView) (held : Holdings) : Type 0 where
+  pub added : List EntryView
+  pub books : Books old now added held
+  pub few : HeldFew bound added
+  pub as_many : length (trace added) ≡ length state.plan.items
+  pub answers : (more : List EntryView) → IsLater now.next more
+      → AnswersFrom allows number_of (added ++ more) 0 state.plan.items (trace added)
+  pub sources : (more : List EntryView) → IsLater now.next more
+      → Sourced number_of (added ++ more) state held
+  pub clean : IsClean added
+
+-- an error that comes with no entry: want of memory
+abbrev pub IsUnasked : Error → Type 0
+IsUnasked (System fault) = fault.kind ≡ OutOfMemory
+IsUnasked Memory = Unit {0}
+IsUnasked error = ⊥
+
+-- nothing was refused but memory, or the error is the fault of the last entry
+pub data Ended : List EntryView → Error → Type 0 where
+  unasked : {added : List EntryView} {error : Error} → IsClean added → IsUnasked error
+      → Ended added error
+  refused : (front : List EntryView) (entry : EntryView) (fault : Fault) → IsClean front
+      → fault_of entry ≡ Some fault → Ended (front ++ entry ∷ []) (System fault)
+
+-- a request was refused: the trace answers a front of what was asked, and the ledger is even with what is held
+pub record Stopped {E H : Type 0} (allows : Allows H) (number_of : E → ℕ) (bound : ℕ)
+    (old : JournalView) (items : List (Item E H)) (now : JournalView) (held : Holdings)
+    (error : Error) : Type 0 where
+  pub added : List EntryView
+  pub books : Books old now added held
+  pub few : HeldFew bound added
+  pub answers : (more : List EntryView) → IsLater now.next more
+      → AnswersFrom allows number_of (added ++ more) 0 items (trace added)
+  pub ended : Ended added error
+
+-- an action goes on from wherever a run stands
+abbrev pub Goes : {E H : Type 0} → Allows H → (E → ℕ) → Action E H → JournalView → JournalView
+    → Holdings → Holdings → Type 0
+Goes {E} {H} allows number_of action now then held kept =
+    (bound : ℕ) (old : JournalView) (state : State E H)
+    → IsReady number_of old.next bound state action
+    → Stands allows number_of bound old state now held
+    → Stands allows number_of bound old (advance state action) then kept
+
+-- an action stops with an error wherever a run stands
+abbrev pub Quits : {E H : Type 0} → Allows H → (E → ℕ) → Action E H → JournalView → JournalView
+    → Holdings → Holdings → Error → Type 0
+Quits {E} {H} allows number_of action now then held kept error =
+    (bound : ℕ) (old : JournalView) (state : State E H)
+    → IsReady number_of old.next bound state action
+    → Stands allows number_of bound old state now held
+    → Stopped allows number_of bound old (advance state action).plan.items then kept error
+
+-- what an action needs beside what it pops
+abbrev pub CanDo : {E H : Type 0} → Action E H → Holdings → Type 0
+CanDo (action.duplicate depth) held = depth < length held.stack
+CanDo (action.tap side.Out) held = IsSome held.out
+CanDo (action.tap side.Err) held = IsSome held.err
+CanDo act held = Unit {0}
+
+-- a run stands before these actions, which lead to its goal
+pub record Stood {E H : Type 0} (allows : Allows H) (number_of : E → ℕ) (bound : ℕ)
+    (old : JournalView) (goal : State E H) (actions : List (Action E H)) (now : JournalView)
+    (held : Holdings) : Type 0 where
+  pub state : State E H
+  pub stands : Stands allows number_of bound old state now held
+  pub ready : AreReady number_of old.next bound state actions
+  pub goal_is : after state actions ≡ goal
