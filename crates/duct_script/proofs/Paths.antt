@@ -24,7 +24,7 @@ insert_texts (e ∷ es) k v =
     ≡ match_ordering o ((string_bytes k, string_bytes v) ∷ pair_text e ∷ map pair_text es) ((string_bytes e.0, string_bytes v) ∷ map pair_text es) (pair_text e ∷ insert_entry (slice_cmp nat_cmp) (map pair_text es) (string_bytes k) (string_bytes v)))
     [ Less ↦ refl | Equal ↦ refl | Greater ↦ ap (λ r. pair_text e ∷ r) (insert_texts es k v) ]
 
--- the value of a name among texts is the text of what the map has at that name
+-- the canonical name of a path among texts is the text of what the map has at that path
 pub canonical_of-map : {Z : Type 0} (name : List ℕ) (es : List (String Z × String Z)) →
     canonical_of name (map pair_text es) ≡ option_map string_bytes (lookup (is_at (λ k. slice_cmp nat_cmp name (string_bytes k))) es)
 canonical_of-map name [] = refl
@@ -34,8 +34,8 @@ canonical_of-map {Z} name (e ∷ es) =
     ≡ option_map string_bytes (cond b (Some e.1) (lookup (is_at (λ k. slice_cmp nat_cmp name (string_bytes k))) es)))
     [ true ↦ refl | false ↦ canonical_of-map name es ]
 
--- the text of what the map answers is the value among the texts
-pub canonical_of-found : {Z : Type 0} (name : List ℕ) (es : List (String Z × String Z)) (vars : Paths)
-    (answer : Option (String Z)) →
-    map pair_text es ≡ vars → answer ≡ lookup (is_at (λ k. slice_cmp nat_cmp name (string_bytes k))) es → option_map string_bytes answer ≡ canonical_of name vars
-canonical_of-found name es vars answer texts is = ap (λ o. option_map string_bytes o) is ∙ sym (canonical_of-map name es) ∙ ap (canonical_of name) texts
+-- the text of what the map answers is the canonical name among the texts
+pub canonical_of-found : {Z : Type 0} (name : List ℕ) (es : List (String Z × String Z))
+    (paths : Paths) (answer : Option (String Z)) →
+    map pair_text es ≡ paths → answer ≡ lookup (is_at (λ k. slice_cmp nat_cmp name (string_bytes k))) es → option_map string_bytes answer ≡ canonical_of name paths
+canonical_of-found name es paths answer texts is = ap (λ o. option_map string_bytes o) is ∙ sym (canonical_of-map name es) ∙ ap (canonical_of name) texts

@@ -47,7 +47,8 @@ clean_more [] entry clean one = (one, tt)
 clean_more (x ∷ xs) entry clean one = (clean.0, clean_more xs entry clean.1 one)
 
 -- what one entry changes in what is held, where so many ends were got and given
-pub record Changes (entry : EntryView) (now then : JournalView) (held kept : Holdings) : Type 0 where
+pub record Changes (entry : EntryView) (now then : JournalView)
+    (held kept : Holdings) : Type 0 where
   pub adds : Adds entry (length (got_by entry)) (length (spent_by entry)) now then
   pub fresh : AreFresh now.next then.next (got_by entry)
   pub even : (n : ℕ) → count_of n (got_by entry) + count_of n (ends held)
