@@ -2,69 +2,29 @@
 use crate::asks::rows;
 use std::test::Fail;
 
-/// Each signal that is served ends a child. It sleeps, each signal would end it, and it is there once it has said so.
+/// Fails unless a sleeping child, which each signal would end, goes on until it is sent this one, and then ends by it. It is there
+/// once it has said so.
+fn ends_by(rt: &HostRuntime, signal: i32) -> Result<(), Fail> {
+    let table = format!(in rt.alloc();
+        "
+        pipe
+        spawn null 2 inherit (/usr/bin/env,--default-signal,/bin/sh,-c,echo ready; exec sleep 100)
+        ready 1
+        poll
+        signal {signal}
+        ending
+        says (1, 2); 3; None; (); Signal({signal});
+        "
+    )?;
+    rows(rt, table.as_str())
+}
+
 #[test]
 fn signals_that_are_served(rt: HostRuntime) -> Result<(), Fail> {
-    rows(
-        &rt,
-        r#"
-        pipe
-        spawn null 2 inherit (/usr/bin/env,--default-signal,/bin/sh,-c,echo ready; exec sleep 100)
-        ready 1
-        poll
-        signal 1
-        ending
-        says (1, 2); 3; None; (); Signal(1);
-
-        pipe
-        spawn null 2 inherit (/usr/bin/env,--default-signal,/bin/sh,-c,echo ready; exec sleep 100)
-        ready 1
-        poll
-        signal 2
-        ending
-        says (1, 2); 3; None; (); Signal(2);
-
-        pipe
-        spawn null 2 inherit (/usr/bin/env,--default-signal,/bin/sh,-c,echo ready; exec sleep 100)
-        ready 1
-        poll
-        signal 3
-        ending
-        says (1, 2); 3; None; (); Signal(3);
-
-        pipe
-        spawn null 2 inherit (/usr/bin/env,--default-signal,/bin/sh,-c,echo ready; exec sleep 100)
-        ready 1
-        poll
-        signal 6
-        ending
-        says (1, 2); 3; None; (); Signal(6);
-
-        pipe
-        spawn null 2 inherit (/usr/bin/env,--default-signal,/bin/sh,-c,echo ready; exec sleep 100)
-        ready 1
-        poll
-        signal 9
-        ending
-        says (1, 2); 3; None; (); Signal(9);
-
-        pipe
-        spawn null 2 inherit (/usr/bin/env,--default-signal,/bin/sh,-c,echo ready; exec sleep 100)
-        ready 1
-        poll
-        signal 14
-        ending
-        says (1, 2); 3; None; (); Signal(14);
-
-        pipe
-        spawn null 2 inherit (/usr/bin/env,--default-signal,/bin/sh,-c,echo ready; exec sleep 100)
-        ready 1
-        poll
-        signal 15
-        ending
-        says (1, 2); 3; None; (); Signal(15);
-        "#,
-    )
+    for signal in [1, 2, 3, 6, 9, 14, 15] {
+        ends_by(&rt, signal)?;
+    }
+    Ok(())
 }
 
 /// Other signals are refused and not sent; a child that was seen to end is sent nothing; a child that ended unseen keeps its

@@ -9,7 +9,7 @@ use Rattle.duct_system.specs.declared.system.Side.TheVariants as side
 use Rattle.duct_start.specs.Actions as action
 use Rattle.duct_start.specs.Actions.{Action, ActionOf, Scope, Three}
 use Rattle.duct_start.specs.Flat.{Wire, parents, nothing, slot, captured, lent, fetches, commands, ports_at, inputs, outputs, errors, flat, flat_of, rooted, outside, scope_within}
-use Rattle.duct_start.specs.Listed.{Entry, listed, listed_of, scope_at, with_entry, scopes_from, resolved, resolved_all}
+use Rattle.duct_start.specs.Listed.{ListedScope, listed, listed_of, scope_at, with_scope, scopes_from, resolved, resolved_all}
 use Rattle.duct_start.specs.Plan.{program_of}
 use Rattle.duct_start.specs.Step.{step}
 use Rattle.duct_start.specs.TreeView.{TreeView, command, pipe, around, stdin_bytes, stdin_path, stdin_file, stdin_null, stdout_path, stdout_file, stdout_null, stdout_capture, stdout_to_stderr, stderr_path, stderr_file, stderr_null, stderr_capture, stderr_to_stdout, stdout_stderr_swap, dir, env, env_remove, full_env, unchecked, before_spawn}
@@ -17,19 +17,19 @@ use Rattle.duct_start.proofs.Stacks.{get_seam, get_front}
 
 module _ {E H : Type 0} where
   -- what is known stays where it is
-  known_stays : (known : List (Scope E H)) (entries : List (Entry E H)) (i : ℕ) (s : Scope E H) → slice_get known i ≡ Some s → slice_get (scopes_from known entries) i ≡ Some s
+  known_stays : (known : List (Scope E H)) (scopes : List (ListedScope E H)) (i : ℕ) (s : Scope E H) → slice_get known i ≡ Some s → slice_get (scopes_from known scopes) i ≡ Some s
   known_stays known [] i s is = is
-  known_stays known (entry ∷ entries) i s is = known_stays (with_entry known entry) entries i s (get_front known _ i s is)
+  known_stays known (scope ∷ scopes) i s is = known_stays (with_scope known scope) scopes i s (get_front known _ i s is)
 
-  from_append : (known : List (Scope E H)) (xs ys : List (Entry E H)) → scopes_from known (xs ++ ys) ≡ scopes_from (scopes_from known xs) ys
+  from_append : (known : List (Scope E H)) (xs ys : List (ListedScope E H)) → scopes_from known (xs ++ ys) ≡ scopes_from (scopes_from known xs) ys
   from_append known [] ys = refl
-  from_append known (x ∷ xs) ys = from_append (with_entry known x) xs ys
+  from_append known (x ∷ xs) ys = from_append (with_scope known x) xs ys
 
-  length_from : (known : List (Scope E H)) (entries : List (Entry E H)) → length (scopes_from known entries) ≡ length known + length entries
+  length_from : (known : List (Scope E H)) (scopes : List (ListedScope E H)) → length (scopes_from known scopes) ≡ length known + length scopes
   length_from known [] = omega arith
-  length_from known (entry ∷ entries) =
-      let x = scope_within (step entry.0) (scope_at known entry.1) in
-      omega (arith, length_from (known ++ x ∷ []) entries, length-append known (x ∷ []))
+  length_from known (scope ∷ scopes) =
+      let x = scope_within (step scope.0) (scope_at known scope.1) in
+      omega (arith, length_from (known ++ x ∷ []) scopes, length-append known (x ∷ []))
 
   fetches_same : (scopes : List (Scope E H)) (w : Wire E) (stream : Stream) → resolved_all scopes (fetches w stream) ≡ fetches w stream
   fetches_same scopes nothing stream = refl
@@ -63,7 +63,7 @@ module _ {E H : Type 0} where
       ∙ ap (λ b. commands s b w words) folder
 
   -- whatever scopes come later
-  resolves : (tree : TreeView E H) (known : List (Scope E H)) (i : ℕ) (f : Bool) (w : Three (Wire E)) (n next : ℕ) (s : Scope E H) (later : List (Entry E H)) → next ≡ length known →
+  resolves : (tree : TreeView E H) (known : List (Scope E H)) (i : ℕ) (f : Bool) (w : Three (Wire E)) (n next : ℕ) (s : Scope E H) (later : List (ListedScope E H)) → next ≡ length known →
       f ≡ is_some s.folder → slice_get known i ≡ Some s →
       resolved_all (scopes_from (scopes_from known (listed i f w tree n next).scopes) later) (listed i f w tree n next).actions ≡ flat s w tree n
   resolves (command words) known i f w n next s later is folder here = command_same (scopes_from known later) i s f w words (known_stays known later i s here) folder

@@ -8,13 +8,13 @@ use Rattle.duct_start.specs.Step.{step}
 use Rattle.duct_start.specs.TreeView.{ModifierView, TreeView, command, pipe, around, stdin_bytes, stdin_path, stdin_file, stdin_null, stdout_path, stdout_file, stdout_null, stdout_capture, stdout_to_stderr, stderr_path, stderr_file, stderr_null, stderr_capture, stderr_to_stdout, stdout_stderr_swap, dir, env, env_remove, full_env, unchecked, before_spawn}
 
 -- a scope as it stands in a list: its node, and the index of the scope outside of it
-abbrev pub Entry : Type 0 → Type 0 → Type 0
-Entry E H = ModifierView E H × ℕ
+abbrev pub ListedScope : Type 0 → Type 0 → Type 0
+ListedScope E H = ModifierView E H × ℕ
 
 -- actions, and the scopes that were added for them
 pub record Listed (E H : Type 0) : Type 0 where
   pub actions : List (ActionOf E ℕ)
-  pub scopes : List (Entry E H)
+  pub scopes : List (ListedScope E H)
 
 -- an action before some actions, and others behind them
 abbrev pub between : {E H : Type 0} → ActionOf E ℕ → Listed E H → List (ActionOf E ℕ) → Listed E H
@@ -25,8 +25,8 @@ abbrev pub ahead : {E H : Type 0} → ActionOf E ℕ → Listed E H → Listed E
 ahead first inside = record inside { actions = first ∷ inside.actions }
 
 -- a scope more, before those of what stands inside of it
-abbrev pub scoped : {E H : Type 0} → Entry E H → Listed E H → Listed E H
-scoped entry inside = record inside { scopes = entry ∷ inside.scopes }
+abbrev pub scoped : {E H : Type 0} → ListedScope E H → Listed E H → Listed E H
+scoped scope inside = record inside { scopes = scope ∷ inside.scopes }
 
 -- the actions of a tree inside the scope of this index, with a folder or none, over a stack of this depth, where the next scope has
 -- this index
@@ -83,14 +83,15 @@ abbrev pub scope_at : {E H : Type 0} → List (Scope E H) → ℕ → Scope E H
 scope_at scopes i = unwrap_or (slice_get scopes i) rooted
 
 -- with one scope more behind those that are known
-abbrev pub with_entry : {E H : Type 0} → List (Scope E H) → Entry E H → List (Scope E H)
-with_entry known entry = known ++ scope_within (step entry.0) (scope_at known entry.1) ∷ []
+abbrev pub with_scope : {E H : Type 0} → List (Scope E H) → ListedScope E H → List (Scope E H)
+with_scope known scope = known ++ scope_within (step scope.0) (scope_at known scope.1) ∷ []
 
 -- the scopes of a list behind those that are known
-abbrev pub scopes_from : {E H : Type 0} → List (Scope E H) → List (Entry E H) → List (Scope E H)
+abbrev pub scopes_from : {E H : Type 0} → List (Scope E H) → List (ListedScope E H)
+    → List (Scope E H)
 scopes_from known [] = known
-scopes_from known (entry ∷ entries) =
-    scopes_from (with_entry known entry) entries
+scopes_from known (scope ∷ scopes) =
+    scopes_from (with_scope known scope) scopes
 
 -- an action with the scope that it names
 abbrev pub resolved : {E H : Type 0} → List (Scope E H) → ActionOf E ℕ → Action E H
