@@ -35,7 +35,7 @@ module _ {C : Type 0} (may : ℕ → Answer → Type 0) (view : C → ChildView)
   one_lost : (fault : Fault) → may (view child).number (Err fault) → AsksAll may view (child ∷ []) [] 0 1
   one_lost fault told = inr (inr (fault, 0, told, refl, (refl, refl, refl)))
 
-counted_more : (a b c : ℕ) → counted (counted a b) c ≡ counted a (b + c)
+pub counted_more : (a b c : ℕ) → counted (counted a b) c ≡ counted a (b + c)
 counted_more a b zero = ap (λ n. counted a n) (sym (add-zero b))
 counted_more a zero (suc c) = ap (λ n. counted a n) (sym (zero-add (suc c)))
 counted_more a (suc b) (suc c) = omega arith ∙ ap (λ n. counted a n) (sym (suc_plus b (suc c)))

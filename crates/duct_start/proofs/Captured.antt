@@ -1,7 +1,7 @@
 -- The capture pipes: each is opened once, and at the end its write end is closed and its read end handed on.
 use Rattle.std.proofs.Common.{◌≡◌, ◌≢◌, ℕ, ◌≤◌, List, [], ◌∷◌, ◌++◌, length, refl, ap, sym, ◌∙◌, arith, subst, length-append, inl, inr}
 use Rattle.std.proofs.lemmas.List.{append-nil}
-use Rattle.std.specs.Prelude.{Some, None, Ok, Err, is_some, if◌then◌else◌, unwrap_or}
+use Rattle.std.specs.Prelude.{Some, None, Ok, Err, is_some, true, false, if◌then◌else◌, unwrap_or}
 use Rattle.std.specs.declared.option.Option.{Option}
 use Rattle.duct_system.specs.EntryView.{EntryView, Pipe, Drain, Close}
 use Rattle.duct_system.specs.Journal.{JournalView, GetsEnds, GivesEnds, IsRefused}
@@ -18,19 +18,19 @@ use Rattle.duct_start.specs.Chain.{Allows}
 use Rattle.duct_start.specs.Found.{ReaderAt}
 use Rattle.duct_start.specs.Holdings.{Holdings, pair_of}
 use Rattle.duct_start.specs.Plan.{Plan, drains}
-use Rattle.duct_start.specs.Standing.{IsLater, IsPair, Stands, Stopped, Goes, Quits}
+use Rattle.duct_start.specs.Standing.{Course, IsLater, IsPair, Stands, Stopped, Goes, Quits}
 use Rattle.duct_start.specs.Step.{Item, AskPipe, AskDrain}
 use Rattle.duct_start.proofs.Counts.{fresh_two, fresh_none, is_itself, other_than, count_other, count-cons, count-append}
 use Rattle.duct_start.proofs.Going.{cons_eq, none_changes, plain_changes, pop_changes, opened_here, popped}
-use Rattle.duct_start.proofs.Standing.{Changes, stands_more, stops_more, stops_unasked, sources_now, few_now, few_of, as_long}
+use Rattle.duct_start.proofs.Standing.{Changes, as_many, stands_more, stops_more, stops_unasked, sources_now, few_now, few_of}
 
-none_place : (L : List EntryView) (o : Option ℕ) → IsPair L o None → o ≡ None
-none_place L None is = refl
-none_place L (Some place) is = absurd is
+none_place : (o : Option ℕ) → is_some o ≡ false → o ≡ None
+none_place None is = refl
+none_place (Some place) is = absurd (cc)
 
-some_place : (L : List EntryView) (o : Option ℕ) (pair : ℕ × ℕ) → IsPair L o (Some pair) → o ≡ Some (unwrap_or o 0)
-some_place L None pair is = absurd is
-some_place L (Some place) pair is = refl
+some_place : (o : Option ℕ) → is_some o ≡ true → o ≡ Some (unwrap_or o 0)
+some_place None is = absurd (cc)
+some_place (Some place) is = refl
 
 pair_reads : (L : List EntryView) (o : Option ℕ) (r w : ℕ) → IsPair L o (Some (r, w)) → origin L r ≡ Opened (end_at (trace L) (unwrap_or o 0) 0)
 pair_reads L None r w is = absurd is
@@ -48,14 +48,14 @@ module _ {E H : Type 0} (allows : Allows H) (number_of : E → ℕ) where
   -- it is open already
   pub capture_out_same : (pair : ℕ × ℕ) (now : JournalView) (held : Holdings) → held.out ≡ Some pair
       → Goes allows number_of (action.capture side.Out) now now held held
-  capture_out_same pair now held is = λ bound old st ready stands.
-      let open' = some_place (stands.added ++ []) st.plan.out pair (subst (λ o. IsPair (stands.added ++ []) st.plan.out o) is (stands.sources [] (λ n lt. refl)).out) in
+  capture_out_same pair now held is = λ course st ready stands.
+      let open' = some_place st.plan.out (sym stands.shaped.out ∙ ap (λ o. is_some o) is) in
       let same : st ≡ advance st (action.capture side.Out) =
       ap (λ (o : Option ℕ). record { stack = st.stack; plan = if is_some o then st.plan else record { items = st.plan.items ++ AskPipe ∷ []; out = Some (length st.plan.items); err = st.plan.err } }) (sym open') in
-      subst (λ (s : State E H). Stands allows number_of bound old s now held) same stands
+      subst (λ (s : State E H). Stands allows number_of course s now held) same stands
 
-  shut_out : (bound : ℕ) (old : JournalView) (st : State E H) (now : JournalView) (held : Holdings) → held.out ≡ None → Stands allows number_of bound old st now held → st.plan.out ≡ None
-  shut_out bound old st now held is stands = none_place (stands.added ++ []) st.plan.out (subst (λ o. IsPair (stands.added ++ []) st.plan.out o) is (stands.sources [] (λ n lt. refl)).out)
+  shut_out : (course : Course) (st : State E H) (now : JournalView) (held : Holdings) → held.out ≡ None → Stands allows number_of course st now held → st.plan.out ≡ None
+  shut_out course st now held is stands = none_place st.plan.out (sym stands.shaped.out ∙ ap (λ o. is_some o) is)
 
   abbrev opened_out : State E H → State E H
   opened_out st = record { stack = st.stack; plan = record { items = st.plan.items ++ AskPipe ∷ []; out = Some (length st.plan.items); err = st.plan.err } }
@@ -67,7 +67,7 @@ module _ {E H : Type 0} (allows : Allows H) (number_of : E → ℕ) where
       → GetsEnds (Pipe (Ok (r, w))) r w now next
       → Goes allows number_of (action.capture side.Out) now next held
       (record held { out = Some (r, w) })
-  capture_out_goes r w now next held is gets = λ bound old st ready stands.
+  capture_out_goes r w now next held is gets = λ course st ready stands.
       let kept : Holdings = record held { out = Some (r, w) } in
       let entry = Pipe (Ok (r, w)) in
       let then_st = opened_out st in
@@ -78,46 +78,46 @@ module _ {E H : Type 0} (allows : Allows H) (number_of : E → ℕ) where
       (λ k. omega (arith, was k, count-append k held.stack (pair_of held.out ++ pair_of held.err), count-append k (pair_of held.out) (pair_of held.err), count-append k held.stack (pair_of kept.out ++ pair_of kept.err), count-append k (pair_of kept.out) (pair_of kept.err)))
       (omega (arith, long, length-append held.stack (pair_of held.out ++ pair_of held.err), length-append (pair_of held.out) (pair_of held.err), length-append held.stack (pair_of kept.out ++ pair_of kept.err), length-append (pair_of kept.out) (pair_of kept.err))) in
       let other : w ≢ r = λ is. gets.3 (sym is) in
-      subst (λ (s : State E H). Stands allows number_of bound old s next kept) (opens_out st (shut_out bound old st now held is stands))
-      (stands_more allows number_of bound old st then_st (AskPipe ∷ []) now next held kept entry stands refl ch (few_of bound kept (omega (arith, as_long allows number_of bound old st now held stands, ready.low))) refl refl (λ more later. (tt, tt))
+      subst (λ (s : State E H). Stands allows number_of course s next kept) (opens_out st (shut_out course st now held is stands))
+      (stands_more allows number_of course st then_st (AskPipe ∷ []) now next held kept entry stands refl ch (few_of course.bound kept (omega (arith, stands.shaped.stack, ready.low))) (record { stack = stands.shaped.stack; out = refl; err = stands.shaped.err }) refl refl (λ more later. (tt, tt))
       (λ more later.
-      let z = sources_now allows number_of bound old st then_st (AskPipe ∷ []) now next held kept entry stands refl ch more later in
-      let a = opened_here stands.added more entry r next.next 0 gets.1.below_new later refl (rw is_itself refl) refl (length st.plan.items) stands.as_many in
-      let b = opened_here stands.added more entry w next.next 1 gets.2.below_new later refl (rw (other_than w r (count_other w r other), is_itself) refl) refl (length st.plan.items) stands.as_many in
+      let z = sources_now allows number_of course st then_st (AskPipe ∷ []) now next held kept entry stands refl ch more later in
+      let a = opened_here course stands.added more entry r next.next 0 gets.1.below_new later refl (rw is_itself refl) refl (length st.plan.items) (as_many stands) in
+      let b = opened_here course stands.added more entry w next.next 1 gets.2.below_new later refl (rw (other_than w r (count_other w r other), is_itself) refl) refl (length st.plan.items) (as_many stands) in
       record { stack = z.stack; out = (a, b); err = z.err }))
 
   pub capture_out_quits : (fault : Fault) (now next : JournalView) (held : Holdings)
       → held.out ≡ None → IsRefused (Pipe (Err fault)) 0 fault now next
       → Quits allows number_of (action.capture side.Out) now next held held (System fault)
-  capture_out_quits fault now next held is refused = λ bound old st ready stands.
+  capture_out_quits fault now next held is refused = λ course st ready stands.
       let then_st = opened_out st in
       let entry = Pipe (Err fault) in
-      subst (λ (s : State E H). Stopped allows number_of bound old s.plan.items next held (System fault)) (opens_out st (shut_out bound old st now held is stands)) (elim refused [
+      subst (λ (s : State E H). Stopped allows number_of course s.plan.items next held (System fault)) (opens_out st (shut_out course st now held is stands)) (elim refused [
         | inl adds ↦
-            stops_more allows number_of bound old st then_st (AskPipe ∷ []) now next held held entry stands refl
-            (none_changes entry now next held adds refl refl refl refl refl) (few_now allows number_of bound old st now held stands) fault refl (λ more later. (tt, tt))
-        | inr nothing ↦ stops_unasked allows number_of bound old st then_st.plan.items (AskPipe ∷ []) now next held (System fault) stands refl nothing.1 nothing.2
+            stops_more allows number_of course st then_st (AskPipe ∷ []) now next held held entry stands refl
+            (none_changes entry now next held adds refl refl refl refl refl) (few_now allows number_of course st now held stands) fault refl (λ more later. (tt, tt))
+        | inr nothing ↦ stops_unasked allows number_of course st then_st.plan.items (AskPipe ∷ []) now next held (System fault) stands refl nothing.1 nothing.2
       ])
 
   -- it was never opened
   pub finish_out_same : (now : JournalView) (held : Holdings) → held.out ≡ None
       → Goes allows number_of (action.finish side.Out) now now held held
-  finish_out_same now held is = λ bound old st ready stands.
-      let shut = shut_out bound old st now held is stands in
+  finish_out_same now held is = λ course st ready stands.
+      let shut = shut_out course st now held is stands in
       let nothing : Option ℕ = None in
       let same : st ≡ advance st (action.finish side.Out) = (
       let a : record { items = (drains nothing st.plan).items; out = None; err = st.plan.err } ≡ finished side.Out st.plan = ap (λ (o : Option ℕ). record { items = (drains o st.plan).items; out = None; err = st.plan.err }) (sym shut) in
       let b : st.plan ≡ record { items = st.plan.items; out = None; err = st.plan.err } = ap (λ (o : Option ℕ). record { items = st.plan.items; out = o; err = st.plan.err }) shut in
       ap (λ (p : Plan E H). record { stack = st.stack; plan = p }) (b ∙ a)) in
-      subst (λ (s : State E H). Stands allows number_of bound old s now held) same stands
+      subst (λ (s : State E H). Stands allows number_of course s now held) same stands
 
   -- its write end is closed, and its read end stands on the stack for a moment
   abbrev mid_out : State E H → State E H
   mid_out st = record { stack = ReaderAt (unwrap_or st.plan.out 0) ∷ st.stack; plan = record { items = st.plan.items; out = None; err = st.plan.err } }
 
-  closes_out : (bound : ℕ) (old : JournalView) (st : State E H) (r w : ℕ) (now next : JournalView) (held : Holdings) → held.out ≡ Some (r, w) → GivesEnds (Close w) 1 now next → length st.stack ≤ bound →
-      Stands allows number_of bound old st now held → Stands allows number_of bound old (mid_out st) next (without_out (r ∷ []) held)
-  closes_out bound old st r w now next held is gives low stands =
+  closes_out : (course : Course) (st : State E H) (r w : ℕ) (now next : JournalView) (held : Holdings) → held.out ≡ Some (r, w) → GivesEnds (Close w) 1 now next → length st.stack ≤ course.bound →
+      Stands allows number_of course st now held → Stands allows number_of course (mid_out st) next (without_out (r ∷ []) held)
+  closes_out course st r w now next held is gives low stands =
       let kept = without_out (r ∷ []) held in
       let items = sym (append-nil st.plan.items) in
       let was = λ (k : ℕ). ap (λ (o : Option (ℕ × ℕ)). count_of k (pair_of o)) is in
@@ -125,25 +125,25 @@ module _ {E H : Type 0} (allows : Allows H) (number_of : E → ℕ) where
       let ch : Changes (Close w) now next held kept = plain_changes (Close w) 0 1 now next held kept.stack kept.out kept.err gives refl refl (fresh_none now.next next.next gives.next_grows) refl refl refl
       (λ k. omega (arith, was k, count-cons k r (w ∷ []), count-cons k r (held.stack ++ (pair_of kept.out ++ pair_of kept.err)), count-append k held.stack (pair_of held.out ++ pair_of held.err), count-append k (pair_of held.out) (pair_of held.err), count-append k held.stack (pair_of kept.out ++ pair_of kept.err), count-append k (pair_of kept.out) (pair_of kept.err)))
       (omega (arith, long, length-append held.stack (pair_of held.out ++ pair_of held.err), length-append (pair_of held.out) (pair_of held.err), length-append held.stack (pair_of kept.out ++ pair_of kept.err), length-append (pair_of kept.out) (pair_of kept.err))) in
-      stands_more allows number_of bound old st (mid_out st) [] now next held kept (Close w) stands items ch (few_of bound kept (omega (arith, as_long allows number_of bound old st now held stands, low))) refl refl (λ more later. tt)
+      stands_more allows number_of course st (mid_out st) [] now next held kept (Close w) stands items ch (few_of course.bound kept (omega (arith, stands.shaped.stack, low))) (record { stack = omega (arith, stands.shaped.stack); out = refl; err = stands.shaped.err }) refl refl (λ more later. tt)
       (λ more later.
       let L = (stands.added ++ Close w ∷ []) ++ more in
-      let z = sources_now allows number_of bound old st (mid_out st) [] now next held kept (Close w) stands items ch more later in
+      let z = sources_now allows number_of course st (mid_out st) [] now next held kept (Close w) stands items ch more later in
       let top = ap Some (pair_reads L st.plan.out r w (subst (λ o. IsPair L st.plan.out o) is z.out)) in
       record { stack = cons_eq _ _ _ _ top z.stack; out = tt; err = z.err })
 
-  after_out : (bound : ℕ) (old : JournalView) (st : State E H) (r w : ℕ) (now : JournalView) (held : Holdings) → held.out ≡ Some (r, w) → (stands : Stands allows number_of bound old st now held) →
+  after_out : (course : Course) (st : State E H) (r w : ℕ) (now : JournalView) (held : Holdings) → held.out ≡ Some (r, w) → (stands : Stands allows number_of course st now held) →
       record { stack = st.stack; plan = record { items = st.plan.items ++ AskDrain (unwrap_or st.plan.out 0) ∷ []; out = None; err = st.plan.err } } ≡ advance st (action.finish side.Out)
-  after_out bound old st r w now held is stands =
-      let open' = some_place (stands.added ++ []) st.plan.out (r, w) (subst (λ o. IsPair (stands.added ++ []) st.plan.out o) is (stands.sources [] (λ n lt. refl)).out) in
+  after_out course st r w now held is stands =
+      let open' = some_place st.plan.out (sym stands.shaped.out ∙ ap (λ o. is_some o) is) in
       ap (λ (o : Option ℕ). record { stack = st.stack; plan = record { items = (drains o st.plan).items; out = None; err = st.plan.err } }) (sym open')
 
   module _ (r w : ℕ) (now mid next : JournalView) (held : Holdings) (is : held.out ≡ Some (r, w)) (closed : GivesEnds (Close w) 1 now mid) where
     pub finish_out_goes : GivesEnds (Drain r (Ok tt)) 1 mid next
         → Goes allows number_of (action.finish side.Out) now next held
         (record held { out = None; drains = held.drains ++ r ∷ [] })
-    finish_out_goes gives = λ bound old st ready stands.
-        let first = closes_out bound old st r w now mid held is closed ready.low stands in
+    finish_out_goes gives = λ course st ready stands.
+        let first = closes_out course st r w now mid held is closed ready.low stands in
         let one = mid_out st in
         let before = without_out (r ∷ []) held in
         let kept : Holdings = record held { out = None; drains = held.drains ++ r ∷ [] } in
@@ -151,17 +151,17 @@ module _ {E H : Type 0} (allows : Allows H) (number_of : E → ℕ) where
         let asked : List (Item E H) = AskDrain (unwrap_or st.plan.out 0) ∷ [] in
         let then_st : State E H = record { stack = st.stack; plan = record { items = st.plan.items ++ asked; out = None; err = st.plan.err } } in
         let ch : Changes entry mid next before kept = pop_changes entry r held.stack held.children held.feeds kept.drains mid next before gives refl refl refl (sym (append-nil held.children)) (sym (append-nil held.feeds)) refl in
-        let from = λ (more : List EntryView) (later : IsLater next.next more). sources_now allows number_of bound old one then_st asked mid next before kept entry first refl ch more later in
-        subst (λ (s : State E H). Stands allows number_of bound old s next kept) (after_out bound old st r w now held is stands)
-        (stands_more allows number_of bound old one then_st asked mid next before kept entry first refl ch (few_of bound kept (omega (arith, as_long allows number_of bound old st now held stands, ready.low))) refl refl
+        let from = λ (more : List EntryView) (later : IsLater course next.next more). sources_now allows number_of course one then_st asked mid next before kept entry first refl ch more later in
+        subst (λ (s : State E H). Stands allows number_of course s next kept) (after_out course st r w now held is stands)
+        (stands_more allows number_of course one then_st asked mid next before kept entry first refl ch (few_of course.bound kept (omega (arith, stands.shaped.stack, ready.low))) (record { stack = stands.shaped.stack; out = refl; err = stands.shaped.err }) refl refl
         (λ more later. (top_some _ _ _ _ (from more later).stack, tt))
         (λ more later. let z = from more later in record { stack = popped _ _ r held.stack one.stack z.stack; out = tt; err = z.err }))
 
     pub finish_out_quits : (fault : Fault) → GivesEnds (Drain r (Err fault)) 1 mid next
         → Quits allows number_of (action.finish side.Out) now next held (without_out [] held)
         (System fault)
-    finish_out_quits fault gives = λ bound old st ready stands.
-        let first = closes_out bound old st r w now mid held is closed ready.low stands in
+    finish_out_quits fault gives = λ course st ready stands.
+        let first = closes_out course st r w now mid held is closed ready.low stands in
         let one = mid_out st in
         let before = without_out (r ∷ []) held in
         let kept = without_out [] held in
@@ -169,9 +169,9 @@ module _ {E H : Type 0} (allows : Allows H) (number_of : E → ℕ) where
         let asked : List (Item E H) = AskDrain (unwrap_or st.plan.out 0) ∷ [] in
         let then_st : State E H = record { stack = st.stack; plan = record { items = st.plan.items ++ asked; out = None; err = st.plan.err } } in
         let ch : Changes entry mid next before kept = pop_changes entry r held.stack held.children held.feeds held.drains mid next before gives refl refl refl (sym (append-nil held.children)) (sym (append-nil held.feeds)) (sym (append-nil held.drains)) in
-        subst (λ (s : State E H). Stopped allows number_of bound old s.plan.items next kept (System fault)) (after_out bound old st r w now held is stands)
-        (stops_more allows number_of bound old one then_st asked mid next before kept entry first refl ch (few_of bound kept (omega (arith, as_long allows number_of bound old st now held stands, ready.low))) fault refl
-        (λ more later. (top_some _ _ _ _ (sources_now allows number_of bound old one then_st asked mid next before kept entry first refl ch more later).stack, tt)))
+        subst (λ (s : State E H). Stopped allows number_of course s.plan.items next kept (System fault)) (after_out course st r w now held is stands)
+        (stops_more allows number_of course one then_st asked mid next before kept entry first refl ch (few_of course.bound kept (omega (arith, stands.shaped.stack, ready.low))) fault refl
+        (λ more later. (top_some _ _ _ _ (sources_now allows number_of course one then_st asked mid next before kept entry first refl ch more later).stack, tt)))
 
 -- what is held without stderr's capture pipe, and with these on the stack
 abbrev pub without_err : List ℕ → Holdings → Holdings
@@ -182,14 +182,14 @@ module _ {E H : Type 0} (allows : Allows H) (number_of : E → ℕ) where
   -- it is open already
   pub capture_err_same : (pair : ℕ × ℕ) (now : JournalView) (held : Holdings) → held.err ≡ Some pair
       → Goes allows number_of (action.capture side.Err) now now held held
-  capture_err_same pair now held is = λ bound old st ready stands.
-      let open' = some_place (stands.added ++ []) st.plan.err pair (subst (λ o. IsPair (stands.added ++ []) st.plan.err o) is (stands.sources [] (λ n lt. refl)).err) in
+  capture_err_same pair now held is = λ course st ready stands.
+      let open' = some_place st.plan.err (sym stands.shaped.err ∙ ap (λ o. is_some o) is) in
       let same : st ≡ advance st (action.capture side.Err) =
       ap (λ (o : Option ℕ). record { stack = st.stack; plan = if is_some o then st.plan else record { items = st.plan.items ++ AskPipe ∷ []; out = st.plan.out; err = Some (length st.plan.items) } }) (sym open') in
-      subst (λ (s : State E H). Stands allows number_of bound old s now held) same stands
+      subst (λ (s : State E H). Stands allows number_of course s now held) same stands
 
-  shut_err : (bound : ℕ) (old : JournalView) (st : State E H) (now : JournalView) (held : Holdings) → held.err ≡ None → Stands allows number_of bound old st now held → st.plan.err ≡ None
-  shut_err bound old st now held is stands = none_place (stands.added ++ []) st.plan.err (subst (λ o. IsPair (stands.added ++ []) st.plan.err o) is (stands.sources [] (λ n lt. refl)).err)
+  shut_err : (course : Course) (st : State E H) (now : JournalView) (held : Holdings) → held.err ≡ None → Stands allows number_of course st now held → st.plan.err ≡ None
+  shut_err course st now held is stands = none_place st.plan.err (sym stands.shaped.err ∙ ap (λ o. is_some o) is)
 
   abbrev opened_err : State E H → State E H
   opened_err st = record { stack = st.stack; plan = record { items = st.plan.items ++ AskPipe ∷ []; out = st.plan.out; err = Some (length st.plan.items) } }
@@ -201,7 +201,7 @@ module _ {E H : Type 0} (allows : Allows H) (number_of : E → ℕ) where
       → GetsEnds (Pipe (Ok (r, w))) r w now next
       → Goes allows number_of (action.capture side.Err) now next held
       (record held { err = Some (r, w) })
-  capture_err_goes r w now next held is gets = λ bound old st ready stands.
+  capture_err_goes r w now next held is gets = λ course st ready stands.
       let kept : Holdings = record held { err = Some (r, w) } in
       let entry = Pipe (Ok (r, w)) in
       let then_st = opened_err st in
@@ -212,46 +212,46 @@ module _ {E H : Type 0} (allows : Allows H) (number_of : E → ℕ) where
       (λ k. omega (arith, was k, count-append k held.stack (pair_of held.out ++ pair_of held.err), count-append k (pair_of held.out) (pair_of held.err), count-append k held.stack (pair_of kept.out ++ pair_of kept.err), count-append k (pair_of kept.out) (pair_of kept.err)))
       (omega (arith, long, length-append held.stack (pair_of held.out ++ pair_of held.err), length-append (pair_of held.out) (pair_of held.err), length-append held.stack (pair_of kept.out ++ pair_of kept.err), length-append (pair_of kept.out) (pair_of kept.err))) in
       let other : w ≢ r = λ is. gets.3 (sym is) in
-      subst (λ (s : State E H). Stands allows number_of bound old s next kept) (opens_err st (shut_err bound old st now held is stands))
-      (stands_more allows number_of bound old st then_st (AskPipe ∷ []) now next held kept entry stands refl ch (few_of bound kept (omega (arith, as_long allows number_of bound old st now held stands, ready.low))) refl refl (λ more later. (tt, tt))
+      subst (λ (s : State E H). Stands allows number_of course s next kept) (opens_err st (shut_err course st now held is stands))
+      (stands_more allows number_of course st then_st (AskPipe ∷ []) now next held kept entry stands refl ch (few_of course.bound kept (omega (arith, stands.shaped.stack, ready.low))) (record { stack = stands.shaped.stack; err = refl; out = stands.shaped.out }) refl refl (λ more later. (tt, tt))
       (λ more later.
-      let z = sources_now allows number_of bound old st then_st (AskPipe ∷ []) now next held kept entry stands refl ch more later in
-      let a = opened_here stands.added more entry r next.next 0 gets.1.below_new later refl (rw is_itself refl) refl (length st.plan.items) stands.as_many in
-      let b = opened_here stands.added more entry w next.next 1 gets.2.below_new later refl (rw (other_than w r (count_other w r other), is_itself) refl) refl (length st.plan.items) stands.as_many in
+      let z = sources_now allows number_of course st then_st (AskPipe ∷ []) now next held kept entry stands refl ch more later in
+      let a = opened_here course stands.added more entry r next.next 0 gets.1.below_new later refl (rw is_itself refl) refl (length st.plan.items) (as_many stands) in
+      let b = opened_here course stands.added more entry w next.next 1 gets.2.below_new later refl (rw (other_than w r (count_other w r other), is_itself) refl) refl (length st.plan.items) (as_many stands) in
       record { stack = z.stack; out = z.out; err = (a, b) }))
 
   pub capture_err_quits : (fault : Fault) (now next : JournalView) (held : Holdings)
       → held.err ≡ None → IsRefused (Pipe (Err fault)) 0 fault now next
       → Quits allows number_of (action.capture side.Err) now next held held (System fault)
-  capture_err_quits fault now next held is refused = λ bound old st ready stands.
+  capture_err_quits fault now next held is refused = λ course st ready stands.
       let then_st = opened_err st in
       let entry = Pipe (Err fault) in
-      subst (λ (s : State E H). Stopped allows number_of bound old s.plan.items next held (System fault)) (opens_err st (shut_err bound old st now held is stands)) (elim refused [
+      subst (λ (s : State E H). Stopped allows number_of course s.plan.items next held (System fault)) (opens_err st (shut_err course st now held is stands)) (elim refused [
         | inl adds ↦
-            stops_more allows number_of bound old st then_st (AskPipe ∷ []) now next held held entry stands refl
-            (none_changes entry now next held adds refl refl refl refl refl) (few_now allows number_of bound old st now held stands) fault refl (λ more later. (tt, tt))
-        | inr nothing ↦ stops_unasked allows number_of bound old st then_st.plan.items (AskPipe ∷ []) now next held (System fault) stands refl nothing.1 nothing.2
+            stops_more allows number_of course st then_st (AskPipe ∷ []) now next held held entry stands refl
+            (none_changes entry now next held adds refl refl refl refl refl) (few_now allows number_of course st now held stands) fault refl (λ more later. (tt, tt))
+        | inr nothing ↦ stops_unasked allows number_of course st then_st.plan.items (AskPipe ∷ []) now next held (System fault) stands refl nothing.1 nothing.2
       ])
 
   -- it was never opened
   pub finish_err_same : (now : JournalView) (held : Holdings) → held.err ≡ None
       → Goes allows number_of (action.finish side.Err) now now held held
-  finish_err_same now held is = λ bound old st ready stands.
-      let shut = shut_err bound old st now held is stands in
+  finish_err_same now held is = λ course st ready stands.
+      let shut = shut_err course st now held is stands in
       let nothing : Option ℕ = None in
       let same : st ≡ advance st (action.finish side.Err) = (
       let a : record { items = (drains nothing st.plan).items; out = st.plan.out; err = None } ≡ finished side.Err st.plan = ap (λ (o : Option ℕ). record { items = (drains o st.plan).items; out = st.plan.out; err = None }) (sym shut) in
       let b : st.plan ≡ record { items = st.plan.items; out = st.plan.out; err = None } = ap (λ (o : Option ℕ). record { items = st.plan.items; out = st.plan.out; err = o }) shut in
       ap (λ (p : Plan E H). record { stack = st.stack; plan = p }) (b ∙ a)) in
-      subst (λ (s : State E H). Stands allows number_of bound old s now held) same stands
+      subst (λ (s : State E H). Stands allows number_of course s now held) same stands
 
   -- its write end is closed, and its read end stands on the stack for a moment
   abbrev mid_err : State E H → State E H
   mid_err st = record { stack = ReaderAt (unwrap_or st.plan.err 0) ∷ st.stack; plan = record { items = st.plan.items; out = st.plan.out; err = None } }
 
-  closes_err : (bound : ℕ) (old : JournalView) (st : State E H) (r w : ℕ) (now next : JournalView) (held : Holdings) → held.err ≡ Some (r, w) → GivesEnds (Close w) 1 now next → length st.stack ≤ bound →
-      Stands allows number_of bound old st now held → Stands allows number_of bound old (mid_err st) next (without_err (r ∷ []) held)
-  closes_err bound old st r w now next held is gives low stands =
+  closes_err : (course : Course) (st : State E H) (r w : ℕ) (now next : JournalView) (held : Holdings) → held.err ≡ Some (r, w) → GivesEnds (Close w) 1 now next → length st.stack ≤ course.bound →
+      Stands allows number_of course st now held → Stands allows number_of course (mid_err st) next (without_err (r ∷ []) held)
+  closes_err course st r w now next held is gives low stands =
       let kept = without_err (r ∷ []) held in
       let items = sym (append-nil st.plan.items) in
       let was = λ (k : ℕ). ap (λ (o : Option (ℕ × ℕ)). count_of k (pair_of o)) is in
@@ -259,25 +259,25 @@ module _ {E H : Type 0} (allows : Allows H) (number_of : E → ℕ) where
       let ch : Changes (Close w) now next held kept = plain_changes (Close w) 0 1 now next held kept.stack kept.out kept.err gives refl refl (fresh_none now.next next.next gives.next_grows) refl refl refl
       (λ k. omega (arith, was k, count-cons k r (w ∷ []), count-cons k r (held.stack ++ (pair_of kept.out ++ pair_of kept.err)), count-append k held.stack (pair_of held.out ++ pair_of held.err), count-append k (pair_of held.out) (pair_of held.err), count-append k held.stack (pair_of kept.out ++ pair_of kept.err), count-append k (pair_of kept.out) (pair_of kept.err)))
       (omega (arith, long, length-append held.stack (pair_of held.out ++ pair_of held.err), length-append (pair_of held.out) (pair_of held.err), length-append held.stack (pair_of kept.out ++ pair_of kept.err), length-append (pair_of kept.out) (pair_of kept.err))) in
-      stands_more allows number_of bound old st (mid_err st) [] now next held kept (Close w) stands items ch (few_of bound kept (omega (arith, as_long allows number_of bound old st now held stands, low))) refl refl (λ more later. tt)
+      stands_more allows number_of course st (mid_err st) [] now next held kept (Close w) stands items ch (few_of course.bound kept (omega (arith, stands.shaped.stack, low))) (record { stack = omega (arith, stands.shaped.stack); err = refl; out = stands.shaped.out }) refl refl (λ more later. tt)
       (λ more later.
       let L = (stands.added ++ Close w ∷ []) ++ more in
-      let z = sources_now allows number_of bound old st (mid_err st) [] now next held kept (Close w) stands items ch more later in
+      let z = sources_now allows number_of course st (mid_err st) [] now next held kept (Close w) stands items ch more later in
       let top = ap Some (pair_reads L st.plan.err r w (subst (λ o. IsPair L st.plan.err o) is z.err)) in
       record { stack = cons_eq _ _ _ _ top z.stack; out = z.out; err = tt })
 
-  after_err : (bound : ℕ) (old : JournalView) (st : State E H) (r w : ℕ) (now : JournalView) (held : Holdings) → held.err ≡ Some (r, w) → (stands : Stands allows number_of bound old st now held) →
+  after_err : (course : Course) (st : State E H) (r w : ℕ) (now : JournalView) (held : Holdings) → held.err ≡ Some (r, w) → (stands : Stands allows number_of course st now held) →
       record { stack = st.stack; plan = record { items = st.plan.items ++ AskDrain (unwrap_or st.plan.err 0) ∷ []; out = st.plan.out; err = None } } ≡ advance st (action.finish side.Err)
-  after_err bound old st r w now held is stands =
-      let open' = some_place (stands.added ++ []) st.plan.err (r, w) (subst (λ o. IsPair (stands.added ++ []) st.plan.err o) is (stands.sources [] (λ n lt. refl)).err) in
+  after_err course st r w now held is stands =
+      let open' = some_place st.plan.err (sym stands.shaped.err ∙ ap (λ o. is_some o) is) in
       ap (λ (o : Option ℕ). record { stack = st.stack; plan = record { items = (drains o st.plan).items; out = st.plan.out; err = None } }) (sym open')
 
   module _ (r w : ℕ) (now mid next : JournalView) (held : Holdings) (is : held.err ≡ Some (r, w)) (closed : GivesEnds (Close w) 1 now mid) where
     pub finish_err_goes : GivesEnds (Drain r (Ok tt)) 1 mid next
         → Goes allows number_of (action.finish side.Err) now next held
         (record held { err = None; drains = held.drains ++ r ∷ [] })
-    finish_err_goes gives = λ bound old st ready stands.
-        let first = closes_err bound old st r w now mid held is closed ready.low stands in
+    finish_err_goes gives = λ course st ready stands.
+        let first = closes_err course st r w now mid held is closed ready.low stands in
         let one = mid_err st in
         let before = without_err (r ∷ []) held in
         let kept : Holdings = record held { err = None; drains = held.drains ++ r ∷ [] } in
@@ -285,17 +285,17 @@ module _ {E H : Type 0} (allows : Allows H) (number_of : E → ℕ) where
         let asked : List (Item E H) = AskDrain (unwrap_or st.plan.err 0) ∷ [] in
         let then_st : State E H = record { stack = st.stack; plan = record { items = st.plan.items ++ asked; out = st.plan.out; err = None } } in
         let ch : Changes entry mid next before kept = pop_changes entry r held.stack held.children held.feeds kept.drains mid next before gives refl refl refl (sym (append-nil held.children)) (sym (append-nil held.feeds)) refl in
-        let from = λ (more : List EntryView) (later : IsLater next.next more). sources_now allows number_of bound old one then_st asked mid next before kept entry first refl ch more later in
-        subst (λ (s : State E H). Stands allows number_of bound old s next kept) (after_err bound old st r w now held is stands)
-        (stands_more allows number_of bound old one then_st asked mid next before kept entry first refl ch (few_of bound kept (omega (arith, as_long allows number_of bound old st now held stands, ready.low))) refl refl
+        let from = λ (more : List EntryView) (later : IsLater course next.next more). sources_now allows number_of course one then_st asked mid next before kept entry first refl ch more later in
+        subst (λ (s : State E H). Stands allows number_of course s next kept) (after_err course st r w now held is stands)
+        (stands_more allows number_of course one then_st asked mid next before kept entry first refl ch (few_of course.bound kept (omega (arith, stands.shaped.stack, ready.low))) (record { stack = stands.shaped.stack; err = refl; out = stands.shaped.out }) refl refl
         (λ more later. (top_some _ _ _ _ (from more later).stack, tt))
         (λ more later. let z = from more later in record { stack = popped _ _ r held.stack one.stack z.stack; out = z.out; err = tt }))
 
     pub finish_err_quits : (fault : Fault) → GivesEnds (Drain r (Err fault)) 1 mid next
         → Quits allows number_of (action.finish side.Err) now next held (without_err [] held)
         (System fault)
-    finish_err_quits fault gives = λ bound old st ready stands.
-        let first = closes_err bound old st r w now mid held is closed ready.low stands in
+    finish_err_quits fault gives = λ course st ready stands.
+        let first = closes_err course st r w now mid held is closed ready.low stands in
         let one = mid_err st in
         let before = without_err (r ∷ []) held in
         let kept = without_err [] held in
@@ -303,6 +303,6 @@ module _ {E H : Type 0} (allows : Allows H) (number_of : E → ℕ) where
         let asked : List (Item E H) = AskDrain (unwrap_or st.plan.err 0) ∷ [] in
         let then_st : State E H = record { stack = st.stack; plan = record { items = st.plan.items ++ asked; out = st.plan.out; err = None } } in
         let ch : Changes entry mid next before kept = pop_changes entry r held.stack held.children held.feeds held.drains mid next before gives refl refl refl (sym (append-nil held.children)) (sym (append-nil held.feeds)) (sym (append-nil held.drains)) in
-        subst (λ (s : State E H). Stopped allows number_of bound old s.plan.items next kept (System fault)) (after_err bound old st r w now held is stands)
-        (stops_more allows number_of bound old one then_st asked mid next before kept entry first refl ch (few_of bound kept (omega (arith, as_long allows number_of bound old st now held stands, ready.low))) fault refl
-        (λ more later. (top_some _ _ _ _ (sources_now allows number_of bound old one then_st asked mid next before kept entry first refl ch more later).stack, tt)))
+        subst (λ (s : State E H). Stopped allows number_of course s.plan.items next kept (System fault)) (after_err course st r w now held is stands)
+        (stops_more allows number_of course one then_st asked mid next before kept entry first refl ch (few_of course.bound kept (omega (arith, stands.shaped.stack, ready.low))) fault refl
+        (λ more later. (top_some _ _ _ _ (sources_now allows number_of course one then_st asked mid next before kept entry first refl ch more later).stack, tt)))

@@ -1,12 +1,13 @@
 -- A run that was refused asks nothing but closes after the refusal.
 use Rattle.std.proofs.Common.{◌≡◌, ℕ, List, [], ◌∷◌, ◌++◌, refl, sym, subst, append_assoc}
+use Rattle.std.proofs.lemmas.List.{append-nil}
 use Rattle.std.specs.Prelude.{map, Some, None, IfSome}
 use Rattle.std.specs.declared.option.Option.{Option}
 use Rattle.duct_system.specs.EntryView.{EntryView, Close}
 use Rattle.duct_system.specs.Trace.{IsClean, StopsAtFault, OnlyCloses, fault_of}
 use Rattle.duct_system.specs.declared.error.Error.{Error}
 use Rattle.duct_system.specs.declared.system.Fault.{Fault}
-use Rattle.duct_start.specs.Standing.{Ended, unasked, refused}
+use Rattle.duct_start.specs.Standing.{Ended, unasked, hooked, refused}
 
 if_none : (o : Option Fault) (P : Fault → Type 0) → o ≡ None → IfSome o P
 if_none None P is = tt
@@ -32,6 +33,11 @@ clean_stop (x ∷ xs) rest clean stops = (if_none (fault_of x) (λ fault. OnlyCl
 pub ended_stops : (added : List EntryView) (error : Error) (numbers : List ℕ)
     → Ended added error → StopsAtFault (added ++ map Close numbers)
 ended_stops added error numbers (unasked clean un) = clean_stop added (map Close numbers) clean (closes_stop numbers)
+ended_stops added error numbers (hooked clean is) = clean_stop added (map Close numbers) clean (closes_stop numbers)
 ended_stops added error numbers (refused front entry fault clean is) =
     subst StopsAtFault (sym (append_assoc front (entry ∷ []) (map Close numbers)))
     (clean_stop front (entry ∷ map Close numbers) clean (if_all (fault_of entry) (OnlyCloses (map Close numbers)) (closes_only numbers), closes_stop numbers))
+
+-- what is clean has no fault to stop at
+pub clean_stops : (added : List EntryView) → IsClean added → StopsAtFault added
+clean_stops added clean = subst StopsAtFault (append-nil added) (clean_stop added [] clean tt)

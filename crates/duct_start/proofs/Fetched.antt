@@ -1,19 +1,18 @@
 -- A command fetches what its streams are wired to, and is spawned with it.
-use Rattle.std.proofs.Common.{◌≡◌, ℕ, ◌+◌, ◌≤◌, List, [], ◌∷◌, length, refl, ap, sym, ◌∙◌, arith, subst}
-use Rattle.std.specs.Prelude.{Bool, true, false, Some, IsSome, if◌then◌else◌, is_some, unwrap_or}
-use Rattle.duct_base.specs.Executable.{asks_canonical}
+use Rattle.std.proofs.Common.{◌≡◌, ℕ, ◌+◌, ◌≤◌, ◌<◌, List, [], ◌∷◌, length, refl, ap, sym, ◌∙◌, arith, subst}
+use Rattle.std.specs.Prelude.{Bool, true, false, Some, IsSome, unwrap_or}
+use Rattle.duct_start.specs.Asked.{port_to}
 use Rattle.duct_system.specs.declared.spec.Port.{Port}
 use Rattle.duct_system.specs.declared.spec.Port.TheVariants as port
 use Rattle.duct_system.specs.declared.system.Side.TheVariants as side
 use Rattle.duct_system.specs.declared.spec.Stream.{Stream}
 use Rattle.duct_system.specs.declared.spec.Stream.TheVariants.{In, Out, Err}
 use Rattle.duct_start.specs.Actions as action
-use Rattle.duct_start.specs.Actions.{Action, Scope, State, Three, Leads, IsPlain, advance, level, given, less, many, left_by, found_by}
-use Rattle.duct_start.specs.Flat.{Wire, fetches, port_at, ports_at, commands, WireIs, is_stdin, is_in, is_out, is_err, is_nothing, is_slot, is_captured, is_lent, Fits}
-use Rattle.duct_start.specs.Found.{Found, Target, Nothing, WriterAt}
-use Rattle.duct_start.specs.Plan.{Plan, asks, program_of, commanded}
-use Rattle.duct_start.specs.Step.{AskCanonicalize, AskSpawn}
-use Rattle.duct_start.proofs.Keeping.{Keeps, keeps_same, keeps_canonical}
+use Rattle.duct_start.specs.Actions.{Action, Scope, State, Three, Leads, advance, port_in, level, given, less, many, left_by, found_by}
+use Rattle.duct_start.specs.Flat.{Wire, fetches, port_at, ports_at, commands, WireIs, is_stdin, is_in, is_out, is_err, is_nothing, is_slot, is_captured, is_lent, IsGot, Fits}
+use Rattle.duct_start.specs.Found.{Found, Target, Parents, Nothing, ReaderAt, WriterAt, FileAt, Lends, target_of}
+use Rattle.duct_start.specs.Plan.{Plan, commanded}
+use Rattle.duct_start.proofs.Keeping.{Keeps, keeps_same}
 use Rattle.duct_start.proofs.Stacks.{level_under, level_within, leads_none, leads_one, leads_append}
 
 -- a stack with the end that a port is given
@@ -66,6 +65,36 @@ module _ {E H : Type 0} where
   put_grows state port.Given x = grows_by state.stack x state.plan state.plan (keeps_same state.plan state.plan refl refl)
   put_grows state (port.Place place) x = grows_plan state.stack state.plan state.plan (keeps_same state.plan state.plan refl refl)
 
+port_nothing : (E : Type 0) (s : Stream) → port_to {E = E} s Nothing ≡ port.Null
+port_nothing E In = refl
+port_nothing E Out = refl
+port_nothing E Err = refl
+
+port_lent : {E : Type 0} (s : Stream) (end : E) → port_to s (Lends end) ≡ port.Given
+port_lent In end = refl
+port_lent Out end = refl
+port_lent Err end = refl
+
+port_got : {E : Type 0} (s : Stream) (t : Target E) → IsGot t → port_to s t ≡ port.Given
+port_got In (ReaderAt place) got = refl
+port_got In (WriterAt place) got = refl
+port_got In (FileAt place) got = refl
+port_got Out (ReaderAt place) got = refl
+port_got Out (WriterAt place) got = refl
+port_got Out (FileAt place) got = refl
+port_got Err (ReaderAt place) got = refl
+port_got Err (WriterAt place) got = refl
+port_got Err (FileAt place) got = refl
+port_got s (Parents stream) got = absurd got
+port_got s Nothing got = absurd got
+port_got s (Lends end) got = absurd got
+
+three_ports : {E H : Type 0} (ports : Three Port) (found : Found E H) → ports.input ≡ port_to In found.input → ports.output ≡ port_to Out found.output →
+    ports.error ≡ port_to Err found.error → (stream : Stream) → port_in ports stream ≡ port_to stream (target_of found stream)
+three_ports ports found input output error In = input
+three_ports ports found input output error Out = output
+three_ports ports found input output error Err = error
+
 module _ {E H : Type 0} (number_of : E → ℕ) (base : ℕ) where
   wire_grows : (state next : State E H) (b : Bool) (w : Wire E) (t : Target E) → Grows state next → WireIs number_of base state b w t → WireIs number_of base next b w t
   wire_grows state next b w t grows is_in = is_in
@@ -87,66 +116,58 @@ module _ {E H : Type 0} (number_of : E → ℕ) (base : ℕ) where
     input = wire_grows state next true wires.input found.input grows fits.input;
     output = wire_grows state next false wires.output found.output grows fits.output;
     error = wire_grows state next false wires.error found.error grows fits.error;
+    below = fits.below;
   }
 
-  -- what a stream is wired to is fetched, its port is plain, and by it the stream goes where it should
+  -- what a stream is wired to is fetched, its port is that of where it goes, and by it the stream goes there
   record IsFetched (bound : ℕ) (state : State E H) (s : Stream) (w : Wire E) (t : Target E) : Type 0 where
     leads : Leads number_of base bound state (fetches w s) (record { stack = put (port_at w s) t state.stack; plan = state.plan })
-    plain : IsPlain (port_at w s)
+    port_is : port_at w s ≡ port_to s t
     goes : (stack : List (Target E)) → given s (port_at w s) (put (port_at w s) t stack) ≡ t
 
   module _ (bound : ℕ) where
     -- by one action that pushes it
-    by_one : (state : State E H) (s : Stream) (w : Wire E) (t : Target E) (x : Action E H) → fetches {E = E} {K = Scope E H} w s ≡ x ∷ [] → port_at w s ≡ port.Given →
-        action.pops x ≡ 0 → action.Needs number_of base state x → advance state x ≡ action.pushes t state → length state.stack + 1 ≤ bound → IsFetched bound state s w t
-    by_one state s w t x one port_is none needs is low = record {
+    by_one : (state : State E H) (s : Stream) (w : Wire E) (t : Target E) (x : Action E H) → fetches {E = E} {K = Scope E H} w s ≡ x ∷ [] → port_at w s ≡ port.Given → port_to s t ≡ port.Given →
+        action.pops x ≡ 0 → action.Needs number_of base bound state x → advance state x ≡ action.pushes t state → length state.stack + 1 ≤ bound → IsFetched bound state s w t
+    by_one state s w t x one port_is goes_is none needs is low = record {
       leads = subst (λ (p : Port). Leads number_of base bound state (fetches w s) (record { stack = put p t state.stack; plan = state.plan })) (sym port_is)
           (subst (λ (l : List (Action E H)). Leads number_of base bound state l (action.pushes t state)) (sym one) (leads_one number_of base bound state x _ none needs is (omega (arith, low))));
-      plain = subst IsPlain (sym port_is) tt;
+      port_is = port_is ∙ sym goes_is;
       goes = λ stack. ap (λ p. given s p (put p t stack)) port_is;
     }
 
     fetched : (state : State E H) (s : Stream) (b : Bool) (w : Wire E) (t : Target E) → is_stdin s ≡ b → WireIs number_of base state b w t → length state.stack + 1 ≤ bound →
         IsFetched bound state s w t
-    fetched state s b w t which (is_nothing c) low = record { leads = leads_none number_of base bound state; plain = tt; goes = λ stack. refl }
+    fetched state s b w t which (is_nothing c) low = record { leads = leads_none number_of base bound state; port_is = sym (port_nothing E s); goes = λ stack. refl }
     fetched state s b w t which (is_slot c n x got is) low =
-        by_one state s w t (action.duplicate n) refl refl refl (level_within state.stack x n is) (ap (λ o. action.pushes (unwrap_or o Nothing) state) is) low
+        by_one state s w t (action.duplicate n) refl refl (port_got s t got) refl (level_within state.stack x n is) (ap (λ o. action.pushes (unwrap_or o Nothing) state) is) low
     fetched state s b w t which (is_captured c capture place is) low =
-        by_one state s w t (action.tap capture) refl refl refl (subst IsSome (sym is) refl) (ap (λ o. action.pushes (WriterAt (unwrap_or o 0)) state) is) low
-    fetched state s b w t which (is_lent c end is) low = by_one state s w t (action.lend end) refl refl refl is refl low
-    fetched state In b w t which is_in low = record { leads = leads_none number_of base bound state; plain = tt; goes = λ stack. refl }
+        by_one state s w t (action.tap capture) refl refl (port_got s t tt) refl (subst IsSome (sym is) refl) (ap (λ o. action.pushes (WriterAt (unwrap_or o 0)) state) is) low
+    fetched state s b w t which (is_lent c end is) low = by_one state s w t (action.lend end) refl refl (port_lent s end) refl is refl low
+    fetched state In b w t which is_in low = record { leads = leads_none number_of base bound state; port_is = refl; goes = λ stack. refl }
     fetched state In b w t which is_out low = absurd (cc)
     fetched state In b w t which is_err low = absurd (cc)
     fetched state Out b w t which is_in low = absurd (cc)
-    fetched state Out b w t which is_out low = record { leads = leads_none number_of base bound state; plain = tt; goes = λ stack. refl }
-    fetched state Out b w t which is_err low = by_one state Out w t (action.parent side.Err) refl refl refl tt refl low
+    fetched state Out b w t which is_out low = record { leads = leads_none number_of base bound state; port_is = refl; goes = λ stack. refl }
+    fetched state Out b w t which is_err low = by_one state Out w t (action.parent side.Err) refl refl refl refl tt refl low
     fetched state Err b w t which is_in low = absurd (cc)
-    fetched state Err b w t which is_out low = by_one state Err w t (action.parent side.Out) refl refl refl tt refl low
-    fetched state Err b w t which is_err low = record { leads = leads_none number_of base bound state; plain = tt; goes = λ stack. refl }
-
-    canonical_leads : (state : State E H) (b : Bool) (path : List ℕ) → length state.stack ≤ bound →
-        Leads number_of base bound state (if b then action.canonicalize path ∷ [] else []) (record { stack = state.stack; plan = if b then asks (AskCanonicalize path) state.plan else state.plan })
-    canonical_leads state true path low = leads_one number_of base bound state (action.canonicalize path) _ refl tt refl low
-    canonical_leads state false path low = leads_none number_of base bound state
+    fetched state Err b w t which is_out low = by_one state Err w t (action.parent side.Out) refl refl refl refl tt refl low
+    fetched state Err b w t which is_err low = record { leads = leads_none number_of base bound state; port_is = refl; goes = λ stack. refl }
 
     -- a command's actions lead to its item, and leave the stack as it was
     pub command_leads : (state : State E H) (scope : Scope E H) (wires : Three (Wire E))
         (found : Found E H) (words : List (List ℕ)) →
-        Fits number_of base state scope wires found → length state.stack + 3 ≤ bound →
-        Leads number_of base bound state (commands scope (is_some scope.folder) wires words)
+        Fits number_of base state scope wires found → length state.stack + 3 < bound →
+        Leads number_of base bound state (commands scope wires words)
         (record { stack = state.stack; plan = commanded found words state.plan })
     command_leads state scope wires found words fits low =
-        let b = asks_canonical (program_of words) (is_some scope.folder) in
         let pi = port_at wires.input In in
         let po = port_at wires.output Out in
         let pe = port_at wires.error Err in
-        let p = if b then asks (AskCanonicalize (program_of words)) state.plan else state.plan in
-        let st0 : State E H = record { stack = state.stack; plan = p } in
-        let st1 : State E H = record { stack = put pi found.input state.stack; plan = p } in
-        let st2 : State E H = record { stack = put po found.output st1.stack; plan = p } in
-        let st3 : State E H = record { stack = put pe found.error st2.stack; plan = p } in
-        let fits0 = fits_grow state st0 scope wires found (grows_plan state.stack state.plan p (keeps_canonical b (program_of words) state.plan)) fits in
-        let fits1 = fits_grow st0 st1 scope wires found (put_grows st0 pi found.input) fits0 in
+        let st1 : State E H = record { stack = put pi found.input state.stack; plan = state.plan } in
+        let st2 : State E H = record { stack = put po found.output st1.stack; plan = state.plan } in
+        let st3 : State E H = record { stack = put pe found.error st2.stack; plan = state.plan } in
+        let fits1 = fits_grow state st1 scope wires found (put_grows state pi found.input) fits in
         let fits2 = fits_grow st1 st2 scope wires found (put_grows st1 po found.output) fits1 in
         let li = long_is pi found.input state.stack in
         let lo = long_is po found.output st1.stack in
@@ -154,7 +175,7 @@ module _ {E H : Type 0} (number_of : E → ℕ) (base : ℕ) where
         let fi = few pi in
         let fo = few po in
         let fe = few pe in
-        let i = fetched st0 In true wires.input found.input refl fits0.input (omega (arith, low)) in
+        let i = fetched state In true wires.input found.input refl fits.input (omega (arith, low)) in
         let o = fetched st1 Out false wires.output found.output refl fits1.output (omega (arith, low, li, fi)) in
         let e = fetched st2 Err false wires.error found.error refl fits2.error (omega (arith, low, li, lo, fi, fo)) in
         let ae : less pe st3.stack ≡ st2.stack = less_is pe found.error st2.stack in
@@ -169,14 +190,24 @@ module _ {E H : Type 0} (number_of : E → ℕ) (base : ℕ) where
         let all : found_by scope (ports_at wires) st3.stack ≡ found =
         λ j. record { folder = folder j; changes = changes j; input = input j; output = output j; error = e.goes st2.stack j; hooks = hooks j } in
         let next : State E H = record { stack = state.stack; plan = commanded found words state.plan } in
-        let same : p ≡ (if asks_canonical (program_of words) (is_some found.folder) then asks (AskCanonicalize (program_of words)) state.plan else state.plan) =
-        ap (λ f. if asks_canonical (program_of words) (is_some f) then asks (AskCanonicalize (program_of words)) state.plan else state.plan) (sym fits.folder) in
-        let is : advance st3 (action.spawn scope words (ports_at wires)) ≡ next = λ j. record { stack = left j; plan = asks (AskSpawn (all j) words) (same j) } in
+        let is : advance st3 (action.spawn scope words (ports_at wires)) ≡ next = λ j. record { stack = left j; plan = commanded (all j) words state.plan } in
+        let ports : (stream : Stream) → port_in (ports_at wires) stream ≡ port_to stream (target_of found stream) =
+        three_ports (ports_at wires) found i.port_is o.port_is e.port_is in
         let spawns : Leads number_of base bound st3 (action.spawn scope words (ports_at wires) ∷ []) next = record {
-          ready = (record { full = omega (arith, li, lo, le); needs = (i.plain, o.plain, e.plain); low = omega (arith, ap (λ (x : List (Target E)). length x) left, low) }, tt);
+          ready = (
+            record {
+              full = omega (arith, li, lo, le);
+              needs = record {
+                ports_are = subst (λ f. (stream : Stream) → port_in (ports_at wires) stream ≡ port_to stream (target_of f stream)) (sym all) ports;
+                below = fits.below;
+                place = omega (arith, ap (λ (x : List (Target E)). length x) left, low);
+              };
+              low = omega (arith, ap (λ (x : List (Target E)). length x) left, low);
+            },
+            tt,
+          );
           is = is;
         } in
-        leads_append number_of base bound state st0 next _ _ (canonical_leads state b (program_of words) (omega (arith, low)))
-        (leads_append number_of base bound st0 st1 next _ _ i.leads
+        leads_append number_of base bound state st1 next _ _ i.leads
         (leads_append number_of base bound st1 st2 next _ _ o.leads
-        (leads_append number_of base bound st2 st3 next _ _ e.leads spawns)))
+        (leads_append number_of base bound st2 st3 next _ _ e.leads spawns))

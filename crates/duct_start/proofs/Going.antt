@@ -1,17 +1,16 @@
 -- Each kind of action goes on, or quits.
-use Rattle.std.proofs.Common.{◌≡◌, ◌≢◌, ℕ, ◌+◌, ◌<◌, ◌≤◌, List, [], ◌∷◌, ◌++◌, length, refl, ap, sym, ◌∙◌, arith, append_assoc, subst, inl, inr, suc, zero}
+use Rattle.std.proofs.Common.{◌≡◌, ◌≢◌, ℕ, ◌+◌, ◌<◌, ◌≤◌, List, [], ◌∷◌, ◌++◌, length, refl, ap, sym, ◌∙◌, arith, append_assoc, length-append, subst, inl, inr, suc, zero}
 use Rattle.std.proofs.lemmas.List.{append-nil, reverse-append, map-append}
 use Rattle.std.proofs.lemmas.Option.{slice_get-map}
 use Rattle.std.proofs.lemmas.Bool.{cases_lt}
 use Rattle.std.specs.Option.{option_map}
-use Rattle.std.specs.Prelude.{map, Some, None, Ok, Err, reverse, slice_get, slice_index, true, drop, unwrap_or}
+use Rattle.std.specs.Prelude.{map, Some, None, Ok, Err, is_some, reverse, slice_get, slice_index, true, drop, unwrap_or}
 use Rattle.std.specs.declared.option.Option.{Option}
 use Rattle.std.specs.declared.result.Result.{Result}
-use Rattle.duct_system.specs.EntryView.{EntryView, Environment, Pipe, OpenRead, Create, Canonicalize, Duplicate, Parent, Feed, Close}
+use Rattle.duct_system.specs.EntryView.{EntryView, Pipe, OpenRead, Create, Duplicate, Parent, Feed, Close}
 use Rattle.duct_system.specs.Journal.{JournalView, Adds, AddsNothing, Asks, GetsEnd, GetsEnds, GivesEnds, IsRefused}
 use Rattle.duct_system.specs.Ledger.{got_by, spent_by, count_of}
 use Rattle.duct_system.specs.Origin.{Opened, origin, origin_before}
-use Rattle.duct_system.specs.SpecView.{Vars}
 use Rattle.duct_system.specs.Started.{child_by, feed_by, drain_by}
 use Rattle.duct_system.specs.Trace.{trace, fault_of, is_traced}
 use Rattle.duct_system.specs.declared.error.Error.{Error}
@@ -27,11 +26,12 @@ use Rattle.duct_start.specs.Chain.{Allows}
 use Rattle.duct_start.specs.Follows.{AnswersFrom}
 use Rattle.duct_start.specs.Found.{Target, Parents, Nothing, ReaderAt, WriterAt, FileAt, Lends}
 use Rattle.duct_start.specs.Holdings.{Holdings, ends, pair_of}
-use Rattle.duct_start.specs.Standing.{AreFresh, IsLater, IsPair, Sourced, Stands, IsUnasked, Goes, Quits, origin_to}
-use Rattle.duct_start.specs.Step.{Item, AskEnvironment, AskPipe, AskOpenRead, AskCreate, AskCanonicalize, AskFeed}
+use Rattle.duct_start.specs.Kinds.{entry_kind, item_kind}
+use Rattle.duct_start.specs.Standing.{AreFresh, Course, IsLater, IsShaped, IsPair, Sourced, Stands, IsUnasked, Goes, Quits, origin_to}
+use Rattle.duct_start.specs.Step.{Item, AskPipe, AskOpenRead, AskCreate, AskFeed}
 use Rattle.duct_start.proofs.Counts.{fresh_one, fresh_two, fresh_none, is_itself, other_than, count_other, count_same, count-cons, count-append}
 use Rattle.duct_start.proofs.Origins.{later_more, origin_stays, origin-more, origin_lent, end_at_seam}
-use Rattle.duct_start.proofs.Standing.{Changes, stands_more, stops_more, stops_unasked, sources_now, few_now, few_of, as_long}
+use Rattle.duct_start.proofs.Standing.{Changes, as_many, stands_more, stops_more, stops_unasked, sources_now, few_now, few_of}
 
 -- with these on the stack
 abbrev pub on : List ℕ → Holdings → Holdings
@@ -44,12 +44,32 @@ over stack held = record held { stack = stack }
 pub cons_eq : {A : Type 0} (a b : A) (xs ys : List A) → a ≡ b → xs ≡ ys → a ∷ xs ≡ b ∷ ys
 cons_eq a b xs ys x y = cc
 
-adds_as : (entry : EntryView) (a b c d : ℕ) (now next : JournalView) → Adds entry a b now next → c ≡ a → d ≡ b → Adds entry c d now next
+pub adds_as : (entry : EntryView) (a b c d : ℕ) (now next : JournalView)
+    → Adds entry a b now next → c ≡ a → d ≡ b → Adds entry c d now next
 adds_as entry a b c d now next adds more less = record {
   entries_are = adds.entries_are;
   added_is = adds.added_is;
   next_grows = adds.next_grows;
   room_is = omega (arith, adds.room_is, more, less);
+}
+
+-- the same ends more on both sides
+pushed_shape : {E H : Type 0} (numbers : List ℕ) (targets : List (Target E)) (asked : List (Item E H)) (st : State E H) (held : Holdings) → length numbers ≡ length targets → IsShaped st held →
+    IsShaped (record { stack = targets ++ st.stack; plan = record { items = st.plan.items ++ asked; out = st.plan.out; err = st.plan.err } }) (on numbers held)
+pushed_shape numbers targets asked st held same shaped =
+    record { stack = omega (arith, same, shaped.stack, length-append numbers held.stack, length-append targets st.stack); out = shaped.out; err = shaped.err }
+
+less_long : {A B : Type 0} (n : A) (rest : List A) (stack : List B) → length (n ∷ rest) ≡ length stack → length rest ≡ length (drop 1 stack)
+less_long n rest [] is = absurd (omega (arith, is))
+less_long n rest (x ∷ stack) is = omega (arith, is)
+
+-- one end less on both sides
+popped_shape : {E H : Type 0} (n : ℕ) (rest : List ℕ) (then st : State E H) (kept held : Holdings) → held.stack ≡ n ∷ rest → kept.stack ≡ rest → then.stack ≡ drop 1 st.stack →
+    kept.out ≡ held.out → kept.err ≡ held.err → then.plan.out ≡ st.plan.out → then.plan.err ≡ st.plan.err → IsShaped st held → IsShaped then kept
+popped_shape n rest then st kept held is kept_is then_is out err plan_out plan_err shaped = record {
+  stack = ap (λ l. length l) kept_is ∙ less_long n rest st.stack (sym (ap (λ l. length l) is) ∙ shaped.stack) ∙ sym (ap (λ l. length l) then_is);
+  out = ap (λ o. is_some o) out ∙ shaped.out ∙ sym (ap (λ o. is_some o) plan_out);
+  err = ap (λ o. is_some o) err ∙ shaped.err ∙ sym (ap (λ o. is_some o) plan_err);
 }
 
 -- an entry that started nothing
@@ -95,14 +115,14 @@ push_changes entry n now next held gets got none no_child no_feed no_drain =
     (λ m. omega (arith, ap (λ (l : List ℕ). count_of m l) got, ap (λ (l : List ℕ). count_of m l) none, count-cons m n (ends held))) (omega (arith, g, s))
 
 -- the end that an entry opened, whatever comes later
-pub opened_here : (added more : List EntryView) (entry : EntryView) (n next which : ℕ) → n < next
-    → IsLater next more → is_traced entry ≡ true
+pub opened_here : (course : Course) (added more : List EntryView) (entry : EntryView)
+    (n next which : ℕ) → n < next → IsLater course next more → is_traced entry ≡ true
     → origin_before (entry ∷ reverse added) n ≡ Opened n → slice_index (got_by entry) which ≡ n
     → (place : ℕ) → length (trace added) ≡ place
     → origin ((added ++ entry ∷ []) ++ more) n
     ≡ Opened (end_at (trace ((added ++ entry ∷ []) ++ more)) place which)
-opened_here added more entry n next which below later traced here got_here place many =
-    origin_stays n (added ++ entry ∷ []) more (later n below) ∙ origin-more n added entry ∙ here
+opened_here course added more entry n next which below later traced here got_here place many =
+    origin_stays n (added ++ entry ∷ []) more (later.fresh n below) ∙ origin-more n added entry ∙ here
     ∙ ap Opened (sym (ap (λ (k : ℕ). end_at (trace ((added ++ entry ∷ []) ++ more)) k which) (sym many) ∙ end_at_seam added entry more which traced ∙ got_here))
 
 get_counts : (xs : List ℕ) (d m : ℕ) → slice_get xs d ≡ Some m → 1 ≤ count_of m xs
@@ -173,36 +193,36 @@ module _ {E H : Type 0} (allows : Allows H) (number_of : E → ℕ) where
   got_goes : (act : Action E H) (asked : State E H → List (Item E H)) (x : State E H → Target E) (entry : EntryView) (n : ℕ) (now next : JournalView) (held : Holdings) →
       ((st : State E H) → advance st act ≡ record { stack = x st ∷ st.stack; plan = record { items = st.plan.items ++ asked st; out = st.plan.out; err = st.plan.err } }) →
       GetsEnd entry n now next → got_by entry ≡ n ∷ [] → spent_by entry ≡ [] → child_by entry ≡ [] → feed_by entry ≡ [] → drain_by entry ≡ [] → fault_of entry ≡ None →
-      ((st : State E H) → length (trace (entry ∷ [])) ≡ length (asked st)) →
+      ((st : State E H) → map entry_kind (trace (entry ∷ [])) ≡ map item_kind (asked st)) →
       ((st : State E H) (L : List EntryView) → AnswersFrom allows number_of L (length st.plan.items) (asked st) (trace (entry ∷ []))) →
-      ((bound : ℕ) (old : JournalView) (st : State E H) → IsReady number_of old.next bound st act → (stands : Stands allows number_of bound old st now held) → (more : List EntryView) → IsLater next.next more →
+      ((course : Course) (st : State E H) → IsReady number_of course.base course.bound st act → (stands : Stands allows number_of course st now held) → (more : List EntryView) → IsLater course next.next more →
       Sourced number_of ((stands.added ++ entry ∷ []) ++ more) st held →
       Some (origin ((stands.added ++ entry ∷ []) ++ more) n) ≡ origin_to (trace ((stands.added ++ entry ∷ []) ++ more)) number_of (x st)) →
       Goes allows number_of act now next held (on (n ∷ []) held)
-  got_goes act asked x entry n now next held is gets got none no_child no_feed no_drain clean many matches source = λ bound old st ready stands.
+  got_goes act asked x entry n now next held is gets got none no_child no_feed no_drain clean many matches source = λ course st ready stands.
       let then_st : State E H = record { stack = x st ∷ st.stack; plan = record { items = st.plan.items ++ asked st; out = st.plan.out; err = st.plan.err } } in
       let ch = push_changes entry n now next held gets got none no_child no_feed no_drain in
-      subst (λ (s : State E H). Stands allows number_of bound old s next (on (n ∷ []) held)) (sym (is st))
-      (stands_more allows number_of bound old st then_st (asked st) now next held (on (n ∷ []) held) entry stands refl ch
-      (few_of bound (on (n ∷ []) held) (omega (arith, as_long allows number_of bound old st now held stands, ready.low, ap (λ (s : State E H). length s.stack) (is st)))) clean (many st)
+      subst (λ (s : State E H). Stands allows number_of course s next (on (n ∷ []) held)) (sym (is st))
+      (stands_more allows number_of course st then_st (asked st) now next held (on (n ∷ []) held) entry stands refl ch
+      (few_of course.bound (on (n ∷ []) held) (omega (arith, stands.shaped.stack, ready.low, ap (λ (s : State E H). length s.stack) (is st)))) (pushed_shape (n ∷ []) (x st ∷ []) (asked st) st held refl stands.shaped) clean (many st)
       (λ more later. matches st ((stands.added ++ entry ∷ []) ++ more))
       (λ more later.
-      let s = sources_now allows number_of bound old st then_st (asked st) now next held (on (n ∷ []) held) entry stands refl ch more later in
-      record { stack = cons_eq _ _ _ _ (source bound old st ready stands more later s) s.stack; out = s.out; err = s.err }))
+      let s = sources_now allows number_of course st then_st (asked st) now next held (on (n ∷ []) held) entry stands refl ch more later in
+      record { stack = cons_eq _ _ _ _ (source course st ready stands more later s) s.stack; out = s.out; err = s.err }))
 
   pub open_read_goes : (path : List ℕ) (n : ℕ) (now next : JournalView) (held : Holdings)
       → GetsEnd (OpenRead path (Ok n)) n now next
       → Goes allows number_of (action.open_read path) now next held (on (n ∷ []) held)
   open_read_goes path n now next held gets =
       got_goes (action.open_read path) (λ st. AskOpenRead path ∷ []) (λ st. FileAt (length st.plan.items)) (OpenRead path (Ok n)) n now next held (λ st. refl) gets refl refl refl refl refl refl (λ st. refl) (λ st L. (refl, tt))
-      (λ bound old st ready stands more later s. ap Some (opened_here stands.added more (OpenRead path (Ok n)) n next.next 0 gets.1.below_new later refl (rw is_itself refl) refl (length st.plan.items) stands.as_many))
+      (λ course st ready stands more later s. ap Some (opened_here course stands.added more (OpenRead path (Ok n)) n next.next 0 gets.1.below_new later refl (rw is_itself refl) refl (length st.plan.items) (as_many stands)))
 
   pub create_goes : (path : List ℕ) (n : ℕ) (now next : JournalView) (held : Holdings)
       → GetsEnd (Create path (Ok n)) n now next
       → Goes allows number_of (action.create path) now next held (on (n ∷ []) held)
   create_goes path n now next held gets =
       got_goes (action.create path) (λ st. AskCreate path ∷ []) (λ st. FileAt (length st.plan.items)) (Create path (Ok n)) n now next held (λ st. refl) gets refl refl refl refl refl refl (λ st. refl) (λ st L. (refl, tt))
-      (λ bound old st ready stands more later s. ap Some (opened_here stands.added more (Create path (Ok n)) n next.next 0 gets.1.below_new later refl (rw is_itself refl) refl (length st.plan.items) stands.as_many))
+      (λ course st ready stands more later s. ap Some (opened_here course stands.added more (Create path (Ok n)) n next.next 0 gets.1.below_new later refl (rw is_itself refl) refl (length st.plan.items) (as_many stands)))
 
   same_plan : (x : Target E) (st : State E H) → action.pushes x st ≡ record { stack = x ∷ st.stack; plan = record { items = st.plan.items ++ []; out = st.plan.out; err = st.plan.err } }
   same_plan x st = ap (λ (l : List (Item E H)). record { stack = x ∷ st.stack; plan = record { items = l; out = st.plan.out; err = st.plan.err } }) (sym (append-nil st.plan.items))
@@ -212,10 +232,10 @@ module _ {E H : Type 0} (allows : Allows H) (number_of : E → ℕ) where
       → Goes allows number_of (action.parent which) now next held (on (n ∷ []) held)
   parent_goes side.Out n now next held gets =
       got_goes (action.parent side.Out) (λ st. []) (λ st. Parents stream.Out) (Parent side.Out (Ok n)) n now next held (λ st. same_plan (Parents stream.Out) st) gets refl refl refl refl refl refl (λ st. refl) (λ st L. tt)
-      (λ bound old st ready stands more later s. ap Some (origin_stays n (stands.added ++ Parent side.Out (Ok n) ∷ []) more (later n gets.1.below_new) ∙ origin-more n stands.added (Parent side.Out (Ok n)) ∙ rw is_itself refl))
+      (λ course st ready stands more later s. ap Some (origin_stays n (stands.added ++ Parent side.Out (Ok n) ∷ []) more (later.fresh n gets.1.below_new) ∙ origin-more n stands.added (Parent side.Out (Ok n)) ∙ rw is_itself refl))
   parent_goes side.Err n now next held gets =
       got_goes (action.parent side.Err) (λ st. []) (λ st. Parents stream.Err) (Parent side.Err (Ok n)) n now next held (λ st. same_plan (Parents stream.Err) st) gets refl refl refl refl refl refl (λ st. refl) (λ st L. tt)
-      (λ bound old st ready stands more later s. ap Some (origin_stays n (stands.added ++ Parent side.Err (Ok n) ∷ []) more (later n gets.1.below_new) ∙ origin-more n stands.added (Parent side.Err (Ok n)) ∙ rw is_itself refl))
+      (λ course st ready stands more later s. ap Some (origin_stays n (stands.added ++ Parent side.Err (Ok n) ∷ []) more (later.fresh n gets.1.below_new) ∙ origin-more n stands.added (Parent side.Err (Ok n)) ∙ rw is_itself refl))
 
   pub lend_goes : (end : E) (n : ℕ) (now next : JournalView) (held : Holdings)
       → GetsEnd (Duplicate (number_of end) (Ok n)) n now next
@@ -223,24 +243,24 @@ module _ {E H : Type 0} (allows : Allows H) (number_of : E → ℕ) where
   lend_goes end n now next held gets =
       let entry = Duplicate (number_of end) (Ok n) in
       got_goes (action.lend end) (λ st. []) (λ st. Lends end) entry n now next held (λ st. same_plan (Lends end) st) gets refl refl refl refl refl refl (λ st. refl) (λ st L. tt)
-      (λ bound old st ready stands more later s. ap Some (origin_stays n (stands.added ++ entry ∷ []) more (later n gets.1.below_new) ∙ origin-more n stands.added entry
-      ∙ rw is_itself (origin_lent (number_of end) stands.added (stands.books.above (number_of end) ready.needs))))
+      (λ course st ready stands more later s. ap Some (origin_stays n (stands.added ++ entry ∷ []) more (later.fresh n gets.1.below_new) ∙ origin-more n stands.added entry
+      ∙ rw is_itself (origin_lent (number_of end) stands.added (let lt : number_of end < course.old.next = omega (arith, ready.needs, later.early) in stands.books.above (number_of end) lt))))
 
   -- a duplicate of an end that is held
   dup_goes : (act : Action E H) (x : State E H → Target E) (m n : ℕ) (now next : JournalView) (held : Holdings) → ((st : State E H) → advance st act ≡ action.pushes (x st) st) → 1 ≤ count_of m (ends held) →
-      ((bound : ℕ) (old : JournalView) (st : State E H) → IsReady number_of old.next bound st act → (L : List EntryView) → Sourced number_of L st held → Some (origin L m) ≡ origin_to (trace L) number_of (x st)) →
+      ((course : Course) (st : State E H) → IsReady number_of course.base course.bound st act → (L : List EntryView) → Sourced number_of L st held → Some (origin L m) ≡ origin_to (trace L) number_of (x st)) →
       GetsEnd (Duplicate m (Ok n)) n now next → Goes allows number_of act now next held (on (n ∷ []) held)
   dup_goes act x m n now next held is here from gets =
       let entry = Duplicate m (Ok n) in
       let fresh = fresh_one now.next next.next n gets.1.after_old gets.1.below_new in
       got_goes act (λ st. []) x entry n now next held (λ st. is st ∙ same_plan (x st) st) gets refl refl refl refl refl refl (λ st. refl) (λ st L. tt)
-      (λ bound old st ready stands more later sourced.
+      (λ course st ready stands more later sourced.
       let L = (stands.added ++ entry ∷ []) ++ more in
       let below : m < now.next = elim (cases_lt m now.next) [ inl lt ↦ lt | inr le ↦ absurd (omega (arith, here, stands.books.even m, stands.books.below m le)) ] in
-      let dup : origin L n ≡ origin stands.added m = origin_stays n (stands.added ++ entry ∷ []) more (later n gets.1.below_new) ∙ origin-more n stands.added entry ∙ rw is_itself refl in
+      let dup : origin L n ≡ origin stands.added m = origin_stays n (stands.added ++ entry ∷ []) more (later.fresh n gets.1.below_new) ∙ origin-more n stands.added entry ∙ rw is_itself refl in
       let lent : origin L m ≡ origin stands.added m =
-      ap (λ (l : List EntryView). origin l m) (append_assoc stands.added (entry ∷ []) more) ∙ origin_stays m stands.added (entry ∷ more) (later_more now.next next.next entry more fresh later m below) in
-      ap Some (dup ∙ sym lent) ∙ from bound old st ready L sourced)
+      ap (λ (l : List EntryView). origin l m) (append_assoc stands.added (entry ∷ []) more) ∙ origin_stays m stands.added (entry ∷ more) ((later_more course now.next next.next entry more fresh later).fresh m below) in
+      ap Some (dup ∙ sym lent) ∙ from course st ready L sourced)
 
   pub duplicate_goes : (depth m n : ℕ) (now next : JournalView) (held : Holdings)
       → level held.stack depth ≡ Some m → GetsEnd (Duplicate m (Ok n)) n now next
@@ -248,7 +268,7 @@ module _ {E H : Type 0} (allows : Allows H) (number_of : E → ℕ) where
   duplicate_goes depth m n now next held at_level gets =
       dup_goes (action.duplicate depth) (λ st. unwrap_or (level st.stack depth) Nothing) m n now next held (λ st. refl)
       (omega (arith, count-append m held.stack (pair_of held.out ++ pair_of held.err), level_counts held.stack depth m at_level))
-      (λ bound old st ready L s. some_of (level st.stack depth) (origin_to (trace L) number_of) Nothing (Some (origin L m))
+      (λ course st ready L s. some_of (level st.stack depth) (origin_to (trace L) number_of) Nothing (Some (origin L m))
       (ap (option_map (λ k. Some (origin L k))) (sym at_level) ∙ sym (level-map (λ k. Some (origin L k)) held.stack depth) ∙ ap (λ l. level l depth) s.stack ∙ level-map (origin_to (trace L) number_of) st.stack depth))
       gets
 
@@ -258,7 +278,7 @@ module _ {E H : Type 0} (allows : Allows H) (number_of : E → ℕ) where
   tap_out_goes r w n now next held is gets =
       dup_goes (action.tap side.Out) (λ st. WriterAt (unwrap_or st.plan.out 0)) w n now next held (λ st. refl)
       (omega (arith, count-append w held.stack (pair_of held.out ++ pair_of held.err), count-append w (pair_of held.out) (pair_of held.err), ap (λ o. count_of w (pair_of o)) is, count-cons w r (w ∷ []), count_same w))
-      (λ bound old st ready L s. ap Some (pair_writes L st.plan.out r w (subst (λ o. IsPair L st.plan.out o) is s.out))) gets
+      (λ course st ready L s. ap Some (pair_writes L st.plan.out r w (subst (λ o. IsPair L st.plan.out o) is s.out))) gets
 
   pub tap_err_goes : (r w n : ℕ) (now next : JournalView) (held : Holdings)
       → held.err ≡ Some (r, w) → GetsEnd (Duplicate w (Ok n)) n now next
@@ -266,7 +286,7 @@ module _ {E H : Type 0} (allows : Allows H) (number_of : E → ℕ) where
   tap_err_goes r w n now next held is gets =
       dup_goes (action.tap side.Err) (λ st. WriterAt (unwrap_or st.plan.err 0)) w n now next held (λ st. refl)
       (omega (arith, count-append w held.stack (pair_of held.out ++ pair_of held.err), count-append w (pair_of held.out) (pair_of held.err), ap (λ o. count_of w (pair_of o)) is, count-cons w r (w ∷ []), count_same w))
-      (λ bound old st ready L s. ap Some (pair_writes L st.plan.err r w (subst (λ o. IsPair L st.plan.err o) is s.err))) gets
+      (λ course st ready L s. ap Some (pair_writes L st.plan.err r w (subst (λ o. IsPair L st.plan.err o) is s.err))) gets
 
   -- a pipe, of which the one end or the other is on top
   two_goes : (act : Action E H) (a b n m : ℕ) (x y : State E H → Target E) (now next : JournalView) (held : Holdings) →
@@ -275,21 +295,21 @@ module _ {E H : Type 0} (allows : Allows H) (number_of : E → ℕ) where
       ((st : State E H) (L : List EntryView) → (origin L n ≡ Opened (end_at (trace L) (length st.plan.items) 0)) → (origin L m ≡ Opened (end_at (trace L) (length st.plan.items) 1)) →
       (Some (origin L a) ≡ origin_to (trace L) number_of (x st)) × (Some (origin L b) ≡ origin_to (trace L) number_of (y st))) →
       GetsEnds (Pipe (Ok (n, m))) n m now next → Goes allows number_of act now next held (on (a ∷ b ∷ []) held)
-  two_goes act a b n m x y now next held is same from gets = λ bound old st ready stands.
+  two_goes act a b n m x y now next held is same from gets = λ course st ready stands.
       let then_st : State E H = record { stack = x st ∷ y st ∷ st.stack; plan = record { items = st.plan.items ++ AskPipe ∷ []; out = st.plan.out; err = st.plan.err } } in
       let l = Pipe (Ok (n, m)) in
       let ch : Changes l now next held (on (a ∷ b ∷ []) held) = plain_changes l 2 0 now next held (a ∷ b ∷ held.stack) held.out held.err gets.0 refl refl
       (fresh_two now.next next.next n m gets.1.after_old gets.1.below_new gets.2.after_old gets.2.below_new gets.3) refl refl refl
       (λ k. omega (arith, same k, count-append k (a ∷ b ∷ []) (ends held))) (omega arith) in
       let other : m ≢ n = λ is. gets.3 (sym is) in
-      subst (λ (z : State E H). Stands allows number_of bound old z next (on (a ∷ b ∷ []) held)) (sym (is st))
-      (stands_more allows number_of bound old st then_st (AskPipe ∷ []) now next held (on (a ∷ b ∷ []) held) l stands refl ch
-      (few_of bound (on (a ∷ b ∷ []) held) (omega (arith, as_long allows number_of bound old st now held stands, ready.low, ap (λ (s : State E H). length s.stack) (is st)))) refl refl (λ more later. (tt, tt))
+      subst (λ (z : State E H). Stands allows number_of course z next (on (a ∷ b ∷ []) held)) (sym (is st))
+      (stands_more allows number_of course st then_st (AskPipe ∷ []) now next held (on (a ∷ b ∷ []) held) l stands refl ch
+      (few_of course.bound (on (a ∷ b ∷ []) held) (omega (arith, stands.shaped.stack, ready.low, ap (λ (s : State E H). length s.stack) (is st)))) (pushed_shape (a ∷ b ∷ []) (x st ∷ y st ∷ []) (AskPipe ∷ []) st held refl stands.shaped) refl refl (λ more later. (tt, tt))
       (λ more later.
       let L = (stands.added ++ l ∷ []) ++ more in
-      let z = sources_now allows number_of bound old st then_st (AskPipe ∷ []) now next held (on (a ∷ b ∷ []) held) l stands refl ch more later in
-      let r = opened_here stands.added more l n next.next 0 gets.1.below_new later refl (rw is_itself refl) refl (length st.plan.items) stands.as_many in
-      let w = opened_here stands.added more l m next.next 1 gets.2.below_new later refl (rw (other_than m n (count_other m n other), is_itself) refl) refl (length st.plan.items) stands.as_many in
+      let z = sources_now allows number_of course st then_st (AskPipe ∷ []) now next held (on (a ∷ b ∷ []) held) l stands refl ch more later in
+      let r = opened_here course stands.added more l n next.next 0 gets.1.below_new later refl (rw is_itself refl) refl (length st.plan.items) (as_many stands) in
+      let w = opened_here course stands.added more l m next.next 1 gets.2.below_new later refl (rw (other_than m n (count_other m n other), is_itself) refl) refl (length st.plan.items) (as_many stands) in
       let both = from st L r w in
       record { stack = cons_eq _ _ _ _ both.0 (cons_eq _ _ _ _ both.1 z.stack); out = z.out; err = z.err }))
 
@@ -309,75 +329,63 @@ module _ {E H : Type 0} (allows : Allows H) (number_of : E → ℕ) where
 
   -- an entry that changed nothing of what is held, and answers one item
   asked_goes : (act : Action E H) (item : Item E H) (entry : EntryView) (now next : JournalView) (held : Holdings) → ((st : State E H) → advance st act ≡ action.gets [] item st) →
-      Asks entry now next → got_by entry ≡ [] → spent_by entry ≡ [] → child_by entry ≡ [] → feed_by entry ≡ [] → drain_by entry ≡ [] → fault_of entry ≡ None → length (trace (entry ∷ [])) ≡ 1 →
+      Asks entry now next → got_by entry ≡ [] → spent_by entry ≡ [] → child_by entry ≡ [] → feed_by entry ≡ [] → drain_by entry ≡ [] → fault_of entry ≡ None → map entry_kind (trace (entry ∷ [])) ≡ item_kind item ∷ [] →
       ((place : ℕ) (L : List EntryView) → AnswersFrom allows number_of L place (item ∷ []) (trace (entry ∷ []))) → Goes allows number_of act now next held held
-  asked_goes act item entry now next held is asks no_end none no_child no_feed no_drain clean many matches = λ bound old st ready stands.
+  asked_goes act item entry now next held is asks no_end none no_child no_feed no_drain clean many matches = λ course st ready stands.
       let then_st : State E H = action.gets [] item st in
       let ch = none_changes entry now next held asks no_end none no_child no_feed no_drain in
-      subst (λ (s : State E H). Stands allows number_of bound old s next held) (sym (is st))
-      (stands_more allows number_of bound old st then_st (item ∷ []) now next held held entry stands refl ch (few_now allows number_of bound old st now held stands) clean many
+      subst (λ (s : State E H). Stands allows number_of course s next held) (sym (is st))
+      (stands_more allows number_of course st then_st (item ∷ []) now next held held entry stands refl ch (few_now allows number_of course st now held stands) (pushed_shape [] [] (item ∷ []) st held refl stands.shaped) clean many
       (λ more later. matches (length st.plan.items) ((stands.added ++ entry ∷ []) ++ more))
-      (λ more later. let s = sources_now allows number_of bound old st then_st (item ∷ []) now next held held entry stands refl ch more later in record { stack = s.stack; out = s.out; err = s.err }))
-
-  pub environment_goes : (pairs : Vars) (now next : JournalView) (held : Holdings)
-      → Asks (Environment (Ok pairs)) now next
-      → Goes allows number_of action.environment now next held held
-  environment_goes pairs now next held asks =
-      asked_goes action.environment AskEnvironment (Environment (Ok pairs)) now next held (λ st. refl) asks refl refl refl refl refl refl refl (λ place L. (tt, tt))
-
-  pub canonicalize_goes : (path text : List ℕ) (now next : JournalView) (held : Holdings)
-      → Asks (Canonicalize path (Ok text)) now next
-      → Goes allows number_of (action.canonicalize path) now next held held
-  canonicalize_goes path text now next held asks =
-      asked_goes (action.canonicalize path) (AskCanonicalize path) (Canonicalize path (Ok text)) now next held (λ st. refl) asks refl refl refl refl refl refl refl (λ place L. (refl, tt))
+      (λ more later. let s = sources_now allows number_of course st then_st (item ∷ []) now next held held entry stands refl ch more later in record { stack = s.stack; out = s.out; err = s.err }))
 
   pub close_goes : (n : ℕ) (rest : List ℕ) (now next : JournalView) (held : Holdings)
       → held.stack ≡ n ∷ rest → GivesEnds (Close n) 1 now next
       → Goes allows number_of action.close now next held (over rest held)
-  close_goes n rest now next held is gives = λ bound old st ready stands.
+  close_goes n rest now next held is gives = λ course st ready stands.
       let ch : Changes (Close n) now next held (over rest held) =
       pop_changes (Close n) n rest held.children held.feeds held.drains now next held gives refl refl is (sym (append-nil held.children)) (sym (append-nil held.feeds)) (sym (append-nil held.drains)) in
       let items = sym (append-nil st.plan.items) in
-      stands_more allows number_of bound old st (advance st action.close) [] now next held (over rest held) (Close n) stands items ch
-      (omega (arith, few_now allows number_of bound old st now held stands, ap (λ (l : List ℕ). length (l ++ (pair_of held.out ++ pair_of held.err))) is)) refl refl (λ more later. tt)
+      stands_more allows number_of course st (advance st action.close) [] now next held (over rest held) (Close n) stands items ch
+      (omega (arith, few_now allows number_of course st now held stands, ap (λ (l : List ℕ). length (l ++ (pair_of held.out ++ pair_of held.err))) is)) (popped_shape n rest (advance st action.close) st (over rest held) held is refl refl refl refl refl refl stands.shaped) refl refl (λ more later. tt)
       (λ more later.
-      let s = sources_now allows number_of bound old st (advance st action.close) [] now next held (over rest held) (Close n) stands items ch more later in
+      let s = sources_now allows number_of course st (advance st action.close) [] now next held (over rest held) (Close n) stands items ch more later in
       let L = (stands.added ++ Close n ∷ []) ++ more in
       record { stack = popped (λ k. Some (origin L k)) (origin_to (trace L) number_of) n rest st.stack (ap (λ (l : List ℕ). map (λ k. Some (origin L k)) l) (sym is) ∙ s.stack); out = s.out; err = s.err })
 
   module _ (n : ℕ) (rest bytes : List ℕ) (now next : JournalView) (held : Holdings) (is : held.stack ≡ n ∷ rest) where
-    fed : (answer : Result (Unit {0}) Fault) (kept : Holdings) (bound : ℕ) (old : JournalView) (st : State E H) → IsReady number_of old.next bound st (action.feed bytes) → (stands : Stands allows number_of bound old st now held) →
-        (ch : Changes (Feed n bytes answer) now next held kept) → (more : List EntryView) → IsLater next.next more →
+    fed : (answer : Result (Unit {0}) Fault) (kept : Holdings) (course : Course) (st : State E H) → IsReady number_of course.base course.bound st (action.feed bytes) → (stands : Stands allows number_of course st now held) →
+        (ch : Changes (Feed n bytes answer) now next held kept) → (more : List EntryView) → IsLater course next.next more →
         let L = (stands.added ++ Feed n bytes answer ∷ []) ++ more in origin L n ≡ Opened (end_at (trace L) (place_of st.stack) 1)
-    fed answer kept bound old st ready stands ch more later =
+    fed answer kept course st ready stands ch more later =
         let L = (stands.added ++ Feed n bytes answer ∷ []) ++ more in
-        let s = sources_now allows number_of bound old st (advance st (action.feed bytes)) (AskFeed (place_of st.stack) bytes ∷ []) now next held kept (Feed n bytes answer) stands refl ch more later in
+        let s = sources_now allows number_of course st (advance st (action.feed bytes)) (AskFeed (place_of st.stack) bytes ∷ []) now next held kept (Feed n bytes answer) stands refl ch more later in
         fed_top number_of L n rest st.stack ready.needs (ap (λ (l : List ℕ). map (λ k. Some (origin L k)) l) (sym is) ∙ s.stack)
 
     pub feed_goes : GivesEnds (Feed n bytes (Ok tt)) 1 now next
         → Goes allows number_of (action.feed bytes) now next held
         (record held { stack = rest; feeds = held.feeds ++ n ∷ [] })
-    feed_goes gives = λ bound old st ready stands.
+    feed_goes gives = λ course st ready stands.
         let entry = Feed n bytes (Ok tt) in
         let kept : Holdings = record held { stack = rest; feeds = held.feeds ++ n ∷ [] } in
         let ch : Changes entry now next held kept = pop_changes entry n rest held.children kept.feeds held.drains now next held gives refl refl is (sym (append-nil held.children)) refl (sym (append-nil held.drains)) in
-        stands_more allows number_of bound old st (advance st (action.feed bytes)) (AskFeed (place_of st.stack) bytes ∷ []) now next held kept entry stands refl ch
-        (omega (arith, few_now allows number_of bound old st now held stands, ap (λ (l : List ℕ). length (l ++ (pair_of held.out ++ pair_of held.err))) is)) refl refl
-        (λ more later. ((refl, fed (Ok tt) kept bound old st ready stands ch more later), tt))
+        stands_more allows number_of course st (advance st (action.feed bytes)) (AskFeed (place_of st.stack) bytes ∷ []) now next held kept entry stands refl ch
+        (omega (arith, few_now allows number_of course st now held stands, ap (λ (l : List ℕ). length (l ++ (pair_of held.out ++ pair_of held.err))) is)) (popped_shape n rest (advance st (action.feed bytes)) st kept held is refl refl refl refl refl refl stands.shaped) refl refl
+        (λ more later. ((refl, fed (Ok tt) kept course st ready stands ch more later), tt))
         (λ more later.
         let L = (stands.added ++ entry ∷ []) ++ more in
-        let s = sources_now allows number_of bound old st (advance st (action.feed bytes)) (AskFeed (place_of st.stack) bytes ∷ []) now next held kept entry stands refl ch more later in
+        let s = sources_now allows number_of course st (advance st (action.feed bytes)) (AskFeed (place_of st.stack) bytes ∷ []) now next held kept entry stands refl ch more later in
         record { stack = popped (λ k. Some (origin L k)) (origin_to (trace L) number_of) n rest st.stack (ap (λ (l : List ℕ). map (λ k. Some (origin L k)) l) (sym is) ∙ s.stack); out = s.out; err = s.err })
 
     pub feed_quits : (fault : Fault) → GivesEnds (Feed n bytes (Err fault)) 1 now next
         → Quits allows number_of (action.feed bytes) now next held (over rest held) (System fault)
-    feed_quits fault gives = λ bound old st ready stands.
+    feed_quits fault gives = λ course st ready stands.
         let entry = Feed n bytes (Err fault) in
         let ch : Changes entry now next held (over rest held) =
         pop_changes entry n rest held.children held.feeds held.drains now next held gives refl refl is (sym (append-nil held.children)) (sym (append-nil held.feeds)) (sym (append-nil held.drains)) in
-        stops_more allows number_of bound old st (advance st (action.feed bytes)) (AskFeed (place_of st.stack) bytes ∷ []) now next held (over rest held) entry stands refl ch
-        (omega (arith, few_now allows number_of bound old st now held stands, ap (λ (l : List ℕ). length (l ++ (pair_of held.out ++ pair_of held.err))) is)) fault refl
-        (λ more later. ((refl, fed (Err fault) (over rest held) bound old st ready stands ch more later), tt))
+        stops_more allows number_of course st (advance st (action.feed bytes)) (AskFeed (place_of st.stack) bytes ∷ []) now next held (over rest held) entry stands refl ch
+        (omega (arith, few_now allows number_of course st now held stands, ap (λ (l : List ℕ). length (l ++ (pair_of held.out ++ pair_of held.err))) is)) fault refl
+        (λ more later. ((refl, fed (Err fault) (over rest held) course st ready stands ch more later), tt))
 
   -- no memory before anything was asked
   pub memory_quits : (act : Action E H) (asked : State E H → List (Item E H))
@@ -385,32 +393,26 @@ module _ {E H : Type 0} (allows : Allows H) (number_of : E → ℕ) where
       ((st : State E H) → (advance st act).plan.items ≡ st.plan.items ++ asked st)
       → AddsNothing now next → IsUnasked error
       → Quits allows number_of act now next held held error
-  memory_quits act asked now next held error items nothing un = λ bound old st ready stands.
-      stops_unasked allows number_of bound old st (advance st act).plan.items (asked st) now next held error stands (items st) nothing un
+  memory_quits act asked now next held error items nothing un = λ course st ready stands.
+      stops_unasked allows number_of course st (advance st act).plan.items (asked st) now next held error stands (items st) nothing un
 
   -- a refusal of a request that is given no end, with its entry or without
-  quits_none : (act : Action E H) (asked : State E H → List (Item E H)) (entry : EntryView) (fault : Fault) (now next : JournalView) (held : Holdings) →
-      ((st : State E H) → (advance st act).plan.items ≡ st.plan.items ++ asked st) → IsRefused entry 0 fault now next → fault_of entry ≡ Some fault →
-      got_by entry ≡ [] → spent_by entry ≡ [] → child_by entry ≡ [] → feed_by entry ≡ [] → drain_by entry ≡ [] →
-      ((st : State E H) (L : List EntryView) → AnswersFrom allows number_of L (length st.plan.items) (asked st) (trace (entry ∷ []))) → Quits allows number_of act now next held held (System fault)
-  quits_none act asked entry fault now next held items (inl adds) refuses no_end none no_child no_feed no_drain matches = λ bound old st ready stands.
-      stops_more allows number_of bound old st (advance st act) (asked st) now next held held entry stands (items st)
-      (none_changes entry now next held adds no_end none no_child no_feed no_drain) (few_now allows number_of bound old st now held stands) fault refuses (λ more later. matches st ((stands.added ++ entry ∷ []) ++ more))
+  pub quits_none : (act : Action E H) (asked : State E H → List (Item E H)) (entry : EntryView)
+      (fault : Fault) (now next : JournalView) (held : Holdings)
+      → ((st : State E H) → (advance st act).plan.items ≡ st.plan.items ++ asked st)
+      → IsRefused entry 0 fault now next → fault_of entry ≡ Some fault → got_by entry ≡ []
+      → spent_by entry ≡ [] → child_by entry ≡ [] → feed_by entry ≡ [] → drain_by entry ≡ []
+      → ((st : State E H) (L : List EntryView)
+      → AnswersFrom allows number_of L (length st.plan.items) (asked st) (trace (entry ∷ [])))
+      → Quits allows number_of act now next held held (System fault)
+  quits_none act asked entry fault now next held items (inl adds) refuses no_end none no_child no_feed no_drain matches = λ course st ready stands.
+      stops_more allows number_of course st (advance st act) (asked st) now next held held entry stands (items st)
+      (none_changes entry now next held adds no_end none no_child no_feed no_drain) (few_now allows number_of course st now held stands) fault refuses (λ more later. matches st ((stands.added ++ entry ∷ []) ++ more))
   quits_none act asked entry fault now next held items (inr nothing) refuses no_end none no_child no_feed no_drain matches =
       memory_quits act asked now next held (System fault) items nothing.1 nothing.2
 
   -- the refusals of requests that are given no end
   module _ (fault : Fault) (now next : JournalView) (held : Holdings) where
-    pub environment_quits : IsRefused (Environment (Err fault)) 0 fault now next
-        → Quits allows number_of action.environment now next held held (System fault)
-    environment_quits refused = quits_none action.environment (λ st. AskEnvironment ∷ []) (Environment (Err fault)) fault now next held (λ st. refl) refused refl refl refl refl refl refl (λ st L. (tt, tt))
-
-    pub canonicalize_quits : (path : List ℕ)
-        → IsRefused (Canonicalize path (Err fault)) 0 fault now next
-        → Quits allows number_of (action.canonicalize path) now next held held (System fault)
-    canonicalize_quits path refused =
-        quits_none (action.canonicalize path) (λ st. AskCanonicalize path ∷ []) (Canonicalize path (Err fault)) fault now next held (λ st. refl) refused refl refl refl refl refl refl (λ st L. (refl, tt))
-
     pub open_read_quits : (path : List ℕ) → IsRefused (OpenRead path (Err fault)) 0 fault now next
         → Quits allows number_of (action.open_read path) now next held held (System fault)
     open_read_quits path refused =

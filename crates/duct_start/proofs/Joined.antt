@@ -1,23 +1,22 @@
 -- The flat plan of a tree leads to its plan, and leaves the stack as it was.
 use Rattle.std.proofs.Common.{◌≡◌, ℕ, ◌+◌, ◌*◌, ◌≤◌, ◌<◌, List, [], ◌∷◌, ◌++◌, length, refl, ap, sym, ◌∙◌, arith, subst}
-use Rattle.std.specs.Prelude.{unwrap_or, Some, None, true, false}
+use Rattle.std.specs.Prelude.{unwrap_or, true, false}
 use Rattle.std.specs.List.{All}
-use Rattle.std.specs.declared.option.Option.{Option}
 use Rattle.std.proofs.lemmas.List.{append-nil}
-use Rattle.std.proofs.lemmas.List.Elements.{All-nil, All-cons, All-head, All-tail}
+use Rattle.std.proofs.lemmas.List.Elements.{All-append, All-nil, All-cons, All-head, All-tail}
 use Rattle.duct_system.specs.declared.spec.Stream.TheVariants.{In, Out, Err}
 use Rattle.duct_system.specs.declared.system.Side.TheVariants as side
 use Rattle.duct_start.specs.Actions as action
-use Rattle.duct_start.specs.Actions.{Action, Scope, State, Three, IsReady, Leads, advance, nothing_yet, all_of}
+use Rattle.duct_start.specs.Actions.{Action, Scope, State, Three, IsReady, AreBelow, Leads, advance, with_plan}
 use Rattle.duct_start.specs.Flat.{Wire, slot, captured, flat, flat_of, scope_within, rooted, outside, inputs, outputs, errors, WireIs, is_in, is_out, is_err, is_nothing, is_slot, is_captured, is_lent, Fits}
 use Rattle.duct_start.specs.Flat as flat
 use Rattle.duct_start.specs.Found.{Found, Target, ReaderAt, WriterAt, FileAt, plain, target_of}
 use Rattle.duct_start.specs.Lookup.{turned}
 use Rattle.std.specs.Option.{option_or}
 use Rattle.duct_start.specs.Inward.{found_within, walked}
-use Rattle.duct_start.specs.Plan.{Plan, asks, captures_out, captures_err, closed, begun, drains, plan_of, planned}
+use Rattle.duct_start.specs.Plan.{Plan, asks, captures_out, captures_err, closed, begun, planned}
 use Rattle.duct_start.specs.Start.{depth, ends_in}
-use Rattle.duct_start.specs.Step.{Step, Follows, Item, AskPipe, AskFeed, AskOpenRead, AskCreate, AskDrain, left_step, right_step, step}
+use Rattle.duct_start.specs.Step.{Step, Follows, Item, AskPipe, AskFeed, AskOpenRead, AskCreate, left_step, right_step, step}
 use Rattle.duct_start.specs.TreeView.{TreeView, command, pipe, around, stdin_bytes, stdin_path, stdin_file, stdin_null, stdout_path, stdout_file, stdout_null, stdout_capture, stdout_to_stderr, stderr_path, stderr_file, stderr_null, stderr_capture, stderr_to_stdout, stdout_stderr_swap, dir, env, env_remove, full_env, unchecked, before_spawn}
 use Rattle.duct_start.proofs.Inward.{joined}
 use Rattle.duct_start.proofs.Keeping.{keeps, keeps_same, keeps_out, keeps_err, out_opens, err_opens}
@@ -28,11 +27,11 @@ closed_none : {E H : Type 0} (p : Plan E H) → closed [] p ≡ p
 closed_none p = λ i. record { items = append-nil p.items i; out = p.out; err = p.err }
 
 module _ {E : Type 0} (P : E → Type 0) where
-  all_front : (xs ys : List E) → All P (xs ++ ys) → All P xs
+  pub all_front : (xs ys : List E) → All P (xs ++ ys) → All P xs
   all_front [] ys all = All-nil P
   all_front (x ∷ xs) ys all = All-cons P x xs (All-head P x (xs ++ ys) all) (all_front xs ys (All-tail P x (xs ++ ys) all))
 
-  all_back : (xs ys : List E) → All P (xs ++ ys) → All P ys
+  pub all_back : (xs ys : List E) → All P (xs ++ ys) → All P ys
   all_back [] ys all = all
   all_back (x ∷ xs) ys all = all_back xs ys (All-tail P x (xs ++ ys) all)
 
@@ -41,7 +40,7 @@ module _ {E H : Type 0} (number_of : E → ℕ) (base bound : ℕ) where
   at_st stack p = record { stack = stack; plan = p }
 
   -- an action that asks nothing of the stack
-  easy : (state : State E H) (x : Action E H) → action.pops x ≡ 0 → action.Needs number_of base state x → length (advance state x).stack ≤ bound → IsReady number_of base bound state x
+  easy : (state : State E H) (x : Action E H) → action.pops x ≡ 0 → action.Needs number_of base bound state x → length (advance state x).stack ≤ bound → IsReady number_of base bound state x
   easy state x none needs low = record { full = omega (arith, none); needs = needs; low = low }
 
   close_ready : (x : Target E) (stack : List (Target E)) (p : Plan E H) → length stack ≤ bound → IsReady number_of base bound (at_st (x ∷ stack) p) action.close
@@ -56,7 +55,7 @@ module _ {E H : Type 0} (number_of : E → ℕ) (base bound : ℕ) where
 
   -- a file that stands on the stack while what is inside runs
   held_leads : (get : Action E H) (item : Item E H) (x : Target E) (inside : List (Action E H)) (stack : List (Target E)) (p q : Plan E H) →
-      action.pops get ≡ 0 → action.Needs number_of base (at_st stack p) get → advance (at_st stack p) get ≡ at_st (x ∷ stack) (asks item p) → length stack + 1 ≤ bound →
+      action.pops get ≡ 0 → action.Needs number_of base bound (at_st stack p) get → advance (at_st stack p) get ≡ at_st (x ∷ stack) (asks item p) → length stack + 1 ≤ bound →
       Leads number_of base bound (at_st (x ∷ stack) (asks item p)) inside (at_st (x ∷ stack) q) →
       Leads number_of base bound (at_st stack p) (get ∷ (inside ++ action.close ∷ [])) (at_st stack (closed [] q))
   held_leads get item x inside stack p q none needs is low leads =
@@ -77,25 +76,27 @@ module _ {E H : Type 0} (number_of : E → ℕ) (base bound : ℕ) where
     input = input;
     output = output;
     error = error;
+    below = fits.below;
   }
 
   -- the same wires, inside a node that says something of folder, variables or hooks, and nothing of streams
   scoped : (node : Step E H) (p : Plan E H) (stack : List (Target E)) (s : Scope E H) (w : Three (Wire E)) (found : Found E H) → Fits number_of base (at_st stack p) s w found →
-      node.turn ≡ (λ place stream. Follows stream) → Fits number_of base (at_st stack p) (scope_within node s) w (found_within node (length p.items) found)
-  scoped node p stack s w found fits still = record {
+      node.turn ≡ (λ place stream. Follows stream) → AreBelow number_of base node.hooks → Fits number_of base (at_st stack p) (scope_within node s) w (found_within node (length p.items) found)
+  scoped node p stack s w found fits still below = record {
     folder = ap (option_or node.folder) fits.folder;
     changes = ap (λ changes. node.changes ++ changes) fits.changes;
     hooks = ap (λ hooks. hooks ++ node.hooks) fits.hooks;
     input = subst (λ t. WireIs number_of base (at_st stack p) true w.input (turned (t (length p.items) In) (target_of found))) (sym still) fits.input;
     output = subst (λ t. WireIs number_of base (at_st stack p) false w.output (turned (t (length p.items) Out) (target_of found))) (sym still) fits.output;
     error = subst (λ t. WireIs number_of base (at_st stack p) false w.error (turned (t (length p.items) Err) (target_of found))) (sym still) fits.error;
+    below = All-append (λ hook. All (λ end. number_of end < base) hook.1) s.hooks node.hooks fits.below below;
   }
 
   pub flat_leads : (tree : TreeView E H) (s : Scope E H) (w : Three (Wire E)) (found : Found E H)
       (stack : List (Target E)) (p : Plan E H) (n : ℕ) → n ≡ length stack
       → All (λ end. number_of end < base) (ends_in tree)
       → Fits number_of base (record { stack = stack; plan = p }) s w found
-      → n + (2 * depth tree + 3) ≤ bound
+      → n + (2 * depth tree + 3) < bound
       → Leads number_of base bound (record { stack = stack; plan = p }) (flat s w tree n)
       (record { stack = stack; plan = walked found tree p })
   flat_leads (command words) s w found stack p n is older fits low = command_leads number_of base bound (at_st stack p) s w found words fits (omega (arith, is, low))
@@ -222,19 +223,19 @@ module _ {E H : Type 0} (number_of : E → ℕ) (base bound : ℕ) where
   flat_leads (around (dir path) inner) s w found stack p n is older fits low =
       let node = step {E = E} {H = H} (dir path) in
       let found1 = found_within node (length p.items) found in
-      unclosed _ _ stack _ (flat_leads inner (scope_within node s) w found1 stack p n is older (scoped node p stack s w found fits refl) (omega (arith, low)))
+      unclosed _ _ stack _ (flat_leads inner (scope_within node s) w found1 stack p n is older (scoped node p stack s w found fits refl (All-nil _)) (omega (arith, low)))
   flat_leads (around (env name value) inner) s w found stack p n is older fits low =
       let node = step {E = E} {H = H} (env name value) in
       let found1 = found_within node (length p.items) found in
-      unclosed _ _ stack _ (flat_leads inner (scope_within node s) w found1 stack p n is older (scoped node p stack s w found fits refl) (omega (arith, low)))
+      unclosed _ _ stack _ (flat_leads inner (scope_within node s) w found1 stack p n is older (scoped node p stack s w found fits refl (All-nil _)) (omega (arith, low)))
   flat_leads (around (env_remove name) inner) s w found stack p n is older fits low =
       let node = step {E = E} {H = H} (env_remove name) in
       let found1 = found_within node (length p.items) found in
-      unclosed _ _ stack _ (flat_leads inner (scope_within node s) w found1 stack p n is older (scoped node p stack s w found fits refl) (omega (arith, low)))
+      unclosed _ _ stack _ (flat_leads inner (scope_within node s) w found1 stack p n is older (scoped node p stack s w found fits refl (All-nil _)) (omega (arith, low)))
   flat_leads (around (full_env vars) inner) s w found stack p n is older fits low =
       let node = step {E = E} {H = H} (full_env vars) in
       let found1 = found_within node (length p.items) found in
-      unclosed _ _ stack _ (flat_leads inner (scope_within node s) w found1 stack p n is older (scoped node p stack s w found fits refl) (omega (arith, low)))
+      unclosed _ _ stack _ (flat_leads inner (scope_within node s) w found1 stack p n is older (scoped node p stack s w found fits refl (All-nil _)) (omega (arith, low)))
   flat_leads (around unchecked inner) s w found stack p n is older fits low =
       let found1 = found_within (step unchecked) (length p.items) found in
       let fit = rewired (at_st stack p) s w (w) found found1 fits refl refl refl fits.input fits.output fits.error in
@@ -242,32 +243,18 @@ module _ {E H : Type 0} (number_of : E → ℕ) (base bound : ℕ) where
   flat_leads (around (before_spawn hook ends) inner) s w found stack p n is older fits low =
       let node = step {E = E} {H = H} (before_spawn hook ends) in
       let found1 = found_within node (length p.items) found in
-      unclosed _ _ stack _ (flat_leads inner (scope_within node s) w found1 stack p n is (all_back (λ end. number_of end < base) ends (ends_in inner) older) (scoped node p stack s w found fits refl) (omega (arith, low)))
+      unclosed _ _ stack _ (flat_leads inner (scope_within node s) w found1 stack p n is (all_back (λ end. number_of end < base) ends (ends_in inner) older) (scoped node p stack s w found fits refl
+      (All-cons (λ pair. All (λ end. number_of end < base) pair.1) (hook, ends) [] (all_front (λ end. number_of end < base) ends (ends_in inner) older) (All-nil (λ pair. All (λ end. number_of end < base) pair.1)))) (omega (arith, low)))
 
-drained : {E H : Type 0} (capture : Option ℕ) (p q : Plan E H) → q.items ≡ p.items → (drains capture q).items ≡ (drains capture p).items
-drained None p q same = same
-drained (Some place) p q same = ap (λ l. l ++ AskDrain place ∷ []) same
-
--- the whole list of a tree leads to its plan, and leaves nothing on the stack, which never holds more than twice the depth of the
--- tree and three
+-- the list of a tree leads to its plan up to what is handed on at the end, and leaves nothing on the stack, which never holds more
+-- than twice the depth of the tree and three
 pub tree_leads : {E H : Type 0} (number_of : E → ℕ) (base : ℕ) (tree : TreeView E H)
     → All (λ end. number_of end < base) (ends_in tree)
-    → Leads number_of base (2 * depth tree + 3) nothing_yet (flat_of tree) (all_of (plan_of tree))
+    → Leads number_of base (2 * depth tree + 4) (with_plan begun) (flat_of tree)
+    (with_plan (planned [] tree begun))
 tree_leads {E} {H} number_of base tree older =
-    let bound = 2 * depth tree + 3 in
-    let p : Plan E H = walked plain tree begun in
-    let q = action.finished side.Out p in
-    let start : State E H = record { stack = []; plan = begun } in
-    let middle : State E H = record { stack = []; plan = p } in
-    let fits : Fits {E = E} {H = H} number_of base start rooted outside plain =
-    record { folder = refl; changes = refl; hooks = refl; input = is_in; output = is_out; error = is_err } in
-    let same : planned [] tree begun ≡ p = joined tree [] begun in
-    let both : (action.finished side.Err q).items ≡ (drains p.err (drains p.out p)).items = drained p.err (drains p.out p) q refl in
-    let items = both ∙ ap (λ (x : Plan E H). (drains x.err (drains x.out x)).items) (sym same) in
-    let last : record { stack = []; plan = action.finished side.Err q } ≡ all_of (plan_of tree) =
-    ap (λ (l : List (Item E H)). record { stack = []; plan = record { items = l; out = None; err = None } }) items in
-    leads_cons number_of base bound nothing_yet _ action.environment _ (record { full = omega arith; needs = tt; low = omega arith })
-    (leads_append number_of base bound _ middle _ _ _ (flat_leads number_of base bound tree rooted outside plain [] begun 0 refl older fits (omega arith))
-    (leads_cons number_of base bound middle _ (action.finish side.Out) _ (record { full = omega arith; needs = tt; low = omega arith })
-    (leads_cons number_of base bound (record { stack = []; plan = q }) _ (action.finish side.Err) [] (record { full = omega arith; needs = tt; low = omega arith })
-    (record { ready = tt; is = last }))))
+    let bound = 2 * depth tree + 4 in
+    let fits : Fits {E = E} {H = H} number_of base (with_plan begun) rooted outside plain =
+    record { folder = refl; changes = refl; hooks = refl; input = is_in; output = is_out; error = is_err; below = All-nil _ } in
+    subst (λ p. Leads number_of base bound (with_plan begun) (flat_of tree) (with_plan p)) (sym (joined tree [] begun))
+    (flat_leads number_of base bound tree rooted outside plain [] begun 0 refl older fits (omega arith))

@@ -1,4 +1,12 @@
 pub mod Captured
+pub mod Ceiling
+pub mod Chained
+pub mod Changing
+pub mod Closes
+pub mod Closing
+pub mod Commanded
+pub mod Commanding
+pub mod Counted
 pub mod Counts
 pub mod Ending
 pub mod Fetched
@@ -6,8 +14,14 @@ pub mod Going
 pub mod Inward
 pub mod Joined
 pub mod Keeping
+pub mod Leaving
 pub mod Origins
 pub mod Resolved
 pub mod Running
+pub mod ScopeIn
+pub mod Settling
+pub mod Spawning
 pub mod Stacks
 pub mod Standing
+pub mod Whole
+pub mod Wires

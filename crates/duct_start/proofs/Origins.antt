@@ -11,7 +11,7 @@ use Rattle.duct_system.specs.EntryView.{EntryView, Pipe, OpenRead, Create, Dupli
 use Rattle.duct_system.specs.Origin.{Lent, origin, origin_before}
 use Rattle.duct_system.specs.Trace.{trace, is_traced}
 use Rattle.duct_start.specs.Asked.{end_at}
-use Rattle.duct_start.specs.Standing.{AreFresh, IsLater}
+use Rattle.duct_start.specs.Standing.{AreFresh, Course, IsLater}
 use Rattle.duct_start.proofs.Counts.{count-append, count-cons, other_than}
 
 pub got-append : (xs ys : List EntryView) → got (xs ++ ys) ≡ got xs ++ got ys
@@ -96,8 +96,12 @@ end_at_seam xs entry more which traced =
     ∙ ap (λ (l : List ℕ). slice_index l which) (append-nil (got_by entry))
 
 -- what comes after an entry that got fresh numbers comes later than the one before it
-pub later_more : (next then : ℕ) (entry : EntryView) (more : List EntryView)
-    → AreFresh next then (got_by entry) → IsLater then more → IsLater next (entry ∷ more)
-later_more next then entry more fresh later = λ n lt.
-    let lt' : n < then = omega (arith, fresh.newer) in
-    omega (arith, count_got-append n (entry ∷ []) more, count_got-append n [] (entry ∷ []), fresh.above n lt, later n lt', ap (λ (l : List ℕ). count_of n l) (append-nil (got_by entry)))
+pub later_more : (course : Course) (next then : ℕ) (entry : EntryView) (more : List EntryView)
+    → AreFresh next then (got_by entry) → IsLater course then more
+    → IsLater course next (entry ∷ more)
+later_more course next then entry more fresh later = record {
+  early = later.early;
+  fresh = λ n lt.
+      let lt' : n < then = omega (arith, fresh.newer) in
+      omega (arith, count_got-append n (entry ∷ []) more, count_got-append n [] (entry ∷ []), fresh.above n lt, later.fresh n lt', ap (λ (l : List ℕ). count_of n l) (append-nil (got_by entry)));
+}

@@ -1,52 +1,110 @@
 -- A run over a list of actions.
-use Rattle.std.proofs.Common.{◌≡◌, ℕ, zero, suc, ◌≤◌, List, [], ◌∷◌, ◌++◌, length, refl, ap, sym, ◌∙◌, arith, append_assoc, subst}
+use Rattle.std.proofs.Common.{◌≡◌, ℕ, zero, suc, inl, inr, ◌≤◌, List, [], ◌∷◌, ◌++◌, length, refl, ap, sym, ◌∙◌, arith, append_assoc, length-append, subst, take}
 use Rattle.std.proofs.lemmas.List.{append-nil}
-use Rattle.std.specs.Prelude.{Some, None, IsSome, is_some, if◌then◌else◌}
+use Rattle.std.specs.Prelude.{Some, None, Ok, Err, is_some, if◌then◌else◌}
 use Rattle.std.specs.declared.option.Option.{Option}
-use Rattle.duct_system.specs.EntryView.{EntryView}
-use Rattle.duct_system.specs.Journal.{JournalView, AddsNothing}
+use Rattle.duct_system.specs.EntryView.{EntryView, Environment}
+use Rattle.duct_system.specs.Journal.{JournalView, AddsNothing, Asks, IsRefused}
+use Rattle.duct_system.specs.Ledger.{got, spent, got_by, spent_by}
+use Rattle.duct_system.specs.Started.{child_by, feed_by, drain_by}
 use Rattle.duct_system.specs.Trace.{trace}
 use Rattle.duct_system.specs.declared.error.Error.{Error}
+use Rattle.duct_system.specs.declared.error.Error.TheVariants.{System}
+use Rattle.duct_system.specs.declared.system.Fault.{Fault}
 use Rattle.duct_system.specs.declared.system.Side.TheVariants as side
 use Rattle.duct_start.specs.Actions as action
-use Rattle.duct_start.specs.Actions.{Action, State, IsReady, AreReady, after, advance, pops, nothing_yet}
+use Rattle.duct_start.specs.Actions.{Action, State, IsReady, AreReady, after, advance, pops, with_plan}
 use Rattle.duct_start.specs.Chain.{Allows}
 use Rattle.duct_start.specs.Follows.{AnswersFrom}
 use Rattle.duct_start.specs.Holdings.{Holdings, empty}
-use Rattle.duct_start.specs.Plan.{Plan, drains}
-use Rattle.duct_start.specs.Standing.{HeldFew, IsPair, Stands, Stood, Stopped, Goes, Quits, IsUnasked, CanDo}
-use Rattle.duct_start.specs.Step.{Item, AskDrain, AskPipe}
-use Rattle.duct_start.proofs.Standing.{answers_front, stops_unasked, as_long}
+use Rattle.duct_start.specs.Plan.{Plan, begun, drains}
+use Rattle.duct_start.specs.Standing.{Books, Course, HeldFew, IsShaped, Stands, Stood, Stopped, Goes, Quits, IsUnasked, CanDo, refused, unasked}
+use Rattle.duct_start.specs.Step.{Item, AskEnvironment, AskDrain, AskPipe}
+use Rattle.duct_start.proofs.Commanded.{items_of, commanded_is}
+use Rattle.duct_start.proofs.Going.{none_changes}
+use Rattle.duct_start.proofs.Standing.{answers_front, books_more, stops_unasked}
 
-nothing_held : (bound : ℕ) → HeldFew bound []
-nothing_held bound zero = omega arith
-nothing_held bound (suc count) = omega arith
+take_none : (count : ℕ) → length (got (take count [])) ≡ 0
+take_none zero = refl
+take_none (suc count) = refl
 
--- where nothing was asked yet
-pub stands_begun : {E H : Type 0} (allows : Allows H) (number_of : E → ℕ) (bound : ℕ)
-    (now : JournalView) → Stands allows number_of bound now nothing_yet now empty
-stands_begun allows number_of bound now = record {
-  added = [];
-  books = record {
-    entries_are = sym (append-nil now.entries);
-    counted = omega arith;
-    even = λ n. refl;
-    once = λ n. omega arith;
-    below = λ n le. refl;
-    above = λ n lt. refl;
-    next_grows = omega arith;
-    long = refl;
-    room_is = omega arith;
-    children_are = refl;
-    feeds_are = refl;
-    drains_are = refl;
-  };
-  few = nothing_held bound;
-  as_many = refl;
-  answers = λ more later. tt;
-  sources = λ more later. record { stack = refl; out = tt; err = tt };
-  clean = tt;
-}
+environment_held : (bound : ℕ) (entry : EntryView) → got_by entry ≡ [] → spent_by entry ≡ [] → HeldFew bound (entry ∷ [])
+environment_held bound entry none spent zero = omega arith
+environment_held bound entry none spent (suc count) =
+    omega (arith, take_none count, length-append (got_by entry) (got (take count [])), ap (λ (l : List ℕ). length l) none)
+
+module _ (course : Course) (now : JournalView) where
+  begun_books : (entry : EntryView) → Asks entry course.old now → got_by entry ≡ [] → spent_by entry ≡ [] → child_by entry ≡ [] → feed_by entry ≡ [] → drain_by entry ≡ [] →
+      Books course.old now (entry ∷ []) empty
+  begun_books entry asks none spent no_child no_feed no_drain =
+      books_more course.old course.old now [] entry empty empty (none_changes entry course.old now empty asks none spent no_child no_feed no_drain) (record {
+        entries_are = sym (append-nil course.old.entries);
+        counted = omega arith;
+        even = λ n. refl;
+        once = λ n. omega arith;
+        below = λ n le. refl;
+        above = λ n lt. refl;
+        next_grows = omega arith;
+        long = refl;
+        room_is = omega arith;
+        children_are = refl;
+        feeds_are = refl;
+        drains_are = refl;
+      })
+
+  module _ {E H : Type 0} (allows : Allows H) (number_of : E → ℕ) where
+    -- where the environment was asked
+    pub stands_begun : course.front ≡ [] → Asks (Environment (Ok course.pairs)) course.old now
+        → Stands allows number_of course (with_plan begun) now empty
+    stands_begun none asks = record {
+      added = Environment (Ok course.pairs) ∷ [];
+      books = begun_books (Environment (Ok course.pairs)) asks refl refl refl refl refl;
+      few = environment_held course.bound (Environment (Ok course.pairs)) refl refl;
+      kinds = refl;
+      shaped = record { stack = refl; out = refl; err = refl };
+      begins = λ more. refl;
+      starts = (_, ap (λ l. l ++ Environment (Ok course.pairs) ∷ []) (sym none));
+      answers = λ more later. (tt, tt);
+      sources = λ more later. record { stack = refl; out = tt; err = tt };
+      clean = (refl, tt);
+    }
+
+    -- where nothing was asked
+    pub stopped_unasked : (items : List (Item E H)) (error : Error) → AddsNothing course.old now
+        → IsUnasked error → Stopped allows number_of course items now empty error
+    stopped_unasked items error nothing un = record {
+      added = [];
+      books = record {
+        entries_are = nothing.entries_are ∙ sym (append-nil course.old.entries);
+        counted = omega (arith, nothing.added_is);
+        even = λ n. refl;
+        once = λ n. omega arith;
+        below = λ n le. refl;
+        above = λ n lt. refl;
+        next_grows = nothing.next_grows;
+        long = refl;
+        room_is = omega (arith, nothing.room_grows);
+        children_are = refl;
+        feeds_are = refl;
+        drains_are = refl;
+      };
+      few = λ count. omega (arith, take_none count);
+      answers = λ more later. tt;
+      ended = unasked tt un;
+    }
+
+    -- where it was refused
+    pub stopped_begun : (items : List (Item E H)) (fault : Fault)
+        → IsRefused (Environment (Err fault)) 0 fault course.old now
+        → Stopped allows number_of course (AskEnvironment ∷ items) now empty (System fault)
+    stopped_begun items fault (inl asks) = record {
+      added = Environment (Err fault) ∷ [];
+      books = begun_books (Environment (Err fault)) asks refl refl refl refl refl;
+      few = environment_held course.bound (Environment (Err fault)) refl refl;
+      answers = λ more later. (tt, tt);
+      ended = refused [] (Environment (Err fault)) fault tt refl;
+    }
+    stopped_begun items fault (inr nothing) = stopped_unasked (AskEnvironment ∷ items) (System fault) nothing.1 nothing.2
 
 drains_grow : {E H : Type 0} (o : Option ℕ) (p : Plan E H) → (more : List (Item E H)) × ((drains o p).items ≡ p.items ++ more)
 drains_grow None p = ([], sym (append-nil p.items))
@@ -57,8 +115,6 @@ if_grow None p q is = (AskPipe ∷ [], is)
 if_grow (Some place) p q is = ([], sym (append-nil p.items))
 
 action_grows : {E H : Type 0} (st : State E H) (act : Action E H) → (more : List (Item E H)) × ((advance st act).plan.items ≡ st.plan.items ++ more)
-action_grows st action.environment = (_, refl)
-action_grows st (action.canonicalize path) = (_, refl)
 action_grows st (action.open_read path) = (_, refl)
 action_grows st (action.create path) = (_, refl)
 action_grows st action.pipe = (_, refl)
@@ -71,7 +127,9 @@ action_grows st (action.lend end) = ([], sym (append-nil st.plan.items))
 action_grows st (action.parent side.Out) = ([], sym (append-nil st.plan.items))
 action_grows st (action.parent side.Err) = ([], sym (append-nil st.plan.items))
 action_grows st action.close = ([], sym (append-nil st.plan.items))
-action_grows st (action.spawn scope words ports) = (_, refl)
+action_grows st (action.spawn scope words ports) =
+    let found = action.found_by scope ports st.stack in
+    (items_of found words, ap (λ p. p.items) (commanded_is found words st.plan))
 action_grows st (action.feed bytes) = (_, refl)
 action_grows st (action.finish side.Out) = drains_grow st.plan.out st.plan
 action_grows st (action.finish side.Err) = drains_grow st.plan.err st.plan
@@ -83,32 +141,24 @@ items_grow st (act ∷ actions) =
     let rest = items_grow (advance st act) actions in
     (one.0 ++ rest.0, rest.1 ∙ ap (λ (l : List (Item _ _)). l ++ rest.0) one.1 ∙ append_assoc st.plan.items one.0 rest.0)
 
-here_pair : (L : List EntryView) (o : Option ℕ) (pair : Option (ℕ × ℕ)) → IsPair L o pair → IsSome o → IsSome pair
-here_pair L None pair is here = cc
-here_pair L (Some place) None is here = absurd is
-here_pair L (Some place) (Some pair) is here = refl
-
-module _ {E H : Type 0} (allows : Allows H) (number_of : E → ℕ) (bound : ℕ) (old : JournalView) where
-  can : (L : List EntryView) (st : State E H) (held : Holdings) (act : Action E H) → length held.stack ≡ length st.stack → IsPair L st.plan.out held.out → IsPair L st.plan.err held.err →
-      action.Needs number_of old.next st act → CanDo act held
-  can L st held (action.duplicate depth) same out err needs = omega (arith, same, needs)
-  can L st held (action.tap side.Out) same out err needs = here_pair L st.plan.out held.out out needs
-  can L st held (action.tap side.Err) same out err needs = here_pair L st.plan.err held.err err needs
-  can L st held act same out err needs = tt
+module _ {E H : Type 0} (allows : Allows H) (number_of : E → ℕ) (course : Course) where
+  can : (st : State E H) (held : Holdings) (act : Action E H) → IsShaped st held → action.Needs number_of course.base course.bound st act → CanDo act held
+  can st held (action.duplicate depth) shaped needs = omega (arith, shaped.stack, needs)
+  can st held (action.tap side.Out) shaped needs = shaped.out ∙ needs
+  can st held (action.tap side.Err) shaped needs = shaped.err ∙ needs
+  can st held act shaped needs = tt
 
   -- what a ready action needs is held
   pub can_do : (st : State E H) (now : JournalView) (held : Holdings) (act : Action E H)
-      → Stands allows number_of bound old st now held → IsReady number_of old.next bound st act
+      → Stands allows number_of course st now held
+      → IsReady number_of course.base course.bound st act
       → (pops act ≤ length held.stack) × CanDo act held
-  can_do st now held act stands ready =
-      let sources = stands.sources [] (λ n lt. refl) in
-      let same = as_long allows number_of bound old st now held stands in
-      (omega (arith, ready.full, same), can (stands.added ++ []) st held act same sources.out sources.err ready.needs)
+  can_do st now held act stands ready = (omega (arith, ready.full, stands.shaped.stack), can st held act stands.shaped ready.needs)
 
-  module _ (goal : State E H) (actions rest : List (Action E H)) (act : Action E H) (now : JournalView) (kept : Holdings) (stood : Stood allows number_of bound old goal actions now kept)
+  module _ (goal : State E H) (actions rest : List (Action E H)) (act : Action E H) (now : JournalView) (kept : Holdings) (stood : Stood allows number_of course goal actions now kept)
       (is : actions ≡ act ∷ rest) where
-    ready_now : AreReady number_of old.next bound stood.state (act ∷ rest)
-    ready_now = subst (λ (l : List (Action E H)). AreReady number_of old.next bound stood.state l) is stood.ready
+    ready_now : AreReady number_of course.base course.bound stood.state (act ∷ rest)
+    ready_now = subst (λ (l : List (Action E H)). AreReady number_of course.base course.bound stood.state l) is stood.ready
 
     goal_now : after stood.state (act ∷ rest) ≡ goal
     goal_now = ap (λ (l : List (Action E H)). after stood.state l) (sym is) ∙ stood.goal_is
@@ -118,19 +168,19 @@ module _ {E H : Type 0} (allows : Allows H) (number_of : E → ℕ) (bound : ℕ
 
     pub goes_on : (next : JournalView) (other : Holdings)
         → Goes allows number_of act now next kept other
-        → Stood allows number_of bound old goal rest next other
+        → Stood allows number_of course goal rest next other
     goes_on next other goes = record {
       state = advance stood.state act;
-      stands = goes bound old stood.state ready_now.0 stood.stands;
+      stands = goes course stood.state ready_now.0 stood.stands;
       ready = ready_now.1;
       goal_is = goal_now;
     }
 
     pub quits_now : (next : JournalView) (other : Holdings) (error : Error)
         → Quits allows number_of act now next kept other error
-        → Stopped allows number_of bound old goal.plan.items next other error
+        → Stopped allows number_of course goal.plan.items next other error
     quits_now next other error quits =
-        let q = quits bound old stood.state ready_now.0 stood.stands in
+        let q = quits course stood.state ready_now.0 stood.stands in
         let more = items_grow (advance stood.state act) rest in
         let all : (advance stood.state act).plan.items ++ more.0 ≡ goal.plan.items = sym more.1 ∙ ap (λ (x : State E H). x.plan.items) goal_now in
         record {
@@ -143,20 +193,8 @@ module _ {E H : Type 0} (allows : Allows H) (number_of : E → ℕ) (bound : ℕ
         }
 
     pub memory_now : (next : JournalView) (error : Error) → AddsNothing now next → IsUnasked error
-        → Stopped allows number_of bound old goal.plan.items next kept error
+        → Stopped allows number_of course goal.plan.items next kept error
     memory_now next error nothing un =
         let more = items_grow stood.state (act ∷ rest) in
-        stops_unasked allows number_of bound old stood.state goal.plan.items more.0 now next kept error stood.stands
+        stops_unasked allows number_of course stood.state goal.plan.items more.0 now next kept error stood.stands
         (ap (λ (x : State E H). x.plan.items) (sym goal_now) ∙ more.1) nothing un
-
--- a list that is ready stands before its first action
-pub stood_begun : {E H : Type 0} (allows : Allows H) (number_of : E → ℕ) (bound : ℕ)
-    (now : JournalView) (actions : List (Action E H))
-    → AreReady number_of now.next bound nothing_yet actions
-    → Stood allows number_of bound now (after nothing_yet actions) actions now empty
-stood_begun allows number_of bound now actions ready = record {
-  state = nothing_yet;
-  stands = stands_begun allows number_of bound now;
-  ready = ready;
-  goal_is = refl;
-}

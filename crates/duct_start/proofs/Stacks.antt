@@ -60,7 +60,7 @@ module _ {E H : Type 0} (number_of : E → ℕ) (base bound : ℕ) where
 
   -- one action that pops nothing
   pub leads_one : (state : State E H) (x : Action E H) (next : State E H) → pops x ≡ 0
-      → Needs number_of base state x → advance state x ≡ next → length next.stack ≤ bound
+      → Needs number_of base bound state x → advance state x ≡ next → length next.stack ≤ bound
       → Leads number_of base bound state (x ∷ []) next
   leads_one state x next none needs is low = record {
     ready = (record { full = omega (arith, none); needs = needs; low = omega (arith, ap (λ (s : State E H). length s.stack) is, low) }, tt);

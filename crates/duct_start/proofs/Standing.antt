@@ -1,14 +1,13 @@
 -- A run stands one entry further, or stops there.
 use Rattle.std.proofs.Common.{◌≡◌, ℕ, zero, suc, take, refl, inl, inr, ◌+◌, ◌<◌, ◌≤◌, List, [], ◌∷◌, ◌++◌, length, ap, sym, ◌∙◌, arith, subst, append_assoc, length-append}
-use Rattle.std.proofs.lemmas.List.{append-nil, length-map}
+use Rattle.std.proofs.lemmas.List.{append-nil, length-map, map-append}
 use Rattle.std.proofs.lemmas.Bool.{cases_lt}
 use Rattle.std.specs.declared.option.Option.{Option}
 use Rattle.std.proofs.lemmas.Grind.{flat_map-append}
-use Rattle.std.specs.Prelude.{Some, None}
+use Rattle.std.specs.Prelude.{Some, None, map}
 use Rattle.duct_system.specs.EntryView.{EntryView}
 use Rattle.duct_system.specs.Journal.{JournalView, Adds, AddsNothing}
 use Rattle.duct_system.specs.Ledger.{got, spent, held, got_by, spent_by, count_of}
-use Rattle.duct_system.specs.Origin.{origin}
 use Rattle.duct_system.specs.Started.{children_in, feeds_in, drains_in, child_by, feed_by, drain_by}
 use Rattle.duct_system.specs.Trace.{trace, IsClean, fault_of}
 use Rattle.duct_system.specs.declared.error.Error.{Error}
@@ -16,12 +15,21 @@ use Rattle.duct_system.specs.declared.error.Error.TheVariants.{System}
 use Rattle.duct_system.specs.declared.system.Fault.{Fault}
 use Rattle.duct_start.specs.Actions.{State}
 use Rattle.duct_start.specs.Chain.{Allows}
-use Rattle.duct_start.specs.Follows.{AnswersFrom}
+use Rattle.duct_start.specs.Follows.{AnswersFrom, pairs_in}
 use Rattle.duct_start.specs.Holdings.{Holdings, ends, pair_of}
-use Rattle.duct_start.specs.Standing.{AreFresh, HeldFew, IsLater, Books, origin_to, Sourced, Stands, Stopped, refused, unasked, IsUnasked}
+use Rattle.duct_start.specs.Kinds.{Kind, entry_kind, item_kind}
+use Rattle.duct_start.specs.Standing.{AreFresh, Course, HeldFew, IsLater, IsShaped, Books, Sourced, Stands, Stopped, refused, unasked, IsUnasked}
 use Rattle.duct_start.specs.Step.{Item}
 use Rattle.duct_start.proofs.Counts.{once_of}
 use Rattle.duct_start.proofs.Origins.{got-append, spent-append, count_got-append, count_spent-append, trace-append, later_more}
+
+-- the trace has as many entries as the plan has items
+pub as_many : {E H : Type 0} {allows : Allows H} {number_of : E → ℕ} {course : Course}
+    {state : State E H} {now : JournalView} {held : Holdings}
+    (stands : Stands allows number_of course state now held)
+    → length (trace stands.added) ≡ length state.plan.items
+as_many {E} {H} {allows} {number_of} {course} {state} {now} {held} stands =
+    sym (length-map (trace stands.added) entry_kind) ∙ ap (λ (l : List Kind). length l) stands.kinds ∙ length-map state.plan.items item_kind
 
 module _ {E H : Type 0} (allows : Allows H) (number_of : E → ℕ) where
   -- the entries that some items are answered by, one after the other
@@ -59,8 +67,9 @@ pub record Changes (entry : EntryView) (now then : JournalView)
   pub feeds_are : kept.feeds ≡ held.feeds ++ feed_by entry
   pub drains_are : kept.drains ≡ held.drains ++ drain_by entry
 
-books_more : (old now then : JournalView) (added : List EntryView) (entry : EntryView) (held kept : Holdings) → Changes entry now then held kept → Books old now added held →
-    Books old then (added ++ entry ∷ []) kept
+pub books_more : (old now then : JournalView) (added : List EntryView) (entry : EntryView)
+    (held kept : Holdings) → Changes entry now then held kept → Books old now added held
+    → Books old then (added ++ entry ∷ []) kept
 books_more old now then added entry held kept ch books =
     let nil = λ (n : ℕ). ap (λ (l : List ℕ). count_of n l) (append-nil (got_by entry)) in
     let none = λ (n : ℕ). ap (λ (l : List ℕ). count_of n l) (append-nil (spent_by entry)) in
@@ -93,7 +102,7 @@ take_whole (x ∷ xs) (suc count) low = ap (λ l. x ∷ l) (take_whole xs count 
 
 -- what is held after one entry more
 few_more : (bound : ℕ) (old then : JournalView) (added : List EntryView) (entry : EntryView) (kept : Holdings) → HeldFew bound added → Books old then (added ++ entry ∷ []) kept →
-    length (ends kept) ≤ bound + 9 → HeldFew bound (added ++ entry ∷ [])
+    length (ends kept) ≤ bound + 8 → HeldFew bound (added ++ entry ∷ [])
 few_more bound old then added entry kept few books low = λ count. elim (cases_lt (length added) count) [
   | inl lt ↦
       let whole = ap (λ l. length (got l)) (take_whole (added ++ entry ∷ []) count (omega (arith, lt, length-append added (entry ∷ [])))) in
@@ -103,10 +112,10 @@ few_more bound old then added entry kept few books low = λ count. elim (cases_l
 ]
 
 -- the ends that are held now
-pub few_now : {E H : Type 0} (allows : Allows H) (number_of : E → ℕ) (bound : ℕ)
-    (old : JournalView) (state : State E H) (now : JournalView) (held : Holdings)
-    → Stands allows number_of bound old state now held → length (ends held) ≤ bound + 9
-few_now allows number_of bound old state now held stands =
+pub few_now : {E H : Type 0} (allows : Allows H) (number_of : E → ℕ) (course : Course)
+    (state : State E H) (now : JournalView) (held : Holdings)
+    → Stands allows number_of course state now held → length (ends held) ≤ course.bound + 8
+few_now allows number_of course state now held stands =
     let whole = ap (λ l. length (got l)) (take_whole stands.added (length stands.added) (omega arith)) in
     let all = ap (λ l. length (spent l)) (take_whole stands.added (length stands.added) (omega arith)) in
     omega (arith, stands.few (length stands.added), whole, all, stands.books.long)
@@ -116,87 +125,87 @@ pair_few None = omega arith
 pair_few (Some pair) = omega arith
 
 -- at most four ends stand beside the stack
-pub few_of : (bound : ℕ) (held : Holdings) → length held.stack ≤ bound + 5
-    → length (ends held) ≤ bound + 9
+pub few_of : (bound : ℕ) (held : Holdings) → length held.stack ≤ bound + 4
+    → length (ends held) ≤ bound + 8
 few_of bound held low =
     omega (arith, low, pair_few held.out, pair_few held.err, length-append held.stack (pair_of held.out ++ pair_of held.err), length-append (pair_of held.out) (pair_of held.err))
 
--- the stack by numbers is as long as the stack by where its ends come from
-pub as_long : {E H : Type 0} (allows : Allows H) (number_of : E → ℕ) (bound : ℕ)
-    (old : JournalView) (state : State E H) (now : JournalView) (held : Holdings)
-    → Stands allows number_of bound old state now held → length held.stack ≡ length state.stack
-as_long allows number_of bound old state now held stands =
-    let sources = stands.sources [] (λ n lt. refl) in
-    let L = stands.added ++ [] in
-    sym (length-map held.stack (λ k. Some (origin L k))) ∙ ap (λ l. length l) sources.stack ∙ length-map state.stack (origin_to (trace L) number_of)
-
-module _ {E H : Type 0} (allows : Allows H) (number_of : E → ℕ) (bound : ℕ) (old : JournalView) (state then_state : State E H) (asked : List (Item E H)) (now then : JournalView) (held kept : Holdings)
-    (entry : EntryView) (stands : Stands allows number_of bound old state now held) (items_are : then_state.plan.items ≡ state.plan.items ++ asked) (ch : Changes entry now then held kept) where
+module _ {E H : Type 0} (allows : Allows H) (number_of : E → ℕ) (course : Course) (state then_state : State E H) (asked : List (Item E H)) (now then : JournalView) (held kept : Holdings)
+    (entry : EntryView) (stands : Stands allows number_of course state now held) (items_are : then_state.plan.items ≡ state.plan.items ++ asked) (ch : Changes entry now then held kept) where
   abbrev pub then_added : List EntryView
   then_added = stands.added ++ entry ∷ []
 
   -- what the sources are, where this comes later
-  pub sources_now : (more : List EntryView) → IsLater then.next more
+  pub sources_now : (more : List EntryView) → IsLater course then.next more
       → Sourced number_of (then_added ++ more) state held
   sources_now more later =
       subst (λ (l : List EntryView). Sourced number_of l state held) (sym (append_assoc stands.added (entry ∷ []) more))
-      (stands.sources (entry ∷ more) (later_more now.next then.next entry more ch.fresh later))
+      (stands.sources (entry ∷ more) (later_more course now.next then.next entry more ch.fresh later))
 
-  answers_then : ((more : List EntryView) → IsLater then.next more → AnswersFrom allows number_of (then_added ++ more) (length state.plan.items) asked (trace (entry ∷ []))) →
-      (more : List EntryView) → IsLater then.next more → AnswersFrom allows number_of (then_added ++ more) 0 then_state.plan.items (trace then_added)
+  answers_then : ((more : List EntryView) → IsLater course then.next more → AnswersFrom allows number_of (then_added ++ more) (length state.plan.items) asked (trace (entry ∷ []))) →
+      (more : List EntryView) → IsLater course then.next more → AnswersFrom allows number_of (then_added ++ more) 0 then_state.plan.items (trace then_added)
   answers_then matches = λ more later.
       let before : AnswersFrom allows number_of (then_added ++ more) 0 state.plan.items (trace stands.added) =
       subst (λ (l : List EntryView). AnswersFrom allows number_of l 0 state.plan.items (trace stands.added)) (sym (append_assoc stands.added (entry ∷ []) more))
-      (stands.answers (entry ∷ more) (later_more now.next then.next entry more ch.fresh later)) in
+      (stands.answers (entry ∷ more) (later_more course now.next then.next entry more ch.fresh later)) in
       subst (λ (l : List (Item E H)). AnswersFrom allows number_of (then_added ++ more) 0 l (trace then_added)) (sym items_are)
       (subst (λ (l : List EntryView). AnswersFrom allows number_of (then_added ++ more) 0 (state.plan.items ++ asked) l) (sym (trace-append stands.added (entry ∷ [])))
-      (answers-append allows number_of (then_added ++ more) 0 state.plan.items asked (trace stands.added) (trace (entry ∷ [])) stands.as_many before
+      (answers-append allows number_of (then_added ++ more) 0 state.plan.items asked (trace stands.added) (trace (entry ∷ [])) (as_many stands) before
       (subst (λ (k : ℕ). AnswersFrom allows number_of (then_added ++ more) k asked (trace (entry ∷ []))) (omega arith) (matches more later))))
 
   -- one entry that went well
-  pub stands_more : length (ends kept) ≤ bound + 9 → fault_of entry ≡ None
-      → length (trace (entry ∷ [])) ≡ length asked
-      → ((more : List EntryView) → IsLater then.next more
+  pub stands_more : length (ends kept) ≤ course.bound + 8 → IsShaped then_state kept
+      → fault_of entry ≡ None
+      → map entry_kind (trace (entry ∷ [])) ≡ map item_kind asked
+      → ((more : List EntryView) → IsLater course then.next more
       → AnswersFrom allows number_of (then_added ++ more) (length state.plan.items) asked
       (trace (entry ∷ [])))
-      → ((more : List EntryView) → IsLater then.next more
+      → ((more : List EntryView) → IsLater course then.next more
       → Sourced number_of (then_added ++ more) then_state kept)
-      → Stands allows number_of bound old then_state then kept
-  stands_more few clean many matches sourced = record {
+      → Stands allows number_of course then_state then kept
+  stands_more few shaped clean kinds matches sourced = record {
     added = then_added;
-    books = books_more old now then stands.added entry held kept ch stands.books;
-    few = few_more bound old then stands.added entry kept stands.few (books_more old now then stands.added entry held kept ch stands.books) few;
-    as_many = ap (λ (l : List EntryView). length l) (trace-append stands.added (entry ∷ [])) ∙ length-append (trace stands.added) (trace (entry ∷ []))
-        ∙ omega (arith, many, stands.as_many, ap (λ (l : List (Item E H)). length l) items_are, length-append state.plan.items asked);
+    books = books_more course.old now then stands.added entry held kept ch stands.books;
+    few = few_more course.bound course.old then stands.added entry kept stands.few (books_more course.old now then stands.added entry held kept ch stands.books) few;
+    kinds = ap (λ (l : List EntryView). map entry_kind l) (trace-append stands.added (entry ∷ [])) ∙ map-append entry_kind (trace stands.added) (trace (entry ∷ []))
+        ∙ (λ i. stands.kinds i ++ kinds i) ∙ sym (ap (λ (l : List (Item E H)). map item_kind l) items_are ∙ map-append item_kind state.plan.items asked);
+    shaped = shaped;
+    begins = λ more. ap (λ (l : List EntryView). pairs_in (trace l)) (append_assoc stands.added (entry ∷ []) more) ∙ stands.begins (entry ∷ more);
+    starts = (stands.starts.0 ++ entry ∷ [], ap (λ (l : List EntryView). l ++ entry ∷ []) stands.starts.1 ∙ append_assoc course.front stands.starts.0 (entry ∷ []));
     answers = answers_then matches;
     sources = sourced;
     clean = clean_more stands.added entry stands.clean clean;
   }
 
   -- one entry that was refused
-  pub stops_more : length (ends kept) ≤ bound + 9 → (fault : Fault) → fault_of entry ≡ Some fault
-      → ((more : List EntryView) → IsLater then.next more
+  pub stops_more : length (ends kept) ≤ course.bound + 8 → (fault : Fault)
+      → fault_of entry ≡ Some fault
+      → ((more : List EntryView) → IsLater course then.next more
       → AnswersFrom allows number_of (then_added ++ more) (length state.plan.items) asked
       (trace (entry ∷ [])))
-      → Stopped allows number_of bound old then_state.plan.items then kept (System fault)
+      → Stopped allows number_of course then_state.plan.items then kept (System fault)
   stops_more few fault refuses matches = record {
     added = then_added;
-    books = books_more old now then stands.added entry held kept ch stands.books;
-    few = few_more bound old then stands.added entry kept stands.few (books_more old now then stands.added entry held kept ch stands.books) few;
+    books = books_more course.old now then stands.added entry held kept ch stands.books;
+    few = few_more course.bound course.old then stands.added entry kept stands.few (books_more course.old now then stands.added entry held kept ch stands.books) few;
     answers = answers_then matches;
     ended = refused stands.added entry fault stands.clean refuses;
   }
 
+-- what comes later than a number comes later than a smaller one
+later_still : (course : Course) (next then : ℕ) (more : List EntryView) → next ≤ then → IsLater course then more → IsLater course next more
+later_still course next then more le later = record { early = later.early; fresh = λ n lt. let lt' : n < then = omega (arith, le) in later.fresh n lt' }
+
 -- nothing was asked, for want of memory
-pub stops_unasked : {E H : Type 0} (allows : Allows H) (number_of : E → ℕ) (bound : ℕ)
-    (old : JournalView) (state : State E H) (items more_items : List (Item E H))
+pub stops_unasked : {E H : Type 0} (allows : Allows H) (number_of : E → ℕ) (course : Course)
+    (state : State E H) (items more_items : List (Item E H))
     (now then : JournalView) (held : Holdings) (error : Error) →
-    Stands allows number_of bound old state now held → items ≡ state.plan.items ++ more_items
+    Stands allows number_of course state now held → items ≡ state.plan.items ++ more_items
     → AddsNothing now then → IsUnasked error
-    → Stopped allows number_of bound old items then held error
-stops_unasked {E} {H} allows number_of bound old state items more_items now then held error stands is nothing un =
+    → Stopped allows number_of course items then held error
+stops_unasked {E} {H} allows number_of course state items more_items now then held error stands is nothing un =
     let b = stands.books in
-    let later = λ (more : List EntryView) (l : IsLater then.next more). λ (n : ℕ) (lt : n < now.next). let lt' : n < then.next = omega (arith, nothing.next_grows) in l n lt' in
+    let later = λ (more : List EntryView) (l : IsLater course then.next more). later_still course now.next then.next more nothing.next_grows l in
     record {
       added = stands.added;
       books = record {

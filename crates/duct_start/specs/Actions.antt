@@ -1,5 +1,5 @@
 -- The actions of a start, in a list: what each gets is pushed onto a stack of ends, what it gives is popped. No system is asked here.
-use Rattle.std.specs.Prelude.{ℕ, ◌+◌, ◌<◌, ◌≤◌, ◌≡◌, List, [], ◌∷◌, ◌++◌, length, drop, reverse, slice_get, unwrap_or, None, IsSome}
+use Rattle.std.specs.Prelude.{ℕ, ◌+◌, ◌<◌, ◌≤◌, ◌≡◌, ◌||◌, Bool, true, false, List, [], ◌∷◌, ◌++◌, length, drop, reverse, slice_get, unwrap_or, None, IsSome, All}
 use Rattle.std.specs.declared.option.Option.{Option}
 use Rattle.duct_system.specs.declared.spec.Port.{Port}
 use Rattle.duct_system.specs.declared.spec.Port.TheVariants as port
@@ -7,9 +7,10 @@ use Rattle.duct_system.specs.declared.spec.Stream.{Stream}
 use Rattle.duct_system.specs.declared.spec.Stream.TheVariants.{In, Out, Err}
 use Rattle.duct_system.specs.declared.system.Side.{Side}
 use Rattle.duct_system.specs.declared.system.Side.TheVariants as side
-use Rattle.duct_start.specs.Found.{Found, Target, Parents, Nothing, ReaderAt, WriterAt, FileAt, Lends, Change}
-use Rattle.duct_start.specs.Plan.{Plan, asks, captures_out, captures_err, drains}
-use Rattle.duct_start.specs.Step.{Item, AskEnvironment, AskPipe, AskOpenRead, AskCreate, AskCanonicalize, AskSpawn, AskFeed}
+use Rattle.duct_start.specs.Asked.{port_to}
+use Rattle.duct_start.specs.Found.{Found, Target, Parents, Nothing, ReaderAt, WriterAt, FileAt, Lends, Change, target_of}
+use Rattle.duct_start.specs.Plan.{Plan, asks, captures_out, captures_err, commanded, drains}
+use Rattle.duct_start.specs.Step.{Item, AskPipe, AskOpenRead, AskCreate, AskFeed}
 
 -- something for each of the three streams
 pub record Three (X : Type 0) : Type 0 where
@@ -26,10 +27,8 @@ pub record Scope (E H : Type 0) : Type 0 where
 
 -- one action, with something for what stands round a command. A pipe leaves its write end on top, an input its read end. A depth is
 -- counted from the bottom of the stack; `tap` duplicates the write end of a capture pipe, `finish` closes it and starts the worker
--- of its read end
+-- of its read end. A spawn begins with the canonical name of its program, where that is asked
 pub data ActionOf (E K : Type 0) : Type 0 where
-  environment : ActionOf E K
-  canonicalize : List ℕ → ActionOf E K
   open_read : List ℕ → ActionOf E K
   create : List ℕ → ActionOf E K
   pipe : ActionOf E K
@@ -111,13 +110,9 @@ finished side.Out plan =
 finished side.Err plan =
     record { items = (drains plan.err plan).items; out = plan.out; err = None }
 
--- nothing on the stack, and nothing asked
-abbrev pub nothing_yet : {E H : Type 0} → State E H
-nothing_yet = record { stack = []; plan = record { items = []; out = None; err = None } }
-
--- nothing on the stack, and this asked, with its capture pipes done with
-abbrev pub all_of : {E H : Type 0} → Plan E H → State E H
-all_of plan = record { stack = []; plan = record plan { out = None; err = None } }
+-- nothing on the stack, and this asked
+abbrev pub with_plan : {E H : Type 0} → Plan E H → State E H
+with_plan plan = record { stack = []; plan = plan }
 
 -- with these on the stack, and one item more
 abbrev pub gets : {E H : Type 0} → List (Target E) → Item E H → State E H → State E H
@@ -129,8 +124,6 @@ pushes top state = record { stack = top ∷ state.stack; plan = state.plan }
 
 -- after an action
 abbrev pub advance : {E H : Type 0} → State E H → Action E H → State E H
-advance state environment = gets [] AskEnvironment state
-advance state (canonicalize path) = gets [] (AskCanonicalize path) state
 advance state (open_read path) =
     gets (FileAt (length state.plan.items) ∷ []) (AskOpenRead path) state
 advance state (create path) = gets (FileAt (length state.plan.items) ∷ []) (AskCreate path) state
@@ -147,7 +140,7 @@ advance state (parent side.Err) = pushes (Parents Err) state
 advance state close = record { stack = drop 1 state.stack; plan = state.plan }
 advance state (spawn scope words ports) = record {
   stack = left_by ports state.stack;
-  plan = asks (AskSpawn (found_by scope ports state.stack) words) state.plan;
+  plan = commanded (found_by scope ports state.stack) words state.plan;
 }
 advance state (feed bytes) = record {
   stack = drop 1 state.stack;
@@ -160,15 +153,46 @@ abbrev pub after : {E H : Type 0} → State E H → List (Action E H) → State 
 after state [] = state
 after state (action ∷ actions) = after (advance state action) actions
 
+-- whether an action opens the capture pipe of this side
+abbrev pub is_capture : {E K : Type 0} → Side → ActionOf E K → Bool
+is_capture side.Out (capture side.Out) = true
+is_capture side.Err (capture side.Err) = true
+is_capture which _ = false
+
+-- whether some action of a list does
+abbrev pub captures_in : {E K : Type 0} → Side → List (ActionOf E K) → Bool
+captures_in which [] = false
+captures_in which (action ∷ actions) = is_capture which action || captures_in which actions
+
+-- no action of a list is done with a capture pipe
+abbrev pub NoneFinishes : {E K : Type 0} → List (ActionOf E K) → Type 0
+NoneFinishes [] = Unit {0}
+NoneFinishes (finish which ∷ actions) = ⊥
+NoneFinishes (_ ∷ actions) = NoneFinishes actions
+
 -- on top stands the write end of a pipe
 abbrev pub IsWriter : {E : Type 0} → List (Target E) → Type 0
 IsWriter (WriterAt place ∷ stack) = Unit {0}
 IsWriter stack = ⊥
 
--- a port that no hook made
-abbrev pub IsPlain : Port → Type 0
-IsPlain (port.Place place) = ⊥
-IsPlain p = Unit {0}
+-- the port of a stream
+abbrev pub port_in : Three Port → Stream → Port
+port_in ports In = ports.input
+port_in ports Out = ports.output
+port_in ports Err = ports.error
+
+-- the ends beside these hooks have numbers below this one
+abbrev pub AreBelow : {E H : Type 0} → (E → ℕ) → ℕ → List (H × List E) → Type 0
+AreBelow number_of base hooks = All (λ hook. All (λ end. number_of end < base) hook.1) hooks
+
+-- what a spawn needs: each stream has the port of where it goes, the ends beside its hooks are lent ones, and there are places for
+-- three streams and one end more
+pub record CanSpawn {E H : Type 0} (number_of : E → ℕ) (base bound : ℕ) (stack : List (Target E))
+    (scope : Scope E H) (ports : Three Port) : Type 0 where
+  pub ports_are : (stream : Stream)
+      → port_in ports stream ≡ port_to stream (target_of (found_by scope ports stack) stream)
+  pub below : AreBelow number_of base scope.hooks
+  pub place : length (left_by ports stack) + 3 < bound
 
 -- how many ends an action pops
 abbrev pub pops : {E K : Type 0} → ActionOf E K → ℕ
@@ -178,20 +202,20 @@ pops (spawn scope words ports) = many ports.input + (many ports.output + many po
 pops action = 0
 
 -- what an action needs beside what it pops; a lent end has a number below this one
-abbrev pub Needs : {E H : Type 0} → (E → ℕ) → ℕ → State E H → Action E H → Type 0
-Needs number_of base state (duplicate depth) = depth < length state.stack
-Needs number_of base state (tap which) = IsSome (capture_at which state.plan)
-Needs number_of base state (lend end) = number_of end < base
-Needs number_of base state (feed bytes) = IsWriter state.stack
-Needs number_of base state (spawn scope words ports) =
-    IsPlain ports.input × IsPlain ports.output × IsPlain ports.error
-Needs number_of base state action = Unit {0}
+abbrev pub Needs : {E H : Type 0} → (E → ℕ) → ℕ → ℕ → State E H → Action E H → Type 0
+Needs number_of base bound state (duplicate depth) = depth < length state.stack
+Needs number_of base bound state (tap which) = IsSome (capture_at which state.plan)
+Needs number_of base bound state (lend end) = number_of end < base
+Needs number_of base bound state (feed bytes) = IsWriter state.stack
+Needs number_of base bound state (spawn scope words ports) =
+    CanSpawn number_of base bound state.stack scope ports
+Needs number_of base bound state action = Unit {0}
 
 -- an action finds what it names, and leaves no more than so many ends on the stack
 pub record IsReady {E H : Type 0} (number_of : E → ℕ) (base bound : ℕ) (state : State E H)
     (action : Action E H) : Type 0 where
   pub full : pops action ≤ length state.stack
-  pub needs : Needs number_of base state action
+  pub needs : Needs number_of base bound state action
   pub low : length (advance state action).stack ≤ bound
 
 -- each action of a list does, when its turn comes

@@ -11,12 +11,16 @@ use Rattle.duct_system.specs.declared.system.Fault.{Fault}
 use Rattle.duct_system.specs.declared.system.Stdio.{Stdio}
 use Rattle.duct_system.specs.declared.system.Stdio.TheVariants.{Inherit, Null, End}
 
--- a spec, and where each of its streams comes from
-pub record Wired : Type 0 where
+-- a spec, and what each of its streams is
+pub record WiredTo (O : Type 0) : Type 0 where
   pub spec : SpecView
-  pub input : Stdio Origin
-  pub output : Stdio Origin
-  pub error : Stdio Origin
+  pub input : Stdio O
+  pub output : Stdio O
+  pub error : Stdio O
+
+-- a spec, and where each of its streams comes from
+abbrev pub Wired : Type 0
+Wired = WiredTo Origin
 
 -- what the hooks of one type may make of a spec
 abbrev pub Allows : Type 0 → Type 1
@@ -48,19 +52,19 @@ found (port.Place place) = port.Given
 found other = other
 
 -- the end at a place
-abbrev pub end_of_place : Option Origin → Stdio Origin
+abbrev pub end_of_place : {O : Type 0} → Option O → Stdio O
 end_of_place (Some origin) = End origin
 end_of_place None = Inherit
 
 -- what a port makes of a stream: a given stream keeps what it has
-abbrev pub settled : List Origin → Port → Stdio Origin → Stdio Origin
+abbrev pub settled : {O : Type 0} → List O → Port → Stdio O → Stdio O
 settled ends port.Inherit stream = Inherit
 settled ends port.Null stream = Null
 settled ends port.Given stream = stream
 settled ends (port.Place place) stream = end_of_place (slice_get ends place)
 
 -- a spec that a hook made, with its places found among the ends beside the hook
-abbrev pub settle : List Origin → SpecView → Wired → Wired
+abbrev pub settle : {O : Type 0} → List O → SpecView → WiredTo O → WiredTo O
 settle ends made before = record {
   spec =
       record made {
@@ -79,20 +83,20 @@ pub record Makes {H : Type 0} (allows : Allows H) (hook : H) (before made : Spec
   pub gives_nothing : GivesNothing before made
 
 -- one hook leads from one to the other
-abbrev pub Changes : {H : Type 0} → Allows H → H → List Origin → Wired → Wired → Type 0
+abbrev pub Changes : {H O : Type 0} → Allows H → H → List O → WiredTo O → WiredTo O → Type 0
 Changes allows hook ends before after =
     (made : SpecView) × Makes allows hook before.spec made × (missing (length ends) made ≡ None)
     × (after ≡ settle ends made before)
 
 -- the hooks lead from one to the other, each with the ends beside it
-abbrev pub Chain : {H : Type 0} → Allows H → List (H × List Origin) → Wired → Wired → Type 0
+abbrev pub Chain : {H O : Type 0} → Allows H → List (H × List O) → WiredTo O → WiredTo O → Type 0
 Chain allows [] before after = after ≡ before
-Chain allows (hook ∷ hooks) before after =
-    (between : Wired) × Changes allows hook.0 hook.1 before between
+Chain {H} {O} allows (hook ∷ hooks) before after =
+    (between : WiredTo O) × Changes allows hook.0 hook.1 before between
     × Chain allows hooks between after
 
 -- one hook stops the start with this error: by a fault of its own, or by the first place that is not there
-abbrev pub Stops : {H : Type 0} → Allows H → Refuses H → H → List Origin → Wired → Error → Type 0
+abbrev pub Stops : {H O : Type 0} → Allows H → Refuses H → H → List O → WiredTo O → Error → Type 0
 Stops allows refuses hook ends before (Hook fault) = refuses hook before.spec fault
 Stops allows refuses hook ends before (HookEnd place) =
     (made : SpecView) × Makes allows hook before.spec made
@@ -100,12 +104,12 @@ Stops allows refuses hook ends before (HookEnd place) =
 Stops allows refuses hook ends before other = ⊥
 
 -- one of the hooks stops the start with this error
-abbrev pub ChainStops : {H : Type 0} → Allows H → Refuses H → List (H × List Origin) → Wired → Error
-    → Type 0
+abbrev pub ChainStops : {H O : Type 0} → Allows H → Refuses H → List (H × List O) → WiredTo O
+    → Error → Type 0
 ChainStops allows refuses [] before error = ⊥
-ChainStops allows refuses (hook ∷ hooks) before error =
+ChainStops {H} {O} allows refuses (hook ∷ hooks) before error =
     Stops allows refuses hook.0 hook.1 before error
-    ⊎ ((between : Wired) × Changes allows hook.0 hook.1 before between
+    ⊎ ((between : WiredTo O) × Changes allows hook.0 hook.1 before between
     × ChainStops allows refuses hooks between error)
 
 -- the hooks with where the ends beside them come from: these are the caller's own

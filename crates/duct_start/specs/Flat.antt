@@ -1,7 +1,6 @@
 -- The flat plan of a tree: a list of actions over a stack of this depth, which they leave as it was.
-use Rattle.std.specs.Prelude.{ℕ, ◌+◌, ◌<◌, ◌≡◌, Bool, true, false, List, [], ◌∷◌, ◌++◌, None, Some, is_some, if◌then◌else◌}
+use Rattle.std.specs.Prelude.{ℕ, ◌+◌, ◌<◌, ◌≡◌, Bool, true, false, List, [], ◌∷◌, ◌++◌, None, Some}
 use Rattle.std.specs.Option.{option_or}
-use Rattle.duct_base.specs.Executable.{asks_canonical}
 use Rattle.duct_system.specs.declared.spec.Port.{Port}
 use Rattle.duct_system.specs.declared.spec.Port.TheVariants as port
 use Rattle.duct_system.specs.declared.spec.Stream.{Stream}
@@ -9,9 +8,8 @@ use Rattle.duct_system.specs.declared.spec.Stream.TheVariants.{In, Out, Err}
 use Rattle.duct_system.specs.declared.system.Side.{Side}
 use Rattle.duct_system.specs.declared.system.Side.TheVariants as side
 use Rattle.duct_start.specs.Actions as action
-use Rattle.duct_start.specs.Actions.{Action, ActionOf, Scope, State, Three, capture_at, level}
+use Rattle.duct_start.specs.Actions.{Action, ActionOf, AreBelow, Scope, State, Three, capture_at, level}
 use Rattle.duct_start.specs.Found.{Found, Target, Parents, Nothing, ReaderAt, WriterAt, FileAt, Lends}
-use Rattle.duct_start.specs.Plan.{program_of}
 use Rattle.duct_start.specs.Step.{Step, step}
 use Rattle.duct_start.specs.TreeView.{TreeView, command, pipe, around, stdin_bytes, stdin_path, stdin_file, stdin_null, stdout_path, stdout_file, stdout_null, stdout_capture, stdout_to_stderr, stderr_path, stderr_file, stderr_null, stderr_capture, stderr_to_stdout, stdout_stderr_swap, dir, env, env_remove, full_env, unchecked, before_spawn}
 
@@ -56,14 +54,11 @@ ports_at wires = record {
   error = port_at wires.error Err;
 }
 
--- the actions of a command, where a folder is set or none
-abbrev pub commands : {E K : Type 0} → K → Bool → Three (Wire E) → List (List ℕ)
-    → List (ActionOf E K)
-commands scope folder wires words =
-    (if asks_canonical (program_of words) folder
-    then action.canonicalize (program_of words) ∷ [] else [])
-    ++ (fetches wires.input In ++ (fetches wires.output Out ++ (fetches wires.error Err
-    ++ action.spawn scope words (ports_at wires) ∷ [])))
+-- the actions of a command
+abbrev pub commands : {E K : Type 0} → K → Three (Wire E) → List (List ℕ) → List (ActionOf E K)
+commands scope wires words =
+    fetches wires.input In ++ (fetches wires.output Out ++ (fetches wires.error Err
+    ++ action.spawn scope words (ports_at wires) ∷ []))
 
 -- what stands round a command inside a node
 abbrev pub scope_within : {E H : Type 0} → Step E H → Scope E H → Scope E H
@@ -85,7 +80,7 @@ errors x three = record three { error = x }
 
 -- the actions of a tree inside this scope and these wires, over a stack of this depth
 abbrev pub flat : {E H : Type 0} → Scope E H → Three (Wire E) → TreeView E H → ℕ → List (Action E H)
-flat s w (command words) n = commands s (is_some s.folder) w words
+flat s w (command words) n = commands s w words
 flat s w (pipe left right) n =
     action.pipe ∷ (flat s (outputs (slot (n + 1)) w) left (n + 2)
     ++ (action.close ∷ (flat s (inputs (slot n) w) right (n + 1) ++ action.close ∷ [])))
@@ -128,11 +123,9 @@ rooted = record { folder = None; changes = []; hooks = [] }
 abbrev pub outside : {E : Type 0} → Three (Wire E)
 outside = record { input = parents In; output = parents Out; error = parents Err }
 
--- the whole list of a tree: the environment first, and at the end what the capture pipes hold is handed on
+-- the actions of a whole tree
 abbrev pub flat_of : {E H : Type 0} → TreeView E H → List (Action E H)
-flat_of tree =
-    action.environment ∷ (flat rooted outside tree 0
-    ++ (action.finish side.Out ∷ action.finish side.Err ∷ []))
+flat_of tree = flat rooted outside tree 0
 
 -- an end that a request of the plan got
 abbrev pub IsGot : {E : Type 0} → Target E → Type 0
@@ -163,7 +156,7 @@ pub data WireIs {E H : Type 0} (number_of : E → ℕ) (base : ℕ) (state : Sta
   is_lent : (b : Bool) (end : E) → number_of end < base
       → WireIs number_of base state b (lent end) (Lends end)
 
--- the wires lead where what is found outwards says, and this is the scope of it
+-- the wires lead where what is found outwards says, and this is the scope of it; the ends beside its hooks are lent ones
 pub record Fits {E H : Type 0} (number_of : E → ℕ) (base : ℕ) (state : State E H)
     (scope : Scope E H) (wires : Three (Wire E)) (found : Found E H) : Type 0 where
   pub folder : found.folder ≡ scope.folder
@@ -172,3 +165,4 @@ pub record Fits {E H : Type 0} (number_of : E → ℕ) (base : ℕ) (state : Sta
   pub input : WireIs number_of base state true wires.input found.input
   pub output : WireIs number_of base state false wires.output found.output
   pub error : WireIs number_of base state false wires.error found.error
+  pub below : AreBelow number_of base scope.hooks

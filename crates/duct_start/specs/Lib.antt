@@ -2,11 +2,14 @@ pub mod Actions
 pub mod Asked
 pub mod Causes
 pub mod Chain
+pub mod Closes
+pub mod Commands
 pub mod Flat
 pub mod Follows
 pub mod Found
 pub mod Holdings
 pub mod Inward
+pub mod Kinds
 pub mod Left
 pub mod Listed
 pub mod Lookup

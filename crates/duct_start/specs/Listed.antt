@@ -1,5 +1,5 @@
 -- The flat plan with what stands round a command by index: a list of actions, and the list of scopes that they name.
-use Rattle.std.specs.Prelude.{ℕ, ◌+◌, Bool, true, false, List, [], ◌∷◌, ◌++◌, length, map, slice_get, unwrap_or}
+use Rattle.std.specs.Prelude.{ℕ, ◌+◌, ◌≤◌, ◌≡◌, Some, List, [], ◌∷◌, ◌++◌, length, map, slice_get, unwrap_or}
 use Rattle.duct_system.specs.declared.system.Side.TheVariants as side
 use Rattle.duct_start.specs.Actions as action
 use Rattle.duct_start.specs.Actions.{Action, ActionOf, Scope, Three}
@@ -28,55 +28,54 @@ ahead first inside = record inside { actions = first ∷ inside.actions }
 abbrev pub scoped : {E H : Type 0} → ListedScope E H → Listed E H → Listed E H
 scoped scope inside = record inside { scopes = scope ∷ inside.scopes }
 
--- the actions of a tree inside the scope of this index, with a folder or none, over a stack of this depth, where the next scope has
--- this index
-abbrev pub listed : {E H : Type 0} → ℕ → Bool → Three (Wire E) → TreeView E H → ℕ → ℕ → Listed E H
-listed i f w (command words) n next = record { actions = commands i f w words; scopes = [] }
-listed i f w (pipe left right) n next =
-    let a = listed i f (outputs (slot (n + 1)) w) left (n + 2) next in
-    let b = listed i f (inputs (slot n) w) right (n + 1) (next + length a.scopes) in
+-- the actions of a tree inside the scope of this index, over a stack of this depth, where the next scope has this index
+abbrev pub listed : {E H : Type 0} → ℕ → Three (Wire E) → TreeView E H → ℕ → ℕ → Listed E H
+listed i w (command words) n next = record { actions = commands i w words; scopes = [] }
+listed i w (pipe left right) n next =
+    let a = listed i (outputs (slot (n + 1)) w) left (n + 2) next in
+    let b = listed i (inputs (slot n) w) right (n + 1) (next + length a.scopes) in
     record {
       actions = action.pipe ∷ (a.actions ++ (action.close ∷ (b.actions ++ action.close ∷ [])));
       scopes = a.scopes ++ b.scopes;
     }
-listed i f w (around (stdin_bytes bytes) inner) n next =
-    between action.input (listed i f (inputs (slot (n + 1)) w) inner (n + 2) next)
+listed i w (around (stdin_bytes bytes) inner) n next =
+    between action.input (listed i (inputs (slot (n + 1)) w) inner (n + 2) next)
     (action.close ∷ action.feed bytes ∷ [])
-listed i f w (around (stdin_path path) inner) n next =
-    between (action.open_read path) (listed i f (inputs (slot n) w) inner (n + 1) next)
+listed i w (around (stdin_path path) inner) n next =
+    between (action.open_read path) (listed i (inputs (slot n) w) inner (n + 1) next)
     (action.close ∷ [])
-listed i f w (around (stdin_file end) inner) n next = listed i f (inputs (lent end) w) inner n next
-listed i f w (around stdin_null inner) n next = listed i f (inputs nothing w) inner n next
-listed i f w (around (stdout_path path) inner) n next =
-    between (action.create path) (listed i f (outputs (slot n) w) inner (n + 1) next)
+listed i w (around (stdin_file end) inner) n next = listed i (inputs (lent end) w) inner n next
+listed i w (around stdin_null inner) n next = listed i (inputs nothing w) inner n next
+listed i w (around (stdout_path path) inner) n next =
+    between (action.create path) (listed i (outputs (slot n) w) inner (n + 1) next)
     (action.close ∷ [])
-listed i f w (around (stdout_file end) inner) n next =
-    listed i f (outputs (lent end) w) inner n next
-listed i f w (around stdout_null inner) n next = listed i f (outputs nothing w) inner n next
-listed i f w (around stdout_capture inner) n next =
-    ahead (action.capture side.Out) (listed i f (outputs (captured side.Out) w) inner n next)
-listed i f w (around stdout_to_stderr inner) n next = listed i f (outputs w.error w) inner n next
-listed i f w (around (stderr_path path) inner) n next =
-    between (action.create path) (listed i f (errors (slot n) w) inner (n + 1) next)
+listed i w (around (stdout_file end) inner) n next =
+    listed i (outputs (lent end) w) inner n next
+listed i w (around stdout_null inner) n next = listed i (outputs nothing w) inner n next
+listed i w (around stdout_capture inner) n next =
+    ahead (action.capture side.Out) (listed i (outputs (captured side.Out) w) inner n next)
+listed i w (around stdout_to_stderr inner) n next = listed i (outputs w.error w) inner n next
+listed i w (around (stderr_path path) inner) n next =
+    between (action.create path) (listed i (errors (slot n) w) inner (n + 1) next)
     (action.close ∷ [])
-listed i f w (around (stderr_file end) inner) n next = listed i f (errors (lent end) w) inner n next
-listed i f w (around stderr_null inner) n next = listed i f (errors nothing w) inner n next
-listed i f w (around stderr_capture inner) n next =
-    ahead (action.capture side.Err) (listed i f (errors (captured side.Err) w) inner n next)
-listed i f w (around stderr_to_stdout inner) n next = listed i f (errors w.output w) inner n next
-listed i f w (around stdout_stderr_swap inner) n next =
-    listed i f (record w { output = w.error; error = w.output }) inner n next
-listed i f w (around (dir path) inner) n next =
-    scoped (dir path, i) (listed next true w inner n (next + 1))
-listed i f w (around (env name value) inner) n next =
-    scoped (env name value, i) (listed next f w inner n (next + 1))
-listed i f w (around (env_remove name) inner) n next =
-    scoped (env_remove name, i) (listed next f w inner n (next + 1))
-listed i f w (around (full_env vars) inner) n next =
-    scoped (full_env vars, i) (listed next f w inner n (next + 1))
-listed i f w (around unchecked inner) n next = listed i f w inner n next
-listed i f w (around (before_spawn hook ends) inner) n next =
-    scoped (before_spawn hook ends, i) (listed next f w inner n (next + 1))
+listed i w (around (stderr_file end) inner) n next = listed i (errors (lent end) w) inner n next
+listed i w (around stderr_null inner) n next = listed i (errors nothing w) inner n next
+listed i w (around stderr_capture inner) n next =
+    ahead (action.capture side.Err) (listed i (errors (captured side.Err) w) inner n next)
+listed i w (around stderr_to_stdout inner) n next = listed i (errors w.output w) inner n next
+listed i w (around stdout_stderr_swap inner) n next =
+    listed i (record w { output = w.error; error = w.output }) inner n next
+listed i w (around (dir path) inner) n next =
+    scoped (dir path, i) (listed next w inner n (next + 1))
+listed i w (around (env name value) inner) n next =
+    scoped (env name value, i) (listed next w inner n (next + 1))
+listed i w (around (env_remove name) inner) n next =
+    scoped (env_remove name, i) (listed next w inner n (next + 1))
+listed i w (around (full_env vars) inner) n next =
+    scoped (full_env vars, i) (listed next w inner n (next + 1))
+listed i w (around unchecked inner) n next = listed i w inner n next
+listed i w (around (before_spawn hook ends) inner) n next =
+    scoped (before_spawn hook ends, i) (listed next w inner n (next + 1))
 
 -- the scope of an index; the first is that of the root
 abbrev pub scope_at : {E H : Type 0} → List (Scope E H) → ℕ → Scope E H
@@ -93,10 +92,17 @@ scopes_from known [] = known
 scopes_from known (scope ∷ scopes) =
     scopes_from (with_scope known scope) scopes
 
+-- what stands round a command inside the scope of this index, the root's being 0
+abbrev pub scope_in : {E H : Type 0} → List (ListedScope E H) → ℕ → Scope E H
+scope_in scopes i = scope_at (scopes_from (rooted ∷ []) scopes) i
+
+-- each scope stands behind the one outside of it
+abbrev pub AreOutwards : {E H : Type 0} → List (ListedScope E H) → Type 0
+AreOutwards {E} {H} scopes =
+    (i : ℕ) (scope : ListedScope E H) → slice_get scopes i ≡ Some scope → scope.1 ≤ i
+
 -- an action with the scope that it names
 abbrev pub resolved : {E H : Type 0} → List (Scope E H) → ActionOf E ℕ → Action E H
-resolved scopes action.environment = action.environment
-resolved scopes (action.canonicalize path) = action.canonicalize path
 resolved scopes (action.open_read path) = action.open_read path
 resolved scopes (action.create path) = action.create path
 resolved scopes action.pipe = action.pipe
@@ -118,6 +124,9 @@ resolved_all scopes actions = map (λ a. resolved scopes a) actions
 
 -- the whole list of a tree; the scope of the root has the index 0
 abbrev pub listed_of : {E H : Type 0} → TreeView E H → Listed E H
-listed_of tree =
-    between action.environment (listed 0 false outside tree 0 1)
-    (action.finish side.Out ∷ action.finish side.Err ∷ [])
+listed_of tree = listed 0 outside tree 0 1
+
+-- a command's scope is the root's or one of so many
+abbrev pub IsWithin : {E : Type 0} → ℕ → ActionOf E ℕ → Type 0
+IsWithin count (action.spawn i words ports) = i ≤ count
+IsWithin count action = Unit {0}

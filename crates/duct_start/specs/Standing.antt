@@ -1,14 +1,15 @@
 -- What holds between the requests of a run of actions: of the journal, of the ledger and of what is held.
-use Rattle.std.specs.Prelude.{ℕ, ◌+◌, ◌<◌, ◌≤◌, List, [], ◌∷◌, ◌++◌, ◌≡◌, length, map, take, Some, None, IsSome}
+use Rattle.std.specs.Prelude.{ℕ, ◌+◌, ◌<◌, ◌≤◌, List, [], ◌∷◌, ◌++◌, ◌≡◌, length, map, take, Some, None, IsSome, is_some}
 use Rattle.std.specs.declared.option.Option.{Option}
 use Rattle.duct_system.specs.EntryView.{EntryView}
 use Rattle.duct_system.specs.Journal.{JournalView}
 use Rattle.duct_system.specs.Ledger.{got, spent, count_of, held}
+use Rattle.duct_system.specs.SpecView.{Vars}
 use Rattle.duct_system.specs.Origin.{Origin, Opened, ParentOf, Lent, origin}
 use Rattle.duct_system.specs.Started.{children_in, feeds_in, drains_in}
 use Rattle.duct_system.specs.Trace.{trace, IsClean, fault_of}
 use Rattle.duct_system.specs.declared.error.Error.{Error}
-use Rattle.duct_system.specs.declared.error.Error.TheVariants.{System, Memory}
+use Rattle.duct_system.specs.declared.error.Error.TheVariants.{System, Memory, Hook, HookEnd}
 use Rattle.duct_system.specs.declared.spec.Stream.TheVariants.{In, Out, Err}
 use Rattle.duct_system.specs.declared.system.Fault.{Fault}
 use Rattle.duct_system.specs.declared.system.Kind.TheVariants.{OutOfMemory}
@@ -17,9 +18,10 @@ use Rattle.duct_start.specs.Actions as action
 use Rattle.duct_start.specs.Actions.{Action, State, IsReady, AreReady, advance, after}
 use Rattle.duct_start.specs.Asked.{end_at}
 use Rattle.duct_start.specs.Chain.{Allows}
-use Rattle.duct_start.specs.Follows.{AnswersFrom}
+use Rattle.duct_start.specs.Follows.{AnswersFrom, pairs_in}
 use Rattle.duct_start.specs.Found.{Target, Parents, Nothing, ReaderAt, WriterAt, FileAt, Lends}
 use Rattle.duct_start.specs.Holdings.{Holdings, ends}
+use Rattle.duct_start.specs.Kinds.{entry_kind, item_kind}
 use Rattle.duct_start.specs.Step.{Item}
 
 -- where an end comes from that stands for this target, by the numbers of a trace
@@ -40,9 +42,19 @@ pub record AreFresh (next then : ℕ) (numbers : List ℕ) : Type 0 where
   pub above : (n : ℕ) → n < next → count_of n numbers ≡ 0
   pub below : (n : ℕ) → then ≤ n → count_of n numbers ≡ 0
 
--- none of these entries got a number below this one
-abbrev pub IsLater : ℕ → List EntryView → Type 0
-IsLater next more = (number : ℕ) → number < next → count_of number (got more) ≡ 0
+-- what stays as it is while a run lasts: the journal before it, a number below which the caller's ends are to be, how many ends may
+-- stand on the stack, the variables that the system answered, and entries that were added first
+pub record Course : Type 0 where
+  pub old : JournalView
+  pub base : ℕ
+  pub bound : ℕ
+  pub pairs : Vars
+  pub front : List EntryView
+
+-- none of these entries got a number below this one, and the caller's ends came before the run
+pub record IsLater (course : Course) (next : ℕ) (more : List EntryView) : Type 0 where
+  pub early : course.base ≤ course.old.next
+  pub fresh : (number : ℕ) → number < next → count_of number (got more) ≡ 0
 
 -- the ends of a capture pipe are those of the request at its place
 abbrev pub IsPair : List EntryView → Option ℕ → Option (ℕ × ℕ) → Type 0
@@ -76,20 +88,30 @@ pub record Books (old now : JournalView) (added : List EntryView) (held : Holdin
   pub feeds_are : held.feeds ≡ feeds_in added
   pub drains_are : held.drains ≡ drains_in added
 
--- after every entry at most so many ends and nine were held
+-- after every entry at most so many ends and eight were held
 abbrev pub HeldFew : ℕ → List EntryView → Type 0
-HeldFew bound added = (count : ℕ) → held (take count added) ≤ bound + 9
+HeldFew bound added = (count : ℕ) → held (take count added) ≤ bound + 8
 
--- so far all went well: the trace answers what was asked, and each end that is held comes from where it should, whatever comes later
-pub record Stands {E H : Type 0} (allows : Allows H) (number_of : E → ℕ) (bound : ℕ)
-    (old : JournalView) (state : State E H) (now : JournalView) (held : Holdings) : Type 0 where
+-- as many ends are held as stand in the state
+pub record IsShaped {E H : Type 0} (state : State E H) (held : Holdings) : Type 0 where
+  pub stack : length held.stack ≡ length state.stack
+  pub out : is_some held.out ≡ is_some state.plan.out
+  pub err : is_some held.err ≡ is_some state.plan.err
+
+-- so far all went well: the trace begins with the variables and answers what was asked, and each end that is held comes from where
+-- it should, whatever comes later
+pub record Stands {E H : Type 0} (allows : Allows H) (number_of : E → ℕ) (course : Course)
+    (state : State E H) (now : JournalView) (held : Holdings) : Type 0 where
   pub added : List EntryView
-  pub books : Books old now added held
-  pub few : HeldFew bound added
-  pub as_many : length (trace added) ≡ length state.plan.items
-  pub answers : (more : List EntryView) → IsLater now.next more
+  pub books : Books course.old now added held
+  pub few : HeldFew course.bound added
+  pub kinds : map entry_kind (trace added) ≡ map item_kind state.plan.items
+  pub shaped : IsShaped state held
+  pub begins : (more : List EntryView) → pairs_in (trace (added ++ more)) ≡ course.pairs
+  pub starts : (later : List EntryView) × (added ≡ course.front ++ later)
+  pub answers : (more : List EntryView) → IsLater course now.next more
       → AnswersFrom allows number_of (added ++ more) 0 state.plan.items (trace added)
-  pub sources : (more : List EntryView) → IsLater now.next more
+  pub sources : (more : List EntryView) → IsLater course now.next more
       → Sourced number_of (added ++ more) state held
   pub clean : IsClean added
 
@@ -99,21 +121,28 @@ IsUnasked (System fault) = fault.kind ≡ OutOfMemory
 IsUnasked Memory = Unit {0}
 IsUnasked error = ⊥
 
--- nothing was refused but memory, or the error is the fault of the last entry
+-- an error that comes with no entry: that of a hook
+abbrev pub IsHooks : Error → Type 0
+IsHooks (Hook fault) = Unit {0}
+IsHooks (HookEnd place) = Unit {0}
+IsHooks error = ⊥
+
+-- nothing was refused but memory, or by a hook, or the error is the fault of the last entry
 pub data Ended : List EntryView → Error → Type 0 where
   unasked : {added : List EntryView} {error : Error} → IsClean added → IsUnasked error
+      → Ended added error
+  hooked : {added : List EntryView} {error : Error} → IsClean added → IsHooks error
       → Ended added error
   refused : (front : List EntryView) (entry : EntryView) (fault : Fault) → IsClean front
       → fault_of entry ≡ Some fault → Ended (front ++ entry ∷ []) (System fault)
 
 -- a request was refused: the trace answers a front of what was asked, and the ledger is even with what is held
-pub record Stopped {E H : Type 0} (allows : Allows H) (number_of : E → ℕ) (bound : ℕ)
-    (old : JournalView) (items : List (Item E H)) (now : JournalView) (held : Holdings)
-    (error : Error) : Type 0 where
+pub record Stopped {E H : Type 0} (allows : Allows H) (number_of : E → ℕ) (course : Course)
+    (items : List (Item E H)) (now : JournalView) (held : Holdings) (error : Error) : Type 0 where
   pub added : List EntryView
-  pub books : Books old now added held
-  pub few : HeldFew bound added
-  pub answers : (more : List EntryView) → IsLater now.next more
+  pub books : Books course.old now added held
+  pub few : HeldFew course.bound added
+  pub answers : (more : List EntryView) → IsLater course now.next more
       → AnswersFrom allows number_of (added ++ more) 0 items (trace added)
   pub ended : Ended added error
 
@@ -121,19 +150,19 @@ pub record Stopped {E H : Type 0} (allows : Allows H) (number_of : E → ℕ) (b
 abbrev pub Goes : {E H : Type 0} → Allows H → (E → ℕ) → Action E H → JournalView → JournalView
     → Holdings → Holdings → Type 0
 Goes {E} {H} allows number_of action now then held kept =
-    (bound : ℕ) (old : JournalView) (state : State E H)
-    → IsReady number_of old.next bound state action
-    → Stands allows number_of bound old state now held
-    → Stands allows number_of bound old (advance state action) then kept
+    (course : Course) (state : State E H)
+    → IsReady number_of course.base course.bound state action
+    → Stands allows number_of course state now held
+    → Stands allows number_of course (advance state action) then kept
 
 -- an action stops with an error wherever a run stands
 abbrev pub Quits : {E H : Type 0} → Allows H → (E → ℕ) → Action E H → JournalView → JournalView
     → Holdings → Holdings → Error → Type 0
 Quits {E} {H} allows number_of action now then held kept error =
-    (bound : ℕ) (old : JournalView) (state : State E H)
-    → IsReady number_of old.next bound state action
-    → Stands allows number_of bound old state now held
-    → Stopped allows number_of bound old (advance state action).plan.items then kept error
+    (course : Course) (state : State E H)
+    → IsReady number_of course.base course.bound state action
+    → Stands allows number_of course state now held
+    → Stopped allows number_of course (advance state action).plan.items then kept error
 
 -- what an action needs beside what it pops
 abbrev pub CanDo : {E H : Type 0} → Action E H → Holdings → Type 0
@@ -143,10 +172,10 @@ CanDo (action.tap side.Err) held = IsSome held.err
 CanDo act held = Unit {0}
 
 -- a run stands before these actions, which lead to its goal
-pub record Stood {E H : Type 0} (allows : Allows H) (number_of : E → ℕ) (bound : ℕ)
-    (old : JournalView) (goal : State E H) (actions : List (Action E H)) (now : JournalView)
-    (held : Holdings) : Type 0 where
+pub record Stood {E H : Type 0} (allows : Allows H) (number_of : E → ℕ) (course : Course)
+    (goal : State E H) (actions : List (Action E H)) (now : JournalView) (held : Holdings)
+    : Type 0 where
   pub state : State E H
-  pub stands : Stands allows number_of bound old state now held
-  pub ready : AreReady number_of old.next bound state actions
+  pub stands : Stands allows number_of course state now held
+  pub ready : AreReady number_of course.base course.bound state actions
   pub goal_is : after state actions ≡ goal

@@ -45,6 +45,15 @@ ends_in (around modifier inner) = modifier_ends modifier ++ ends_in inner
 abbrev pub AreEarlier : {E H : Type 0} → (E → ℕ) → JournalView → TreeView E H → Type 0
 AreEarlier number_of old tree = All (λ end. number_of end < old.next) (ends_in tree)
 
+-- the least number above the numbers of some ends
+abbrev pub least_above : {E : Type 0} → (E → ℕ) → List E → ℕ
+least_above number_of [] = 0
+least_above number_of (end ∷ ends) = max (number_of end + 1) (least_above number_of ends)
+
+-- the least number above the numbers of all ends of the caller that a tree holds
+abbrev pub ceiling : {E H : Type 0} → (E → ℕ) → TreeView E H → ℕ
+ceiling number_of tree = least_above number_of (ends_in tree)
+
 -- how many ends a node may hold open while its command starts
 abbrev pub modifier_depth : {E H : Type 0} → ModifierView E H → ℕ
 modifier_depth (stdin_bytes bytes) = 1

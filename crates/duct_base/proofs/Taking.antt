@@ -1,0 +1,52 @@
+-- Children that are given to a pool one after the other.
+use Rattle.std.proofs.Common.{ℕ, zero, suc, ◌+◌, ◌^◌, ◌<◌, ◌≤◌, List, [], ◌∷◌, ◌++◌, length, refl, ap, sym, ◌∙◌, arith, append_assoc, length-append}
+use Rattle.std.proofs.lemmas.List.{append-nil}
+use Rattle.std.specs.Prelude.{Ok, None}
+use Rattle.duct_system.specs.Child.{Answer, ChildView, PollsChild}
+use Rattle.duct_base.specs.Pool.{PoolView, Takes, counted}
+use Rattle.duct_base.proofs.Sieving.{counted_more, sieves-append}
+
+counted_low : (count more : ℕ) → counted count more ≤ count + more
+counted_low count zero = omega arith
+counted_low count (suc more) = omega arith
+
+module _ {C : Type 0} (may : ℕ → Answer → Type 0) (view : C → ChildView) where
+  -- no child was given
+  pub takes_none : (pool : PoolView C) → Takes may view [] pool pool
+  takes_none pool = record {
+    kept = [];
+    reaped = 0;
+    lost = 0;
+    asked = (refl, refl, refl);
+    children_are = sym (append-nil pool.children);
+    given_is = refl;
+    reaped_is = refl;
+    lost_is = refl;
+  }
+
+  -- some children, and then others
+  pub takes_append : (taken more : List C) (before mid after : PoolView C)
+      → Takes may view taken before mid → Takes may view more mid after
+      → Takes may view (taken ++ more) before after
+  takes_append taken more before mid after first second = record {
+    kept = first.kept ++ second.kept;
+    reaped = first.reaped + second.reaped;
+    lost = first.lost + second.lost;
+    asked = sieves-append (λ child. may (view child).number) (λ child kept. PollsChild may (view child) (Ok None) (view kept))
+        taken more first.kept second.kept first.reaped first.lost second.reaped second.lost first.asked second.asked;
+    children_are = second.children_are ∙ ap (λ (l : List C). l ++ second.kept) first.children_are ∙ append_assoc before.children first.kept second.kept;
+    given_is = second.given_is ∙ ap (λ (n : ℕ). counted n (length more)) first.given_is ∙ counted_more before.given (length taken) (length more)
+        ∙ ap (λ (n : ℕ). counted before.given n) (sym (length-append taken more));
+    reaped_is = second.reaped_is ∙ ap (λ (n : ℕ). counted n second.reaped) first.reaped_is ∙ counted_more before.reaped first.reaped second.reaped;
+    lost_is = second.lost_is ∙ ap (λ (n : ℕ). counted n second.lost) first.lost_is ∙ counted_more before.lost first.lost second.lost;
+  }
+
+  -- one child more, where all that are to be given fit
+  pub takes_next : (taken : List C) (child : C) (many : ℕ) (before mid after : PoolView C)
+      → before.given + many < 2 ^ 63 → length taken + 1 ≤ many
+      → Takes may view taken before mid
+      → (mid.given + 1 < 2 ^ 63 → Takes may view (child ∷ []) mid after)
+      → Takes may view (taken ++ child ∷ []) before after
+  takes_next taken child many before mid after fits less first one =
+      let low : mid.given + 1 < 2 ^ 63 = omega (arith, fits, less, first.given_is, counted_low before.given (length taken)) in
+      takes_append taken (child ∷ []) before mid after first (one low)

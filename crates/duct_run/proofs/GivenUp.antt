@@ -1,0 +1,47 @@
+-- A run that was refused, and then gave up what it held, is a start that is refused, and leaves its children to the pool.
+use Rattle.std.proofs.Common.{◌≡◌, ℕ, ◌+◌, ◌*◌, ◌^◌, ◌<◌, ◌≤◌, List, [], length}
+use Rattle.duct_base.specs.Pool.{PoolView, Takes}
+use Rattle.duct_system.specs.Child.{Answer, ChildView}
+use Rattle.duct_system.specs.Job.{JobView}
+use Rattle.duct_system.specs.Journal.{JournalView}
+use Rattle.duct_system.specs.Started.{children_in}
+use Rattle.duct_system.specs.Trace.{segment}
+use Rattle.duct_system.specs.declared.error.Error.{Error}
+use Rattle.duct_start.specs.Chain.{Allows, Refuses}
+use Rattle.duct_start.specs.Closes.{Closes}
+use Rattle.duct_start.specs.Commands.{Refused}
+use Rattle.duct_start.specs.Left.{Leaves, LeavesStarted, pool_view}
+use Rattle.duct_start.specs.Plan.{Plan}
+use Rattle.duct_start.specs.Standing.{Course}
+use Rattle.duct_start.specs.Start.{StartRefused, ceiling, depth}
+use Rattle.duct_start.specs.Step.{Item}
+use Rattle.duct_start.specs.TreeView.{TreeView}
+use Rattle.duct_start.proofs.Closing.{refused_closed, refused_children, refused_room}
+use Rattle.duct_start.proofs.Leaving.{leaves_refused}
+use Rattle.duct_run.specs.HeldEnds.{held_ends}
+use Rattle.duct_run.specs.HeldView.{AreNew, held_view}
+use Rattle.duct_run.specs.declared.held.Held.{Held}
+
+module _ {E H C F D V W : Type 0} (allows : Allows H) (refuses : Refuses H) (number_of : E → ℕ) (child : C → ChildView) (feed : F → JobView V) (drain : D → JobView W)
+    (course : Course) (items : List (Item E H)) (now : JournalView) (held : Held E C F D) (error : Error)
+    (run : Refused allows refuses number_of course items now (held_view number_of child feed drain held) error) where
+  -- there is room to close all that it held
+  pub room_left : length (held_ends number_of held) ≤ now.room
+  room_left = refused_room allows refuses number_of course items now (held_view number_of child feed drain held) error run
+
+  module _ (then : JournalView) (closes : Closes (held_ends number_of held) now then) where
+    pub given_up : (tree : TreeView E H) (plan : Plan E H) → course.base ≡ ceiling number_of tree
+        → course.bound ≡ 2 * depth tree + 4 → plan.items ≡ items
+        → StartRefused allows refuses number_of tree plan course.old then error
+    given_up tree plan base_is bound_is items_are = refused_closed allows refuses number_of course items now then (held_view number_of child feed drain held) error run closes tree plan base_is bound_is items_are
+
+    pub left_started : (may : ℕ → Answer → Type 0) (before mid after : PoolView C)
+        → AreNew child feed drain held
+        → Leaves may [] (pool_view child before) (pool_view child mid)
+        → (mid.given + length held.children.items < 2 ^ 63
+        → Takes may child held.children.items mid after)
+        → before.given + length (children_in (segment course.old.entries then.entries)) < 2 ^ 63
+        → LeavesStarted may child (segment course.old.entries then.entries) before after
+    left_started may before mid after new swept takes fits =
+        leaves_refused may child held.children.items (segment course.old.entries then.entries) before mid after swept takes
+        (refused_children allows refuses number_of course items now then (held_view number_of child feed drain held) error run closes) new.children fits

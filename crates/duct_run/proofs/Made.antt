@@ -1,0 +1,24 @@
+-- A spec that was made for a command is the one that its tree asks, where the ports are those of where its streams go.
+use Rattle.std.specs.Prelude.{ℕ, List}
+use Rattle.std.proofs.Common.{◌≡◌, ◌∙◌}
+use Rattle.duct_system.specs.SpecView.{SpecView, Vars}
+use Rattle.duct_system.specs.declared.spec.Port.{Port}
+use Rattle.duct_system.specs.declared.spec.Stream.{Stream}
+use Rattle.duct_start.specs.Actions.{Scope, Three, found_by, port_in}
+use Rattle.duct_start.specs.Asked.{IsAsked, port_to}
+use Rattle.duct_start.specs.Found.{Target, target_of}
+use Rattle.duct_run.specs.Made.{IsMade}
+
+pub made_is_asked : {E H : Type 0} (pairs : Vars) (program : List ℕ) (scope : Scope E H)
+    (words : List (List ℕ)) (ports : Three Port) (spec : SpecView)
+    → IsMade pairs program scope words ports spec → (stack : List (Target E))
+    → ((stream : Stream)
+    → port_in ports stream ≡ port_to stream (target_of (found_by scope ports stack) stream))
+    → IsAsked pairs program (found_by scope ports stack) words spec
+made_is_asked pairs program scope words ports spec made stack ports_fit = record {
+  words_are = made.words_are;
+  folder_is = made.folder_is;
+  vars_are = made.vars_are;
+  vars_ordered = made.vars_ordered;
+  ports_are = λ stream. made.ports_are stream ∙ ports_fit stream;
+}

@@ -1,0 +1,72 @@
+-- A run that came to its end is a start that runs, where nobody has asked what it holds.
+use Rattle.std.proofs.Common.{◌≡◌, ℕ, List, [], ◌∷◌, ◌++◌, refl, ap, sym, ◌∙◌, subst}
+use Rattle.std.proofs.lemmas.List.Elements.{All-append, All-head, All-tail}
+use Rattle.std.specs.List.{All}
+use Rattle.std.specs.Option.{option_to_list}
+use Rattle.std.specs.Prelude.{map, is_some}
+use Rattle.duct_status.specs.ShapeView.{shape_view}
+use Rattle.duct_status.specs.declared.status.Shape.{Shape}
+use Rattle.duct_system.specs.Child.{ChildView}
+use Rattle.duct_system.specs.EntryView.{EntryView}
+use Rattle.duct_system.specs.Job.{JobView, unpolled_job}
+use Rattle.duct_system.specs.Journal.{JournalView}
+use Rattle.duct_system.specs.Trace.{segment}
+use Rattle.duct_start.specs.Actions.{State}
+use Rattle.duct_start.specs.Chain.{Allows}
+use Rattle.duct_start.specs.Running.{IsRunning, RunningView}
+use Rattle.duct_start.specs.ShapeOfTree.{shape_of_tree}
+use Rattle.duct_start.specs.Standing.{Books, Course, Stands}
+use Rattle.duct_start.specs.TreeView.{TreeView}
+use Rattle.duct_start.proofs.Whole.{segment_is}
+use Rattle.duct_run.specs.HeldView.{AreNew, held_view}
+use Rattle.duct_run.specs.declared.held.Held.{Held}
+
+-- jobs that nobody has polled are known by their numbers
+unpolled_all : {J V : Type 0} (job : J → JobView V) (jobs : List J) → All (λ j. job j ≡ unpolled_job (job j).number) jobs →
+    map job jobs ≡ map (λ number. unpolled_job number) (map (λ j. (job j).number) jobs)
+unpolled_all job [] all = refl
+unpolled_all {J} {V} job (j ∷ jobs) all =
+    let test = λ (j : J). job j ≡ unpolled_job (job j).number in
+    ap (λ (v : JobView V). v ∷ map job jobs) (All-head test j jobs all) ∙ ap (λ (l : List (JobView V)). unpolled_job (job j).number ∷ l) (unpolled_all job jobs (All-tail test j jobs all))
+
+module _ {E H C F D V W : Type 0} (child : C → ChildView) (feed : F → JobView V) (drain : D → JobView W) (number_of : E → ℕ) (tree : TreeView E H) (shape : Shape) (held : Held E C F D)
+    (new : AreNew child feed drain held) (seen : shape_view shape ≡ shape_of_tree tree) where
+  -- what runs
+  abbrev pub run : RunningView C F D
+  run = record {
+    shape = shape;
+    children = held.children.items;
+    feeds = held.feeds.items;
+    output = held.output_worker;
+    error = held.error_worker;
+  }
+
+  -- by the entries that were added
+  pub runs_new : (old now : JournalView) (added : List EntryView)
+      → Books old now added (held_view number_of child feed drain held)
+      → IsRunning child feed drain tree (is_some held.output_worker) (is_some held.error_worker)
+      added run
+  runs_new old now added books =
+      let outputs = option_to_list held.output_worker in
+      let errors = option_to_list held.error_worker in
+      record {
+        shape_is = seen;
+        children_are = books.children_are;
+        unasked = new.children;
+        feeds_are = unpolled_all feed held.feeds.items new.feeds ∙ ap (λ (l : List ℕ). map (λ number. unpolled_job number) l) books.feeds_are;
+        drains_are = unpolled_all drain (outputs ++ errors) (All-append (λ d. drain d ≡ unpolled_job (drain d).number) outputs errors new.output_worker new.error_worker)
+            ∙ ap (λ (l : List ℕ). map (λ number. unpolled_job number) l) books.drains_are;
+        output_is = refl;
+        error_is = refl;
+      }
+
+  -- by the journal before and after
+  pub runs_started : (allows : Allows H) (course : Course) (state : State E H) (now : JournalView)
+      → Stands allows number_of course state now (held_view number_of child feed drain held)
+      → IsRunning child feed drain tree (is_some held.output_worker) (is_some held.error_worker)
+      (segment course.old.entries now.entries) run
+  runs_started allows course state now stands =
+      let added = stands.added in
+      subst (λ (l : List EntryView). IsRunning child feed drain tree (is_some held.output_worker) (is_some held.error_worker) l
+      run)
+      (sym (segment_is course.old.entries now.entries added stands.books.entries_are)) (runs_new course.old now added stands.books)

@@ -1,0 +1,13 @@
+-- The map so far says what the pairs so far say.
+use Rattle.std.proofs.Common.{map, take}
+use Rattle.std.specs.BTreeMap.{IsOrdered}
+use Rattle.duct_system.specs.Name.{name_cmp}
+use Rattle.duct_system.specs.SpecView.{pair_text}
+use Rattle.duct_run.proofs.Changed.{FindsSaid}
+use Rattle.duct_run.proofs.variables.said.Given as goal
+
+abbrev pub invariant-loop-name : goal.invariant-loop-name
+invariant-loop-name l = record {
+  found : FindsSaid l.vars.entries (map pair_text (take l.name-index l.pairs));
+  ordered : IsOrdered name_cmp l.vars;
+}

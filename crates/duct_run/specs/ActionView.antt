@@ -1,0 +1,33 @@
+-- Actions as contracts see them.
+use Rattle.std.specs.Prelude.{ℕ, List, map, string_bytes}
+use Rattle.std.specs.Arc.{arc_value}
+use Rattle.duct_system.specs.declared.spec.Port.{Port}
+use Rattle.duct_start.specs.Actions as action
+use Rattle.duct_start.specs.Actions.{ActionOf, Three}
+use Rattle.duct_run.specs.declared.action.Action.{Action}
+use Rattle.duct_run.specs.declared.action.Action.TheVariants.{OpenRead, Create, Pipe, Input, Capture, Duplicate, Tap, Lend, Parent, Close, Spawn, Feed}
+use Rattle.duct_run.specs.declared.action.Ports.{Ports}
+
+-- the ports of three streams
+abbrev pub ports_view : Ports → Three Port
+ports_view ports = record { input = ports.input; output = ports.output; error = ports.error }
+
+-- an action; paths, words and bytes as what they are made of
+abbrev pub action_view : {E : Type 0} → Action E → ActionOf E ℕ
+action_view (OpenRead path) = action.open_read path.now
+action_view (Create path) = action.create path.now
+action_view Pipe = action.pipe
+action_view Input = action.input
+action_view (Capture which) = action.capture which
+action_view (Duplicate depth) = action.duplicate depth
+action_view (Tap which) = action.tap which
+action_view (Lend end) = action.lend end.now
+action_view (Parent which) = action.parent which
+action_view Close = action.close
+action_view (Spawn scope words ports) =
+    action.spawn scope (map string_bytes words.now) (ports_view ports)
+action_view (Feed bytes) = action.feed (arc_value bytes.now).items
+
+-- the actions of a list
+abbrev pub actions_view : {E : Type 0} → List (Action E) → List (ActionOf E ℕ)
+actions_view actions = map (λ a. action_view a) actions

@@ -1,0 +1,26 @@
+-- What the scopes round a command ask of the variables, as it is gathered.
+use Rattle.std.specs.Prelude.{ℕ, List, [], ◌∷◌, ◌++◌, map, Some, None}
+use Rattle.std.specs.Borrow.{Bor}
+use Rattle.std.specs.BTreeMap.{BTreeMap}
+use Rattle.std.specs.declared.option.Option.{Option}
+use Rattle.std.specs.declared.string.String.{String}
+use Rattle.duct_system.specs.SpecView.{var_view}
+use Rattle.duct_start.specs.Found as found
+use Rattle.duct_start.specs.Found.{Change, Replaces}
+use Rattle.duct_run.specs.declared.variables.Change as declared
+use Rattle.duct_run.specs.declared.variables.Change.TheVariants.{Sets, Removes}
+use Rattle.duct_run.specs.declared.variables.Gathered.{Gathered}
+
+-- a change of one variable
+abbrev pub change_of : declared.Change → Change
+change_of (Sets name value) = found.Sets name.now value.now
+change_of (Removes name) = found.Removes name.now
+
+-- the variables in place of all others, if there are such
+abbrev pub whole_of : {Z : Type 0} → Option (Bor (BTreeMap (List ℕ) (String Z))) → List Change
+whole_of None = []
+whole_of (Some vars) = Replaces (map var_view vars.now.entries) ∷ []
+
+-- all changes, the nearest first
+abbrev pub changes_of : Gathered → List Change
+changes_of gathered = map (λ c. change_of c) gathered.changes.items ++ whole_of gathered.whole

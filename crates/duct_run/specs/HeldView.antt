@@ -1,0 +1,97 @@
+-- What a run holds, as contracts see it.
+use Rattle.std.specs.Prelude.{ℕ, ◌+◌, ◌≤◌, ◌≡◌, ◌++◌, List, All, map, reverse, vec_len, vec_capacity}
+use Rattle.std.specs.Option.{option_map, option_to_list}
+use Rattle.duct_system.specs.Child.{ChildView, IsUnasked}
+use Rattle.duct_system.specs.Job.{JobView, unpolled_job}
+use Rattle.duct_system.specs.Journal.{JournalView}
+use Rattle.duct_system.specs.declared.error.Error.{Error}
+use Rattle.duct_start.specs.Actions.{Action, State}
+use Rattle.duct_system.specs.SpecView.{Vars}
+use Rattle.duct_start.specs.Chain.{Allows, Refuses}
+use Rattle.duct_start.specs.Commands.{GoesSaying, RefusedSaying}
+use Rattle.duct_start.specs.Holdings.{Holdings}
+use Rattle.duct_start.specs.Standing.{Course, Goes, IsHooks, Quits, Stood}
+use Rattle.duct_run.specs.declared.held.Held.{Held}
+
+-- the stack by numbers, its top first
+abbrev pub stack_view : {E : Type 0} → (E → ℕ) → List E → List ℕ
+stack_view number_of items = reverse (map number_of items)
+
+-- all that is held by numbers
+abbrev pub held_view : {E C F D V W : Type 0} → (E → ℕ) → (C → ChildView) → (F → JobView V)
+    → (D → JobView W) → Held E C F D → Holdings
+held_view end child feed drain held = record {
+  stack = stack_view end held.stack.items;
+  out = option_map (λ pair. (end pair.0, end pair.1)) held.output;
+  err = option_map (λ pair. (end pair.0, end pair.1)) held.error;
+  children = map (λ c. (child c).number) held.children.items;
+  feeds = map (λ f. (feed f).number) held.feeds.items;
+  drains = map (λ d. (drain d).number)
+      (option_to_list held.output_worker ++ option_to_list held.error_worker);
+}
+
+-- the same is held
+pub record AreSame {E C F D : Type 0} (old new : Held E C F D) : Type 0 where
+  pub stack : new.stack.items ≡ old.stack.items
+  pub output : new.output ≡ old.output
+  pub error : new.error ≡ old.error
+  pub children : new.children.items ≡ old.children.items
+  pub feeds : new.feeds.items ≡ old.feeds.items
+  pub output_worker : new.output_worker ≡ old.output_worker
+  pub error_worker : new.error_worker ≡ old.error_worker
+
+-- there is room for what any one action gets
+pub record HasRoom {E C F D : Type 0} (held : Held E C F D) : Type 0 where
+  pub stack : vec_len held.stack + 3 ≤ vec_capacity held.stack
+  pub children : vec_len held.children + 1 ≤ vec_capacity held.children
+  pub feeds : vec_len held.feeds + 1 ≤ vec_capacity held.feeds
+
+-- nobody has asked the children or polled the workers
+pub record AreNew {E C F D V W : Type 0} (child : C → ChildView) (feed : F → JobView V)
+    (drain : D → JobView W) (held : Held E C F D) : Type 0 where
+  pub children : All (λ c. IsUnasked (child c)) held.children.items
+  pub feeds : All (λ f. feed f ≡ unpolled_job (feed f).number) held.feeds.items
+  pub output_worker : All (λ d. drain d ≡ unpolled_job (drain d).number) (option_to_list held.output_worker)
+  pub error_worker : All (λ d. drain d ≡ unpolled_job (drain d).number) (option_to_list held.error_worker)
+
+-- an action goes on by what is held
+abbrev pub GoesOn : {E H C F D V W : Type 0} → Allows H → (E → ℕ) → (C → ChildView) → (F → JobView V)
+    → (D → JobView W) → Action E H → JournalView → JournalView → Held E C F D → Held E C F D → Type 0
+GoesOn allows end child feed drain action now then held kept =
+    Goes allows end action now then (held_view end child feed drain held)
+    (held_view end child feed drain kept)
+
+-- an action stops with an error, which is not a hook's
+abbrev pub QuitsAt : {E H C F D V W : Type 0} → Allows H → (E → ℕ) → (C → ChildView) → (F → JobView V)
+    → (D → JobView W) → Action E H → JournalView → JournalView → Held E C F D → Held E C F D → Error → Type 0
+QuitsAt allows end child feed drain action now then held kept error =
+    (IsHooks error → ⊥) × Quits allows end action now then (held_view end child feed drain held)
+    (held_view end child feed drain kept) error
+
+-- the capture workers are the same
+pub record HasSameWorkers {E C F D : Type 0} (old new : Held E C F D) : Type 0 where
+  pub output_worker : new.output_worker ≡ old.output_worker
+  pub error_worker : new.error_worker ≡ old.error_worker
+
+-- a command goes on by what is held, where the system answered these variables
+abbrev pub SpawnGoes : {E H C F D V W : Type 0} → Allows H → (E → ℕ) → (C → ChildView)
+    → (F → JobView V) → (D → JobView W) → Vars → Action E H → JournalView → JournalView
+    → Held E C F D → Held E C F D → Type 0
+SpawnGoes allows end child feed drain pairs action now next held kept =
+    GoesSaying allows end pairs action now next (held_view end child feed drain held)
+    (held_view end child feed drain kept)
+
+-- it is refused
+abbrev pub SpawnRefused : {E H C F D V W : Type 0} → Allows H → Refuses H → (E → ℕ)
+    → (C → ChildView) → (F → JobView V) → (D → JobView W) → Vars → Action E H → JournalView
+    → JournalView → Held E C F D → Held E C F D → Error → Type 0
+SpawnRefused allows refuses end child feed drain pairs action now next held kept error =
+    RefusedSaying allows refuses end pairs action now next (held_view end child feed drain held)
+    (held_view end child feed drain kept) error
+
+-- some run stands before these actions, where the system answered these variables
+abbrev pub SomeStood : {E H : Type 0} → Allows H → (E → ℕ) → Vars → List (Action E H)
+    → JournalView → Holdings → Type 0
+SomeStood {E} {H} allows number_of pairs actions now held =
+    (course : Course) × (goal : State E H) × (course.pairs ≡ pairs)
+    × Stood allows number_of course goal actions now held

@@ -1,0 +1,9 @@
+pub mod ActionView
+pub mod Changes
+pub mod HeldEnds
+pub mod HeldView
+pub mod Made
+pub mod NameRefused
+pub mod Places
+pub mod ScopeView
+pub mod StreamsView

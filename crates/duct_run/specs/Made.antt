@@ -1,0 +1,26 @@
+-- The spec that is made for a command, by the scope that it stands in.
+use Rattle.std.specs.Prelude.{ℕ, List, ◌≡◌, string_bytes, Some, None}
+use Rattle.std.specs.declared.option.Option.{Option}
+use Rattle.std.specs.declared.string.String.{String}
+use Rattle.duct_system.specs.SpecView.{SpecView, Vars, AreOrdered, variable_in, port_of}
+use Rattle.duct_system.specs.declared.spec.Port.{Port}
+use Rattle.duct_system.specs.declared.spec.Stream.{Stream}
+use Rattle.duct_start.specs.Actions.{Scope, Three, port_in}
+use Rattle.duct_start.specs.Asked.{with_program}
+use Rattle.duct_start.specs.Found.{variable}
+use Rattle.duct_start.specs.Plan.{program_of}
+
+-- the program of some words: its canonical name where one was asked, or the first word
+abbrev pub program_text : {Z : Type 0} → Option (String Z) → List (List ℕ) → List ℕ
+program_text None words = program_of words
+program_text (Some program) words = string_bytes program
+
+-- the spec has these words with this program, the folder and the variables of the scope, each name once and in order, and these
+-- ports
+pub record IsMade {E H : Type 0} (pairs : Vars) (program : List ℕ) (scope : Scope E H)
+    (words : List (List ℕ)) (ports : Three Port) (spec : SpecView) : Type 0 where
+  pub words_are : spec.words ≡ with_program program words
+  pub folder_is : spec.folder ≡ scope.folder
+  pub vars_are : (name : List ℕ) → variable_in name spec.vars ≡ variable pairs scope.changes name
+  pub vars_ordered : AreOrdered spec.vars
+  pub ports_are : (stream : Stream) → port_of stream spec ≡ port_in ports stream

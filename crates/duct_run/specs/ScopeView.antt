@@ -1,0 +1,30 @@
+-- Scopes as contracts see them.
+use Rattle.std.specs.Prelude.{List, [], ◌∷◌, map}
+use Rattle.duct_system.specs.SpecView.{var_view}
+use Rattle.duct_start.specs.Actions.{Scope}
+use Rattle.duct_start.specs.Flat.{rooted}
+use Rattle.duct_start.specs.Listed.{ListedScope, scopes_from}
+use Rattle.duct_start.specs.TreeView.{ModifierView, dir, env, env_remove, full_env, before_spawn}
+use Rattle.duct_run.specs.declared.scope.Setting.{Setting}
+use Rattle.duct_run.specs.declared.scope.Setting.TheVariants.{Dir, Env, EnvRemove, FullEnv, BeforeSpawn}
+use Rattle.duct_run.specs.declared.scope.Scope as declared
+
+-- the node of a scope
+abbrev pub setting_view : {E H : Type 0} → Setting E H → ModifierView E H
+setting_view (Dir path) = dir path.now
+setting_view (Env name value) = env name.now value.now
+setting_view (EnvRemove name) = env_remove name.now
+setting_view (FullEnv vars) = full_env (map var_view vars.now.entries)
+setting_view (BeforeSpawn hook ends) = before_spawn hook.now ends.now
+
+-- a scope with the index of the one outside of it
+abbrev pub scope_view : {E H : Type 0} → declared.Scope E H → ListedScope E H
+scope_view scope = (setting_view scope.setting, scope.outer)
+
+-- the scopes of a list
+abbrev pub scopes_view : {E H : Type 0} → List (declared.Scope E H) → List (ListedScope E H)
+scopes_view scopes = map (λ s. scope_view s) scopes
+
+-- what stands round the commands of a list, the root's first
+abbrev pub all_scopes : {E H : Type 0} → List (declared.Scope E H) → List (Scope E H)
+all_scopes scopes = scopes_from (rooted ∷ []) (scopes_view scopes)

@@ -1,0 +1,108 @@
+//! The spec that a command is to be asked with, before its hooks: by the scopes round it, its words and its ports.
+ghost use Rattle.std.specs.Prelude.{◌≡◌, ◌≤◌, length, map, string_bytes, IfOk, IsOkUnless};
+ghost use Rattle.std.specs.Option.{option_copied, option_map};
+ghost use Rattle.duct_system.specs.SpecView.{pair_text};
+ghost use Rattle.duct_start.specs.Asked.{with_program};
+ghost use Rattle.duct_start.specs.Listed.{AreOutwards, scope_in};
+ghost use Rattle.duct_start.specs.Step.{step};
+ghost use Rattle.duct_run.specs.ActionView.{ports_view};
+ghost use Rattle.duct_run.specs.Made.{IsMade, program_text};
+ghost use Rattle.duct_run.specs.ScopeView.{setting_view, scopes_view};
+
+use crate::action::Ports;
+use crate::scope::{Scope, Setting};
+use crate::variables::variables_in;
+use duct_system::error::Error;
+use duct_system::spec::{CommandSpec, spec_of};
+use std::alloc::Global;
+
+/// The folder of a command inside the scope of this index, the root's being 0: that of the nearest scope that sets one.
+pub fn folder_in<'a, E, H>(scopes: &[Scope<'a, E, H>], scope: usize) -> Option<&'a str>
+    requires within { scope ≤ length scopes.now }
+    requires outwards { AreOutwards (scopes_view scopes.now) }
+    ensures { option_copied result ≡ (scope_in (scopes_view scopes.now) scope).folder }
+{
+    let mut inner = scope;
+    while inner > 0 {
+        let here = scopes[inner - 1];
+        if let Some(folder) = folder_of(here.setting) {
+            return Some(folder);
+        }
+        inner = here.outer;
+    }
+    None
+}
+
+// The folder that a setting sets.
+fn folder_of<'a, E, H>(setting: Setting<'a, E, H>) -> Option<&'a str>
+    ensures { option_copied result ≡ (step (setting_view setting.entry)).folder }
+{
+    match setting {
+        Setting::Dir(folder) => Some(folder),
+        Setting::Env(_, _)
+        | Setting::EnvRemove(_)
+        | Setting::FullEnv(_)
+        | Setting::BeforeSpawn(_, _) => None,
+    }
+}
+
+/// The spec of a command inside the scope of this index, the root's being 0, where these are the pairs of the system's
+/// environment: its words, with the canonical name of its program where one was asked, the folder and the variables of its
+/// scopes, and its ports. Refused, by `Error::Memory`, only for want of memory.
+pub fn asked_spec<E, H>(
+    alloc: Global,
+    pairs: &[(String, String)],
+    scopes: &[Scope<'_, E, H>],
+    scope: usize,
+    program: Option<String>,
+    words: &[String],
+    ports: Ports,
+) -> Result<CommandSpec, Error>
+    requires within { scope ≤ length scopes.now }
+    requires outwards { AreOutwards (scopes_view scopes.now) }
+    ensures asked { IfOk result (λ spec. let texts = map string_bytes words.now in
+        IsMade (map pair_text pairs.now) (program_text program texts)
+        (scope_in (scopes_view scopes.now) scope) texts (ports_view ports) spec) }
+    ensures memory { IsOkUnless result Error.Memory }
+{
+    let words = words_with(alloc, program, words)?;
+    let folder = copied(alloc, folder_in(scopes, scope))?;
+    let vars = variables_in(alloc, pairs, scopes, scope)?;
+    let spec = spec_of(words, folder, vars, ports.input, ports.output, ports.error);
+    Ok(spec)
+}
+
+// A copy of the words, with this program in place of the first where there is one.
+fn words_with(
+    alloc: Global,
+    program: Option<String>,
+    words: &[String],
+) -> Result<Vec<String>, Error>
+    ensures words { IfOk result (λ copy. let texts = map string_bytes words.now in
+        map string_bytes copy.items ≡ with_program (program_text program texts) texts) }
+    ensures memory { IsOkUnless result Error.Memory }
+{
+    let Some((first, arguments)) = words.split_first() else {
+        return Ok(Vec::new(alloc));
+    };
+    let mut copy = Vec::with_capacity(alloc, words.len())?;
+    match program {
+        Some(program) => copy.push(program)?,
+        None => copy.push(first.clone()?)?,
+    }
+    for argument in arguments {
+        copy.push(argument.clone()?)?;
+    }
+    Ok(copy)
+}
+
+// A copy of a text, if there is one.
+fn copied(alloc: Global, text: Option<&str>) -> Result<Option<String>, Error>
+    ensures text { IfOk result (λ copy. option_map string_bytes copy ≡ option_copied text.entry) }
+    ensures memory { IsOkUnless result Error.Memory }
+{
+    match text {
+        Some(text) => Ok(Some(String::from_str(alloc, text)?)),
+        None => Ok(None),
+    }
+}

@@ -1,0 +1,90 @@
+//! The hooks of a command, one after the other.
+ghost use Rattle.std.specs.Prelude.{◌≡◌, ◌≤◌, ◌+◌, ◌∷◌, [], length, map, OnOk, IfErr};
+ghost use Rattle.std.specs.Option.{option_to_list};
+ghost use Rattle.duct_start.specs.Commands.{Alters, Breaks};
+ghost use Rattle.duct_start.specs.Listed.{AreOutwards, scope_in};
+ghost use Rattle.duct_start.specs.Step.{step};
+ghost use Rattle.duct_run.specs.ScopeView.{scopes_view, setting_view};
+ghost use Rattle.duct_run.specs.StreamsView.{many_ends, streams_view};
+
+use crate::places::{find, missing};
+use crate::scope::{Scope, Setting};
+use crate::streams::{Streams, settle};
+use duct_system::error::Error;
+use duct_system::spec::{CommandSpec, Hook, Stream};
+use duct_system::system::System;
+
+// Runs one hook: it changes the spec, and its places are looked for among the ends beside it.
+fn change<S: System, H: Hook>(
+    sys: &mut S,
+    hook: &H,
+    ends: &[S::End],
+    spec: &mut CommandSpec,
+    streams: &mut Streams<S::End>,
+) -> Result<(), Error>
+    requires room { many_ends streams.old ≤ (S.journal_view sys.old).room }
+    ensures ok { OnOk result (Alters H.allows S.End.number_of ((hook.now, ends.now) ∷ [])
+        (S.journal_view sys.old) (S.journal_view sys.new) spec.old spec.new
+        (streams_view S.End.number_of streams.old) (streams_view S.End.number_of streams.new)) }
+    ensures err { IfErr result (Breaks H.allows H.refuses S.End.number_of
+        ((hook.now, ends.now) ∷ []) (S.journal_view sys.old) (S.journal_view sys.new) spec.old
+        (streams_view S.End.number_of streams.old) (streams_view S.End.number_of streams.new)) }
+    ensures left { OnOk result (many_ends streams.new + (S.journal_view sys.old).room
+        ≤ (S.journal_view sys.new).room + many_ends streams.old) }
+{
+    if let Err(fault) = hook.change(spec) {
+        return Err(Error::Hook(fault));
+    }
+    if let Some(place) = missing(ends.len(), spec) {
+        return Err(Error::HookEnd(place));
+    }
+    settle::<S, H>(sys, ends, spec.port(Stream::In), &mut streams.input)?;
+    settle::<S, H>(sys, ends, spec.port(Stream::Out), &mut streams.output)?;
+    settle::<S, H>(sys, ends, spec.port(Stream::Err), &mut streams.error)?;
+    find(spec);
+    Ok(())
+}
+
+// Runs the hooks of a command inside the scope of this index, the outermost first.
+pub(crate) fn change_all<S: System, H: Hook>(
+    sys: &mut S,
+    scopes: &[Scope<'_, S::End, H>],
+    scope: usize,
+    spec: &mut CommandSpec,
+    streams: &mut Streams<S::End>,
+) -> Result<(), Error>
+    requires within { scope ≤ length scopes.now }
+    requires outwards { AreOutwards (scopes_view scopes.now) }
+    requires room { many_ends streams.old ≤ (S.journal_view sys.old).room }
+    ensures ok { OnOk result (Alters H.allows S.End.number_of
+        (scope_in (scopes_view scopes.now) scope).hooks (S.journal_view sys.old)
+        (S.journal_view sys.new) spec.old spec.new (streams_view S.End.number_of streams.old)
+        (streams_view S.End.number_of streams.new)) }
+    ensures err { IfErr result (Breaks H.allows H.refuses S.End.number_of
+        (scope_in (scopes_view scopes.now) scope).hooks (S.journal_view sys.old)
+        (S.journal_view sys.new) spec.old (streams_view S.End.number_of streams.old)
+        (streams_view S.End.number_of streams.new)) }
+    ensures left { OnOk result (many_ends streams.new + (S.journal_view sys.old).room
+        ≤ (S.journal_view sys.new).room + many_ends streams.old) }
+{
+    if scope == 0 {
+        return Ok(());
+    }
+    let here = scopes[scope - 1];
+    change_all(sys, scopes, here.outer, spec, streams)?;
+    match hook_of(here.setting) {
+        Some((hook, ends)) => change(sys, hook, ends, spec, streams),
+        None => Ok(()),
+    }
+}
+
+// The hook of a setting, with the ends beside it.
+fn hook_of<'a, E, H>(setting: Setting<'a, E, H>) -> Option<(&'a H, &'a [E])>
+    ensures { (step (setting_view setting.entry)).hooks
+        ≡ map (λ pair. (pair.0.now, pair.1.now)) (option_to_list result) }
+{
+    match setting {
+        Setting::BeforeSpawn(hook, ends) => Some((hook, ends)),
+        Setting::Dir(_) | Setting::Env(_, _) | Setting::EnvRemove(_) | Setting::FullEnv(_) => None,
+    }
+}

@@ -1,0 +1,173 @@
+//! A command: the place of its child, its canonical name, its hooks, and its spawn.
+
+ghost use Rattle.std.specs.Prelude.{◌≡◌, ◌≤◌, ◌+◌, ◌++◌, length, map, string_bytes, IfOk, IfErr, OnOk, vec_len, vec_capacity};
+ghost use Rattle.duct_system.specs.SpecView.{pair_text};
+ghost use Rattle.duct_system.specs.Streams.{end_of, stream_of};
+ghost use Rattle.duct_start.specs.Actions as action;
+ghost use Rattle.duct_start.specs.Actions.{left_by, less, many};
+ghost use Rattle.duct_start.specs.Commands.{Names, handed, taken, taken_by};
+ghost use Rattle.duct_start.specs.Holdings.{ends};
+ghost use Rattle.duct_start.specs.Listed.{AreOutwards, scope_in};
+ghost use Rattle.duct_start.specs.Plan.{program_of};
+ghost use Rattle.duct_run.specs.ActionView.{ports_view};
+ghost use Rattle.duct_run.specs.HeldView.{AreNew, HasRoom, HasSameWorkers, SpawnGoes, SpawnRefused, held_view, stack_view};
+ghost use Rattle.duct_run.specs.Made.{program_text};
+ghost use Rattle.duct_run.specs.NameRefused.{NameRefused};
+ghost use Rattle.duct_run.specs.ScopeView.{scopes_view};
+ghost use Rattle.duct_run.specs.StreamsView.{streams_view};
+
+use crate::action::Ports;
+use crate::asked::{asked_spec, folder_in};
+use crate::change::change_all;
+use crate::held::{Held, top};
+use crate::scope::Scope;
+use crate::streams::Streams;
+use duct_base::exe::asks_canonical;
+use duct_base::pool::{Place, place_new, seat_new};
+use duct_system::error::Error;
+use duct_system::spec::{Hook, Port};
+use duct_system::system::{Numbered, Stdio, System};
+use std::alloc::Global;
+
+// The program of some words.
+fn program_of(words: &[String]) -> &str
+    ensures { result.now ≡ program_of (map string_bytes words.now) }
+{
+    match words.first() {
+        Some(program) => program.as_str(),
+        None => "",
+    }
+}
+
+// The canonical name of a command's program, where it is to be asked.
+fn canonical<S: System, H: Hook>(
+    sys: &mut S,
+    scopes: &[Scope<'_, S::End, H>],
+    scope: usize,
+    words: &[String],
+) -> Result<Option<String>, Error>
+    requires within { scope ≤ length scopes.now }
+    requires outwards { AreOutwards (scopes_view scopes.now) }
+    ensures ok { IfOk result (λ name. let texts = map string_bytes words.now in
+        Names {E = S.End} {H = H} H.allows S.End.number_of (scope_in (scopes_view scopes.now) scope)
+        texts (S.journal_view sys.old) (S.journal_view sys.new) (program_text name texts)) }
+    ensures err { IfErr result (NameRefused (scope_in (scopes_view scopes.now) scope)
+        (map string_bytes words.now) (S.journal_view sys.old) (S.journal_view sys.new)) }
+    ensures left { OnOk result ((S.journal_view sys.old).room ≤ (S.journal_view sys.new).room) }
+{
+    let program = program_of(words);
+    if !asks_canonical(program, folder_in(scopes, scope).is_some()) {
+        return Ok(None);
+    }
+    Ok(Some(sys.canonicalize(program)?))
+}
+
+// What a port takes off the stack.
+fn take<E: Numbered>(stack: &mut Vec<E>, port: Port) -> Stdio<E>
+    requires { many port ≤ vec_len stack.old }
+    ensures stream { stream_of E.number_of result
+        ≡ taken port (stack_view E.number_of stack.old.items) }
+    ensures left { stack_view E.number_of stack.new.items
+        ≡ less port (stack_view E.number_of stack.old.items) }
+    ensures len { vec_len stack.new + many port ≡ vec_len stack.old }
+    ensures capacity { vec_capacity stack.new ≡ vec_capacity stack.old }
+{
+    match port {
+        Port::Given => Stdio::End(top(stack)),
+        Port::Null => Stdio::Null,
+        Port::Inherit | Port::Place(_) => Stdio::Inherit,
+    }
+}
+
+// What three ports take off the stack; stderr's end is on top.
+fn take_all<E: Numbered>(stack: &mut Vec<E>, ports: Ports) -> Streams<E>
+    requires { many ports.input + (many ports.output + many ports.error) ≤ vec_len stack.old }
+    ensures streams { streams_view E.number_of result
+        ≡ taken_by (ports_view ports) (stack_view E.number_of stack.old.items) }
+    ensures left { stack_view E.number_of stack.new.items
+        ≡ left_by (ports_view ports) (stack_view E.number_of stack.old.items) }
+    ensures len { vec_len stack.new ≤ vec_len stack.old }
+    ensures capacity { vec_capacity stack.new ≡ vec_capacity stack.old }
+{
+    let error = take(stack, ports.error);
+    let output = take(stack, ports.output);
+    let input = take(stack, ports.input);
+    Streams {
+        input,
+        output,
+        error,
+    }
+}
+
+// Puts the end of a stream back onto the stack, if it has one.
+fn put<E: Numbered>(stack: &mut Vec<E>, stream: Stdio<E>)
+    requires { vec_len stack.old + 1 ≤ vec_capacity stack.old }
+    ensures items { stack_view E.number_of stack.new.items
+        ≡ end_of (stream_of E.number_of stream) ++ stack_view E.number_of stack.old.items }
+    ensures len { vec_len stack.new ≤ vec_len stack.old + 1 }
+    ensures capacity { vec_capacity stack.new ≡ vec_capacity stack.old }
+{
+    match stream {
+        Stdio::End(end) => stack.push_reserved(end),
+        Stdio::Inherit | Stdio::Null => {}
+    }
+}
+
+// Puts the ends of three streams back onto the stack, stderr's on top.
+fn put_all<E: Numbered>(stack: &mut Vec<E>, streams: Streams<E>)
+    requires { vec_len stack.old + 3 ≤ vec_capacity stack.old }
+    ensures { stack_view E.number_of stack.new.items
+        ≡ handed (streams_view E.number_of streams) (stack_view E.number_of stack.old.items) }
+{
+    put(stack, streams.input);
+    put(stack, streams.output);
+    put(stack, streams.error);
+}
+
+// Starts the command of these words inside the scope of this index, with the ends that its ports take off the stack.
+pub(crate) fn command<S: System, H: Hook>(
+    sys: &mut S,
+    pairs: &Vec<(String, String)>,
+    scopes: &[Scope<'_, S::End, H>],
+    scope: usize,
+    words: &[String],
+    ports: Ports,
+    held: &mut Held<S::End, Place<S::Child>, S::Feed, S::Drain>,
+) -> Result<(), Error>
+    requires within { scope ≤ length scopes.now }
+    requires outwards { AreOutwards (scopes_view scopes.now) }
+    requires full { many ports.input + (many ports.output + many ports.error)
+        ≤ vec_len held.old.stack }
+    requires room { length (ends (held_view S.End.number_of S.Child.child_view S.Feed.job_view
+        S.Drain.job_view held.old)) ≤ (S.journal_view sys.old).room }
+    requires reserved { HasRoom held.old }
+    ensures ok { OnOk result (SpawnGoes H.allows S.End.number_of S.Child.child_view S.Feed.job_view
+        S.Drain.job_view (map pair_text pairs.now.items)
+        (action.spawn (scope_in (scopes_view scopes.now) scope) (map string_bytes words.now)
+        (ports_view ports)) (S.journal_view sys.old) (S.journal_view sys.new) held.old held.new) }
+    ensures err { IfErr result (SpawnRefused H.allows H.refuses S.End.number_of S.Child.child_view
+        S.Feed.job_view S.Drain.job_view (map pair_text pairs.now.items)
+        (action.spawn (scope_in (scopes_view scopes.now) scope) (map string_bytes words.now)
+        (ports_view ports)) (S.journal_view sys.old) (S.journal_view sys.new) held.old held.new) }
+    ensures new { AreNew S.Child.child_view S.Feed.job_view S.Drain.job_view held.old
+        → AreNew S.Child.child_view S.Feed.job_view S.Drain.job_view held.new }
+    ensures workers { HasSameWorkers held.old held.new }
+{
+    let alloc = *pairs.allocator();
+    let seat = seat_new(alloc)?;
+    let name = canonical(sys, scopes, scope, words)?;
+    let mut spec = asked_spec(alloc, pairs, scopes, scope, name, words, ports)?;
+    let mut streams = take_all(&mut held.stack, ports);
+    if let Err(error) = change_all(sys, scopes, scope, &mut spec, &mut streams) {
+        put_all(&mut held.stack, streams);
+        return Err(error);
+    }
+    let Streams {
+        input,
+        output,
+        error,
+    } = streams;
+    let child = sys.spawn(spec, [input, output, error])?;
+    held.children.push_reserved(place_new(child, seat));
+    Ok(())
+}

@@ -1,0 +1,79 @@
+//! What is done once a run has ended: the ends that it holds are closed, and its children are given to a pool.
+ghost use Rattle.std.specs.Prelude.{◌≡◌, ◌<◌, ◌≤◌, ◌+◌, ◌^◌, [], length};
+ghost use Rattle.std.specs.Option.{option_map};
+ghost use Rattle.duct_base.specs.Pool.{Takes};
+ghost use Rattle.duct_start.specs.Closes.{Closes};
+ghost use Rattle.duct_start.specs.Holdings.{pair_of};
+ghost use Rattle.duct_run.specs.HeldEnds.{held_ends};
+ghost use Rattle.duct_run.specs.HeldView.{stack_view};
+
+use crate::held::Held;
+use duct_base::pool::{Place, Pool, pool_take};
+use duct_system::system::{Child, System};
+
+// Closes each end of a stack, the top first.
+fn close_stack<S: System>(sys: &mut S, stack: &mut Vec<S::End>)
+    requires { length (stack_view S.End.number_of stack.old.items) ≤ (S.journal_view sys.old).room }
+    ensures closes { Closes (stack_view S.End.number_of stack.old.items) (S.journal_view sys.old)
+        (S.journal_view sys.new) }
+    ensures empty { stack.new.items ≡ [] }
+{
+    while let Some(end) = stack.pop() {
+        sys.close(end);
+    }
+}
+
+// Closes the two ends of a capture pipe, if it is open, the read end first.
+fn close_pair<S: System>(sys: &mut S, pair: Option<(S::End, S::End)>)
+    requires { length (pair_of (option_map (λ p. (S.End.number_of p.0, S.End.number_of p.1)) pair))
+        ≤ (S.journal_view sys.old).room }
+    ensures { Closes (pair_of (option_map (λ p. (S.End.number_of p.0, S.End.number_of p.1)) pair))
+        (S.journal_view sys.old) (S.journal_view sys.new) }
+{
+    if let Some((reader, writer)) = pair {
+        sys.close(reader);
+        sys.close(writer);
+    }
+}
+
+// Closes each end that a run holds: its stack, the top first, then the pipes of stdout and of stderr. Children and workers stay.
+pub(crate) fn close_all<S: System, C, F, D>(sys: &mut S, held: &mut Held<S::End, C, F, D>)
+    requires room { length (held_ends S.End.number_of held.old) ≤ (S.journal_view sys.old).room }
+    ensures closes { Closes (held_ends S.End.number_of held.old) (S.journal_view sys.old)
+        (S.journal_view sys.new) }
+    ensures empty { held_ends S.End.number_of held.new ≡ [] }
+    ensures children { held.new.children ≡ held.old.children }
+    ensures feeds { held.new.feeds ≡ held.old.feeds }
+    ensures output_worker { held.new.output_worker ≡ held.old.output_worker }
+    ensures error_worker { held.new.error_worker ≡ held.old.error_worker }
+{
+    close_stack(sys, &mut held.stack);
+    close_pair(sys, held.output.take());
+    close_pair(sys, held.error.take());
+}
+
+// Gives these children to a pool, in order.
+pub(crate) fn give_all<C: Child>(pool: &mut Pool<C>, children: Vec<Place<C>>)
+    ensures { pool.old.given + length children.items < 2 ^ 63
+        → Takes C.may_answer C.child_view children.items pool.old pool.new }
+{
+    for child in children {
+        pool_take(pool, child);
+    }
+}
+
+// Closes each end that a run holds, and gives its children to a pool. Its workers are let go.
+pub(crate) fn give_up<S: System>(
+    sys: &mut S,
+    pool: &mut Pool<S::Child>,
+    mut held: Held<S::End, Place<S::Child>, S::Feed, S::Drain>,
+)
+    requires room { length (held_ends S.End.number_of held) ≤ (S.journal_view sys.old).room }
+    ensures closes { Closes (held_ends S.End.number_of held) (S.journal_view sys.old)
+        (S.journal_view sys.new) }
+    ensures given { pool.old.given + length held.children.items < 2 ^ 63
+        → Takes S.Child.may_answer S.Child.child_view held.children.items pool.old pool.new }
+{
+    close_all(sys, &mut held);
+    give_all(pool, held.children);
+}

@@ -1,0 +1,43 @@
+//! The places that a hook names in a spec.
+ghost use Rattle.std.specs.Prelude.{◌≡◌, length};
+ghost use Rattle.duct_start.specs.Chain.{missing, missing_at};
+ghost use Rattle.duct_run.specs.Places.{with_found, with_places_found};
+
+use duct_system::spec::{CommandSpec, Port, Stream, give};
+
+/// The first place of a spec that is not there among so many ends, in the order stdin, stdout, stderr.
+pub fn missing(count: usize, spec: &CommandSpec) -> Option<usize>
+    ensures { result ≡ missing count spec.now }
+{
+    missing_at(count, spec.port(Stream::In))
+        .or(missing_at(count, spec.port(Stream::Out)))
+        .or(missing_at(count, spec.port(Stream::Err)))
+}
+
+// The place that a port names, if it is not there.
+fn missing_at(count: usize, port: Port) -> Option<usize>
+    ensures { result ≡ missing_at count port }
+{
+    match port {
+        Port::Place(place) if place >= count => Some(place),
+        Port::Place(_) | Port::Inherit | Port::Null | Port::Given => None,
+    }
+}
+
+/// Makes each stream `Given` whose place was found.
+pub fn find(spec: &mut CommandSpec)
+    ensures { spec.new ≡ with_places_found spec.old }
+{
+    find_one(spec, Stream::In);
+    find_one(spec, Stream::Out);
+    find_one(spec, Stream::Err);
+}
+
+// Makes a stream `Given` if it has a place.
+fn find_one(spec: &mut CommandSpec, stream: Stream)
+    ensures { spec.new ≡ with_found stream spec.old }
+{
+    if let Port::Place(_) = spec.port(stream) {
+        give(spec, stream);
+    }
+}

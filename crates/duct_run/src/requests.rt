@@ -1,0 +1,414 @@
+//! The requests of a run, one function for each action but a command's.
+ghost use Rattle.std.specs.Prelude.{◌≡◌, ◌<◌, ◌≤◌, ◌+◌, length, None, OnOk, IfErr, IsSome, vec_len, vec_capacity};
+ghost use Rattle.std.specs.Arc.{arc_value};
+ghost use Rattle.duct_system.specs.declared.system.Side.TheVariants as side;
+ghost use Rattle.duct_start.specs.Actions as action;
+ghost use Rattle.duct_start.specs.Holdings.{ends};
+ghost use Rattle.duct_start.specs.Standing.{CanDo};
+ghost use Rattle.duct_run.specs.HeldView.{AreNew, GoesOn, HasSameWorkers, QuitsAt, held_view};
+
+use crate::held::{Held, top};
+use duct_base::pool::Place;
+use duct_system::error::Error;
+use duct_system::spec::Hook;
+use duct_system::system::{Side, System};
+use std::sync::Arc;
+
+// Opens a file to be read.
+pub(crate) fn open_read<S: System, H: Hook>(
+    sys: &mut S,
+    path: &str,
+    held: &mut Held<S::End, Place<S::Child>, S::Feed, S::Drain>,
+) -> Result<(), Error>
+    requires reserved { vec_len held.old.stack + 1 ≤ vec_capacity held.old.stack }
+    ensures ok { OnOk result (GoesOn H.allows S.End.number_of S.Child.child_view S.Feed.job_view
+        S.Drain.job_view (action.open_read path.now) (S.journal_view sys.old) (S.journal_view sys.new)
+        held.old held.new) }
+    ensures err { IfErr result (QuitsAt H.allows S.End.number_of S.Child.child_view S.Feed.job_view
+        S.Drain.job_view (action.open_read path.now) (S.journal_view sys.old) (S.journal_view sys.new)
+        held.old held.new) }
+    ensures new { AreNew S.Child.child_view S.Feed.job_view S.Drain.job_view held.old
+        → AreNew S.Child.child_view S.Feed.job_view S.Drain.job_view held.new }
+    ensures workers { HasSameWorkers held.old held.new }
+{
+    let end = sys.open_read(path)?;
+    held.stack.push_reserved(end);
+    Ok(())
+}
+
+// Makes a file.
+pub(crate) fn create<S: System, H: Hook>(
+    sys: &mut S,
+    path: &str,
+    held: &mut Held<S::End, Place<S::Child>, S::Feed, S::Drain>,
+) -> Result<(), Error>
+    requires reserved { vec_len held.old.stack + 1 ≤ vec_capacity held.old.stack }
+    ensures ok { OnOk result (GoesOn H.allows S.End.number_of S.Child.child_view S.Feed.job_view
+        S.Drain.job_view (action.create path.now) (S.journal_view sys.old) (S.journal_view sys.new)
+        held.old held.new) }
+    ensures err { IfErr result (QuitsAt H.allows S.End.number_of S.Child.child_view S.Feed.job_view
+        S.Drain.job_view (action.create path.now) (S.journal_view sys.old) (S.journal_view sys.new)
+        held.old held.new) }
+    ensures new { AreNew S.Child.child_view S.Feed.job_view S.Drain.job_view held.old
+        → AreNew S.Child.child_view S.Feed.job_view S.Drain.job_view held.new }
+    ensures workers { HasSameWorkers held.old held.new }
+{
+    let end = sys.create(path)?;
+    held.stack.push_reserved(end);
+    Ok(())
+}
+
+// Opens a pipe, and leaves its write end on top.
+pub(crate) fn open_pipe<S: System, H: Hook>(
+    sys: &mut S,
+    held: &mut Held<S::End, Place<S::Child>, S::Feed, S::Drain>,
+) -> Result<(), Error>
+    requires reserved { vec_len held.old.stack + 2 ≤ vec_capacity held.old.stack }
+    ensures ok { OnOk result (GoesOn H.allows S.End.number_of S.Child.child_view S.Feed.job_view
+        S.Drain.job_view (action.pipe) (S.journal_view sys.old) (S.journal_view sys.new)
+        held.old held.new) }
+    ensures err { IfErr result (QuitsAt H.allows S.End.number_of S.Child.child_view S.Feed.job_view
+        S.Drain.job_view (action.pipe) (S.journal_view sys.old) (S.journal_view sys.new)
+        held.old held.new) }
+    ensures new { AreNew S.Child.child_view S.Feed.job_view S.Drain.job_view held.old
+        → AreNew S.Child.child_view S.Feed.job_view S.Drain.job_view held.new }
+    ensures workers { HasSameWorkers held.old held.new }
+{
+    let (reader, writer) = sys.pipe()?;
+    held.stack.push_reserved(reader);
+    held.stack.push_reserved(writer);
+    Ok(())
+}
+
+// Opens a pipe, and leaves its read end on top.
+pub(crate) fn open_input<S: System, H: Hook>(
+    sys: &mut S,
+    held: &mut Held<S::End, Place<S::Child>, S::Feed, S::Drain>,
+) -> Result<(), Error>
+    requires reserved { vec_len held.old.stack + 2 ≤ vec_capacity held.old.stack }
+    ensures ok { OnOk result (GoesOn H.allows S.End.number_of S.Child.child_view S.Feed.job_view
+        S.Drain.job_view (action.input) (S.journal_view sys.old) (S.journal_view sys.new)
+        held.old held.new) }
+    ensures err { IfErr result (QuitsAt H.allows S.End.number_of S.Child.child_view S.Feed.job_view
+        S.Drain.job_view (action.input) (S.journal_view sys.old) (S.journal_view sys.new)
+        held.old held.new) }
+    ensures new { AreNew S.Child.child_view S.Feed.job_view S.Drain.job_view held.old
+        → AreNew S.Child.child_view S.Feed.job_view S.Drain.job_view held.new }
+    ensures workers { HasSameWorkers held.old held.new }
+{
+    let (reader, writer) = sys.pipe()?;
+    held.stack.push_reserved(writer);
+    held.stack.push_reserved(reader);
+    Ok(())
+}
+
+// Duplicates the end at a depth.
+pub(crate) fn duplicate<S: System, H: Hook>(
+    sys: &mut S,
+    depth: usize,
+    held: &mut Held<S::End, Place<S::Child>, S::Feed, S::Drain>,
+) -> Result<(), Error>
+    requires reserved { vec_len held.old.stack + 1 ≤ vec_capacity held.old.stack }
+    requires within { depth < length held.old.stack.items }
+    ensures ok { OnOk result (GoesOn H.allows S.End.number_of S.Child.child_view S.Feed.job_view
+        S.Drain.job_view (action.duplicate depth) (S.journal_view sys.old) (S.journal_view sys.new)
+        held.old held.new) }
+    ensures err { IfErr result (QuitsAt H.allows S.End.number_of S.Child.child_view S.Feed.job_view
+        S.Drain.job_view (action.duplicate depth) (S.journal_view sys.old) (S.journal_view sys.new)
+        held.old held.new) }
+    ensures new { AreNew S.Child.child_view S.Feed.job_view S.Drain.job_view held.old
+        → AreNew S.Child.child_view S.Feed.job_view S.Drain.job_view held.new }
+    ensures workers { HasSameWorkers held.old held.new }
+{
+    let end = sys.duplicate(&held.stack[depth])?;
+    held.stack.push_reserved(end);
+    Ok(())
+}
+
+// Duplicates an end of the caller.
+pub(crate) fn lend<S: System, H: Hook>(
+    sys: &mut S,
+    end: &S::End,
+    held: &mut Held<S::End, Place<S::Child>, S::Feed, S::Drain>,
+) -> Result<(), Error>
+    requires reserved { vec_len held.old.stack + 1 ≤ vec_capacity held.old.stack }
+    ensures ok { OnOk result (GoesOn H.allows S.End.number_of S.Child.child_view S.Feed.job_view
+        S.Drain.job_view (action.lend end.now) (S.journal_view sys.old) (S.journal_view sys.new)
+        held.old held.new) }
+    ensures err { IfErr result (QuitsAt H.allows S.End.number_of S.Child.child_view S.Feed.job_view
+        S.Drain.job_view (action.lend end.now) (S.journal_view sys.old) (S.journal_view sys.new)
+        held.old held.new) }
+    ensures new { AreNew S.Child.child_view S.Feed.job_view S.Drain.job_view held.old
+        → AreNew S.Child.child_view S.Feed.job_view S.Drain.job_view held.new }
+    ensures workers { HasSameWorkers held.old held.new }
+{
+    let made = sys.duplicate(end)?;
+    held.stack.push_reserved(made);
+    Ok(())
+}
+
+// Gets one of the parent's own streams.
+pub(crate) fn parent<S: System, H: Hook>(
+    sys: &mut S,
+    side: Side,
+    held: &mut Held<S::End, Place<S::Child>, S::Feed, S::Drain>,
+) -> Result<(), Error>
+    requires reserved { vec_len held.old.stack + 1 ≤ vec_capacity held.old.stack }
+    ensures ok { OnOk result (GoesOn H.allows S.End.number_of S.Child.child_view S.Feed.job_view
+        S.Drain.job_view (action.parent side) (S.journal_view sys.old) (S.journal_view sys.new)
+        held.old held.new) }
+    ensures err { IfErr result (QuitsAt H.allows S.End.number_of S.Child.child_view S.Feed.job_view
+        S.Drain.job_view (action.parent side) (S.journal_view sys.old) (S.journal_view sys.new)
+        held.old held.new) }
+    ensures new { AreNew S.Child.child_view S.Feed.job_view S.Drain.job_view held.old
+        → AreNew S.Child.child_view S.Feed.job_view S.Drain.job_view held.new }
+    ensures workers { HasSameWorkers held.old held.new }
+{
+    let end = sys.parent(side)?;
+    held.stack.push_reserved(end);
+    Ok(())
+}
+
+// Closes the top.
+pub(crate) fn close<S: System, H: Hook>(
+    sys: &mut S,
+    held: &mut Held<S::End, Place<S::Child>, S::Feed, S::Drain>,
+)
+    requires full { 1 ≤ vec_len held.old.stack }
+    requires room { 0 < (S.journal_view sys.old).room }
+    ensures ok { GoesOn H.allows S.End.number_of S.Child.child_view S.Feed.job_view
+        S.Drain.job_view (action.close) (S.journal_view sys.old) (S.journal_view sys.new)
+        held.old held.new }
+    ensures new { AreNew S.Child.child_view S.Feed.job_view S.Drain.job_view held.old
+        → AreNew S.Child.child_view S.Feed.job_view S.Drain.job_view held.new }
+    ensures workers { HasSameWorkers held.old held.new }
+{
+    let end = top(&mut held.stack);
+    sys.close(end);
+}
+
+// Opens stdout's capture pipe, unless it is open.
+pub(crate) fn capture_out<S: System, H: Hook>(
+    sys: &mut S,
+    held: &mut Held<S::End, Place<S::Child>, S::Feed, S::Drain>,
+) -> Result<(), Error>
+    ensures ok { OnOk result (GoesOn H.allows S.End.number_of S.Child.child_view S.Feed.job_view
+        S.Drain.job_view (action.capture side.Out) (S.journal_view sys.old) (S.journal_view sys.new)
+        held.old held.new) }
+    ensures err { IfErr result (QuitsAt H.allows S.End.number_of S.Child.child_view S.Feed.job_view
+        S.Drain.job_view (action.capture side.Out) (S.journal_view sys.old) (S.journal_view sys.new)
+        held.old held.new) }
+    ensures new { AreNew S.Child.child_view S.Feed.job_view S.Drain.job_view held.old
+        → AreNew S.Child.child_view S.Feed.job_view S.Drain.job_view held.new }
+    ensures workers { HasSameWorkers held.old held.new }
+{
+    match &held.output {
+        Some(_) => Ok(()),
+        None => {
+            let (reader, writer) = sys.pipe()?;
+            held.output = Some((reader, writer));
+            Ok(())
+        }
+    }
+}
+
+// Duplicates the write end of stdout's capture pipe.
+pub(crate) fn tap_out<S: System, H: Hook>(
+    sys: &mut S,
+    held: &mut Held<S::End, Place<S::Child>, S::Feed, S::Drain>,
+) -> Result<(), Error>
+    requires reserved { vec_len held.old.stack + 1 ≤ vec_capacity held.old.stack }
+    requires open { IsSome held.old.output }
+    ensures ok { OnOk result (GoesOn H.allows S.End.number_of S.Child.child_view S.Feed.job_view
+        S.Drain.job_view (action.tap side.Out) (S.journal_view sys.old) (S.journal_view sys.new)
+        held.old held.new) }
+    ensures err { IfErr result (QuitsAt H.allows S.End.number_of S.Child.child_view S.Feed.job_view
+        S.Drain.job_view (action.tap side.Out) (S.journal_view sys.old) (S.journal_view sys.new)
+        held.old held.new) }
+    ensures new { AreNew S.Child.child_view S.Feed.job_view S.Drain.job_view held.old
+        → AreNew S.Child.child_view S.Feed.job_view S.Drain.job_view held.new }
+    ensures workers { HasSameWorkers held.old held.new }
+{
+    let end = match &held.output {
+        Some((_, writer)) => sys.duplicate(writer)?,
+        None => unreachable!(),
+    };
+    held.stack.push_reserved(end);
+    Ok(())
+}
+
+// Opens stderr's capture pipe, unless it is open.
+pub(crate) fn capture_err<S: System, H: Hook>(
+    sys: &mut S,
+    held: &mut Held<S::End, Place<S::Child>, S::Feed, S::Drain>,
+) -> Result<(), Error>
+    ensures ok { OnOk result (GoesOn H.allows S.End.number_of S.Child.child_view S.Feed.job_view
+        S.Drain.job_view (action.capture side.Err) (S.journal_view sys.old) (S.journal_view sys.new)
+        held.old held.new) }
+    ensures err { IfErr result (QuitsAt H.allows S.End.number_of S.Child.child_view S.Feed.job_view
+        S.Drain.job_view (action.capture side.Err) (S.journal_view sys.old) (S.journal_view sys.new)
+        held.old held.new) }
+    ensures new { AreNew S.Child.child_view S.Feed.job_view S.Drain.job_view held.old
+        → AreNew S.Child.child_view S.Feed.job_view S.Drain.job_view held.new }
+    ensures workers { HasSameWorkers held.old held.new }
+{
+    match &held.error {
+        Some(_) => Ok(()),
+        None => {
+            let (reader, writer) = sys.pipe()?;
+            held.error = Some((reader, writer));
+            Ok(())
+        }
+    }
+}
+
+// Duplicates the write end of stderr's capture pipe.
+pub(crate) fn tap_err<S: System, H: Hook>(
+    sys: &mut S,
+    held: &mut Held<S::End, Place<S::Child>, S::Feed, S::Drain>,
+) -> Result<(), Error>
+    requires reserved { vec_len held.old.stack + 1 ≤ vec_capacity held.old.stack }
+    requires open { IsSome held.old.error }
+    ensures ok { OnOk result (GoesOn H.allows S.End.number_of S.Child.child_view S.Feed.job_view
+        S.Drain.job_view (action.tap side.Err) (S.journal_view sys.old) (S.journal_view sys.new)
+        held.old held.new) }
+    ensures err { IfErr result (QuitsAt H.allows S.End.number_of S.Child.child_view S.Feed.job_view
+        S.Drain.job_view (action.tap side.Err) (S.journal_view sys.old) (S.journal_view sys.new)
+        held.old held.new) }
+    ensures new { AreNew S.Child.child_view S.Feed.job_view S.Drain.job_view held.old
+        → AreNew S.Child.child_view S.Feed.job_view S.Drain.job_view held.new }
+    ensures workers { HasSameWorkers held.old held.new }
+{
+    let end = match &held.error {
+        Some((_, writer)) => sys.duplicate(writer)?,
+        None => unreachable!(),
+    };
+    held.stack.push_reserved(end);
+    Ok(())
+}
+
+// Opens the capture pipe of a stream, unless it is open.
+pub(crate) fn capture<S: System, H: Hook>(
+    sys: &mut S,
+    side: Side,
+    held: &mut Held<S::End, Place<S::Child>, S::Feed, S::Drain>,
+) -> Result<(), Error>
+    ensures ok { OnOk result (GoesOn H.allows S.End.number_of S.Child.child_view S.Feed.job_view
+        S.Drain.job_view (action.capture side) (S.journal_view sys.old) (S.journal_view sys.new)
+        held.old held.new) }
+    ensures err { IfErr result (QuitsAt H.allows S.End.number_of S.Child.child_view S.Feed.job_view
+        S.Drain.job_view (action.capture side) (S.journal_view sys.old) (S.journal_view sys.new)
+        held.old held.new) }
+    ensures new { AreNew S.Child.child_view S.Feed.job_view S.Drain.job_view held.old
+        → AreNew S.Child.child_view S.Feed.job_view S.Drain.job_view held.new }
+    ensures workers { HasSameWorkers held.old held.new }
+{
+    match side {
+        Side::Out => capture_out::<S, H>(sys, held),
+        Side::Err => capture_err::<S, H>(sys, held),
+    }
+}
+
+// Duplicates the write end of the capture pipe of a stream.
+pub(crate) fn tap<S: System, H: Hook>(
+    sys: &mut S,
+    side: Side,
+    held: &mut Held<S::End, Place<S::Child>, S::Feed, S::Drain>,
+) -> Result<(), Error>
+    requires reserved { vec_len held.old.stack + 1 ≤ vec_capacity held.old.stack }
+    requires open { CanDo {E = S.End} {H = H} (action.tap side) (held_view S.End.number_of
+        S.Child.child_view S.Feed.job_view S.Drain.job_view held.old) }
+    ensures ok { OnOk result (GoesOn H.allows S.End.number_of S.Child.child_view S.Feed.job_view
+        S.Drain.job_view (action.tap side) (S.journal_view sys.old) (S.journal_view sys.new)
+        held.old held.new) }
+    ensures err { IfErr result (QuitsAt H.allows S.End.number_of S.Child.child_view S.Feed.job_view
+        S.Drain.job_view (action.tap side) (S.journal_view sys.old) (S.journal_view sys.new)
+        held.old held.new) }
+    ensures new { AreNew S.Child.child_view S.Feed.job_view S.Drain.job_view held.old
+        → AreNew S.Child.child_view S.Feed.job_view S.Drain.job_view held.new }
+    ensures workers { HasSameWorkers held.old held.new }
+{
+    match side {
+        Side::Out => tap_out::<S, H>(sys, held),
+        Side::Err => tap_err::<S, H>(sys, held),
+    }
+}
+
+// Starts the worker that writes the bytes to the top.
+pub(crate) fn feed<S: System, H: Hook>(
+    sys: &mut S,
+    bytes: &Arc<Vec<u8>>,
+    held: &mut Held<S::End, Place<S::Child>, S::Feed, S::Drain>,
+) -> Result<(), Error>
+    requires full { 1 ≤ vec_len held.old.stack }
+    requires room { 0 < (S.journal_view sys.old).room }
+    requires reserved { vec_len held.old.feeds + 1 ≤ vec_capacity held.old.feeds }
+    ensures ok { OnOk result (GoesOn H.allows S.End.number_of S.Child.child_view S.Feed.job_view
+        S.Drain.job_view (action.feed (arc_value bytes.now).items) (S.journal_view sys.old) (S.journal_view sys.new)
+        held.old held.new) }
+    ensures err { IfErr result (QuitsAt H.allows S.End.number_of S.Child.child_view S.Feed.job_view
+        S.Drain.job_view (action.feed (arc_value bytes.now).items) (S.journal_view sys.old) (S.journal_view sys.new)
+        held.old held.new) }
+    ensures new { AreNew S.Child.child_view S.Feed.job_view S.Drain.job_view held.old
+        → AreNew S.Child.child_view S.Feed.job_view S.Drain.job_view held.new }
+    ensures workers { HasSameWorkers held.old held.new }
+{
+    let bytes = Arc::try_clone(bytes)?;
+    let end = top(&mut held.stack);
+    let job = sys.start_feed(end, bytes)?;
+    held.feeds.push_reserved(job);
+    Ok(())
+}
+
+// Closes the write end of stdout's capture pipe, and starts the worker of its read end, if it is open.
+pub(crate) fn finish_out<S: System, H: Hook>(
+    sys: &mut S,
+    held: &mut Held<S::End, Place<S::Child>, S::Feed, S::Drain>,
+) -> Result<(), Error>
+    requires room { length (ends (held_view S.End.number_of S.Child.child_view S.Feed.job_view
+        S.Drain.job_view held.old)) ≤ (S.journal_view sys.old).room }
+    requires first { held.old.output_worker ≡ None }
+    requires last { held.old.error_worker ≡ None }
+    ensures ok { OnOk result (GoesOn H.allows S.End.number_of S.Child.child_view S.Feed.job_view
+        S.Drain.job_view (action.finish side.Out) (S.journal_view sys.old) (S.journal_view sys.new)
+        held.old held.new) }
+    ensures err { IfErr result (QuitsAt H.allows S.End.number_of S.Child.child_view S.Feed.job_view
+        S.Drain.job_view (action.finish side.Out) (S.journal_view sys.old) (S.journal_view sys.new)
+        held.old held.new) }
+    ensures new { AreNew S.Child.child_view S.Feed.job_view S.Drain.job_view held.old
+        → AreNew S.Child.child_view S.Feed.job_view S.Drain.job_view held.new }
+{
+    let Some((reader, writer)) = held.output.take() else {
+        return Ok(());
+    };
+    sys.close(writer);
+    let job = sys.start_drain(reader)?;
+    held.output_worker = Some(job);
+    Ok(())
+}
+
+// Closes the write end of stderr's capture pipe, and starts the worker of its read end, if it is open.
+pub(crate) fn finish_err<S: System, H: Hook>(
+    sys: &mut S,
+    held: &mut Held<S::End, Place<S::Child>, S::Feed, S::Drain>,
+) -> Result<(), Error>
+    requires room { length (ends (held_view S.End.number_of S.Child.child_view S.Feed.job_view
+        S.Drain.job_view held.old)) ≤ (S.journal_view sys.old).room }
+    requires last { held.old.error_worker ≡ None }
+    ensures ok { OnOk result (GoesOn H.allows S.End.number_of S.Child.child_view S.Feed.job_view
+        S.Drain.job_view (action.finish side.Err) (S.journal_view sys.old) (S.journal_view sys.new)
+        held.old held.new) }
+    ensures err { IfErr result (QuitsAt H.allows S.End.number_of S.Child.child_view S.Feed.job_view
+        S.Drain.job_view (action.finish side.Err) (S.journal_view sys.old) (S.journal_view sys.new)
+        held.old held.new) }
+    ensures new { AreNew S.Child.child_view S.Feed.job_view S.Drain.job_view held.old
+        → AreNew S.Child.child_view S.Feed.job_view S.Drain.job_view held.new }
+{
+    let Some((reader, writer)) = held.error.take() else {
+        return Ok(());
+    };
+    sys.close(writer);
+    let job = sys.start_drain(reader)?;
+    held.error_worker = Some(job);
+    Ok(())
+}

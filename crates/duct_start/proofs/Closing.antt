@@ -1,0 +1,291 @@
+-- A run that was refused, and then closed all that it held, is a start that is refused.
+use Rattle.std.proofs.Common.{◌≡◌, ℕ, zero, suc, inl, inr, ◌+◌, ◌*◌, ◌-◌, ◌≤◌, List, [], ◌∷◌, ◌++◌, length, refl, ap, sym, ◌∙◌, arith, subst, append_assoc, length-append}
+use Rattle.std.proofs.lemmas.Bool.{cases_lt}
+use Rattle.std.proofs.lemmas.List.{append-nil, take-append-le}
+use Rattle.std.proofs.lemmas.List.Elements.{filter-append}
+use Rattle.std.proofs.lemmas.Grind.{flat_map-append}
+use Rattle.std.proofs.Math.Seq.{take-append-add, take-length}
+use Rattle.std.specs.Option.{option_and_then}
+use Rattle.std.specs.Prelude.{false, map, not, slice_get, take, Some, None}
+use Rattle.std.specs.declared.option.Option.{Option}
+use Rattle.duct_system.specs.EntryView.{EntryView, Environment, Pipe, OpenRead, Create, Duplicate, Parent, Canonicalize, Spawn, Feed, Drain, Reader, Close}
+use Rattle.duct_system.specs.Journal.{JournalView}
+use Rattle.duct_system.specs.Ledger.{IsBalanced, got, spent, held, count_of}
+use Rattle.duct_system.specs.Started.{children_in, child_by}
+use Rattle.duct_system.specs.Trace.{segment, trace, is_close, IsClean, fault_of}
+use Rattle.duct_system.specs.declared.error.Error.{Error}
+use Rattle.duct_system.specs.declared.error.Error.TheVariants.{System, Checked, NotUtf8, Hook, HookEnd, Deadline, Memory}
+use Rattle.duct_system.specs.declared.system.Fault.{Fault}
+use Rattle.duct_start.specs.Causes.{HasCause, AnswersLastFault, StoppedBy, asked_in, last_fault}
+use Rattle.duct_start.specs.Chain.{Allows, Refuses}
+use Rattle.duct_start.specs.Closes.{Closes}
+use Rattle.duct_start.specs.Commands.{Refused}
+use Rattle.duct_start.specs.Follows.{AnswersFrom, Follows}
+use Rattle.duct_start.specs.Holdings.{Holdings, ends}
+use Rattle.duct_start.specs.Plan.{Plan}
+use Rattle.duct_start.specs.Standing.{Course, Ended, HeldFew, IsHooks, IsLater, IsUnasked, unasked, hooked, refused}
+use Rattle.duct_start.specs.Start.{AreEarlier, HoldsFew, StartRefused, ceiling, depth}
+use Rattle.duct_start.specs.Step.{Item}
+use Rattle.duct_start.specs.TreeView.{TreeView}
+use Rattle.duct_start.proofs.Ceiling.{ceiling_low}
+use Rattle.duct_start.proofs.Ending.{ended_stops}
+use Rattle.duct_start.proofs.Origins.{got-append, spent-append, trace-append, count_got-append, count_spent-append}
+use Rattle.duct_start.proofs.Whole.{segment_is, grows_by_added}
+
+-- closes
+
+closes_trace : (numbers : List ℕ) → trace (map Close numbers) ≡ []
+closes_trace [] = refl
+closes_trace (n ∷ numbers) = closes_trace numbers
+
+closes_got : (numbers : List ℕ) → got (map Close numbers) ≡ []
+closes_got [] = refl
+closes_got (n ∷ numbers) = closes_got numbers
+
+closes_spent : (numbers : List ℕ) → spent (map Close numbers) ≡ numbers
+closes_spent [] = refl
+closes_spent (n ∷ numbers) = ap (λ (l : List ℕ). n ∷ l) (closes_spent numbers)
+
+closes_asked : (numbers : List ℕ) → asked_in (map Close numbers) ≡ []
+closes_asked [] = refl
+closes_asked (n ∷ numbers) = closes_asked numbers
+
+closes_long : (numbers : List ℕ) → length (map Close numbers) ≡ length numbers
+closes_long [] = refl
+closes_long (n ∷ numbers) = ap suc (closes_long numbers)
+
+closes_taken : (count : ℕ) (numbers : List ℕ) → got (take count (map Close numbers)) ≡ []
+closes_taken zero numbers = refl
+closes_taken (suc count) [] = refl
+closes_taken (suc count) (n ∷ numbers) = closes_taken count numbers
+
+module _ (added : List EntryView) (numbers : List ℕ) where
+  abbrev closed : List EntryView
+  closed = added ++ map Close numbers
+
+  closed_trace : trace closed ≡ trace added
+  closed_trace = trace-append added (map Close numbers) ∙ ap (λ (l : List EntryView). trace added ++ l) (closes_trace numbers) ∙ append-nil (trace added)
+
+  closed_asked : asked_in closed ≡ asked_in added
+  closed_asked = filter-append (λ entry. not (is_close entry)) added (map Close numbers) ∙ ap (λ (l : List EntryView). asked_in added ++ l) (closes_asked numbers) ∙ append-nil (asked_in added)
+
+  closed_fault : last_fault closed ≡ last_fault added
+  closed_fault = ap (λ (l : List EntryView). option_and_then fault_of (slice_get l (length l - 1))) closed_asked
+
+  -- closes let what is held fall
+  closed_few : (bound : ℕ) → HeldFew bound added → HeldFew bound closed
+  closed_few bound few = λ count. elim (cases_lt (length added) count) [
+    | inl lt ↦ past (count - length added) count (omega (arith, lt))
+    | inr le ↦ let same = ap (λ l. held l) (take-append-le count added (map Close numbers) le) in omega (arith, few count, same)
+  ]
+    where
+      past : (more count : ℕ) → count ≡ length added + more → held (take count closed) ≤ bound + 8
+      past more count is =
+          let front : take count closed ≡ added ++ take more (map Close numbers) = ap (λ (k : ℕ). take k closed) is ∙ take-append-add added (map Close numbers) more in
+          let rest = take more (map Close numbers) in
+          let whole = ap (λ (l : List EntryView). held l) (take-length added) in
+          omega (
+            arith,
+            few (length added),
+            whole,
+            ap (λ (l : List EntryView). length (got l)) front,
+            ap (λ (l : List EntryView). length (spent l)) front,
+            ap (λ (l : List ℕ). length l) (got-append added rest),
+            ap (λ (l : List ℕ). length l) (spent-append added rest),
+            length-append (got added) (got rest),
+            length-append (spent added) (spent rest),
+            ap (λ (l : List ℕ). length l) (closes_taken more numbers),
+          )
+
+-- the last fault
+
+some_is : (one other : Fault) → Some one ≡ Some other → one ≡ other
+some_is one other e = cc
+
+no_fault : (o : Option Fault) (fault : Fault) → o ≡ None → o ≡ Some fault → ⊥
+no_fault o fault none some = cc
+
+clean_asked : (added : List EntryView) (index : ℕ) → IsClean added → option_and_then fault_of (slice_get (asked_in added) index) ≡ None
+clean_asked [] index clean = refl
+clean_asked (Close number ∷ added) index clean = clean_asked added index clean.1
+clean_asked (Environment answer ∷ added) zero clean = clean.0
+clean_asked (Environment answer ∷ added) (suc index) clean = clean_asked added index clean.1
+clean_asked (Pipe answer ∷ added) zero clean = clean.0
+clean_asked (Pipe answer ∷ added) (suc index) clean = clean_asked added index clean.1
+clean_asked (OpenRead path answer ∷ added) zero clean = clean.0
+clean_asked (OpenRead path answer ∷ added) (suc index) clean = clean_asked added index clean.1
+clean_asked (Create path answer ∷ added) zero clean = clean.0
+clean_asked (Create path answer ∷ added) (suc index) clean = clean_asked added index clean.1
+clean_asked (Duplicate lent answer ∷ added) zero clean = clean.0
+clean_asked (Duplicate lent answer ∷ added) (suc index) clean = clean_asked added index clean.1
+clean_asked (Parent side answer ∷ added) zero clean = clean.0
+clean_asked (Parent side answer ∷ added) (suc index) clean = clean_asked added index clean.1
+clean_asked (Canonicalize path answer ∷ added) zero clean = clean.0
+clean_asked (Canonicalize path answer ∷ added) (suc index) clean = clean_asked added index clean.1
+clean_asked (Spawn spec io answer ∷ added) zero clean = clean.0
+clean_asked (Spawn spec io answer ∷ added) (suc index) clean = clean_asked added index clean.1
+clean_asked (Feed end bytes answer ∷ added) zero clean = clean.0
+clean_asked (Feed end bytes answer ∷ added) (suc index) clean = clean_asked added index clean.1
+clean_asked (Drain end answer ∷ added) zero clean = clean.0
+clean_asked (Drain end answer ∷ added) (suc index) clean = clean_asked added index clean.1
+clean_asked (Reader end ∷ added) zero clean = clean.0
+clean_asked (Reader end ∷ added) (suc index) clean = clean_asked added index clean.1
+
+no_close : (entry : EntryView) (fault : Fault) → fault_of entry ≡ Some fault → is_close entry ≡ false
+no_close (Close number) fault is = absurd (cc)
+no_close (Environment answer) fault is = refl
+no_close (Pipe answer) fault is = refl
+no_close (OpenRead path answer) fault is = refl
+no_close (Create path answer) fault is = refl
+no_close (Duplicate lent answer) fault is = refl
+no_close (Parent side answer) fault is = refl
+no_close (Canonicalize path answer) fault is = refl
+no_close (Spawn spec io answer) fault is = refl
+no_close (Feed end bytes answer) fault is = refl
+no_close (Drain end answer) fault is = refl
+no_close (Reader end) fault is = refl
+
+last_of : (front : List EntryView) (entry : EntryView) → slice_get (front ++ entry ∷ []) (length front) ≡ Some entry
+last_of [] entry = refl
+last_of (x ∷ front) entry = last_of front entry
+
+last_is : (front : List EntryView) (entry : EntryView) (fault : Fault) → fault_of entry ≡ Some fault → last_fault (front ++ entry ∷ []) ≡ Some fault
+last_is front entry fault is =
+    let test = λ (e : EntryView). not (is_close e) in
+    let one : asked_in (entry ∷ []) ≡ entry ∷ [] = rw (no_close entry fault is) refl in
+    let all : asked_in (front ++ entry ∷ []) ≡ asked_in front ++ entry ∷ [] = filter-append test front (entry ∷ []) ∙ ap (λ (l : List EntryView). asked_in front ++ l) one in
+    let index : length (asked_in front ++ entry ∷ []) - 1 ≡ length (asked_in front) = omega (arith, length-append (asked_in front) (entry ∷ [])) in
+    ap (λ (l : List EntryView). option_and_then fault_of (slice_get l (length l - 1))) all
+    ∙ ap (λ (k : ℕ). option_and_then fault_of (slice_get (asked_in front ++ entry ∷ []) k)) index
+    ∙ ap (λ (o : Option EntryView). option_and_then fault_of o) (last_of (asked_in front) entry) ∙ is
+
+ended_answers : (added : List EntryView) (error : Error) → Ended added error → AnswersLastFault added error
+ended_answers added error (unasked clean un) = λ fault is. absurd (no_fault (last_fault added) fault (clean_asked added (length (asked_in added) - 1) clean) is)
+ended_answers added error (hooked clean hooks) = λ fault is. absurd (no_fault (last_fault added) fault (clean_asked added (length (asked_in added) - 1) clean) is)
+ended_answers added error (refused front entry fault clean is) = λ other last. ap System (some_is fault other (sym (last_is front entry fault is) ∙ last))
+
+-- the cause
+
+module _ {E H : Type 0} (allows : Allows H) (refuses : Refuses H) (number_of : E → ℕ) (plan : Plan E H) (entries : List EntryView) where
+  abbrev Caused : Error → Type 0
+  Caused error = HasCause allows refuses number_of plan entries error
+
+  cause_unasked : (error : Error) → IsUnasked error → Caused error
+  cause_unasked (System fault) un = inl un
+  cause_unasked (Checked text) un = absurd un
+  cause_unasked NotUtf8 un = absurd un
+  cause_unasked (Hook fault) un = absurd un
+  cause_unasked (HookEnd place) un = absurd un
+  cause_unasked Deadline un = absurd un
+  cause_unasked Memory un = tt
+
+  cause_hooked : (error : Error) → IsHooks error
+      → (IsHooks error → StoppedBy allows refuses number_of (trace entries) (length (trace entries)) (slice_get plan.items (length (trace entries))) error) → Caused error
+  cause_hooked (System fault) is cause = absurd is
+  cause_hooked (Checked text) is cause = absurd is
+  cause_hooked NotUtf8 is cause = absurd is
+  cause_hooked (Hook fault) is cause = cause tt
+  cause_hooked (HookEnd place) is cause = cause tt
+  cause_hooked Deadline is cause = absurd is
+  cause_hooked Memory is cause = absurd is
+
+  cause_ended : (added : List EntryView) (error : Error) → Ended added error → last_fault entries ≡ last_fault added
+      → (IsHooks error → StoppedBy allows refuses number_of (trace entries) (length (trace entries)) (slice_get plan.items (length (trace entries))) error) → Caused error
+  cause_ended added error (unasked clean un) same cause = cause_unasked error un
+  cause_ended added error (hooked clean is) same cause = cause_hooked error is cause
+  cause_ended added error (refused front entry fault clean is) same cause = inr (same ∙ last_is front entry fault is)
+
+-- a start that was refused, by its run and the closes behind it
+
+module _ {E H : Type 0} (allows : Allows H) (refuses : Refuses H) (number_of : E → ℕ) (tree : TreeView E H) (plan : Plan E H) (course : Course) (items : List (Item E H)) (now then : JournalView)
+    (held : Holdings) (error : Error) (run : Refused allows refuses number_of course items now held error) (numbers : List ℕ)
+    (base_is : course.base ≡ ceiling number_of tree) (bound_is : course.bound ≡ 2 * depth tree + 4) (items_are : plan.items ≡ items)
+    (same : (n : ℕ) → count_of n numbers ≡ count_of n (ends held)) (many : length numbers ≡ length (ends held))
+    (entries_are : then.entries ≡ now.entries ++ map Close numbers) (counted : then.added ≡ now.added + length numbers) (next : now.next ≤ then.next) (room : now.room ≤ then.room + length numbers) where
+  abbrev first : List EntryView
+  first = run.stopped.added
+
+  abbrev all : List EntryView
+  all = first ++ map Close numbers
+
+  all_are : then.entries ≡ course.old.entries ++ all
+  all_are = entries_are ∙ ap (λ (l : List EntryView). l ++ map Close numbers) run.stopped.books.entries_are ∙ append_assoc course.old.entries first (map Close numbers)
+
+  closes_later : AreEarlier number_of course.old tree → IsLater course now.next (map Close numbers)
+  closes_later earlier = record {
+    early = omega (arith, base_is, ceiling_low number_of tree course.old earlier);
+    fresh = λ n lt. ap (λ (l : List ℕ). count_of n l) (closes_got numbers);
+  }
+
+  all_follow : AreEarlier number_of course.old tree → Follows allows number_of plan all
+  all_follow earlier = record {
+    answers = subst (λ (l : List (Item E H)). AnswersFrom allows number_of all 0 l (trace all)) (sym items_are)
+        (subst (λ (l : List EntryView). AnswersFrom allows number_of all 0 items l) (sym (closed_trace first numbers)) (run.stopped.answers (map Close numbers) (closes_later earlier)));
+    stops = ended_stops first error numbers run.stopped.ended;
+  }
+
+  all_caused : AreEarlier number_of course.old tree → HasCause allows refuses number_of plan all error
+  all_caused earlier = cause_ended allows refuses number_of plan all first error run.stopped.ended (closed_fault first numbers)
+      (λ is.
+      subst (λ (l : List (Item E H)). StoppedBy allows refuses number_of (trace all) (length (trace all)) (slice_get l (length (trace all))) error) (sym items_are)
+      (subst (λ (k : ℕ). StoppedBy allows refuses number_of (trace all) k (slice_get items k) error) (ap (λ (l : List EntryView). length l) (sym (closed_trace first numbers)))
+      (run.cause is (map Close numbers) (closes_later earlier))))
+
+  all_balanced : IsBalanced all
+  all_balanced n =
+      let books = run.stopped.books in
+      let got_more = count_got-append n first (map Close numbers) in
+      let spent_more = count_spent-append n first (map Close numbers) in
+      let none = ap (λ (l : List ℕ). count_of n l) (closes_got numbers) in
+      let some = ap (λ (l : List ℕ). count_of n l) (closes_spent numbers) in
+      (omega (arith, got_more, spent_more, none, some, same n, books.even n), omega (arith, got_more, none, books.once n))
+
+  -- a run that was refused is, once all that it held was closed, a start that is refused
+  pub refused_start : StartRefused allows refuses number_of tree plan course.old then error
+  refused_start =
+      let books = run.stopped.books in
+      let segment_same = sym (segment_is course.old.entries then.entries all all_are) in record {
+        grows = grows_by_added course.old then all all_are
+            (omega (arith, counted, books.counted, length-append first (map Close numbers), closes_long numbers))
+            (omega (arith, next, books.next_grows)) (omega (arith, room, many, books.room_is));
+        follows = λ earlier. subst (λ (l : List EntryView). Follows allows number_of plan l) segment_same (all_follow earlier);
+        cause = λ earlier. subst (λ (l : List EntryView). HasCause allows refuses number_of plan l error) segment_same (all_caused earlier);
+        last_fault = subst (λ (l : List EntryView). AnswersLastFault l error) segment_same (λ fault is. ended_answers first error run.stopped.ended fault (sym (closed_fault first numbers) ∙ is));
+        balanced = subst IsBalanced segment_same all_balanced;
+        few = subst (λ (l : List EntryView). HoldsFew tree l) segment_same (λ count. omega (arith, bound_is, closed_few first numbers course.bound run.stopped.few count));
+      }
+
+closes_children : (numbers : List ℕ) → children_in (map Close numbers) ≡ []
+closes_children [] = refl
+closes_children (n ∷ numbers) = closes_children numbers
+
+-- there is room to close all that is held
+pub refused_room : {E H : Type 0} (allows : Allows H) (refuses : Refuses H) (number_of : E → ℕ)
+    (course : Course) (items : List (Item E H)) (now : JournalView) (held : Holdings)
+    (error : Error) → Refused allows refuses number_of course items now held error
+    → length (ends held) ≤ now.room
+refused_room allows refuses number_of course items now held error run = omega (arith, run.stopped.books.room_is)
+
+-- the same, where all that was held was closed in its order
+module _ {E H : Type 0} (allows : Allows H) (refuses : Refuses H) (number_of : E → ℕ) (course : Course) (items : List (Item E H)) (now then : JournalView) (held : Holdings) (error : Error)
+    (run : Refused allows refuses number_of course items now held error) (closes : Closes (ends held) now then) where
+  pub refused_closed : (tree : TreeView E H) (plan : Plan E H)
+      → course.base ≡ ceiling number_of tree → course.bound ≡ 2 * depth tree + 4
+      → plan.items ≡ items
+      → StartRefused allows refuses number_of tree plan course.old then error
+  refused_closed tree plan base_is bound_is items_are =
+      refused_start allows refuses number_of tree plan course items now then held error run (ends held) base_is bound_is items_are (λ n. refl) refl
+      closes.entries_are closes.counted closes.next_grows closes.room_is
+
+  -- the children that are held are those that were started
+  pub refused_children : held.children
+      ≡ children_in (segment course.old.entries then.entries)
+  refused_children =
+      let added = run.stopped.added in
+      let books = run.stopped.books in
+      let entries_are : then.entries ≡ course.old.entries ++ (added ++ map Close (ends held)) =
+      closes.entries_are ∙ ap (λ (l : List EntryView). l ++ map Close (ends held)) books.entries_are ∙ append_assoc course.old.entries added (map Close (ends held)) in
+      sym
+      (ap (λ (l : List EntryView). children_in l) (segment_is course.old.entries then.entries (added ++ map Close (ends held)) entries_are)
+      ∙ flat_map-append child_by added (map Close (ends held)) ∙ ap (λ (l : List ℕ). children_in added ++ l) (closes_children (ends held)) ∙ append-nil (children_in added)
+      ∙ sym books.children_are)

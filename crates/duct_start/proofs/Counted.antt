@@ -1,0 +1,350 @@
+-- What a run started is what its tree asks: a child for each command, an input worker for each input. A capture pipe is open where a
+-- node of the tree asks it.
+use Rattle.std.proofs.Common.{◌≡◌, ℕ, ◌+◌, List, [], ◌∷◌, ◌++◌, length, refl, ap, sym, ◌∙◌, arith}
+use Rattle.std.specs.Prelude as std
+use Rattle.std.specs.Prelude.{Bool, true, false, Some, None, Ok, is_some, if◌then◌else◌, ◌||◌, map}
+use Rattle.std.specs.declared.option.Option.{Option}
+use Rattle.std.proofs.lemmas.List.{map-append}
+use Rattle.std.proofs.Math.Bool.{or_assoc, or-false}
+use Rattle.duct_system.specs.EntryView.{EntryView, Spawn, Feed}
+use Rattle.duct_system.specs.Journal.{JournalView}
+use Rattle.duct_system.specs.Started.{children_in, feeds_in}
+use Rattle.duct_system.specs.Trace.{trace, IsClean}
+use Rattle.duct_system.specs.declared.spec.Stream.{Stream}
+use Rattle.duct_system.specs.declared.spec.Stream.TheVariants.{In, Out, Err}
+use Rattle.duct_system.specs.declared.system.Side.{Side}
+use Rattle.duct_system.specs.declared.system.Side.TheVariants as side
+use Rattle.duct_status.specs.ShapeView.{ShapeView, command_count, input_count}
+use Rattle.duct_start.specs.Actions as action
+use Rattle.duct_start.specs.Actions.{Action, ActionOf, NoneFinishes, Scope, State, Three, advance, after, capture_at, captures_in, found_by, is_capture, with_plan}
+use Rattle.duct_start.specs.Chain.{Allows}
+use Rattle.duct_start.specs.Flat.{Wire, parents, nothing, slot, captured, lent, fetches, inputs, outputs, errors, flat, flat_of, ports_at, rooted, outside, scope_within}
+use Rattle.duct_start.specs.Found.{Found}
+use Rattle.duct_start.specs.Holdings.{Holdings}
+use Rattle.duct_start.specs.Listed.{listed_of, resolved, resolved_all, scopes_from}
+use Rattle.duct_start.specs.Kinds.{Kind, of_spawn, of_feed, of_other, entry_kind, item_kind, spawns, feeds, spawns_asked, feeds_asked}
+use Rattle.duct_start.specs.Path.{Path, left_of, right_of, within}
+use Rattle.duct_start.specs.Plan.{Plan, asks, begun, commanded, drains, is_canonical, opened, place_for, planned, plan_of, reads}
+use Rattle.duct_start.specs.ShapeOfTree.{shape_around, shape_of_tree}
+use Rattle.duct_start.specs.Standing.{Course, Stands}
+use Rattle.duct_start.specs.Lookup.{found_on}
+use Rattle.duct_start.specs.Start.{ceiling}
+use Rattle.duct_start.specs.Step.{Item, AskPipe, step}
+use Rattle.duct_start.specs.TreeView.{ModifierView, TreeView, command, pipe, around, stdin_bytes, stdin_path, stdin_file, stdin_null, stdout_path, stdout_file, stdout_null, stdout_capture, stdout_to_stderr, stderr_path, stderr_file, stderr_null, stderr_capture, stderr_to_stdout, stdout_stderr_swap, dir, env, env_remove, full_env, unchecked, before_spawn}
+use Rattle.duct_start.proofs.Ceiling.{ends_below}
+use Rattle.duct_start.proofs.Commanded.{items_if, items_of, commanded_is, with_items}
+use Rattle.duct_start.proofs.Joined.{tree_leads}
+use Rattle.duct_start.proofs.Resolved.{list_resolves}
+
+-- entries that were not refused started what their kinds say
+children_counted : (added : List EntryView) → IsClean added → length (children_in added) ≡ spawns (map entry_kind (trace added))
+children_counted [] clean = refl
+children_counted (Spawn spec io (Ok number) ∷ added) clean = omega (arith, children_counted added clean.1)
+children_counted (Spawn spec io (std.Err fault) ∷ added) clean = absurd (cc)
+children_counted (entry ∷ added) clean = children_counted added clean.1
+
+feeds_counted : (added : List EntryView) → IsClean added → length (feeds_in added) ≡ feeds (map entry_kind (trace added))
+feeds_counted [] clean = refl
+feeds_counted (Feed number bytes (Ok done) ∷ added) clean = omega (arith, feeds_counted added clean.1)
+feeds_counted (Feed number bytes (std.Err fault) ∷ added) clean = absurd (cc)
+feeds_counted (entry ∷ added) clean = feeds_counted added clean.1
+
+-- as many children are held as the plan has spawns, and as many input workers as it has feeds
+pub counted : {E H : Type 0} (allows : Allows H) (number_of : E → ℕ) (course : Course)
+    (state : State E H) (now : JournalView) (held : Holdings)
+    → Stands allows number_of course state now held
+    → (length held.children ≡ spawns_asked state.plan.items)
+    × (length held.feeds ≡ feeds_asked state.plan.items)
+counted allows number_of course state now held stands = (
+  ap (λ l. length l) stands.books.children_are ∙ children_counted stands.added stands.clean ∙ ap (λ l. spawns l) stands.kinds,
+  ap (λ l. length l) stands.books.feeds_are ∙ feeds_counted stands.added stands.clean ∙ ap (λ l. feeds l) stands.kinds,
+)
+
+spawns-append : (xs ys : List Kind) → spawns (xs ++ ys) ≡ spawns xs + spawns ys
+spawns-append [] ys = omega arith
+spawns-append (of_spawn ∷ xs) ys = omega (arith, spawns-append xs ys)
+spawns-append (of_feed ∷ xs) ys = spawns-append xs ys
+spawns-append (of_other ∷ xs) ys = spawns-append xs ys
+
+feeds-append : (xs ys : List Kind) → feeds (xs ++ ys) ≡ feeds xs + feeds ys
+feeds-append [] ys = omega arith
+feeds-append (of_feed ∷ xs) ys = omega (arith, feeds-append xs ys)
+feeds-append (of_spawn ∷ xs) ys = feeds-append xs ys
+feeds-append (of_other ∷ xs) ys = feeds-append xs ys
+
+none_fetches : {E : Type 0} (K : Type 0) (wire : Wire E) (stream : Stream) → NoneFinishes (fetches {E = E} {K = K} wire stream)
+none_fetches K nothing stream = tt
+none_fetches K (slot depth) stream = tt
+none_fetches K (captured which) stream = tt
+none_fetches K (lent end) stream = tt
+none_fetches K (parents In) stream = tt
+none_fetches K (parents Out) In = tt
+none_fetches K (parents Out) Out = tt
+none_fetches K (parents Out) Err = tt
+none_fetches K (parents Err) In = tt
+none_fetches K (parents Err) Out = tt
+none_fetches K (parents Err) Err = tt
+
+-- the second of two lists of items starts so many children and so many input workers more than the first
+record AddsKinds {E H : Type 0} (children workers : ℕ) (items more : List (Item E H)) : Type 0 where
+  pub spawns : spawns_asked more ≡ spawns_asked items + children
+  pub feeds : feeds_asked more ≡ feeds_asked items + workers
+
+module _ {E H : Type 0} where
+  adds_on : {a b c d : ℕ} {x y z : List (Item E H)} → AddsKinds a b x y → AddsKinds c d y z → AddsKinds (a + c) (b + d) x z
+  adds_on one other = record { spawns = omega (arith, one.spawns, other.spawns); feeds = omega (arith, one.feeds, other.feeds) }
+
+  adds_none : (items : List (Item E H)) → AddsKinds 0 0 items items
+  adds_none items = record { spawns = omega arith; feeds = omega arith }
+
+  adds_items : (items more : List (Item E H)) → AddsKinds (spawns_asked more) (feeds_asked more) items (items ++ more)
+  adds_items items more = record {
+    spawns = ap (λ l. spawns l) (map-append (λ item. item_kind item) items more) ∙ spawns-append (map (λ item. item_kind item) items) (map (λ item. item_kind item) more);
+    feeds = ap (λ l. feeds l) (map-append (λ item. item_kind item) items more) ∙ feeds-append (map (λ item. item_kind item) items) (map (λ item. item_kind item) more);
+  }
+
+  adds_if : (o : Option ℕ) (p q : Plan E H) → AddsKinds 0 0 p.items q.items → AddsKinds 0 0 p.items (if is_some o then p else q).items
+  adds_if None p q adds = adds
+  adds_if (Some place) p q adds = adds_none p.items
+
+  adds_command : (b : Bool) (found : Found E H) (words : List (List ℕ)) (items : List (Item E H)) → AddsKinds 1 0 items (items ++ items_if b found words)
+  adds_command true found words items = adds_items items (items_if true found words)
+  adds_command false found words items = adds_items items (items_if false found words)
+
+  adds_opening : (modifier : ModifierView E H) (plan : Plan E H) → AddsKinds 0 0 plan.items (opened (step modifier).opening plan).items
+  adds_opening (stdin_bytes bytes) plan = adds_items plan.items _
+  adds_opening (stdin_path path) plan = adds_items plan.items _
+  adds_opening (stdout_path path) plan = adds_items plan.items _
+  adds_opening (stderr_path path) plan = adds_items plan.items _
+  adds_opening stdout_capture plan = adds_if plan.out plan _ (adds_items plan.items _)
+  adds_opening stderr_capture plan = adds_if plan.err plan _ (adds_items plan.items _)
+  adds_opening modifier plan = adds_none plan.items
+
+  adds_as : {a b c d : ℕ} {x y z : List (Item E H)} → a ≡ c → b ≡ d → z ≡ y → AddsKinds a b x y → AddsKinds c d x z
+  adds_as one other is adds = record { spawns = ap (λ l. spawns_asked l) is ∙ omega (arith, adds.spawns, one); feeds = ap (λ l. feeds_asked l) is ∙ omega (arith, adds.feeds, other) }
+
+  closes_none : (modifier : ModifierView E H) (place : ℕ) (shape : ShapeView) → command_count shape + spawns_asked ((step modifier).closing place) ≡ command_count (shape_around modifier shape)
+  closes_none (stdin_bytes bytes) place shape = omega arith
+  closes_none unchecked place shape = omega arith
+  closes_none modifier place shape = omega arith
+
+  closes_feeds : (modifier : ModifierView E H) (place : ℕ) (shape : ShapeView) → input_count shape + feeds_asked ((step modifier).closing place) ≡ input_count (shape_around modifier shape)
+  closes_feeds (stdin_bytes bytes) place shape = omega arith
+  closes_feeds unchecked place shape = omega arith
+  closes_feeds modifier place shape = omega arith
+
+  adds_tree : (up : Path E H) (tree : TreeView E H) (plan : Plan E H) → AddsKinds (command_count (shape_of_tree tree)) (input_count (shape_of_tree tree)) plan.items (planned up tree plan).items
+  adds_tree up (command words) plan =
+      let found = found_on up in
+      adds_as refl refl (ap (λ (p : Plan E H). p.items) (commanded_is found words plan)) (adds_command (is_canonical found words) found words plan.items)
+  adds_tree up (pipe left right) plan =
+      let place = length plan.items in
+      let first = planned (left_of place ∷ up) left (asks AskPipe plan) in
+      adds_as (omega arith) (omega arith) refl
+      (adds_on (adds_items plan.items (AskPipe ∷ [])) (adds_on (adds_tree (left_of place ∷ up) left (asks AskPipe plan)) (adds_tree (right_of place ∷ up) right first)))
+  adds_tree up (around modifier inner) plan =
+      let place = place_for (step modifier).opening plan in
+      let before = opened (step modifier).opening plan in
+      let inside = planned (within place modifier ∷ up) inner before in
+      let closing = (step modifier).closing place in
+      let shape = shape_of_tree inner in
+      adds_as (omega (arith, closes_none modifier place shape)) (omega (arith, closes_feeds modifier place shape)) refl
+      (adds_on (adds_opening modifier plan) (adds_on (adds_tree (within place modifier ∷ up) inner before) (adds_items inside.items closing)))
+
+  adds_drains : (o : Option ℕ) (plan : Plan E H) → AddsKinds 0 0 plan.items (drains o plan).items
+  adds_drains None plan = adds_none plan.items
+  adds_drains (Some place) plan = adds_items plan.items _
+
+  adds_reads : (o : Option ℕ) (plan : Plan E H) → AddsKinds 0 0 plan.items (reads o plan).items
+  adds_reads None plan = adds_none plan.items
+  adds_reads (Some place) plan = adds_items plan.items _
+
+  -- a tree asks a spawn for each command, and a feed for each input
+  pub tree_counts : (up : Path E H) (tree : TreeView E H) (plan : Plan E H)
+      → (spawns_asked (planned up tree plan).items
+      ≡ spawns_asked plan.items + command_count (shape_of_tree tree))
+      × (feeds_asked (planned up tree plan).items
+      ≡ feeds_asked plan.items + input_count (shape_of_tree tree))
+  tree_counts up tree plan = let adds = adds_tree up tree plan in (adds.spawns, adds.feeds)
+
+  -- the plan after a tree
+  pub planned_counts : (tree : TreeView E H)
+      → (spawns_asked (planned [] tree begun).items ≡ command_count (shape_of_tree tree))
+      × (feeds_asked (planned [] tree begun).items ≡ input_count (shape_of_tree tree))
+  planned_counts tree = let adds = adds_tree [] tree begun in (omega (arith, adds.spawns), omega (arith, adds.feeds))
+
+  -- the worker of a capture pipe is none of both
+  pub drains_counts : (place : Option ℕ) (plan : Plan E H)
+      → (spawns_asked (drains place plan).items ≡ spawns_asked plan.items)
+      × (feeds_asked (drains place plan).items ≡ feeds_asked plan.items)
+  drains_counts place plan = let adds = adds_drains place plan in (omega (arith, adds.spawns), omega (arith, adds.feeds))
+
+  -- nor is its reader
+  pub reads_counts : (place : Option ℕ) (plan : Plan E H)
+      → (spawns_asked (reads place plan).items ≡ spawns_asked plan.items)
+      × (feeds_asked (reads place plan).items ≡ feeds_asked plan.items)
+  reads_counts place plan = let adds = adds_reads place plan in (omega (arith, adds.spawns), omega (arith, adds.feeds))
+
+  -- a run that stands at the whole plan of a tree holds a child for each command and a worker for each input
+  pub started_counts : (allows : Allows H) (number_of : E → ℕ) (course : Course) (state : State E H)
+      (now : JournalView) (held : Holdings) (tree : TreeView E H)
+      → Stands allows number_of course state now held → state.plan.items ≡ (plan_of tree).items
+      → (length held.children ≡ command_count (shape_of_tree tree))
+      × (length held.feeds ≡ input_count (shape_of_tree tree))
+  started_counts allows number_of course state now held tree stands is =
+      let plan = planned [] tree begun in
+      let all = counted allows number_of course state now held stands in
+      let out = adds_drains plan.out plan in
+      let err = adds_drains plan.err (drains plan.out plan) in
+      let here = planned_counts tree in
+      (omega (arith, all.0, ap (λ l. spawns_asked l) is, out.spawns, err.spawns, here.0), omega (arith, all.1, ap (λ l. feeds_asked l) is, out.feeds, err.feeds, here.1))
+
+  -- so does one that stands before the reader of a reader's start
+  pub reader_counts : (allows : Allows H) (number_of : E → ℕ) (course : Course) (state : State E H)
+      (now : JournalView) (held : Holdings) (tree : TreeView E H)
+      → Stands allows number_of course state now held
+      → (let plan = planned [] (around stdout_capture tree) begun in
+      state.plan.items ≡ (drains plan.err plan).items)
+      → (length held.children ≡ command_count (shape_of_tree tree))
+      × (length held.feeds ≡ input_count (shape_of_tree tree))
+  reader_counts allows number_of course state now held tree stands is =
+      let plan = planned [] (around stdout_capture tree) begun in
+      let all = counted allows number_of course state now held stands in
+      let err = adds_drains plan.err plan in
+      let here = planned_counts (around stdout_capture tree) in
+      (omega (arith, all.0, ap (λ l. spawns_asked l) is, err.spawns, here.0), omega (arith, all.1, ap (λ l. feeds_asked l) is, err.feeds, here.1))
+
+  if_of : {X : Type 0} (f : Plan E H → X) (b : Bool) (p q : Plan E H) → f p ≡ f q → f (if b then p else q) ≡ f q
+  if_of f true p q same = same
+  if_of f false p q same = refl
+
+  opens_there : (f : Plan E H → Option ℕ) (o : Option ℕ) (p q : Plan E H) → f p ≡ o → is_some (f q) ≡ true → is_some (f (if is_some o then p else q)) ≡ (is_some o || true)
+  opens_there f None p q is there = there
+  opens_there f (Some place) p q is there = ap (λ o. is_some o) is
+
+  opens_other : (f : Plan E H → Option ℕ) (b : Bool) (p q : Plan E H) → f q ≡ f p → is_some (f (if b then p else q)) ≡ (is_some (f p) || false)
+  opens_other f b p q same = ap (λ o. is_some o) (if_of f b p q (sym same) ∙ same) ∙ sym (or-false (is_some (f p)))
+
+  opens_spawn : (f : Plan E H → Option ℕ) (found : Found E H) (words : List (List ℕ)) (plan : Plan E H) → ((items : List (Item E H)) → f (with_items items plan) ≡ f plan) →
+      is_some (f (commanded found words plan)) ≡ (is_some (f plan) || false)
+  opens_spawn f found words plan same = ap (λ p. is_some (f p)) (commanded_is found words plan) ∙ ap (λ o. is_some o) (same (items_of found words)) ∙ sym (or-false (is_some (f plan)))
+
+  -- one action
+  action_opens : (which : Side) (state : State E H) (act : Action E H) → NoneFinishes (act ∷ []) →
+      is_some (capture_at which (advance state act).plan) ≡ (is_some (capture_at which state.plan) || is_capture which act)
+  action_opens side.Out state (action.capture side.Out) none = opens_there (λ p. p.out) state.plan.out state.plan _ refl refl
+  action_opens side.Err state (action.capture side.Err) none = opens_there (λ p. p.err) state.plan.err state.plan _ refl refl
+  action_opens side.Out state (action.capture side.Err) none = opens_other (λ p. p.out) (is_some state.plan.err) state.plan _ refl
+  action_opens side.Err state (action.capture side.Out) none = opens_other (λ p. p.err) (is_some state.plan.out) state.plan _ refl
+  action_opens side.Out state (action.spawn scope words ports) none = opens_spawn (λ p. p.out) (found_by scope ports state.stack) words state.plan (λ items. refl)
+  action_opens side.Err state (action.spawn scope words ports) none = opens_spawn (λ p. p.err) (found_by scope ports state.stack) words state.plan (λ items. refl)
+  action_opens which state (action.finish other) none = absurd none
+  action_opens side.Out state (action.parent side.Out) none = sym (or-false (is_some state.plan.out))
+  action_opens side.Out state (action.parent side.Err) none = sym (or-false (is_some state.plan.out))
+  action_opens side.Err state (action.parent side.Out) none = sym (or-false (is_some state.plan.err))
+  action_opens side.Err state (action.parent side.Err) none = sym (or-false (is_some state.plan.err))
+  action_opens side.Out state act none = sym (or-false (is_some state.plan.out))
+  action_opens side.Err state act none = sym (or-false (is_some state.plan.err))
+
+  none_first : (act : Action E H) (actions : List (Action E H)) → NoneFinishes (act ∷ actions) → NoneFinishes (act ∷ [])
+  none_first (action.finish which) actions none = none
+  none_first act actions none = tt
+
+  none_rest : (act : Action E H) (actions : List (Action E H)) → NoneFinishes (act ∷ actions) → NoneFinishes actions
+  none_rest (action.finish which) actions none = absurd none
+  none_rest act actions none = none
+
+  -- a capture pipe is open after some actions where it was open before or one of them opens it
+  pub actions_open : (which : Side) (state : State E H) (actions : List (Action E H))
+      → NoneFinishes actions
+      → is_some (capture_at which (after state actions).plan)
+      ≡ (is_some (capture_at which state.plan) || captures_in which actions)
+  actions_open which state [] none = sym (or-false (is_some (capture_at which state.plan)))
+  actions_open which state (act ∷ actions) none =
+      actions_open which (advance state act) actions (none_rest act actions none)
+      ∙ ap (λ b. b || captures_in which actions) (action_opens which state act (none_first act actions none))
+      ∙ or_assoc (is_some (capture_at which state.plan)) (is_capture which act) (captures_in which actions)
+
+  resolved_same : (which : Side) (scopes : List (Scope E H)) (act : ActionOf E ℕ) → is_capture which (resolved scopes act) ≡ is_capture which act
+  resolved_same side.Out scopes (action.capture side.Out) = refl
+  resolved_same side.Out scopes (action.capture side.Err) = refl
+  resolved_same side.Err scopes (action.capture side.Out) = refl
+  resolved_same side.Err scopes (action.capture side.Err) = refl
+  resolved_same side.Out scopes act = refl
+  resolved_same side.Err scopes act = refl
+
+  -- what opens a capture pipe does so whatever stands round its commands
+  pub resolved_captures : (which : Side) (scopes : List (Scope E H)) (actions : List (ActionOf E ℕ))
+      → captures_in which (resolved_all scopes actions) ≡ captures_in which actions
+  resolved_captures which scopes [] = refl
+  resolved_captures which scopes (act ∷ actions) = λ i. resolved_same which scopes act i || resolved_captures which scopes actions i
+
+  none_append : (xs ys : List (Action E H)) → NoneFinishes xs → NoneFinishes ys → NoneFinishes (xs ++ ys)
+  none_append [] ys none more = more
+  none_append (action.finish which ∷ xs) ys none more = absurd none
+  none_append (act ∷ xs) ys none more = none_append xs ys none more
+
+  none_flat : (tree : TreeView E H) (s : Scope E H) (w : Three (Wire E)) (n : ℕ) → NoneFinishes (flat s w tree n)
+  none_flat (command words) s w n =
+      let input : List (Action E H) = fetches w.input In in
+      let output : List (Action E H) = fetches w.output Out in
+      let error : List (Action E H) = fetches w.error Err in
+      let last : List (Action E H) = action.spawn s words (ports_at w) ∷ [] in
+      none_append input (output ++ (error ++ last)) (none_fetches (Scope E H) w.input In)
+      (none_append output (error ++ last) (none_fetches (Scope E H) w.output Out) (none_append error last (none_fetches (Scope E H) w.error Err) tt))
+  none_flat (pipe left right) s w n =
+      let up = outputs (slot (n + 1)) w in
+      let down = inputs (slot n) w in
+      let first : List (Action E H) = flat s up left (n + 2) in
+      let second : List (Action E H) = flat s down right (n + 1) in
+      none_append first (action.close ∷ (second ++ action.close ∷ [])) (none_flat left s up (n + 2)) (none_append second (action.close ∷ []) (none_flat right s down (n + 1)) tt)
+  none_flat (around (stdin_bytes bytes) inner) s w n =
+      let wires = inputs (slot (n + 1)) w in none_append (flat s wires inner (n + 2)) (action.close ∷ action.feed bytes ∷ []) (none_flat inner s wires (n + 2)) tt
+  none_flat (around (stdin_path path) inner) s w n =
+      let wires = inputs (slot n) w in none_append (flat s wires inner (n + 1)) (action.close ∷ []) (none_flat inner s wires (n + 1)) tt
+  none_flat (around (stdin_file end) inner) s w n = none_flat inner s (inputs (lent end) w) n
+  none_flat (around stdin_null inner) s w n = none_flat inner s (inputs nothing w) n
+  none_flat (around (stdout_path path) inner) s w n =
+      let wires = outputs (slot n) w in none_append (flat s wires inner (n + 1)) (action.close ∷ []) (none_flat inner s wires (n + 1)) tt
+  none_flat (around (stdout_file end) inner) s w n = none_flat inner s (outputs (lent end) w) n
+  none_flat (around stdout_null inner) s w n = none_flat inner s (outputs nothing w) n
+  none_flat (around stdout_capture inner) s w n = none_flat inner s (outputs (captured side.Out) w) n
+  none_flat (around stdout_to_stderr inner) s w n = none_flat inner s (outputs w.error w) n
+  none_flat (around (stderr_path path) inner) s w n =
+      let wires = errors (slot n) w in none_append (flat s wires inner (n + 1)) (action.close ∷ []) (none_flat inner s wires (n + 1)) tt
+  none_flat (around (stderr_file end) inner) s w n = none_flat inner s (errors (lent end) w) n
+  none_flat (around stderr_null inner) s w n = none_flat inner s (errors nothing w) n
+  none_flat (around stderr_capture inner) s w n = none_flat inner s (errors (captured side.Err) w) n
+  none_flat (around stderr_to_stdout inner) s w n = none_flat inner s (errors w.output w) n
+  none_flat (around stdout_stderr_swap inner) s w n = none_flat inner s (record w { output = w.error; error = w.output }) n
+  none_flat (around (dir path) inner) s w n = none_flat inner (scope_within (step (dir path)) s) w n
+  none_flat (around (env name value) inner) s w n = none_flat inner (scope_within (step (env name value)) s) w n
+  none_flat (around (env_remove name) inner) s w n = none_flat inner (scope_within (step (env_remove name)) s) w n
+  none_flat (around (full_env vars) inner) s w n = none_flat inner (scope_within (step (full_env vars)) s) w n
+  none_flat (around unchecked inner) s w n = none_flat inner s w n
+  none_flat (around (before_spawn hook ends) inner) s w n = none_flat inner (scope_within (step (before_spawn hook ends)) s) w n
+
+  -- the list of a tree is done with no capture pipe
+  pub flat_none : (tree : TreeView E H) → NoneFinishes (flat_of tree)
+  flat_none tree = none_flat tree rooted outside 0
+
+  -- a capture pipe of a tree is open after it where the tree's list opens it
+  pub flat_captures : (which : Side) (tree : TreeView E H)
+      → is_some (capture_at which (planned [] tree begun)) ≡ captures_in which (flat_of tree)
+  flat_captures which tree =
+      let number_of : E → ℕ = λ end. 0 in
+      let leads = tree_leads number_of (ceiling number_of tree) tree (ends_below number_of tree) in
+      ap (λ (state : State E H). is_some (capture_at which state.plan)) (sym leads.is) ∙ actions_open which (with_plan begun) (flat_of tree) (flat_none tree)
+      ∙ ap (λ b. b || captures_in which (flat_of tree)) (none_begun which)
+    where
+      none_begun : (which : Side) → is_some (capture_at which (begun {E = E} {H = H})) ≡ false
+      none_begun side.Out = refl
+      none_begun side.Err = refl
+
+  -- and where its list with scopes by index does
+  pub list_captures : (which : Side) (tree : TreeView E H)
+      → is_some (capture_at which (planned [] tree begun))
+      ≡ captures_in which (listed_of tree).actions
+  list_captures which tree =
+      let scopes = scopes_from (rooted ∷ []) (listed_of tree).scopes in
+      flat_captures which tree ∙ ap (λ l. captures_in which l) (sym (list_resolves tree)) ∙ resolved_captures which scopes (listed_of tree).actions

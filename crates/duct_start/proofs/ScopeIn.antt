@@ -1,0 +1,59 @@
+-- The scope of an index in a list: that of its own node inside the scope outside of it.
+use Rattle.std.specs.Prelude.{Some, slice_get, unwrap_or}
+use Rattle.std.proofs.Common.{◌≡◌, ℕ, zero, suc, ◌+◌, ◌<◌, List, [], ◌∷◌, ◌++◌, length, refl, ap, sym, ◌∙◌, arith, inl, inr, length-append}
+use Rattle.std.proofs.lemmas.Option.{slice_get_cases}
+use Rattle.duct_start.specs.Actions.{Scope}
+use Rattle.duct_start.specs.Flat.{rooted, scope_within}
+use Rattle.duct_start.specs.Listed.{AreOutwards, ListedScope, scope_at, scope_in, scopes_from, with_scope}
+use Rattle.duct_start.specs.Step.{step}
+
+end_of : {A : Type 0} (xs : List A) (x : A) (n : ℕ) → n ≡ length xs → slice_get (xs ++ x ∷ []) n ≡ Some x
+end_of [] x zero is = refl
+end_of [] x (suc n) is = absurd (omega arith)
+end_of (y ∷ xs) x zero is = absurd (omega arith)
+end_of (y ∷ xs) x (suc n) is = end_of xs x n (omega arith)
+
+front_of : {A : Type 0} (xs ys : List A) (n : ℕ) (x : A) → slice_get xs n ≡ Some x → slice_get (xs ++ ys) n ≡ Some x
+front_of [] ys n x is = cc
+front_of (y ∷ xs) ys zero x is = is
+front_of (y ∷ xs) ys (suc n) x is = front_of xs ys n x is
+
+module _ {E H : Type 0} where
+  -- what is known stays where it is
+  known_stays : (known : List (Scope E H)) (scopes : List (ListedScope E H)) (i : ℕ) (s : Scope E H) → slice_get known i ≡ Some s → slice_get (scopes_from known scopes) i ≡ Some s
+  known_stays known [] i s is = is
+  known_stays known (scope ∷ scopes) i s is = known_stays (with_scope known scope) scopes i s (front_of known _ i s is)
+
+  scope_stays : (known : List (Scope E H)) (scopes : List (ListedScope E H)) (i : ℕ) → i < length known → scope_at known i ≡ scope_at (scopes_from known scopes) i
+  scope_stays known scopes i low = elim (slice_get_cases known i).1 [
+    | inl found ↦ ap (λ o. unwrap_or o rooted) (found.2) ∙ sym (ap (λ o. unwrap_or o rooted) (known_stays known scopes i found.0 found.2))
+    | inr past ↦ absurd (omega (arith, past.0))
+  ]
+
+  -- the scope of each node stands behind those that are known and those before it
+  stands_behind : (known : List (Scope E H)) (scopes : List (ListedScope E H)) (k n : ℕ) (scope : ListedScope E H) →
+      slice_get scopes k ≡ Some scope → n ≡ length known + k → scope.1 < n →
+      slice_get (scopes_from known scopes) n ≡ Some (scope_within (step scope.0) (scope_at (scopes_from known scopes) scope.1))
+  stands_behind known [] k n scope here is outwards = absurd (cc)
+  stands_behind known (x ∷ scopes) zero n scope here is outwards =
+      let same : x ≡ scope = cc in
+      let made = scope_within (step x.0) (scope_at known x.1) in
+      let stays : scope_at known x.1 ≡ scope_at (scopes_from (with_scope known x) scopes) x.1 = scope_stays known (x ∷ scopes) x.1 (omega (arith, ap (λ (s : ListedScope E H). s.1) same)) in
+      known_stays (with_scope known x) scopes n made (end_of known made n (omega arith))
+      ∙ ap (λ s. Some (scope_within (step x.0) s)) stays
+      ∙ ap (λ (s : ListedScope E H). Some (scope_within (step s.0) (scope_at (scopes_from (with_scope known x) scopes) s.1))) same
+  stands_behind known (x ∷ scopes) (suc k) n scope here is outwards =
+      stands_behind (with_scope known x) scopes k n scope here
+      (omega (arith, length-append known (scope_within (step x.0) (scope_at known x.1) ∷ []))) outwards
+
+  -- nothing stands round the root
+  pub scope_in_root : (scopes : List (ListedScope E H)) → scope_in scopes 0 ≡ rooted
+  scope_in_root scopes = sym (scope_stays (rooted ∷ []) scopes 0 (omega arith))
+
+  -- a scope is that of its node inside the one outside of it
+  pub scope_in_next : (scopes : List (ListedScope E H)) (k : ℕ) (scope : ListedScope E H)
+      → AreOutwards scopes → slice_get scopes k ≡ Some scope
+      → scope_in scopes (k + 1) ≡ scope_within (step scope.0) (scope_in scopes scope.1)
+  scope_in_next scopes k scope outwards here =
+      let low = outwards k scope here in
+      ap (λ o. unwrap_or o rooted) (stands_behind (rooted ∷ []) scopes k (k + 1) scope here (omega arith) (omega arith))

@@ -1,0 +1,197 @@
+-- The streams of a command stand among the ends on a stack, and each may be turned to another end.
+use Rattle.std.proofs.Common.{◌≡◌, ℕ, suc, zero, ◌<◌, ◌≤◌, List, [], ◌∷◌, ◌++◌, length, refl, ap, sym, ◌∙◌, arith, subst, length-append, get_or}
+use Rattle.std.proofs.lemmas.List.{length-map, map-append}
+use Rattle.std.proofs.lemmas.List.Elements.{All-head, All-tail}
+use Rattle.std.proofs.lemmas.Bool.Decides.{nat_tests}
+use Rattle.std.proofs.lemmas.Option.{slice_get-get_or, slice_get-map}
+use Rattle.std.specs.Option.{option_map}
+use Rattle.std.specs.Prelude.{All, Err, None, Ok, Some, map, slice_get}
+use Rattle.duct_system.specs.EntryView.{Close, Duplicate}
+use Rattle.duct_system.specs.Journal.{JournalView, GetsEnd, GivesEnds, IsRefused}
+use Rattle.duct_system.specs.Ledger.{count_of}
+use Rattle.duct_system.specs.Streams.{end_of}
+use Rattle.duct_system.specs.declared.error.Error.TheVariants.{System}
+use Rattle.duct_system.specs.declared.spec.Port.{Port}
+use Rattle.duct_system.specs.declared.spec.Port.TheVariants as port
+use Rattle.duct_system.specs.declared.system.Fault.{Fault}
+use Rattle.duct_system.specs.declared.system.Stdio.{Stdio}
+use Rattle.duct_system.specs.declared.system.Stdio.TheVariants.{Inherit, Null, End}
+use Rattle.duct_start.specs.Actions as action
+use Rattle.duct_start.specs.Actions.{State}
+use Rattle.duct_start.specs.Chain.{Allows, end_of_place, missing_at, settled}
+use Rattle.duct_start.specs.Commands.{IsAlike, LetsGo, Settles, Unsettled, holding, with_stack}
+use Rattle.duct_start.specs.Found.{Target, Lends}
+use Rattle.duct_start.specs.Holdings.{Holdings, ends, pair_of}
+use Rattle.duct_start.specs.Standing.{Course, Stands}
+use Rattle.duct_start.proofs.Counts.{count-append}
+use Rattle.duct_start.proofs.Going.{close_goes, duplicate_quits, lend_goes}
+
+-- two lists that are put together of parts of the same lengths
+pub split_first : {A : Type 0} (xs us ys vs : List A) → length xs ≡ length us → xs ++ ys ≡ us ++ vs → xs ≡ us
+split_first [] [] ys vs same is = refl
+split_first [] (u ∷ us) ys vs same is = absurd (omega (arith, same))
+split_first (x ∷ xs) [] ys vs same is = absurd (omega (arith, same))
+split_first (x ∷ xs) (u ∷ us) ys vs same is =
+    let rest : length xs ≡ length us = omega (arith, same) in
+    let tail : xs ++ ys ≡ us ++ vs = cc in
+    let head : x ≡ u = cc in
+    λ i. head i ∷ split_first xs us ys vs rest tail i
+
+pub split_second : {A : Type 0} (xs us ys vs : List A) → length xs ≡ length us → xs ++ ys ≡ us ++ vs → ys ≡ vs
+split_second [] [] ys vs same is = is
+split_second [] (u ∷ us) ys vs same is = absurd (omega (arith, same))
+split_second (x ∷ xs) [] ys vs same is = absurd (omega (arith, same))
+split_second (x ∷ xs) (u ∷ us) ys vs same is =
+    let rest : length xs ≡ length us = omega (arith, same) in
+    let tail : xs ++ ys ≡ us ++ vs = cc in
+    split_second xs us ys vs rest tail
+
+-- the same parts in another order on both sides
+swapped_map : {A B C : Type 0} (f : A → C) (g : B → C) (a b c : List A) (x y z : List B) → length a ≡ length x → length b ≡ length y →
+    map f (a ++ (b ++ c)) ≡ map g (x ++ (y ++ z)) → map f (b ++ (a ++ c)) ≡ map g (y ++ (x ++ z))
+swapped_map {A} {B} {C} f g a b c x y z one other is =
+    let la : length (map f a) ≡ length (map g x) = omega (arith, one, length-map a f, length-map x g) in
+    let lb : length (map f b) ≡ length (map g y) = omega (arith, other, length-map b f, length-map y g) in
+    let whole : map f a ++ map f (b ++ c) ≡ map g x ++ map g (y ++ z) = sym (map-append f a (b ++ c)) ∙ is ∙ map-append g x (y ++ z) in
+    let first = split_first (map f a) (map g x) (map f (b ++ c)) (map g (y ++ z)) la whole in
+    let rest : map f b ++ map f c ≡ map g y ++ map g z = sym (map-append f b c) ∙ split_second (map f a) (map g x) (map f (b ++ c)) (map g (y ++ z)) la whole ∙ map-append g y z in
+    let second = split_first (map f b) (map g y) (map f c) (map g z) lb rest in
+    let third = split_second (map f b) (map g y) (map f c) (map g z) lb rest in
+    map-append f b (a ++ c) ∙ (λ i. second i ++ map-append f a c i) ∙ (λ i. map g y ++ (first i ++ third i)) ∙ sym (map-append g y (x ++ z) ∙ ap (λ l. map g y ++ l) (map-append g x z))
+
+module _ {E H : Type 0} (allows : Allows H) (number_of : E → ℕ) where
+  -- ends that stand one behind the other change their places
+  pub swapped : (course : Course) (state : State E H) (now : JournalView) (held : Holdings)
+      (a b c : List ℕ) (x y z : List (Target E)) → length a ≡ length x → length b ≡ length y
+      → Stands allows number_of course (with_stack (x ++ (y ++ z)) state) now
+      (holding (a ++ (b ++ c)) held)
+      → Stands allows number_of course (with_stack (y ++ (x ++ z)) state) now
+      (holding (b ++ (a ++ c)) held)
+  swapped course state now held a b c x y z one other stands =
+      let pairs = pair_of held.out ++ pair_of held.err in
+      let same : (n : ℕ) → count_of n (ends (holding (b ++ (a ++ c)) held)) ≡ count_of n (ends (holding (a ++ (b ++ c)) held)) =
+      λ n. omega (arith, count-append n (a ++ (b ++ c)) pairs, count-append n (b ++ (a ++ c)) pairs, count-append n a (b ++ c), count-append n b c, count-append n b (a ++ c), count-append n a c) in
+      let long : length (ends (holding (b ++ (a ++ c)) held)) ≡ length (ends (holding (a ++ (b ++ c)) held)) =
+      omega (arith, length-append (a ++ (b ++ c)) pairs, length-append (b ++ (a ++ c)) pairs, length-append a (b ++ c), length-append b c, length-append b (a ++ c), length-append a c) in
+      let books = stands.books in
+      record {
+        added = stands.added;
+        books = record {
+          entries_are = books.entries_are;
+          counted = books.counted;
+          even = λ n. omega (arith, books.even n, same n);
+          once = books.once;
+          below = books.below;
+          above = books.above;
+          next_grows = books.next_grows;
+          long = omega (arith, books.long, long);
+          room_is = omega (arith, books.room_is, long);
+          children_are = books.children_are;
+          feeds_are = books.feeds_are;
+          drains_are = books.drains_are;
+        };
+        few = stands.few;
+        kinds = stands.kinds;
+        shaped = record {
+          stack = omega (arith, stands.shaped.stack, length-append a (b ++ c), length-append b c, length-append b (a ++ c), length-append a c, length-append x (y ++ z), length-append y z, length-append y (x ++ z), length-append x z);
+          out = stands.shaped.out;
+          err = stands.shaped.err;
+        };
+        begins = stands.begins;
+        starts = stands.starts;
+        answers = stands.answers;
+        sources = λ more later. let s = stands.sources more later in record { stack = swapped_map _ _ a b c x y z one other s.stack; out = s.out; err = s.err };
+        clean = stands.clean;
+      }
+
+  -- the end of a stream is closed
+  pub lets_go : (n : ℕ) (now then : JournalView) → GivesEnds (Close n) 1 now then
+      → LetsGo {E = E} {H = H} allows number_of now then (End n)
+  lets_go n now then gives course state held over under above below Inherit alike same stands low = absurd alike
+  lets_go n now then gives course state held over under above below Null alike same stands low = absurd alike
+  lets_go n now then gives course state held over under above below (End t) alike same stands low =
+      let first = swapped course state now held over (n ∷ []) under above (t ∷ []) below same refl stands in
+      close_goes allows number_of n (over ++ under) now then (holding (n ∷ (over ++ under)) held) refl gives course (with_stack (t ∷ (above ++ below)) state)
+      (record { full = omega arith; needs = tt; low = omega (arith, low, length-append above (t ∷ below), length-append above below) }) first
+
+  -- a stream without an end needs nothing
+  pub lets_nothing : (stream : Stdio ℕ) (now : JournalView) → end_of stream ≡ []
+      → LetsGo {E = E} {H = H} allows number_of now now stream
+  lets_nothing Inherit now none course state held over under above below Inherit alike same stands low = stands
+  lets_nothing Inherit now none course state held over under above below Null alike same stands low = absurd alike
+  lets_nothing Inherit now none course state held over under above below (End t) alike same stands low = absurd alike
+  lets_nothing Null now none course state held over under above below Inherit alike same stands low = absurd alike
+  lets_nothing Null now none course state held over under above below Null alike same stands low = stands
+  lets_nothing Null now none course state held over under above below (End t) alike same stands low = absurd alike
+  lets_nothing (End n) now none course state held over under above below target alike same stands low = cc
+
+  -- a stream that goes to the parent's own or to nothing
+  pub settles_inherit : (ends : List E) (old : Stdio ℕ) (now then : JournalView)
+      → LetsGo {E = E} {H = H} allows number_of now then old
+      → Settles {E = E} {H = H} allows number_of ends port.Inherit now then old Inherit
+  settles_inherit ends old now then goes = λ course state held over under above below target alike same lower low stands.
+      let le : length (above ++ (end_of target ++ below)) ≤ course.bound = omega (arith, low) in
+      (tt, goes course state held over under above below target alike same stands le)
+
+  pub settles_null : (ends : List E) (old : Stdio ℕ) (now then : JournalView)
+      → LetsGo {E = E} {H = H} allows number_of now then old
+      → Settles {E = E} {H = H} allows number_of ends port.Null now then old Null
+  settles_null ends old now then goes = λ course state held over under above below target alike same lower low stands.
+      let le : length (above ++ (end_of target ++ below)) ≤ course.bound = omega (arith, low) in
+      (tt, goes course state held over under above below target alike same stands le)
+
+  -- a stream that stays as it is
+  pub settles_given : (ends : List E) (old : Stdio ℕ) (now : JournalView)
+      → Settles {E = E} {H = H} allows number_of ends port.Given now now old old
+  settles_given ends old now = λ course state held over under above below target alike same lower low stands. (alike, stands)
+
+  lower_at : (base : ℕ) (ends : List E) (place : ℕ) (end : E) → All (λ e. number_of e < base) ends → slice_get ends place ≡ Some end → number_of end < base
+  lower_at base [] place end all is = cc
+  lower_at base (x ∷ ends) zero end all is = let same : x ≡ end = cc in subst (λ e. number_of e < base) same (All-head (λ e. number_of e < base) x ends all)
+  lower_at base (x ∷ ends) (suc place) end all is = lower_at base ends place end (All-tail (λ e. number_of e < base) x ends all) is
+
+  -- a stream that goes to an end beside the hook, by a duplicate of it
+  pub settles_place : (ends : List E) (place n : ℕ) (end : E) (old : Stdio ℕ)
+      (now mid then : JournalView) → slice_get ends place ≡ Some end
+      → GetsEnd (Duplicate (number_of end) (Ok n)) n now mid
+      → LetsGo {E = E} {H = H} allows number_of mid then old
+      → Settles {E = E} {H = H} allows number_of ends (port.Place place) now then old (End n)
+  settles_place ends place n end old now mid then at gets goes = λ course state held over under above below target alike same lower low stands.
+      let stack = above ++ (end_of target ++ below) in
+      let ready : action.IsReady number_of course.base course.bound (with_stack stack state) (action.lend end) =
+      record { full = omega arith; needs = lower_at course.base ends place end lower at; low = omega (arith, low) } in
+      let lent = lend_goes allows number_of end n now mid (holding (over ++ (end_of old ++ under)) held) gets course (with_stack stack state) ready stands in
+      let more : length (n ∷ over) ≡ length (Lends end ∷ above) = omega (arith, same) in
+      let le : length (Lends end ∷ stack) ≤ course.bound = omega (arith, low) in
+      let left = goes course state held (n ∷ over) under (Lends end ∷ above) below target alike more lent le in
+      let is : End (Lends end) ≡ settled (map Lends ends) (port.Place place) target = sym (ap end_of_place (slice_get-map Lends ends place ∙ ap (λ o. option_map Lends o) at)) in (
+        subst (λ (t : Stdio (Target E)). IsAlike (End n) t) is tt,
+        subst (λ (t : Stdio (Target E)). Stands allows number_of course (with_stack (above ++ (end_of t ++ below)) state) then (holding (over ++ (n ∷ under)) held)) is
+            (swapped course state then held (n ∷ []) over under (Lends end ∷ []) above below refl same left),
+      )
+
+  -- the duplicate was refused
+  pub unsettled : (ends : List E) (place : ℕ) (end : E) (fault : Fault) (now then : JournalView)
+      → slice_get ends place ≡ Some end
+      → IsRefused (Duplicate (number_of end) (Err fault)) 0 fault now then
+      → Unsettled {E = E} {H = H} allows number_of ends now then (System fault)
+  unsettled ends place end fault now then at refused = λ course state held stack targets lower low stands. (
+    (λ no. no),
+    duplicate_quits allows number_of fault now then (holding stack held) (action.lend end) (number_of end) (λ st. refl) refused course (with_stack targets state)
+        (record { full = omega arith; needs = lower_at course.base ends place end lower at; low = omega (arith, low) }) stands,
+  )
+
+-- an end at a place that is there
+pub end_there : {E : Type 0} (ends : List E) (place : ℕ) (end other : E)
+    → missing_at (length ends) (port.Place place) ≡ None → end ≡ get_or ends place other
+    → slice_get ends place ≡ Some end
+end_there ends place end other there is =
+    let within : place < length ends = grind (arith, nat_tests) in
+    slice_get-get_or ends place other within ∙ ap (λ e. Some e) (sym is)
+
+-- the port, written otherwise
+pub settles_at : {E H : Type 0} (allows : Allows H) (number_of : E → ℕ) (ends : List E) (p q : Port)
+    (now then : JournalView) (old new : Stdio ℕ) → p ≡ q
+    → Settles {E = E} {H = H} allows number_of ends p now then old new
+    → Settles {E = E} {H = H} allows number_of ends q now then old new
+settles_at {E} {H} allows number_of ends p q now then old new is settles = subst (λ (x : Port). Settles {E = E} {H = H} allows number_of ends x now then old new) is settles

@@ -1,0 +1,411 @@
+-- The spawn of a command, after its canonical name and its hooks.
+use Rattle.std.proofs.Common.{◌≡◌, ℕ, zero, suc, inl, inr, ◌+◌, ◌-◌, ◌<◌, ◌≤◌, List, [], ◌∷◌, ◌++◌, length, refl, ap, sym, ◌∙◌, arith, subst, append_assoc, length-append}
+use Rattle.std.proofs.lemmas.List.{append-nil, length-map, map-append}
+use Rattle.std.specs.declared.option.Option.{Option}
+use Rattle.std.specs.declared.result.Result.{Result}
+use Rattle.std.specs.Prelude.{Bool, true, false, Err, None, Ok, Some, if◌then◌else◌, map, slice_get, unwrap_or}
+use Rattle.duct_system.specs.EntryView.{EntryView, Spawn}
+use Rattle.duct_system.specs.Journal.{JournalView, GivesEnds, IsRefused}
+use Rattle.duct_system.specs.Ledger.{count_of, spent_by}
+use Rattle.duct_system.specs.Origin.{Origin, Opened, origin}
+use Rattle.duct_system.specs.SpecView.{SpecView}
+use Rattle.duct_system.specs.Started.{child_by}
+use Rattle.duct_system.specs.Streams.{end_of, ends_of, stream_of}
+use Rattle.duct_system.specs.Trace.{trace}
+use Rattle.duct_system.specs.declared.error.Error.{Error}
+use Rattle.duct_system.specs.declared.error.Error.TheVariants.{System}
+use Rattle.duct_system.specs.declared.error.Error.TheVariants as error
+use Rattle.duct_system.specs.declared.spec.Port.{Port}
+use Rattle.duct_system.specs.declared.spec.Stream.TheVariants as stream
+use Rattle.duct_system.specs.declared.system.Fault.{Fault}
+use Rattle.duct_system.specs.declared.system.Stdio.{Stdio}
+use Rattle.duct_system.specs.declared.system.Stdio.TheVariants.{Inherit, Null, End}
+use Rattle.duct_start.specs.Actions as action
+use Rattle.duct_start.specs.Actions.{Scope, State, Three, left_by, many, found_by}
+use Rattle.duct_start.specs.Asked.{IsAsked}
+use Rattle.duct_start.specs.Causes.{StoppedBy}
+use Rattle.duct_start.specs.Chain.{Allows, Refuses, Chain, ChainStops, WiredTo, lent}
+use Rattle.duct_start.specs.Commands.{AreAlike, Halts, IsAlike, Refused, Staged, handed, holding, is_named, lends, named, program_in, streams_in, taken_by, with_stack}
+use Rattle.duct_start.specs.Follows.{IsAskedAt, IsGiven, pairs_in, program_at, text_in}
+use Rattle.duct_start.specs.Found.{Found, Target, Parents, Nothing, ReaderAt, WriterAt, FileAt, Lends}
+use Rattle.duct_start.specs.Holdings.{Holdings, pair_of}
+use Rattle.duct_start.specs.Plan.{Plan, asks, program_of}
+use Rattle.duct_start.specs.Standing.{Course, IsHooks, IsLater, Sourced, Stands, Stopped, hooked, origin_to}
+use Rattle.duct_start.specs.Step.{Item, AskCanonicalize, AskSpawn}
+use Rattle.duct_start.proofs.Chained.{chain_as, chain_stops_as, lends_lent, wired_as}
+use Rattle.duct_start.proofs.Changing.{alike_long, handed_long}
+use Rattle.duct_start.proofs.Counts.{count-append, fresh_none}
+use Rattle.duct_start.proofs.Going.{adds_as}
+use Rattle.duct_start.proofs.Origins.{trace-append}
+use Rattle.duct_start.proofs.Settling.{split_first, split_second}
+use Rattle.duct_start.proofs.Stacks.{get_seam}
+use Rattle.duct_start.proofs.Standing.{Changes, as_many, answers_front, few_of, sources_now, stands_more, stops_more, stops_unasked}
+use Rattle.duct_start.proofs.Wires.{origin_of, streams_taken}
+
+-- a front of a list stays where it is
+get_within : {A : Type 0} (xs ys : List A) (n : ℕ) → n < length xs → slice_get (xs ++ ys) n ≡ slice_get xs n
+get_within [] ys n low = absurd (omega (arith, low))
+get_within (x ∷ xs) ys zero low = refl
+get_within (x ∷ xs) ys (suc n) low = get_within xs ys n (omega (arith, low))
+
+-- a run with other entries at its front
+abbrev pub onwards : Course → List EntryView → Course
+onwards course front = record course { front = front }
+
+module _ {E H : Type 0} (allows : Allows H) (number_of : E → ℕ) (course : Course) (front : List EntryView) where
+  later_as : (next : ℕ) (more : List EntryView) → IsLater course next more → IsLater (onwards course front) next more
+  later_as next more later = record { early = later.early; fresh = later.fresh }
+
+  later_back : (next : ℕ) (more : List EntryView) → IsLater (onwards course front) next more → IsLater course next more
+  later_back next more later = record { early = later.early; fresh = later.fresh }
+
+  pub stands_onwards : (state : State E H) (now : JournalView) (held : Holdings)
+      (stands : Stands allows number_of course state now held) → stands.added ≡ front
+      → Stands allows number_of (onwards course front) state now held
+  stands_onwards state now held stands is = record {
+    added = stands.added;
+    books = stands.books;
+    few = stands.few;
+    kinds = stands.kinds;
+    shaped = stands.shaped;
+    begins = stands.begins;
+    starts = ([], is ∙ sym (append-nil front));
+    answers = λ more later. stands.answers more (later_back now.next more later);
+    sources = λ more later. stands.sources more (later_back now.next more later);
+    clean = stands.clean;
+  }
+
+  module _ (from : (later : List EntryView) × (front ≡ course.front ++ later)) where
+    begins_back : (added later : List EntryView) → added ≡ front ++ later → (l : List EntryView) × (added ≡ course.front ++ l)
+    begins_back added later is = (from.0 ++ later, is ∙ ap (λ l. l ++ later) from.1 ∙ append_assoc course.front from.0 later)
+
+    pub stands_back : (state : State E H) (now : JournalView) (held : Holdings)
+        → Stands allows number_of (onwards course front) state now held
+        → Stands allows number_of course state now held
+    stands_back state now held stands = record {
+      added = stands.added;
+      books = stands.books;
+      few = stands.few;
+      kinds = stands.kinds;
+      shaped = stands.shaped;
+      begins = stands.begins;
+      starts = begins_back stands.added stands.starts.0 stands.starts.1;
+      answers = λ more later. stands.answers more (later_as now.next more later);
+      sources = λ more later. stands.sources more (later_as now.next more later);
+      clean = stands.clean;
+    }
+
+  pub stopped_back : (items : List (Item E H)) (now : JournalView) (held : Holdings) (e : Error)
+      → Stopped allows number_of (onwards course front) items now held e
+      → Stopped allows number_of course items now held e
+  stopped_back items now held e stopped = record {
+    added = stopped.added;
+    books = stopped.books;
+    few = stopped.few;
+    answers = λ more later. stopped.answers more (later_as now.next more later);
+    ended = stopped.ended;
+  }
+
+module _ {E : Type 0} (number_of : E → ℕ) where
+  some_any : (e other : List EntryView) (o : Origin) (t : Target E) → Some o ≡ origin_to e number_of t → Some (origin_of other number_of t) ≡ origin_to other number_of t
+  some_any e other o (Parents stream.In) is = absurd (cc)
+  some_any e other o (Parents stream.Out) is = refl
+  some_any e other o (Parents stream.Err) is = refl
+  some_any e other o Nothing is = absurd (cc)
+  some_any e other o (ReaderAt place) is = refl
+  some_any e other o (WriterAt place) is = refl
+  some_any e other o (FileAt place) is = refl
+  some_any e other o (Lends end) is = refl
+
+  -- what has an origin by one trace has one by any
+  origins_any : (e other : List EntryView) (numbers : List Origin) (stack : List (Target E)) → map (λ o. Some o) numbers ≡ map (origin_to e number_of) stack →
+      map (λ o. Some o) (map (origin_of other number_of) stack) ≡ map (origin_to other number_of) stack
+  origins_any e other numbers [] is = refl
+  origins_any e other [] (t ∷ stack) is = absurd (cc)
+  origins_any e other (o ∷ numbers) (t ∷ stack) is =
+      let head : Some o ≡ origin_to e number_of t = cc in
+      let tail : map (λ o. Some o) numbers ≡ map (origin_to e number_of) stack = cc in
+      λ i. some_any e other o t head i ∷ origins_any e other numbers stack tail i
+
+  -- a stream comes from where it should
+  alike_origin : (L : List EntryView) (s : Stdio ℕ) (t : Stdio (Target E)) → IsAlike s t → map (λ n. Some (origin L n)) (end_of s) ≡ map (origin_to (trace L) number_of) (end_of t) →
+      stream_of (origin L) s ≡ stream_of (origin_of (trace L) number_of) t
+  alike_origin L Inherit Inherit alike is = refl
+  alike_origin L Inherit Null alike is = absurd alike
+  alike_origin L Inherit (End t) alike is = absurd alike
+  alike_origin L Null Inherit alike is = absurd alike
+  alike_origin L Null Null alike is = refl
+  alike_origin L Null (End t) alike is = absurd alike
+  alike_origin L (End n) Inherit alike is = absurd alike
+  alike_origin L (End n) Null alike is = absurd alike
+  alike_origin L (End n) (End t) alike is =
+      let top : Some (origin L n) ≡ origin_to (trace L) number_of t = cc in
+      let same : origin L n ≡ origin_of (trace L) number_of t = unwrapped (origin_to (trace L) number_of t) (origin L n) top in
+      ap End same
+    where
+      unwrapped : (o : Option Origin) (x : Origin) → Some x ≡ o → x ≡ unwrap_or o (Opened 0)
+      unwrapped None x is = cc
+      unwrapped (Some y) x is = cc
+
+  -- three streams and what is below them
+  pub alike_origins : (L : List EntryView) (s : Three (Stdio ℕ)) (t : Three (Stdio (Target E)))
+      (numbers : List ℕ) (targets : List (Target E)) → AreAlike s t
+      → map (λ n. Some (origin L n)) (handed s numbers)
+      ≡ map (origin_to (trace L) number_of) (handed t targets)
+      → (stream_of (origin L) s.input ≡ stream_of (origin_of (trace L) number_of) t.input)
+      × (stream_of (origin L) s.output ≡ stream_of (origin_of (trace L) number_of) t.output)
+      × (stream_of (origin L) s.error ≡ stream_of (origin_of (trace L) number_of) t.error)
+      × (map (λ n. Some (origin L n)) numbers ≡ map (origin_to (trace L) number_of) targets)
+  alike_origins L s t numbers targets alike is =
+      let f = λ (n : ℕ). Some (origin L n) in
+      let g = origin_to (trace L) number_of in
+      let e = parts f g (end_of s.error) (end_of t.error) _ _ (alike_long s.error t.error alike.error) is in
+      let o = parts f g (end_of s.output) (end_of t.output) _ _ (alike_long s.output t.output alike.output) e.1 in
+      let i = parts f g (end_of s.input) (end_of t.input) numbers targets (alike_long s.input t.input alike.input) o.1 in
+      (alike_origin L s.input t.input alike.input i.0, alike_origin L s.output t.output alike.output o.0, alike_origin L s.error t.error alike.error e.0, i.1)
+    where
+      parts : {A B C : Type 0} (f : A → C) (g : B → C) (xs : List A) (us : List B) (ys : List A) (vs : List B) → length xs ≡ length us → map f (xs ++ ys) ≡ map g (us ++ vs) →
+          (map f xs ≡ map g us) × (map f ys ≡ map g vs)
+      parts f g xs us ys vs same is =
+          let long : length (map f xs) ≡ length (map g us) = omega (arith, same, length-map xs f, length-map us g) in
+          let all : map f xs ++ map f ys ≡ map g us ++ map g vs = sym (map-append f xs ys) ∙ is ∙ map-append g us vs in
+          (split_first (map f xs) (map g us) (map f ys) (map g vs) long all, split_second (map f xs) (map g us) (map f ys) (map g vs) long all)
+
+-- what the entry of a spawn changes
+spawn_changes : (spec : SpecView) (s : Three (Stdio ℕ)) (answer : Result ℕ Fault) (count : ℕ) (now next : JournalView) (low : Holdings) (children : List ℕ) →
+    let entry = Spawn spec (s.input ∷ s.output ∷ s.error ∷ []) answer in
+    GivesEnds entry count now next → count ≡ length (spent_by entry) → children ≡ low.children ++ child_by entry →
+    Changes entry now next (holding (handed s low.stack) low) (record low { children = children })
+spawn_changes spec s answer count now next low children gives many started =
+    let entry = Spawn spec (s.input ∷ s.output ∷ s.error ∷ []) answer in
+    let pairs = pair_of low.out ++ pair_of low.err in
+    let i = end_of s.input in
+    let o = end_of s.output in
+    let e = end_of s.error in
+    record {
+      adds = adds_as entry 0 count 0 (length (spent_by entry)) now next gives refl (sym many);
+      fresh = fresh_none now.next next.next gives.next_grows;
+      even = λ n. omega (arith, count-append n (handed s low.stack) pairs, count-append n low.stack pairs, count-append n e (o ++ (i ++ low.stack)), count-append n o (i ++ low.stack), count-append n i low.stack, count-append n i (o ++ (e ++ [])), count-append n o (e ++ []), ap (λ l. count_of n l) (append-nil e));
+      long = omega (arith, length-append (handed s low.stack) pairs, length-append low.stack pairs, length-append e (o ++ (i ++ low.stack)), length-append o (i ++ low.stack), length-append i low.stack, length-append i (o ++ (e ++ [])), length-append o (e ++ []), ap (λ l. length l) (append-nil e));
+      children_are = started;
+      feeds_are = sym (append-nil low.feeds);
+      drains_are = sym (append-nil low.drains);
+    }
+
+-- the program is that at the place of the spawn
+program_there : (b : Bool) (entries rest : List EntryView) (words : List (List ℕ)) (place : ℕ) → length entries ≡ place → (b ≡ true → 0 < place) →
+    (if b then text_in (slice_get (entries ++ rest) (place - 1)) else program_of words) ≡ program_in b entries words
+program_there false entries rest words place many positive = refl
+program_there true entries rest words place many positive =
+    let within : place - 1 < length entries = omega (arith, many, positive refl) in
+    ap (λ o. text_in o) (get_within entries rest (place - 1) within) ∙ ap (λ n. text_in (slice_get entries (n - 1))) (sym many)
+
+named_positive : {E H : Type 0} (b : Bool) (p : Plan E H) (item : Item E H) → b ≡ true → 0 < length (if b then asks item p else p).items
+named_positive false p item is = absurd (cc)
+named_positive true p item is = omega (arith, length-append p.items (item ∷ []))
+
+none_of : {A : Type 0} (xs : List A) → length xs ≡ 0 → xs ≡ []
+none_of [] is = refl
+none_of (x ∷ xs) is = absurd (omega (arith, is))
+
+-- three streams without an end
+none_handed : {A : Type 0} (s : Three (Stdio A)) (rest : List A) → length (ends_of (s.input ∷ s.output ∷ s.error ∷ [])) ≡ 0 → handed s rest ≡ rest
+none_handed s rest none =
+    let i = end_of s.input in
+    let o = end_of s.output in
+    let e = end_of s.error in
+    let long = length-append i (o ++ (e ++ [])) in
+    let more = length-append o (e ++ []) in
+    let last = length-append e [] in
+    let ni : i ≡ [] = none_of i (omega (arith, none, long)) in
+    let no : o ≡ [] = none_of o (omega (arith, none, long, more)) in
+    let ne : e ≡ [] = none_of e (omega (arith, none, long, more, last)) in
+    λ j. ne j ++ (no j ++ (ni j ++ rest))
+
+-- more that would have been asked
+stopped_front : {E H : Type 0} (allows : Allows H) (number_of : E → ℕ) (course : Course) (items more : List (Item E H)) (now : JournalView) (held : Holdings) (e : Error) →
+    Stopped allows number_of course items now held e → Stopped allows number_of course (items ++ more) now held e
+stopped_front allows number_of course items more now held e stopped = record {
+  added = stopped.added;
+  books = stopped.books;
+  few = stopped.few;
+  answers = λ l later. answers_front allows number_of (stopped.added ++ l) 0 items more (trace stopped.added) (stopped.answers l later);
+  ended = stopped.ended;
+}
+
+-- a refusal that is not a hook's
+pub plain_refused : {E H : Type 0} (allows : Allows H) (refuses : Refuses H) (number_of : E → ℕ)
+    (course : Course) (items : List (Item E H)) (now : JournalView) (held : Holdings) (e : Error)
+    → (IsHooks e → ⊥) → Stopped allows number_of course items now held e
+    → Refused allows refuses number_of course items now held e
+plain_refused allows refuses number_of course items now held e plain stopped = record { stopped = stopped; cause = λ is. absurd (plain is) }
+
+-- what stops a chain is a hook's error
+chain_hooks : {H O : Type 0} (allows : Allows H) (refuses : Refuses H) (hooks : List (H × List O)) (before : WiredTo O) (e : Error) → ChainStops allows refuses hooks before e → IsHooks e
+chain_hooks allows refuses [] before e stops = absurd stops
+chain_hooks allows refuses (hook ∷ hooks) before (error.Hook fault) stops = tt
+chain_hooks allows refuses (hook ∷ hooks) before (error.HookEnd place) stops = tt
+chain_hooks allows refuses (hook ∷ hooks) before e (inl stops) = absurd stops
+chain_hooks allows refuses (hook ∷ hooks) before e (inr rest) = chain_hooks allows refuses hooks rest.0 e rest.2
+
+module _ {E H : Type 0} (allows : Allows H) (number_of : E → ℕ) (course : Course) (scope : Scope E H) (words : List (List ℕ)) (ports : Three Port) (state : State E H) (held : Holdings)
+    (asked : SpecView) (program : List ℕ) (front : List EntryView) (full : many ports.input + (many ports.output + many ports.error) ≤ length state.stack)
+    (can : action.CanSpawn number_of course.base course.bound state.stack scope ports) (asked_is : IsAsked course.pairs program (found_by scope ports state.stack) words asked)
+    (long_is : length (trace front) ≡ length (named scope words state).plan.items) (named_is : program_in (is_named scope words) (trace front) words ≡ program)
+    (tops : course.base ≤ course.old.next → (e : List EntryView) × (numbers : List Origin) × (map (λ o. Some o) numbers ≡ map (origin_to e number_of) state.stack)) where
+  abbrev found : Found E H
+  found = found_by scope ports state.stack
+
+  abbrev pub before : WiredTo (Target E)
+  before =
+      let t = taken_by ports state.stack in
+      record { spec = asked; input = t.input; output = t.output; error = t.error }
+
+  -- the state and what is held below the ends of the command
+  abbrev pub below : State E H
+  below = with_stack (left_by ports state.stack) (named scope words state)
+
+  abbrev pub low : Holdings
+  low = holding (left_by ports held.stack) held
+
+  asked_at : (L rest : List EntryView) → trace L ≡ trace front ++ rest → pairs_in (trace L) ≡ course.pairs → course.base ≤ course.old.next →
+      IsAskedAt (trace L) number_of (length (named scope words state).plan.items) found words (wired_as (origin_of (trace L) number_of) before)
+  asked_at L rest is pairs early =
+      let entries = trace L in
+      let place = length (named scope words state).plan.items in
+      let there : program_at entries place found words ≡ program =
+      ap (λ l. program_at l place found words) is
+      ∙ program_there (is_named scope words) (trace front) rest words place long_is (named_positive (is_named scope words) state.plan (AskCanonicalize (program_of words))) ∙ named_is in
+      let spec : IsAsked (pairs_in entries) (program_at entries place found words) found words asked =
+      subst (λ ps. IsAsked ps (program_at entries place found words) found words asked) (sym pairs) (subst (λ p. IsAsked course.pairs p found words asked) (sym there) asked_is) in
+      let top = tops early in
+      record { spec_is = spec; streams_are = streams_taken entries number_of scope ports state.stack full can.ports_are (origins_any number_of top.0 entries top.1 state.stack top.2) }
+
+  -- a command after all of its hooks
+  module _ (now next : JournalView) (spec : SpecView) (s : Three (Stdio ℕ)) (staged : Staged allows number_of (onwards course front) below low before scope.hooks now spec s) where
+    abbrev entry : Result ℕ Fault → EntryView
+    entry answer = Spawn spec (s.input ∷ s.output ∷ s.error ∷ []) answer
+
+    abbrev handed_now : Holdings
+    handed_now = holding (handed s low.stack) low
+
+    abbrev begins_with : State E H
+    begins_with = with_stack (handed (streams_in staged.wired) below.stack) below
+
+    abbrev ends_with : State E H
+    ends_with = action.advance state (action.spawn scope words ports)
+
+    module _ (answer : Result ℕ Fault) (kept : Holdings) (ch : Changes (entry answer) now next handed_now kept) (more : List EntryView) (later : IsLater (onwards course front) next.next more) where
+      abbrev whole : List EntryView
+      whole = (staged.stands.added ++ entry answer ∷ []) ++ more
+
+      sourced : Sourced number_of whole begins_with handed_now
+      sourced = sources_now allows number_of (onwards course front) begins_with ends_with (AskSpawn found words ∷ []) now next handed_now kept (entry answer) staged.stands refl ch more later
+
+      origins : (stream_of (origin whole) s.input ≡ stream_of (origin_of (trace whole) number_of) staged.wired.input)
+          × (stream_of (origin whole) s.output ≡ stream_of (origin_of (trace whole) number_of) staged.wired.output)
+          × (stream_of (origin whole) s.error ≡ stream_of (origin_of (trace whole) number_of) staged.wired.error)
+          × (map (λ n. Some (origin whole n)) low.stack ≡ map (origin_to (trace whole) number_of) below.stack)
+      origins = alike_origins number_of whole s (streams_in staged.wired) low.stack below.stack staged.alike sourced.stack
+
+      given_there : IsGiven allows number_of (trace whole) (length below.plan.items) found words spec (map (stream_of (origin whole)) (s.input ∷ s.output ∷ s.error ∷ []))
+      given_there =
+          let rest = staged.stands.starts.0 ++ entry answer ∷ more in
+          let split : whole ≡ front ++ rest =
+          append_assoc staged.stands.added (entry answer ∷ []) more ∙ ap (λ l. l ++ entry answer ∷ more) staged.stands.starts.1 ∙ append_assoc front staged.stands.starts.0 (entry answer ∷ more) in
+          let traced : trace whole ≡ trace front ++ trace rest = ap (λ l. trace l) split ∙ trace-append front rest in
+          let pairs : pairs_in (trace whole) ≡ course.pairs = ap (λ l. pairs_in (trace l)) (append_assoc staged.stands.added (entry answer ∷ []) more) ∙ staged.stands.begins (entry answer ∷ more) in
+          let f = origin_of (trace whole) number_of in
+          let chain : Chain allows (lent number_of scope.hooks) (wired_as f before) (wired_as f staged.wired) =
+          subst (λ l. Chain allows l (wired_as f before) (wired_as f staged.wired)) (lends_lent (trace whole) number_of scope.hooks) (chain_as f allows (lends scope.hooks) before staged.wired staged.chain) in
+          (wired_as f before, wired_as f staged.wired, asked_at whole (trace rest) traced pairs later.early, chain, sym staged.spec_is, λ j. origins.0 j ∷ origins.1 j ∷ origins.2 j ∷ [])
+
+    low_few : length low.stack + 3 < course.bound
+    low_few =
+        omega (
+          arith,
+          can.place,
+          staged.stands.shaped.stack,
+          handed_long s low.stack,
+          handed_long (streams_in staged.wired) below.stack,
+          alike_long s.input staged.wired.input staged.alike.input,
+          alike_long s.output staged.wired.output staged.alike.output,
+          alike_long s.error staged.wired.error staged.alike.error,
+        )
+
+    low_long : length low.stack ≡ length below.stack
+    low_long =
+        omega (
+          arith,
+          staged.stands.shaped.stack,
+          handed_long s low.stack,
+          handed_long (streams_in staged.wired) below.stack,
+          alike_long s.input staged.wired.input staged.alike.input,
+          alike_long s.output staged.wired.output staged.alike.output,
+          alike_long s.error staged.wired.error staged.alike.error,
+        )
+
+    -- the child was started
+    pub spawn_goes : (number count : ℕ) → GivesEnds (entry (Ok number)) count now next
+        → count ≡ length (spent_by (entry (Ok number)))
+        → Stands allows number_of (onwards course front) ends_with next
+        (record low { children = held.children ++ number ∷ [] })
+    spawn_goes number count gives many =
+        let kept : Holdings = record low { children = held.children ++ number ∷ [] } in
+        let ch = spawn_changes spec s (Ok number) count now next low kept.children gives many refl in
+        stands_more allows number_of (onwards course front) begins_with ends_with (AskSpawn found words ∷ []) now next handed_now kept (entry (Ok number)) staged.stands refl ch
+        (few_of course.bound kept (omega (arith, low_few))) (record { stack = low_long; out = staged.stands.shaped.out; err = staged.stands.shaped.err }) refl refl
+        (λ more later. (given_there (Ok number) kept ch more later, tt))
+        (λ more later. let z = sourced (Ok number) kept ch more later in record { stack = (origins (Ok number) kept ch more later).3; out = z.out; err = z.err })
+
+    -- the system refused the child
+    pub spawn_quits : (fault : Fault) (count : ℕ)
+        → IsRefused (entry (Err fault)) count fault now next
+        → count ≡ length (spent_by (entry (Err fault)))
+        → Stopped allows number_of (onwards course front) ends_with.plan.items next low (System fault)
+    spawn_quits fault count (inl gives) many =
+        let ch = spawn_changes spec s (Err fault) count now next low low.children gives many (sym (append-nil low.children)) in
+        stops_more allows number_of (onwards course front) begins_with ends_with (AskSpawn found words ∷ []) now next handed_now low (entry (Err fault)) staged.stands refl ch
+        (few_of course.bound low (omega (arith, low_few))) fault refl (λ more later. (given_there (Err fault) low ch more later, tt))
+    spawn_quits fault count (inr nothing) many =
+        let none : length (spent_by (entry (Err fault))) ≡ 0 = sym many ∙ nothing.0 in
+        let same : handed s low.stack ≡ low.stack = none_handed s low.stack none in
+        subst (λ (l : List ℕ). Stopped allows number_of (onwards course front) ends_with.plan.items next (holding l low) (System fault)) same
+        (stops_unasked allows number_of (onwards course front) begins_with ends_with.plan.items (AskSpawn found words ∷ []) now next handed_now (System fault) staged.stands refl nothing.1 nothing.2)
+
+  -- a hook or a request among the hooks stopped it
+  pub halts_refused : (refuses : Refuses H) (from : (later : List EntryView) × (front ≡ course.front ++ later))
+      (now : JournalView) (s : Three (Stdio ℕ)) (e : Error)
+      → Halts allows refuses number_of (onwards course front) below low before scope.hooks now s e
+      → Refused allows refuses number_of course
+      (action.advance state (action.spawn scope words ports)).plan.items now
+      (holding (handed s low.stack) low) e
+  unfolding stopped_front stopped_back
+  halts_refused refuses from now s e (inl plain) = plain_refused allows refuses number_of course _ now (holding (handed s low.stack) low) e plain.0
+      (stopped_front allows number_of course below.plan.items (AskSpawn found words ∷ []) now (holding (handed s low.stack) low) e (stopped_back allows number_of course front below.plan.items now (holding (handed s low.stack) low) e plain.1))
+  halts_refused refuses from now s e (inr stopping) =
+      let stands = stopping.stands in
+      let items = below.plan.items ++ AskSpawn found words ∷ [] in
+      let stopped : Stopped allows number_of course items now (holding (handed s low.stack) low) e =
+      stopped_front allows number_of course below.plan.items (AskSpawn found words ∷ []) now (holding (handed s low.stack) low) e
+      (stopped_back allows number_of course front below.plan.items now (holding (handed s low.stack) low) e (record {
+        added = stands.added;
+        books = stands.books;
+        few = stands.few;
+        answers = stands.answers;
+        ended = hooked {added = stands.added} {error = e} stands.clean (chain_hooks allows refuses (lends scope.hooks) before e stopping.stops);
+      })) in
+      record {
+        stopped = stopped;
+        cause = λ is more later.
+            let entries = trace (stands.added ++ more) in
+            let rest = stands.starts.0 ++ more in
+            let traced : entries ≡ trace front ++ trace rest = ap (λ l. trace (l ++ more)) stands.starts.1 ∙ ap (λ l. trace l) (append_assoc front stands.starts.0 more) ∙ trace-append front rest in
+            let f = origin_of entries number_of in
+            let stops : ChainStops allows refuses (lent number_of scope.hooks) (wired_as f before) e =
+            subst (λ l. ChainStops allows refuses l (wired_as f before) e) (lends_lent entries number_of scope.hooks) (chain_stops_as f allows refuses (lends scope.hooks) before e stopping.stops) in
+            let there : StoppedBy allows refuses number_of entries (length below.plan.items) (Some (AskSpawn found words)) e =
+            (wired_as f before, asked_at (stands.added ++ more) (trace rest) traced (stands.begins more) later.early, stops) in
+            subst (λ n. StoppedBy allows refuses number_of entries n (slice_get items n) e) (sym (as_many stands))
+            (subst (λ (o : Option (Item E H)). StoppedBy allows refuses number_of entries (length below.plan.items) o e) (sym (get_seam below.plan.items (AskSpawn found words))) there);
+      }

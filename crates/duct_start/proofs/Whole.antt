@@ -1,0 +1,80 @@
+-- A run that came to its end is a start that succeeds.
+use Rattle.std.proofs.Common.{◌≡◌, ℕ, ◌+◌, ◌*◌, ◌≤◌, List, [], ◌∷◌, ◌++◌, length, refl, ap, sym, ◌∙◌, arith, subst}
+use Rattle.std.proofs.lemmas.List.{append-nil}
+use Rattle.duct_system.specs.EntryView.{EntryView}
+use Rattle.duct_system.specs.Journal.{JournalView}
+use Rattle.duct_system.specs.Ledger.{IsBalanced, count_of}
+use Rattle.duct_system.specs.Trace.{segment, trace}
+use Rattle.duct_start.specs.Actions.{State}
+use Rattle.duct_start.specs.Chain.{Allows}
+use Rattle.duct_start.specs.Follows.{AnswersFrom, FollowsWhole}
+use Rattle.duct_start.specs.Holdings.{Holdings, ends}
+use Rattle.duct_start.specs.Plan.{Plan}
+use Rattle.duct_start.specs.Standing.{Course, IsLater, Stands}
+use Rattle.duct_start.specs.Start.{AreEarlier, Grows, HoldsFew, StartSucceeds, ceiling, depth}
+use Rattle.duct_start.specs.Step.{Item}
+use Rattle.duct_start.specs.TreeView.{TreeView}
+use Rattle.duct_start.proofs.Ceiling.{ceiling_low}
+use Rattle.duct_start.proofs.Ending.{clean_stops}
+use Rattle.duct_start.proofs.Standing.{as_many}
+
+segment-added : (old added : List EntryView) → segment old (old ++ added) ≡ added
+segment-added [] added = refl
+segment-added (entry ∷ old) added = segment-added old added
+
+-- what was added is the segment
+pub segment_is : (old new added : List EntryView) → new ≡ old ++ added → segment old new ≡ added
+segment_is old new added is = ap (λ (l : List EntryView). segment old l) is ∙ segment-added old added
+
+-- a journal to which these entries were added has grown by them
+pub grows_by_added : (old new : JournalView) (added : List EntryView)
+    → new.entries ≡ old.entries ++ added → new.added ≡ old.added + length added
+    → old.next ≤ new.next → old.room ≤ new.room → Grows old new
+grows_by_added old new added entries_are counted next room =
+    let same = sym (segment_is old.entries new.entries added entries_are) in record {
+      front = entries_are ∙ ap (λ (l : List EntryView). old.entries ++ l) same;
+      counted = counted ∙ ap (λ (l : List EntryView). old.added + length l) same;
+      next_grows = next;
+      room_grows = room;
+    }
+
+-- nothing comes later
+pub nothing_later : (course : Course) (next : ℕ) → course.base ≤ course.old.next
+    → IsLater course next []
+nothing_later course next early = record { early = early; fresh = λ number lt. refl }
+
+module _ {E H : Type 0} (allows : Allows H) (number_of : E → ℕ) (tree : TreeView E H) (plan : Plan E H) (course : Course) (state : State E H) (old now : JournalView) (held : Holdings)
+    (stands : Stands allows number_of course state now held)
+    (old_is : course.old ≡ old) (base_is : course.base ≡ ceiling number_of tree) (bound_is : course.bound ≡ 2 * depth tree + 4) (items_are : state.plan.items ≡ plan.items) (all_spent : ends held ≡ []) where
+  none_held : (n : ℕ) → count_of n (ends held) ≡ 0
+  none_held n = ap (λ (l : List ℕ). count_of n l) all_spent
+
+  early : AreEarlier number_of course.old tree → course.base ≤ course.old.next
+  early earlier = omega (arith, base_is, ceiling_low number_of tree course.old earlier)
+
+  whole : AreEarlier number_of course.old tree → FollowsWhole allows number_of plan stands.added
+  whole earlier =
+      let all = stands.answers [] (nothing_later course now.next (early earlier)) in
+      record {
+        follows = record {
+          answers = subst (λ (items : List (Item E H)). AnswersFrom allows number_of stands.added 0 items (trace stands.added)) items_are
+              (subst (λ (l : List EntryView). AnswersFrom allows number_of l 0 state.plan.items (trace stands.added)) (append-nil stands.added) all);
+          stops = clean_stops stands.added stands.clean;
+        };
+        whole = as_many stands ∙ ap (λ (items : List (Item E H)). length items) items_are;
+        clean = stands.clean;
+      }
+
+  succeeds : StartSucceeds allows number_of tree plan course.old now
+  succeeds =
+      let books = stands.books in
+      let same = sym (segment_is course.old.entries now.entries stands.added books.entries_are) in record {
+        grows = grows_by_added course.old now stands.added books.entries_are books.counted books.next_grows (omega (arith, books.room_is));
+        whole = λ earlier. subst (λ (l : List EntryView). FollowsWhole allows number_of plan l) same (whole earlier);
+        balanced = subst IsBalanced same (λ n. (omega (arith, books.even n, none_held n), books.once n));
+        few = subst (λ (l : List EntryView). HoldsFew tree l) same (λ count. omega (arith, bound_is, stands.few count));
+      }
+
+  -- a run that stands at the whole plan and holds no end is a start that succeeds
+  pub succeeded : StartSucceeds allows number_of tree plan old now
+  succeeded = subst (λ (o : JournalView). StartSucceeds allows number_of tree plan o now) old_is succeeds
