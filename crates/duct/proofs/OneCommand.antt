@@ -153,13 +153,14 @@ pool_of_none may view entries pool = pool_untouched may view (segment entries en
 pub alone_running : {E H C F D V W : Type 0} (child : C → ChildView) (feed : F → JobView V)
     (drain : D → JobView W) (tree : TreeView E H) (words : List (List ℕ)) (added : List EntryView)
     (number : ℕ) (place : C)
-    (shape : Shape) (children : List C) → tree ≡ command words → shape_view shape ≡ shape_of_tree tree → children ≡ place ∷ [] → (child place).number ≡ number → IsUnasked (child place) → StartsOne number added →
-    IsRunning child feed drain tree (is_some (plan_of tree).out) (is_some (plan_of tree).err) added (record { shape = shape; children = children; feeds = []; output = None; error = None })
-alone_running child feed drain tree words added number place shape children same seen one numbered unasked starts = record {
+    (shape : Shape) (children : List C) (feeds : List F) → tree ≡ command words → shape_view shape ≡ shape_of_tree tree → children ≡ place ∷ [] → feeds ≡ []
+    → (child place).number ≡ number → IsUnasked (child place) → StartsOne number added →
+    IsRunning child feed drain tree (is_some (plan_of tree).out) (is_some (plan_of tree).err) added (record { shape = shape; children = children; feeds = feeds; output = None; error = None })
+alone_running child feed drain tree words added number place shape children feeds same seen one none numbered unasked starts = record {
   shape_is = seen;
   children_are = ap (λ l. map (λ c. (child c).number) l) one ∙ ap (λ n. n ∷ []) numbered ∙ sym starts.child;
   unasked = subst (λ l. All (λ c. IsUnasked (child c)) l) (sym one) (All-cons (λ c. IsUnasked (child c)) place [] unasked (All-nil (λ c. IsUnasked (child c))));
-  feeds_are = ap (λ l. map (λ n. unpolled_job n) l) (sym starts.no_feeds);
+  feeds_are = ap (λ l. map feed l) none ∙ ap (λ l. map (λ n. unpolled_job n) l) (sym starts.no_feeds);
   drains_are = ap (λ l. map (λ n. unpolled_job n) l) (sym starts.no_drains);
   output_is = ap (λ t. is_some (plan_of t).out) (sym same);
   error_is = ap (λ t. is_some (plan_of t).err) (sym same);

@@ -1,3 +1,5 @@
+pub mod ActionCounts
+pub mod InsideView
 pub mod LastValues
 pub mod Pairs
 pub mod Polled

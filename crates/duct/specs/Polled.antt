@@ -1,5 +1,5 @@
 -- What a poll of a start that runs asks, and what it answers by the outcome of the words that are stored.
-use Rattle.std.specs.Prelude.{ℕ, zero, suc, List, [], ◌∷◌, ◌≡◌, MatchOption, string_bytes, Ok, Err, None, IsOkAnd, IsErrAnd, IsSomeAnd}
+use Rattle.std.specs.Prelude.{ℕ, zero, suc, List, [], ◌∷◌, ◌≡◌, MatchOption, string_bytes, Ok, Err, Some, None, IsOkAnd, IsErrAnd, IsSomeAnd}
 use Rattle.std.specs.declared.option.Option.{Option}
 use Rattle.std.specs.declared.result.Result.{Result}
 use Rattle.std.specs.declared.alloc.Global.{Global}
@@ -7,6 +7,7 @@ use Rattle.std.specs.declared.sync.Arc.{Arc}
 use Rattle.std.specs.Arc.{arc_value}
 use Rattle.std.specs.List.{AllZip}
 use Rattle.duct_system.specs.Child.{Answer, ChildView, PollsChild}
+use Rattle.duct_system.specs.Job.{JobView, PollsJob}
 use Rattle.duct_status.specs.Outcome.{Concludes}
 use Rattle.duct_status.specs.ShapeView.{ShapeView}
 use Rattle.duct_status.specs.ReplyView.{ReplyView, noted, unknown, pending, faulted, answered, failed, no_memory}
@@ -15,6 +16,10 @@ use Rattle.duct_system.specs.declared.error.Error.{Error}
 use Rattle.duct_system.specs.declared.error.Error.TheVariants as error
 use Rattle.duct_system.specs.declared.system.ExitStatus.{ExitStatus}
 use Rattle.duct_system.specs.declared.system.Output.{Output}
+use Rattle.duct_system.specs.declared.system.Said.{Said}
+use Rattle.duct_system.specs.declared.system.Said.TheVariants as said
+use Rattle.duct_system.specs.declared.system.Side.{Side}
+use Rattle.duct_system.specs.declared.system.Side.TheVariants as side
 
 -- what a poll answers: nothing yet, an output, or an error
 abbrev pub Polled : Type 0
@@ -66,12 +71,58 @@ AskedIfDue may before after =
 abbrev pub AllAsked : (ℕ → Answer → Type 0) → List ChildView → List ChildView → Type 0
 AllAsked may = AllZip (AskedIfDue may)
 
--- the one at this place was polled once or had ended, and the others are as before
-abbrev pub AskedAt : (ℕ → Answer → Type 0) → ℕ → List ChildView → List ChildView → Type 0
-AskedAt may at [] afters = ⊥
-AskedAt may zero (before ∷ befores) [] = ⊥
-AskedAt may zero (before ∷ befores) (after ∷ afters) =
-    AskedIfDue may before after × (afters ≡ befores)
-AskedAt may (suc at) (before ∷ befores) [] = ⊥
-AskedAt may (suc at) (before ∷ befores) (after ∷ afters) =
-    (after ≡ before) × AskedAt may at befores afters
+-- a worker was polled once
+abbrev pub IsPolled : {T : Type 0} → (ℕ → Said T → Type 0) → (T → T → Type 0) → Type 0
+    → JobView T → JobView T → Type 0
+IsPolled {T} may same refusable before after =
+    (heard : Said T) × PollsJob may same refusable before heard after
+
+-- the first where a worker of this word has not finished, and else the second
+abbrev pub WhileRuns : {T : Type 0} → Said T → Type 0 → Type 0 → Type 0
+WhileRuns said.Running runs over = runs
+WhileRuns (said.Done value) runs over = over
+WhileRuns (said.Fault fault) runs over = over
+
+-- a worker was polled once, or had finished and is as before
+abbrev pub PolledIfRuns : {T : Type 0} → (ℕ → Said T → Type 0) → (T → T → Type 0) → Type 0
+    → JobView T → JobView T → Type 0
+PolledIfRuns may same refusable before after =
+    WhileRuns before.kept (IsPolled may same refusable before after) (after ≡ before)
+
+-- each of them was polled once, or had finished and is as before
+abbrev pub AllPolled : {T : Type 0} → (ℕ → Said T → Type 0) → (T → T → Type 0) → Type 0
+    → List (JobView T) → List (JobView T) → Type 0
+AllPolled may same refusable = AllZip (PolledIfRuns may same refusable)
+
+-- there is a worker, and it was polled once
+abbrev pub IsThereAndPolled : {T : Type 0} → (ℕ → Said T → Type 0) → (T → T → Type 0) → Type 0
+    → Option (JobView T) → Option (JobView T) → Type 0
+IsThereAndPolled may same refusable None after = ⊥
+IsThereAndPolled may same refusable (Some before) None = ⊥
+IsThereAndPolled may same refusable (Some before) (Some after) =
+    IsPolled may same refusable before after
+
+-- the first where the outcome waits for this stream's capture worker, and else the second
+abbrev pub WhereAwaited : Side → Option Side → Type 0 → Type 0 → Type 0
+WhereAwaited stream None waits left = left
+WhereAwaited side.Out (Some side.Out) waits left = waits
+WhereAwaited side.Out (Some side.Err) waits left = left
+WhereAwaited side.Err (Some side.Out) waits left = left
+WhereAwaited side.Err (Some side.Err) waits left = waits
+
+-- a stream's capture worker was polled once where the outcome waited for it, and else is as before
+abbrev pub PolledWhere : {T : Type 0} → (ℕ → Said T → Type 0) → (T → T → Type 0) → Type 0 → Side
+    → Option Side → Option (JobView T) → Option (JobView T) → Type 0
+PolledWhere may same refusable stream awaited before after =
+    WhereAwaited stream awaited (IsThereAndPolled may same refusable before after)
+    (after ≡ before)
+
+-- this holds of the one at this place before and after, and the others are as before
+abbrev pub ChangedAt : {T : Type 0} → (T → T → Type 0) → ℕ → List T → List T → Type 0
+ChangedAt changes at [] afters = ⊥
+ChangedAt changes zero (before ∷ befores) [] = ⊥
+ChangedAt changes zero (before ∷ befores) (after ∷ afters) =
+    changes before after × (afters ≡ befores)
+ChangedAt changes (suc at) (before ∷ befores) [] = ⊥
+ChangedAt changes (suc at) (before ∷ befores) (after ∷ afters) =
+    (after ≡ before) × ChangedAt changes at befores afters

@@ -10,7 +10,9 @@
 #![tactic(auto)]
 
 mod expression;
+mod flatten;
 mod running;
+mod shape;
 mod start;
 
 // An expression: a command, a pipe, or a modifier round an expression.

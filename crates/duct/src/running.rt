@@ -1,32 +1,40 @@
-//! An expression that runs: its children, and what they said so far.
-ghost use Rattle.std.specs.Prelude.{◌≡◌, ◌<◌, [], ◌++◌, length, map, None};
-ghost use Rattle.std.specs.Option.{option_to_list};
+//! An expression that runs: its children, its workers, and what they said so far.
+ghost use Rattle.std.specs.Prelude.{◌≡◌, ◌<◌, ◌≤◌, [], ◌++◌, length, map, is_some, vec_capacity};
+ghost use Rattle.std.specs.Option.{option_map, option_to_list};
+ghost use Rattle.duct_system.specs.declared.system.Side.TheVariants.{Out, Err};
+ghost use Rattle.duct_status.specs.CoreView.{latest_in, shape_in};
+ghost use Rattle.duct_status.specs.Latest.{latest_told};
+ghost use Rattle.duct_status.specs.Outcome.{awaited};
 ghost use Rattle.duct_status.specs.ReplyView.{reply_view};
-ghost use Rattle.duct_status.specs.CoreView.{latest_in};
-ghost use Rattle.duct_status.specs.ShapeView.{shape_view};
-ghost use Rattle.duct.specs.Polled.{IsConclusion, Gives, IsOutcome, AllAsked, AskedAt};
-ghost use Rattle.duct.specs.Stored.{word_of, stored_latest};
+ghost use Rattle.duct_status.specs.ShapeView.{command_count, input_count, shape_view};
+ghost use Rattle.duct.specs.Polled.{IsConclusion, Gives, IsOutcome, AskedIfDue, AllAsked, PolledIfRuns, AllPolled, PolledWhere, ChangedAt};
+ghost use Rattle.duct.specs.Stored.{AreUnasked, word_of, stored_in};
 
 use duct_base::error::Error;
 use duct_base::pool::Place;
 use duct_base::status::{Core, Event, Reply, Word};
-use duct_base::system::{Child, ExitStatus, Fault, Output, System};
+use duct_base::system::{Child, ExitStatus, Fault, Job, Output, Side, System};
 use std::marker::Model;
 use std::sync::Arc;
 
-/// The children of a start, with what they said so far. It is asked by `poll`, and is to be spent: by `into_parts`.
+/// What a start leaves: its children, its workers, and what they said so far. It is asked by `poll`, and is to be spent: by
+/// `into_parts`.
 pub struct Running<S: System> {
     core: Core,
     children: Vec<Place<S::Child>>,
+    feeds: Vec<S::Feed>,
+    output: Option<S::Drain>,
+    error: Option<S::Drain>,
+    // Empty, with room for the capture workers, so that `into_parts` takes no memory.
+    room: Vec<S::Drain>,
 }
 
 impl<S: System> Model for Running<S> {
-    ghost use Rattle.std.specs.Prelude.{◌≡◌, [], map, None};
     ghost use Rattle.std.specs.Coded.{codes};
     ghost use Rattle.duct_status.specs.CoreView.{latest_in};
     ghost use Rattle.duct_status.specs.contracts.status.Shape as shape;
     ghost use Rattle.duct_start.specs.Running.{RunningView};
-    ghost use Rattle.duct.specs.Stored.{stored_latest};
+    ghost use Rattle.duct.specs.Stored.{Holds};
 
     ghost Value = { RunningView S.Child S.Feed S.Drain };
 
@@ -35,13 +43,13 @@ impl<S: System> Model for Running<S> {
     ghost view = { λ r. record {
       shape = r.core.shape;
       children = r.children.items;
-      feeds = [];
-      output = None;
-      error = None;
+      feeds = r.feeds.items;
+      output = r.output;
+      error = r.error;
     } };
 
-    ghost invariant = { λ r. latest_in r.core
-        ≡ stored_latest (map S.Child.child_view r.children.items) };
+    ghost invariant = { λ r. Holds S.Child.child_view S.Feed.job_view S.Drain.job_view
+        (latest_in r.core) r.children.items r.feeds.items r.output r.error r.room };
 }
 
 // The word of a child's answer.
@@ -56,38 +64,76 @@ fn word(answer: Result<Option<ExitStatus>, Fault>) -> Word
 }
 
 impl<S: System> Running<S> {
-    // One command with its child, which nobody has polled yet.
-    pub(crate) fn of_command(core: Core, children: Vec<Place<S::Child>>) -> Running<S>
-        requires { latest_in core ≡ stored_latest (map S.Child.child_view children.items) }
+    // What a start leaves: a core that was told nothing, and children and workers that nobody has asked yet, as many as its
+    // shape has commands, inputs and captures. Room for the capture workers is made before.
+    pub(crate) fn of_start(
+        core: Core,
+        children: Vec<Place<S::Child>>,
+        feeds: Vec<S::Feed>,
+        output: Option<S::Drain>,
+        error: Option<S::Drain>,
+        room: Vec<S::Drain>,
+    ) -> Running<S>
+        requires silent { latest_in core
+            ≡ latest_told (shape_in core) (record { out = is_some output; err = is_some error }) [] }
+        requires commands { length children.items ≡ command_count (shape_in core) }
+        requires inputs { length feeds.items ≡ input_count (shape_in core) }
+        requires unasked { AreUnasked S.Child.child_view S.Feed.job_view S.Drain.job_view
+            children.items feeds.items output error }
+        requires empty { room.items ≡ [] }
+        requires room { length (option_to_list output ++ option_to_list error) ≤ vec_capacity room }
         ensures { result ≡ record {
           shape = core.shape;
           children = children.items;
-          feeds = [];
-          output = None;
-          error = None;
+          feeds = feeds.items;
+          output = output;
+          error = error;
         } }
     {
-        Running { core, children }
+        Running {
+            core,
+            children,
+            feeds,
+            output,
+            error,
+            room,
+        }
     }
 
-    /// The children from left to right, the input workers and the capture workers. Nobody polls them from then on.
+    /// The children from left to right, the input workers in tree order, and the capture workers of stdout and of stderr.
+    /// Nobody polls them from then on.
     pub fn into_parts(self) -> (Vec<Place<S::Child>>, Vec<S::Feed>, Vec<S::Drain>)
         ensures children { result.0.items ≡ self.children }
         ensures feeds { result.1.items ≡ self.feeds }
         ensures drains { result.2.items ≡ option_to_list self.output ++ option_to_list self.error }
     {
-        let Running { core, children } = self;
+        let Running {
+            core,
+            children,
+            feeds,
+            output,
+            error,
+            room: mut drains,
+        } = self;
         drop(core);
-        let alloc = *children.allocator();
-        (children, Vec::new(alloc), Vec::new(alloc))
+        if let Some(worker) = output {
+            drains.push_reserved(worker);
+        }
+        if let Some(worker) = error {
+            drains.push_reserved(worker);
+        }
+        (children, feeds, drains)
     }
 
     // Polls the child at this place, if it has not ended, and tells the core.
     fn ask(&mut self, at: usize)
         requires { at < length self.old.children }
         ensures shape { shape_view self.new.shape ≡ shape_view self.old.shape }
-        ensures asked { AskedAt S.Child.may_answer at (map S.Child.child_view self.old.children)
-            (map S.Child.child_view self.new.children) }
+        ensures asked { ChangedAt (AskedIfDue S.Child.may_answer) at
+            (map S.Child.child_view self.old.children) (map S.Child.child_view self.new.children) }
+        ensures feeds { self.new.feeds ≡ self.old.feeds }
+        ensures output { self.new.output ≡ self.old.output }
+        ensures error { self.new.error ≡ self.old.error }
     {
         if !self.core.is_due(at) {
             return;
@@ -96,29 +142,140 @@ impl<S: System> Running<S> {
         let _ = self.core.step(Event::Command(at, heard));
     }
 
-    /// Asks each child that has not ended, once and from left to right, and answers the outcome of what the children then
-    /// store: nothing while one of them runs, the first fault from the left, or how the expression ended. A checked failure
-    /// is `Error::Checked`. `Error::Memory` comes only for want of memory; all that was heard is kept, and the next poll
-    /// tries again.
-    pub fn poll(&mut self) -> Result<Option<Arc<Output>>, Error>
+    // Polls each child that has not ended, once and from left to right.
+    fn ask_children(&mut self)
         ensures shape { shape_view self.new.shape ≡ shape_view self.old.shape }
         ensures asked { AllAsked S.Child.may_answer (map S.Child.child_view self.old.children)
             (map S.Child.child_view self.new.children) }
-        ensures outcome { IsOutcome (shape_view self.new.shape)
-            (stored_latest (map S.Child.child_view self.new.children)) result }
+        ensures feeds { self.new.feeds ≡ self.old.feeds }
+        ensures output { self.new.output ≡ self.old.output }
+        ensures error { self.new.error ≡ self.old.error }
     {
         for at in 0..self.children.len() {
             self.ask(at);
         }
+    }
+
+    // Polls the input worker at this place, if it has not finished, and tells the core.
+    fn ask_feed(&mut self, at: usize)
+        requires { at < length self.old.feeds }
+        ensures shape { shape_view self.new.shape ≡ shape_view self.old.shape }
+        ensures children { self.new.children ≡ self.old.children }
+        ensures asked { ChangedAt
+            (PolledIfRuns S.Feed.may_say S.Feed.same S.Feed.refusable) at
+            (map S.Feed.job_view self.old.feeds) (map S.Feed.job_view self.new.feeds) }
+        ensures output { self.new.output ≡ self.old.output }
+        ensures error { self.new.error ≡ self.old.error }
+    {
+        if !self.core.is_input_due(at) {
+            return;
+        }
+        let heard = self.feeds[at].poll();
+        let _ = self.core.step(Event::Input(at, heard));
+    }
+
+    // Polls each input worker that has not finished, once and in tree order.
+    fn ask_feeds(&mut self)
+        ensures shape { shape_view self.new.shape ≡ shape_view self.old.shape }
+        ensures children { self.new.children ≡ self.old.children }
+        ensures asked { AllPolled S.Feed.may_say S.Feed.same S.Feed.refusable
+            (map S.Feed.job_view self.old.feeds) (map S.Feed.job_view self.new.feeds) }
+        ensures output { self.new.output ≡ self.old.output }
+        ensures error { self.new.error ≡ self.old.error }
+    {
+        for at in 0..self.feeds.len() {
+            self.ask_feed(at);
+        }
+    }
+
+    // Polls stdout's capture worker, if the outcome waits for it, and tells the core.
+    fn ask_output(&mut self)
+        ensures shape { shape_view self.new.shape ≡ shape_view self.old.shape }
+        ensures children { self.new.children ≡ self.old.children }
+        ensures feeds { self.new.feeds ≡ self.old.feeds }
+        ensures asked { PolledWhere S.Drain.may_say S.Drain.same S.Drain.refusable Out
+            (awaited (shape_view self.old.shape)
+            (stored_in S.Child.child_view S.Feed.job_view S.Drain.job_view self.old))
+            (option_map S.Drain.job_view self.old.output)
+            (option_map S.Drain.job_view self.new.output) }
+        ensures error { self.new.error ≡ self.old.error }
+    {
+        let Some(Side::Out) = self.core.awaited() else {
+            return;
+        };
+        let Some(worker) = &mut self.output else {
+            return;
+        };
+        let heard = worker.poll();
+        let _ = self.core.step(Event::Drain(Side::Out, heard));
+    }
+
+    // Polls stderr's capture worker, if the outcome waits for it, and tells the core.
+    fn ask_error(&mut self)
+        ensures shape { shape_view self.new.shape ≡ shape_view self.old.shape }
+        ensures children { self.new.children ≡ self.old.children }
+        ensures feeds { self.new.feeds ≡ self.old.feeds }
+        ensures output { self.new.output ≡ self.old.output }
+        ensures asked { PolledWhere S.Drain.may_say S.Drain.same S.Drain.refusable Err
+            (awaited (shape_view self.old.shape)
+            (stored_in S.Child.child_view S.Feed.job_view S.Drain.job_view self.old))
+            (option_map S.Drain.job_view self.old.error)
+            (option_map S.Drain.job_view self.new.error) }
+    {
+        let Some(Side::Err) = self.core.awaited() else {
+            return;
+        };
+        let Some(worker) = &mut self.error else {
+            return;
+        };
+        let heard = worker.poll();
+        let _ = self.core.step(Event::Drain(Side::Err, heard));
+    }
+
+    /// Asks each child that has not ended, once and from left to right, and then each input worker that has not finished,
+    /// once and in tree order; then stdout's capture worker where the outcome waits for it, and then stderr's likewise.
+    /// Answers the outcome of what children and workers then store: nothing while it waits for one of them, the first fault
+    /// in tree order, or how the expression ended. A checked failure is `Error::Checked`. `Error::Memory` comes only for
+    /// want of memory; all that was heard is kept, and the next poll tries again.
+    pub fn poll(&mut self) -> Result<Option<Arc<Output>>, Error>
+        ensures shape { shape_view self.new.shape ≡ shape_view self.old.shape }
+        ensures asked { AllAsked S.Child.may_answer (map S.Child.child_view self.old.children)
+            (map S.Child.child_view self.new.children) }
+        ensures asked_feeds { AllPolled S.Feed.may_say S.Feed.same S.Feed.refusable
+            (map S.Feed.job_view self.old.feeds) (map S.Feed.job_view self.new.feeds) }
+
+        // By what children and input workers now store, and capture workers stored before.
+        ensures asked_output { PolledWhere S.Drain.may_say S.Drain.same S.Drain.refusable Out
+            (awaited (shape_view self.new.shape)
+            (stored_in S.Child.child_view S.Feed.job_view S.Drain.job_view
+            (record self.new { output = self.old.output; error = self.old.error })))
+            (option_map S.Drain.job_view self.old.output)
+            (option_map S.Drain.job_view self.new.output) }
+        ensures asked_error { PolledWhere S.Drain.may_say S.Drain.same S.Drain.refusable Err
+            (awaited (shape_view self.new.shape)
+            (stored_in S.Child.child_view S.Feed.job_view S.Drain.job_view
+            (record self.new { error = self.old.error })))
+            (option_map S.Drain.job_view self.old.error)
+            (option_map S.Drain.job_view self.new.error) }
+        ensures outcome { IsOutcome (shape_view self.new.shape)
+            (stored_in S.Child.child_view S.Feed.job_view S.Drain.job_view self.new) result }
+    {
+        self.ask_children();
+        self.ask_feeds();
+        self.ask_output();
+        self.ask_error();
         self.conclude()
     }
 
-    // The outcome of what the children said.
+    // The outcome of what the children and the workers said.
     fn conclude(&mut self) -> Result<Option<Arc<Output>>, Error>
         ensures shape { shape_view self.new.shape ≡ shape_view self.old.shape }
         ensures children { self.new.children ≡ self.old.children }
+        ensures feeds { self.new.feeds ≡ self.old.feeds }
+        ensures output { self.new.output ≡ self.old.output }
+        ensures error { self.new.error ≡ self.old.error }
         ensures outcome { IsOutcome (shape_view self.new.shape)
-            (stored_latest (map S.Child.child_view self.new.children)) result }
+            (stored_in S.Child.child_view S.Feed.job_view S.Drain.job_view self.new) result }
     {
         answer(self.core.step(Event::Conclude))
     }

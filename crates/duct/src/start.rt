@@ -149,6 +149,8 @@ impl<E: Drop, H: Hook> Expression<E, H> {
         };
         let core = Core::new(alloc, Shape::Command(words.clone()?), drains)?;
         children.push_reserved(command::<S, H>(alloc, sys, words, seat)?);
-        Ok(Running::of_command(core, children))
+        let feeds = Vec::new(alloc);
+        let room = Vec::new(alloc);
+        Ok(Running::of_start(core, children, feeds, None, None, room))
     }
 }

@@ -16,6 +16,7 @@ pub mod Joined
 pub mod Keeping
 pub mod Leaving
 pub mod Origins
+pub mod Outwards
 pub mod Resolved
 pub mod Running
 pub mod ScopeIn

@@ -26,5 +26,5 @@ returns-in_err-command-clause-pool_given g c =
 
 pub returns-clause-running : goal.returns-clause-running
 returns-clause-running g c =
-    rw c.of_command.ensures (alone_running g.S.Child.Child.child_view g.S.Feed.Job.job_view g.S.Drain.Job.job_view _ _ _ _ c.in_ok-command.field-0 _ _ (sym c.root.ensures ∙ ap (λ n. node_view n) c.in-Cmd.is) (search rules) (search rules) (g.met.S.Child.Child.has_number _)
-    c.in_ok-command.ensures.unasked c.in_ok-command.ensures.child)
+    rw c.of_start.ensures (alone_running g.S.Child.Child.child_view g.S.Feed.Job.job_view g.S.Drain.Job.job_view _ _ _ _ c.in_ok-command.field-0 _ _ _ (sym c.root.ensures ∙ ap (λ n. node_view n) c.in-Cmd.is) (search rules) (search rules) (search rules)
+    (g.met.S.Child.Child.has_number _) c.in_ok-command.ensures.unasked c.in_ok-command.ensures.child)

@@ -1,26 +1,4 @@
-use Rattle.std.proofs.Common.{◌≤◌, refl, sym, ◌∙◌, map, length, arith, rules}
-use Rattle.std.proofs.lemmas.List.{length-map}
-use Rattle.duct.proofs.Polls.{asked_more, asked_all, asked_length}
 use Rattle.duct.proofs.running.Running.poll.Goals as goal
 
-pub loop-at-preserved : goal.loop-at-preserved
-loop-at-preserved g c =
-    let view = g.S.Child.Child.child_view in
-    let i = c.loop-at.invariant in
-    let same = asked_length g.S.Child.Child.may_answer c.loop-at.at _ _ c.ask.ensures.asked in
-    record {
-      shape = c.ask.ensures.shape ∙ i.shape;
-      asked = asked_more g.S.Child.Child.may_answer c.loop-at.at _ _ _ i.asked c.ask.ensures.asked;
-      count = sym (length-map c.ask.new.self.children view) ∙ same ∙ length-map c.loop-at.self.children view ∙ i.count;
-      kept = i.kept;
-    }
-
-pub returns-clause-asked : goal.returns-clause-asked
-returns-clause-asked g c =
-    let view = g.S.Child.Child.child_view in
-    let i = c.loop-at.invariant in
-    let all : length (map view c.args.self.now.children) ≤ c.loop-at.at = omega (arith, length-map c.args.self.now.children view, i.kept, c.loop-at-test.false) in
-    rw c.conclude.ensures.children (asked_all g.S.Child.Child.may_answer c.loop-at.at _ _ all i.asked)
-
-pub loop-at-init : goal.loop-at-init
-loop-at-init g c = record { shape = refl; asked = refl; count = search rules; kept = search rules }
+pub returns-clause-asked_feeds : goal.returns-clause-asked_feeds
+returns-clause-asked_feeds g c = rw (c.conclude.ensures.feeds, c.ask_error.ensures.feeds, c.ask_output.ensures.feeds, ← c.ask_children.ensures.feeds) c.ask_feeds.ensures.asked
