@@ -81,7 +81,8 @@ impl<S: System> Running<S> {
         requires unasked { AreUnasked S.Child.child_view S.Feed.job_view S.Drain.job_view
             children.items feeds.items output error }
         requires empty { room.items ≡ [] }
-        requires room { length (option_to_list output ++ option_to_list error) ≤ vec_capacity room }
+        requires room { length (option_to_list output ++ option_to_list error)
+            ≤ vec_capacity room }
         ensures { result ≡ record {
           shape = core.shape;
           children = children.items;
@@ -244,13 +245,15 @@ impl<S: System> Running<S> {
         ensures asked_feeds { AllPolled S.Feed.may_say S.Feed.same S.Feed.refusable
             (map S.Feed.job_view self.old.feeds) (map S.Feed.job_view self.new.feeds) }
 
-        // By what children and input workers now store, and capture workers stored before.
+        // By what children and input workers now store, and the capture workers stored before.
         ensures asked_output { PolledWhere S.Drain.may_say S.Drain.same S.Drain.refusable Out
             (awaited (shape_view self.new.shape)
             (stored_in S.Child.child_view S.Feed.job_view S.Drain.job_view
             (record self.new { output = self.old.output; error = self.old.error })))
             (option_map S.Drain.job_view self.old.output)
             (option_map S.Drain.job_view self.new.output) }
+
+        // By what children, input workers and stdout's capture worker now store, and stderr's stored before.
         ensures asked_error { PolledWhere S.Drain.may_say S.Drain.same S.Drain.refusable Err
             (awaited (shape_view self.new.shape)
             (stored_in S.Child.child_view S.Feed.job_view S.Drain.job_view

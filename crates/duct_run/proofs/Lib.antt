@@ -5,3 +5,5 @@ pub mod Made
 pub mod New
 pub mod Outwards
 pub mod Pushed
+pub mod Saying
+pub mod Turns

@@ -9,6 +9,7 @@ pub mod ending;
 pub mod held;
 pub mod places;
 pub mod requests;
+pub mod run;
 pub mod scope;
 pub mod streams;
 pub mod variables;

@@ -377,6 +377,7 @@ pub(crate) fn finish_out<S: System, H: Hook>(
         held.old held.new) }
     ensures new { AreNew S.Child.child_view S.Feed.job_view S.Drain.job_view held.old
         → AreNew S.Child.child_view S.Feed.job_view S.Drain.job_view held.new }
+    ensures last { held.new.error_worker ≡ held.old.error_worker }
 {
     let Some((reader, writer)) = held.output.take() else {
         return Ok(());

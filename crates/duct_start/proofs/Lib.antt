@@ -17,6 +17,7 @@ pub mod Keeping
 pub mod Leaving
 pub mod Origins
 pub mod Outwards
+pub mod Ran
 pub mod Resolved
 pub mod Running
 pub mod ScopeIn

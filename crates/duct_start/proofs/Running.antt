@@ -134,7 +134,8 @@ action_grows st (action.feed bytes) = (_, refl)
 action_grows st (action.finish side.Out) = drains_grow st.plan.out st.plan
 action_grows st (action.finish side.Err) = drains_grow st.plan.err st.plan
 
-items_grow : {E H : Type 0} (st : State E H) (actions : List (Action E H)) → (more : List (Item E H)) × ((after st actions).plan.items ≡ st.plan.items ++ more)
+pub items_grow : {E H : Type 0} (st : State E H) (actions : List (Action E H))
+    → (more : List (Item E H)) × ((after st actions).plan.items ≡ st.plan.items ++ more)
 items_grow st [] = ([], sym (append-nil st.plan.items))
 items_grow st (act ∷ actions) =
     let one = action_grows st act in

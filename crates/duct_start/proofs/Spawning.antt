@@ -223,8 +223,10 @@ none_handed s rest none =
     λ j. ne j ++ (no j ++ (ni j ++ rest))
 
 -- more that would have been asked
-stopped_front : {E H : Type 0} (allows : Allows H) (number_of : E → ℕ) (course : Course) (items more : List (Item E H)) (now : JournalView) (held : Holdings) (e : Error) →
-    Stopped allows number_of course items now held e → Stopped allows number_of course (items ++ more) now held e
+unfoldable pub stopped_front : {E H : Type 0} (allows : Allows H) (number_of : E → ℕ)
+    (course : Course) (items more : List (Item E H)) (now : JournalView) (held : Holdings)
+    (e : Error) → Stopped allows number_of course items now held e
+    → Stopped allows number_of course (items ++ more) now held e
 stopped_front allows number_of course items more now held e stopped = record {
   added = stopped.added;
   books = stopped.books;

@@ -15,6 +15,7 @@ pub mod Listed
 pub mod Lookup
 pub mod Path
 pub mod Plan
+pub mod Ran
 pub mod Running
 pub mod ShapeOfTree
 pub mod Standing

@@ -1,8 +1,6 @@
 use Rattle.std.proofs.lemmas.Result.{err_from_is_err_and}
-use Rattle.std.proofs.Common.{ap, sym, ◌∙◌}
-use Rattle.duct_system.specs.SpecView.{port_of}
+use Rattle.std.proofs.Common.{sym, ◌∙◌}
 use Rattle.duct_system.specs.Streams.{stream_of}
-use Rattle.duct_system.specs.declared.spec.Stream.TheVariants.{In, Out, Err}
 use Rattle.duct_start.specs.Chain.{Makes}
 use Rattle.duct_start.proofs.Changing.{alters_one, breaks_end, breaks_error, breaks_fault, breaks_input, breaks_output}
 use Rattle.duct_start.proofs.Settling.{settles_at}

@@ -2,7 +2,7 @@ use Rattle.std.proofs.Common.{◌≡◌, ap, sym, ◌∙◌, subst, map, string_
 use Rattle.duct_base.specs.Executable.{asks_canonical}
 use Rattle.duct_system.specs.EntryView.{Canonicalize}
 use Rattle.duct_system.specs.Journal.{Asks}
-use Rattle.duct_start.specs.Commands.{Names, is_named}
+use Rattle.duct_start.specs.Commands.{is_named}
 use Rattle.duct_start.specs.Listed.{scope_in}
 use Rattle.duct_start.proofs.Commanding.{names_some}
 use Rattle.duct_run.specs.ScopeView.{scopes_view}

@@ -1,6 +1,6 @@
 -- The spawn of a command, or what stops it.
 use Rattle.std.proofs.lemmas.Result.{err_from_is_err_and}
-use Rattle.std.proofs.Common.{◌≡◌, ℕ, ◌+◌, ◌≤◌, ap, sym, ◌∙◌, subst, arith, rules, length, map, string_bytes, length-append, ◌++◌, ◌∷◌, []}
+use Rattle.std.proofs.Common.{◌≡◌, ◌+◌, ◌≤◌, ap, sym, ◌∙◌, subst, arith, rules, length, map, string_bytes, length-append, ◌++◌, ◌∷◌, []}
 use Rattle.duct_system.specs.Child.{IsUnasked}
 use Rattle.duct_system.specs.SpecView.{pair_text}
 use Rattle.duct_start.specs.Actions.{many}
@@ -9,7 +9,7 @@ use Rattle.duct_start.specs.Holdings.{pair_of}
 use Rattle.duct_start.specs.Listed.{scope_in}
 use Rattle.duct_start.proofs.Commanding.{hooks_refused, name_refused, spawn_refused, spawned, spec_refused, unasked_refused}
 use Rattle.duct_run.specs.ActionView.{ports_view}
-use Rattle.duct_run.specs.HeldView.{held_view, stack_view}
+use Rattle.duct_run.specs.HeldView.{held_view}
 use Rattle.duct_run.specs.Made.{IsMade, program_text}
 use Rattle.duct_run.specs.ScopeView.{scopes_view}
 use Rattle.duct_run.specs.StreamsView.{many_ends, streams_view}

@@ -1,0 +1,189 @@
+-- One action more of a run's list, where the system answered these variables.
+use Rattle.std.proofs.Common.{◌≡◌, ℕ, ◌+◌, ◌<◌, ◌≤◌, List, [], ◌∷◌, ◌++◌, All, length, map, drop, get_or, suc, refl, ap, sym, ◌∙◌, arith, subst}
+use Rattle.std.proofs.lemmas.List.{drop_all, get_or-map, length-map}
+use Rattle.std.proofs.lemmas.List.Elements.{All-get_or}
+use Rattle.std.proofs.Math.Seq.{drop-cons}
+use Rattle.std.specs.Option.{option_map, option_to_list}
+use Rattle.std.specs.Prelude.{None, Some, slice_get}
+use Rattle.std.specs.declared.option.Option.{Option}
+use Rattle.duct_system.specs.Child.{ChildView}
+use Rattle.duct_system.specs.Child as child_spec
+use Rattle.duct_system.specs.EntryView.{EntryView}
+use Rattle.duct_system.specs.Job.{JobView, unpolled_job}
+use Rattle.duct_system.specs.Journal.{JournalView}
+use Rattle.duct_system.specs.SpecView.{Vars}
+use Rattle.duct_system.specs.Trace.{trace}
+use Rattle.duct_system.specs.declared.error.Error.{Error}
+use Rattle.duct_system.specs.declared.error.Error.TheVariants.{Memory}
+use Rattle.duct_start.specs.Actions as action
+use Rattle.duct_start.specs.Actions.{Action, ActionOf, AreReady, Scope, State, advance, after, pops}
+use Rattle.duct_start.specs.Causes.{StoppedBy}
+use Rattle.duct_start.specs.Chain.{Allows, Refuses}
+use Rattle.duct_start.specs.Commands.{GoesSaying, Refused, RefusedSaying}
+use Rattle.duct_start.specs.Holdings.{Holdings, ends}
+use Rattle.duct_start.specs.Listed.{IsWithin, resolved, resolved_all}
+use Rattle.duct_start.specs.Standing.{CanDo, Course, IsHooks, IsUnasked, Stands, Stood}
+use Rattle.duct_start.specs.Step.{Item}
+use Rattle.duct_start.proofs.Running.{can_now, memory_now}
+use Rattle.duct_start.proofs.Spawning.{plain_refused}
+use Rattle.duct_start.proofs.Stacks.{get_front}
+use Rattle.duct_start.proofs.Standing.{answers_front}
+use Rattle.duct_run.specs.ActionView.{action_view, actions_view}
+use Rattle.duct_run.specs.HeldView.{AreNew, AreSame, HasSameWorkers, held_view, stack_view}
+use Rattle.duct_run.specs.declared.action.Action as declared
+use Rattle.duct_run.specs.declared.held.Held.{Held}
+use Rattle.duct_start.proofs.Running.{items_grow}
+use Rattle.duct_run.proofs.Pushed.{still}
+
+-- an action pops as many ends, whatever its scope
+pub pops_resolved : {E H : Type 0} (scopes : List (Scope E H)) (act : ActionOf E ℕ)
+    → pops (resolved scopes act) ≡ pops act
+pops_resolved scopes (action.open_read path) = refl
+pops_resolved scopes (action.create path) = refl
+pops_resolved scopes action.pipe = refl
+pops_resolved scopes action.input = refl
+pops_resolved scopes (action.capture which) = refl
+pops_resolved scopes (action.duplicate depth) = refl
+pops_resolved scopes (action.tap which) = refl
+pops_resolved scopes (action.lend end) = refl
+pops_resolved scopes (action.parent which) = refl
+pops_resolved scopes action.close = refl
+pops_resolved scopes (action.spawn i words ports) = refl
+pops_resolved scopes (action.feed bytes) = refl
+pops_resolved scopes (action.finish which) = refl
+
+-- the actions from an index on, its own first
+pub rest_is : {E H : Type 0} (scopes : List (Scope E H)) (xs : List (declared.Action E)) (i : ℕ)
+    (x : declared.Action E) → i < length xs → x ≡ get_or xs i x
+    → resolved_all scopes (actions_view (drop i xs))
+    ≡ resolved scopes (action_view x) ∷ resolved_all scopes (actions_view (drop (i + 1) xs))
+rest_is {E} {H} scopes xs i x within is =
+    let next : suc i ≡ i + 1 = omega arith in
+    ap (λ (l : List (declared.Action E)). resolved_all scopes (actions_view l)) (drop-cons xs i x within ∙ ap (λ (y : declared.Action E). y ∷ drop (suc i) xs) (sym is) ∙ ap (λ (k : ℕ). x ∷ drop k xs) next)
+
+-- no action is left behind the last
+pub rest_none : {E H : Type 0} (scopes : List (Scope E H)) (xs : List (declared.Action E)) (i : ℕ)
+    → length xs ≤ i → resolved_all scopes (actions_view (drop i xs)) ≡ []
+rest_none {E} {H} scopes xs i past = ap (λ (l : List (declared.Action E)). resolved_all scopes (actions_view l)) (drop_all i xs past)
+
+-- the action at an index names a scope that is there, as all do
+pub within_at : {E : Type 0} (count : ℕ) (xs : List (declared.Action E)) (i : ℕ)
+    (x : declared.Action E) → i < length xs → x ≡ get_or xs i x
+    → All (IsWithin count) (actions_view xs) → IsWithin count (action_view x)
+within_at {E} count xs i x within is all =
+    let low : i < length (actions_view xs) = omega (arith, within, length-map xs (λ a. action_view a)) in
+    let there : get_or (actions_view xs) i (action_view x) ≡ action_view x = get_or-map (λ a. action_view a) xs i x (action_view x) within ∙ ap (λ (a : declared.Action E). action_view a) (sym is) in
+    subst (λ (a : ActionOf E ℕ). IsWithin count a) there (All-get_or (IsWithin count) (actions_view xs) i (action_view x) low all)
+
+module _ {E C F D V W : Type 0} (end : E → ℕ) (child : C → ChildView) (feed : F → JobView V) (drain : D → JobView W) (old new : Held E C F D) (same : AreSame old new) where
+  held_same : held_view end child feed drain new ≡ held_view end child feed drain old
+  held_same = λ i. record {
+    stack = stack_view end (same.stack i);
+    out = option_map (λ pair. (end pair.0, end pair.1)) (same.output i);
+    err = option_map (λ pair. (end pair.0, end pair.1)) (same.error i);
+    children = map (λ c. (child c).number) (same.children i);
+    feeds = map (λ f. (feed f).number) (same.feeds i);
+    drains = map (λ d. (drain d).number) (option_to_list (same.output_worker i) ++ option_to_list (same.error_worker i));
+  }
+
+  -- with more room the same is held
+  pub stood_same : {H : Type 0} (allows : Allows H) (course : Course) (goal : State E H)
+      (actions : List (Action E H)) (now : JournalView)
+      → Stood allows end course goal actions now (held_view end child feed drain old)
+      → Stood allows end course goal actions now (held_view end child feed drain new)
+  stood_same allows course goal actions now stood = subst (λ (h : Holdings). Stood allows end course goal actions now h) (sym held_same) stood
+
+  pub new_same : AreNew child feed drain old → AreNew child feed drain new
+  new_same is = record {
+    children = subst (λ (l : List C). All (λ c. child_spec.IsUnasked (child c)) l) (sym same.children) is.children;
+    feeds = subst (λ (l : List F). All (λ f. feed f ≡ unpolled_job (feed f).number) l) (sym same.feeds) is.feeds;
+    output_worker = subst (λ (o : Option D). All (λ d. drain d ≡ unpolled_job (drain d).number) (option_to_list o)) (sym same.output_worker) is.output_worker;
+    error_worker = subst (λ (o : Option D). All (λ d. drain d ≡ unpolled_job (drain d).number) (option_to_list o)) (sym same.error_worker) is.error_worker;
+  }
+
+-- the workers stay, over one action and over several
+pub workers_same : {E C F D : Type 0} (old new : Held E C F D) → AreSame old new
+    → HasSameWorkers old new
+workers_same old new same = record { output_worker = same.output_worker; error_worker = same.error_worker }
+
+module _ {E C F D : Type 0} (one two three : Held E C F D) where
+  pub workers_on : HasSameWorkers one two → HasSameWorkers two three → HasSameWorkers one three
+  workers_on first second = record {
+    output_worker = second.output_worker ∙ first.output_worker;
+    error_worker = second.error_worker ∙ first.error_worker;
+  }
+
+module _ {E H : Type 0} (allows : Allows H) (refuses : Refuses H) (number_of : E → ℕ) where
+  stopped_by_as : (entries : List EntryView) (place : ℕ) (error : Error) (o p : Option (Item E H)) → ((x : Item E H) → o ≡ Some x → p ≡ Some x) →
+      StoppedBy allows refuses number_of entries place o error → StoppedBy allows refuses number_of entries place p error
+  stopped_by_as entries place error None p stays stopped = absurd stopped
+  stopped_by_as entries place error (Some x) p stays stopped = subst (λ (q : Option (Item E H)). StoppedBy allows refuses number_of entries place q error) (sym (stays x refl)) stopped
+
+  module _ (course : Course) where
+    refused_more : (items more : List (Item E H)) (now : JournalView) (held : Holdings) (error : Error) → Refused allows refuses number_of course items now held error →
+        Refused allows refuses number_of course (items ++ more) now held error
+    refused_more items more now held error refused =
+        let stopped = refused.stopped in
+        record {
+          stopped = record {
+            added = stopped.added;
+            books = stopped.books;
+            few = stopped.few;
+            answers = λ l later. answers_front allows number_of (stopped.added ++ l) 0 items more (trace stopped.added) (stopped.answers l later);
+            ended = stopped.ended;
+          };
+          cause = λ is l later.
+              let place = length (trace stopped.added) in
+              stopped_by_as (trace (stopped.added ++ l)) place error (slice_get items place) (slice_get (items ++ more) place) (λ x there. get_front items more place x there) (refused.cause is l later);
+        }
+
+    -- a run is at its goal where no action is left
+    pub stands_done : (goal : State E H) (actions : List (Action E H)) (now : JournalView)
+        (held : Holdings) → actions ≡ []
+        → Stood allows number_of course goal actions now held
+        → Stands allows number_of course goal now held
+    stands_done goal actions now held none stood =
+        let is : stood.state ≡ goal = ap (λ (l : List (Action E H)). after stood.state l) (sym none) ∙ stood.goal_is in
+        subst (λ (s : State E H). Stands allows number_of course s now held) is stood.stands
+
+    module _ (pairs : Vars) (same : course.pairs ≡ pairs) (goal : State E H) (actions rest : List (Action E H)) (act : Action E H) (now : JournalView) (kept : Holdings)
+        (stood : Stood allows number_of course goal actions now kept) (is : actions ≡ act ∷ rest) where
+      ready_here : AreReady number_of course.base course.bound stood.state (act ∷ rest)
+      ready_here = subst (λ (l : List (Action E H)). AreReady number_of course.base course.bound stood.state l) is stood.ready
+
+      goal_here : after stood.state (act ∷ rest) ≡ goal
+      goal_here = ap (λ (l : List (Action E H)). after stood.state l) (sym is) ∙ stood.goal_is
+
+      -- it goes on
+      pub goes_on_saying : (next : JournalView) (other : Holdings)
+          → GoesSaying allows number_of pairs act now next kept other
+          → Stood allows number_of course goal rest next other
+      goes_on_saying next other goes = record {
+        state = advance stood.state act;
+        stands = goes course stood.state same ready_here.0 stood.stands;
+        ready = ready_here.1;
+        goal_is = goal_here;
+      }
+
+      -- it is refused
+      pub refused_now : (next : JournalView) (other : Holdings) (error : Error)
+          → RefusedSaying allows refuses number_of pairs act now next kept other error
+          → Refused allows refuses number_of course goal.plan.items next other error
+      refused_now next other error refused =
+          let more = items_grow (advance stood.state act) rest in
+          let all : (advance stood.state act).plan.items ++ more.0 ≡ goal.plan.items = sym more.1 ∙ ap (λ (x : State E H). x.plan.items) goal_here in
+          subst (λ (l : List (Item E H)). Refused allows refuses number_of course l next other error) all
+          (refused_more (advance stood.state act).plan.items more.0 next other error (refused course stood.state same ready_here.0 stood.stands))
+
+      -- without memory nothing was asked
+      pub memory_refused : (error : Error) → error ≡ Memory
+          → Refused allows refuses number_of course goal.plan.items now kept error
+      memory_refused error memory = plain_refused allows refuses number_of course goal.plan.items now kept error (λ hooks. subst (λ (e : Error). IsHooks e) memory hooks)
+          (memory_now allows number_of course goal actions rest act now kept stood is now error (still now) (subst (λ (e : Error). IsUnasked e) (sym memory) tt))
+
+      -- what the action needs is held, with room to give it back
+      pub can_here : (pops act ≤ length kept.stack) × CanDo act kept
+      can_here = can_now allows number_of course goal actions rest act now kept stood is
+
+      pub room_here : length (ends kept) ≤ now.room
+      room_here = omega (arith, stood.stands.books.room_is)

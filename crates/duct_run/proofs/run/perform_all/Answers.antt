@@ -1,0 +1,148 @@
+-- One action more of the list; without memory for it, and where it is refused, the run is.
+use Rattle.std.proofs.Common.{◌≡◌, ◌+◌, ◌∷◌, [], arith, drop, map, refl}
+use Rattle.std.proofs.lemmas.Result.{err_from_is_err_and}
+use Rattle.duct_system.specs.SpecView.{pair_text}
+use Rattle.duct_start.specs.Listed.{resolved, resolved_all}
+use Rattle.duct_start.proofs.Leaving.{leaves_on, leaves_same}
+use Rattle.duct_run.specs.ActionView.{action_view, actions_view}
+use Rattle.duct_run.specs.HeldView.{held_view}
+use Rattle.duct_run.specs.ScopeView.{all_scopes}
+use Rattle.duct_run.proofs.Pushed.{length_stack}
+use Rattle.duct_run.proofs.Turns.{can_here, goes_on_saying, memory_refused, new_same, pops_resolved, refused_now, rest_is, rest_none, room_here, stands_done, stood_same, within_at, workers_on, workers_same}
+use Rattle.duct_run.proofs.run.perform_all.Goals as goal
+
+pub loop-action-init : goal.loop-action-init
+loop-action-init g c = record {
+  stood = λ course to same first. first;
+  new = λ new. new;
+  workers = record { output_worker = refl; error_worker = refl };
+  pool = leaves_same _ _;
+}
+
+pub returns-in_err-make_room-clause-err : goal.returns-in_err-make_room-clause-err
+returns-in_err-make_room-clause-err g c =
+    let p = err_from_is_err_and c.from_residual.result c.from_residual.ensures.1 in
+    let num = g.S.End.Numbered.number_of in
+    let child = g.S.Child.Child.child_view in
+    let feed = g.S.Feed.Job.job_view in
+    let drain = g.S.Drain.Job.job_view in
+    let now = g.S.System.journal_view c.loop-action.sys in
+    let scopes = all_scopes c.args.scopes.now in
+    let act = resolved scopes (action_view c.action-item.result) in
+    let before = resolved_all scopes (actions_view (drop c.loop-action.action-index c.args.actions.now)) in
+    let rest = resolved_all scopes (actions_view (drop (c.loop-action.action-index + 1) c.args.actions.now)) in
+    let is : before ≡ act ∷ rest = rest_is scopes c.args.actions.now c.loop-action.action-index c.action-item.result c.loop-action-test.true c.action-item.is in
+    let pairs = map pair_text c.args.pairs.now.items in
+    let kept = held_view num child feed drain c.make_room.new.held in
+    rw (p.1, p.2) (λ course to same first.
+    let stood = stood_same num child feed drain c.loop-action.held c.make_room.new.held c.make_room.ensures.same g.H.Hook.allows course to before now (c.loop-action.invariant.stood course to same first) in
+    memory_refused g.H.Hook.allows g.H.Hook.refuses num course pairs same to before rest act now kept stood is _ c.in_err-make_room.ensures.memory)
+
+pub perform-requires-clause-within : goal.perform-requires-clause-within
+perform-requires-clause-within g c = within_at _ c.args.actions.now c.loop-action.action-index c.action-item.result c.loop-action-test.true c.action-item.is c.requires.within
+
+pub perform-requires-clause-full : goal.perform-requires-clause-full
+perform-requires-clause-full g c =
+    let num = g.S.End.Numbered.number_of in
+    let child = g.S.Child.Child.child_view in
+    let feed = g.S.Feed.Job.job_view in
+    let drain = g.S.Drain.Job.job_view in
+    let now = g.S.System.journal_view c.loop-action.sys in
+    let scopes = all_scopes c.args.scopes.now in
+    let act = resolved scopes (action_view c.action-item.result) in
+    let before = resolved_all scopes (actions_view (drop c.loop-action.action-index c.args.actions.now)) in
+    let rest = resolved_all scopes (actions_view (drop (c.loop-action.action-index + 1) c.args.actions.now)) in
+    let is : before ≡ act ∷ rest = rest_is scopes c.args.actions.now c.loop-action.action-index c.action-item.result c.loop-action-test.true c.action-item.is in
+    let pairs = map pair_text c.args.pairs.now.items in
+    let kept = held_view num child feed drain c.make_room.new.held in
+    let some = c.requires.stood in
+    let stood = stood_same num child feed drain c.loop-action.held c.make_room.new.held c.make_room.ensures.same g.H.Hook.allows some.0 some.1 before now (c.loop-action.invariant.stood some.0 some.1 some.2 some.3) in
+    omega (arith, (can_here g.H.Hook.allows g.H.Hook.refuses num some.0 pairs some.2 some.1 before rest act now kept stood is).0, pops_resolved scopes (action_view c.action-item.result), length_stack num c.make_room.new.held.stack.items)
+
+pub perform-requires-clause-can : goal.perform-requires-clause-can
+perform-requires-clause-can g c =
+    let num = g.S.End.Numbered.number_of in
+    let child = g.S.Child.Child.child_view in
+    let feed = g.S.Feed.Job.job_view in
+    let drain = g.S.Drain.Job.job_view in
+    let now = g.S.System.journal_view c.loop-action.sys in
+    let scopes = all_scopes c.args.scopes.now in
+    let act = resolved scopes (action_view c.action-item.result) in
+    let before = resolved_all scopes (actions_view (drop c.loop-action.action-index c.args.actions.now)) in
+    let rest = resolved_all scopes (actions_view (drop (c.loop-action.action-index + 1) c.args.actions.now)) in
+    let is : before ≡ act ∷ rest = rest_is scopes c.args.actions.now c.loop-action.action-index c.action-item.result c.loop-action-test.true c.action-item.is in
+    let pairs = map pair_text c.args.pairs.now.items in
+    let kept = held_view num child feed drain c.make_room.new.held in
+    let some = c.requires.stood in
+    let stood = stood_same num child feed drain c.loop-action.held c.make_room.new.held c.make_room.ensures.same g.H.Hook.allows some.0 some.1 before now (c.loop-action.invariant.stood some.0 some.1 some.2 some.3) in
+    (can_here g.H.Hook.allows g.H.Hook.refuses num some.0 pairs some.2 some.1 before rest act now kept stood is).1
+
+pub perform-requires-clause-room : goal.perform-requires-clause-room
+perform-requires-clause-room g c =
+    let num = g.S.End.Numbered.number_of in
+    let child = g.S.Child.Child.child_view in
+    let feed = g.S.Feed.Job.job_view in
+    let drain = g.S.Drain.Job.job_view in
+    let now = g.S.System.journal_view c.loop-action.sys in
+    let scopes = all_scopes c.args.scopes.now in
+    let act = resolved scopes (action_view c.action-item.result) in
+    let before = resolved_all scopes (actions_view (drop c.loop-action.action-index c.args.actions.now)) in
+    let rest = resolved_all scopes (actions_view (drop (c.loop-action.action-index + 1) c.args.actions.now)) in
+    let is : before ≡ act ∷ rest = rest_is scopes c.args.actions.now c.loop-action.action-index c.action-item.result c.loop-action-test.true c.action-item.is in
+    let pairs = map pair_text c.args.pairs.now.items in
+    let kept = held_view num child feed drain c.make_room.new.held in
+    let some = c.requires.stood in
+    let stood = stood_same num child feed drain c.loop-action.held c.make_room.new.held c.make_room.ensures.same g.H.Hook.allows some.0 some.1 before now (c.loop-action.invariant.stood some.0 some.1 some.2 some.3) in
+    room_here g.H.Hook.allows g.H.Hook.refuses num some.0 pairs some.2 some.1 before rest act now kept stood is
+
+pub returns-in_err-perform-clause-err : goal.returns-in_err-perform-clause-err
+returns-in_err-perform-clause-err g c =
+    let p = err_from_is_err_and c.from_residual-in_err-perform.result c.from_residual-in_err-perform.ensures.1 in
+    let num = g.S.End.Numbered.number_of in
+    let child = g.S.Child.Child.child_view in
+    let feed = g.S.Feed.Job.job_view in
+    let drain = g.S.Drain.Job.job_view in
+    let now = g.S.System.journal_view c.loop-action.sys in
+    let scopes = all_scopes c.args.scopes.now in
+    let act = resolved scopes (action_view c.action-item.result) in
+    let before = resolved_all scopes (actions_view (drop c.loop-action.action-index c.args.actions.now)) in
+    let rest = resolved_all scopes (actions_view (drop (c.loop-action.action-index + 1) c.args.actions.now)) in
+    let is : before ≡ act ∷ rest = rest_is scopes c.args.actions.now c.loop-action.action-index c.action-item.result c.loop-action-test.true c.action-item.is in
+    let pairs = map pair_text c.args.pairs.now.items in
+    let kept = held_view num child feed drain c.make_room.new.held in
+    rw (p.1, p.2) (λ course to same first.
+    let stood = stood_same num child feed drain c.loop-action.held c.make_room.new.held c.make_room.ensures.same g.H.Hook.allows course to before now (c.loop-action.invariant.stood course to same first) in
+    refused_now g.H.Hook.allows g.H.Hook.refuses num course pairs same to before rest act now kept stood is _ _ _ c.in_err-perform.ensures.err)
+
+pub returns-in_err-perform-clause-pool : goal.returns-in_err-perform-clause-pool
+returns-in_err-perform-clause-pool g c = leaves_on _ [] _ _ _ c.loop-action.invariant.pool c.perform.ensures.pool
+
+pub loop-action-preserved : goal.loop-action-preserved
+loop-action-preserved g c =
+    let num = g.S.End.Numbered.number_of in
+    let child = g.S.Child.Child.child_view in
+    let feed = g.S.Feed.Job.job_view in
+    let drain = g.S.Drain.Job.job_view in
+    let now = g.S.System.journal_view c.loop-action.sys in
+    let scopes = all_scopes c.args.scopes.now in
+    let act = resolved scopes (action_view c.action-item.result) in
+    let before = resolved_all scopes (actions_view (drop c.loop-action.action-index c.args.actions.now)) in
+    let rest = resolved_all scopes (actions_view (drop (c.loop-action.action-index + 1) c.args.actions.now)) in
+    let is : before ≡ act ∷ rest = rest_is scopes c.args.actions.now c.loop-action.action-index c.action-item.result c.loop-action-test.true c.action-item.is in
+    let pairs = map pair_text c.args.pairs.now.items in
+    let kept = held_view num child feed drain c.make_room.new.held in
+    let same_held = c.make_room.ensures.same in
+    record {
+      stood = λ course to same first.
+          let stood = stood_same num child feed drain c.loop-action.held c.make_room.new.held c.make_room.ensures.same g.H.Hook.allows course to before now (c.loop-action.invariant.stood course to same first) in
+          goes_on_saying g.H.Hook.allows g.H.Hook.refuses num course pairs same to before rest act now kept stood is _ _ c.in_ok-perform.ensures.ok;
+      new = λ new. c.perform.ensures.new (new_same num child feed drain c.loop-action.held c.make_room.new.held same_held (c.loop-action.invariant.new new));
+      workers = workers_on c.args.held.now c.make_room.new.held c.perform.new.held
+          (workers_on c.args.held.now c.loop-action.held c.make_room.new.held c.loop-action.invariant.workers (workers_same c.loop-action.held c.make_room.new.held same_held)) c.perform.ensures.workers;
+      pool = leaves_on _ [] _ _ _ c.loop-action.invariant.pool c.perform.ensures.pool;
+    }
+
+pub returns-clause-ok : goal.returns-clause-ok
+returns-clause-ok g c = λ course to same first.
+    stands_done g.H.Hook.allows g.H.Hook.refuses g.S.End.Numbered.number_of course to _ _ _ (rest_none (all_scopes c.args.scopes.now) c.args.actions.now c.loop-action.action-index (omega (arith, c.loop-action-test.false)))
+    (c.loop-action.invariant.stood course to same first)
