@@ -1,5 +1,5 @@
 -- What a run holds, as contracts see it.
-use Rattle.std.specs.Prelude.{ℕ, ◌+◌, ◌≤◌, ◌≡◌, ◌++◌, List, All, map, reverse, vec_len, vec_capacity}
+use Rattle.std.specs.Prelude.{ℕ, ◌+◌, ◌≤◌, ◌≡◌, ◌++◌, List, All, map, reverse, vec_len, vec_capacity, [], None}
 use Rattle.std.specs.Option.{option_map, option_to_list}
 use Rattle.duct_system.specs.Child.{ChildView, IsUnasked}
 use Rattle.duct_system.specs.Job.{JobView, unpolled_job}
@@ -39,6 +39,16 @@ pub record AreSame {E C F D : Type 0} (old new : Held E C F D) : Type 0 where
   pub feeds : new.feeds.items ≡ old.feeds.items
   pub output_worker : new.output_worker ≡ old.output_worker
   pub error_worker : new.error_worker ≡ old.error_worker
+
+-- nothing is held
+pub record IsEmpty {E C F D : Type 0} (held : Held E C F D) : Type 0 where
+  pub stack : held.stack.items ≡ []
+  pub output : held.output ≡ None
+  pub error : held.error ≡ None
+  pub children : held.children.items ≡ []
+  pub feeds : held.feeds.items ≡ []
+  pub output_worker : held.output_worker ≡ None
+  pub error_worker : held.error_worker ≡ None
 
 -- there is room for what any one action gets
 pub record HasRoom {E C F D : Type 0} (held : Held E C F D) : Type 0 where

@@ -1,5 +1,6 @@
 pub mod ActionView
 pub mod Changes
+pub mod GivesUp
 pub mod HeldEnds
 pub mod HeldView
 pub mod Made

@@ -1,9 +1,10 @@
 //! What a run holds: a stack of ends, the ends of its capture pipes, its children and its workers.
-ghost use Rattle.std.specs.Prelude.{◌≡◌, ◌≤◌, ◌+◌, ◌++◌, [], ◌∷◌, vec_len, vec_capacity, OnOk, IsOkUnless};
-ghost use Rattle.duct_run.specs.HeldView.{HasRoom, AreSame};
+ghost use Rattle.std.specs.Prelude.{◌≡◌, ◌≤◌, ◌+◌, ◌++◌, [], ◌∷◌, vec_len, vec_capacity, IfOk, OnOk, IsOkUnless};
+ghost use Rattle.duct_run.specs.HeldView.{HasRoom, AreSame, IsEmpty};
 
 use duct_system::error::Error;
 use duct_system::system::Numbered;
+use std::alloc::Global;
 
 /// A stack of ends, with the two capture pipes that are open, the read end of each first; the children from left to right and the
 /// input workers, in order; and the workers of stdout's and of stderr's capture pipe.
@@ -16,6 +17,30 @@ pub struct Held<E, C, F, D> {
     pub feeds: Vec<F>,
     pub output_worker: Option<D>,
     pub error_worker: Option<D>,
+}
+
+/// Nothing, with room for so many ends, children and input workers. Refused, by `Error::Memory`, only for want of memory.
+pub fn nothing_held<E: Drop, C: Drop, F: Drop, D: Drop>(
+    alloc: Global,
+    ends: usize,
+    children: usize,
+    feeds: usize,
+) -> Result<Held<E, C, F, D>, Error>
+    ensures empty { IfOk result IsEmpty }
+    ensures memory { IsOkUnless result Error.Memory }
+{
+    let stack = Vec::with_capacity(alloc, ends)?;
+    let children = Vec::with_capacity(alloc, children)?;
+    let feeds = Vec::with_capacity(alloc, feeds)?;
+    Ok(Held {
+        stack,
+        output: None,
+        error: None,
+        children,
+        feeds,
+        output_worker: None,
+        error_worker: None,
+    })
 }
 
 // Pops the top.

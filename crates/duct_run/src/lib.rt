@@ -11,5 +11,6 @@ pub mod places;
 pub mod requests;
 pub mod run;
 pub mod scope;
+pub mod start;
 pub mod streams;
 pub mod variables;

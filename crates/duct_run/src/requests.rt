@@ -1,5 +1,5 @@
 //! The requests of a run, one function for each action but a command's.
-ghost use Rattle.std.specs.Prelude.{◌≡◌, ◌<◌, ◌≤◌, ◌+◌, length, None, OnOk, IfErr, IsSome, vec_len, vec_capacity};
+ghost use Rattle.std.specs.Prelude.{◌≡◌, ◌<◌, ◌≤◌, ◌+◌, length, None, OnOk, IfErr, IsSome, is_some, vec_len, vec_capacity};
 ghost use Rattle.std.specs.Arc.{arc_value};
 ghost use Rattle.duct_system.specs.declared.system.Side.TheVariants as side;
 ghost use Rattle.duct_start.specs.Actions as action;
@@ -378,6 +378,7 @@ pub(crate) fn finish_out<S: System, H: Hook>(
     ensures new { AreNew S.Child.child_view S.Feed.job_view S.Drain.job_view held.old
         → AreNew S.Child.child_view S.Feed.job_view S.Drain.job_view held.new }
     ensures last { held.new.error_worker ≡ held.old.error_worker }
+    ensures worker { OnOk result (is_some held.new.output_worker ≡ is_some held.old.output) }
 {
     let Some((reader, writer)) = held.output.take() else {
         return Ok(());
@@ -404,6 +405,8 @@ pub(crate) fn finish_err<S: System, H: Hook>(
         held.old held.new) }
     ensures new { AreNew S.Child.child_view S.Feed.job_view S.Drain.job_view held.old
         → AreNew S.Child.child_view S.Feed.job_view S.Drain.job_view held.new }
+    ensures first { held.new.output_worker ≡ held.old.output_worker }
+    ensures worker { OnOk result (is_some held.new.error_worker ≡ is_some held.old.error) }
 {
     let Some((reader, writer)) = held.error.take() else {
         return Ok(());

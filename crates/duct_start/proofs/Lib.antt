@@ -14,6 +14,7 @@ pub mod Going
 pub mod Inward
 pub mod Joined
 pub mod Keeping
+pub mod Launched
 pub mod Leaving
 pub mod Origins
 pub mod Outwards
@@ -27,3 +28,4 @@ pub mod Stacks
 pub mod Standing
 pub mod Whole
 pub mod Wires
+pub mod Within

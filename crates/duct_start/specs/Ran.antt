@@ -1,5 +1,5 @@
 -- What a whole run promises, from the environment to the capture workers.
-use Rattle.std.specs.Prelude.{ℕ, List, [], None}
+use Rattle.std.specs.Prelude.{◌≡◌, Bool, is_some, ℕ, List, [], None}
 use Rattle.duct_system.specs.Journal.{JournalView}
 use Rattle.duct_system.specs.SpecView.{Vars}
 use Rattle.duct_system.specs.declared.error.Error.{Error}
@@ -42,3 +42,10 @@ RunRefused {E} {H} allows refuses number_of actions old now held error =
     → Leads number_of base bound (with_plan begun) actions (with_plan plan)
     → Refused allows refuses number_of (course_of old base bound pairs) (drained_of plan).items now
     held error)
+
+-- these truth values say whether stdout and stderr have a capture worker, to whatever plan the actions lead
+abbrev pub HaveWorkers : {E H : Type 0} → (E → ℕ) → List (Action E H) → Bool → Bool → Type 0
+HaveWorkers {E} {H} number_of actions output error =
+    (base bound : ℕ) (plan : Plan E H)
+    → Leads number_of base bound (with_plan begun) actions (with_plan plan)
+    → (output ≡ is_some plan.out) × (error ≡ is_some plan.err)

@@ -1,0 +1,31 @@
+-- A run that was refused, and gave up what it held.
+use Rattle.std.specs.Prelude.{ℕ, ◌+◌, ◌^◌, ◌<◌, List, [], length}
+use Rattle.duct_base.specs.Pool.{PoolView, Takes}
+use Rattle.duct_system.specs.Child.{Answer, ChildView}
+use Rattle.duct_system.specs.Job.{JobView}
+use Rattle.duct_system.specs.Journal.{JournalView}
+use Rattle.duct_system.specs.declared.error.Error.{Error}
+use Rattle.duct_start.specs.Actions.{Action}
+use Rattle.duct_start.specs.Chain.{Allows, Refuses}
+use Rattle.duct_start.specs.Closes.{Closes}
+use Rattle.duct_start.specs.Left.{Leaves, pool_view}
+use Rattle.duct_start.specs.Ran.{RunRefused}
+use Rattle.duct_run.specs.HeldEnds.{held_ends}
+use Rattle.duct_run.specs.HeldView.{AreNew, held_view}
+use Rattle.duct_run.specs.declared.held.Held.{Held}
+
+-- the run was refused with this error and held this; the pool was swept while it ran, each end was closed, and each child given
+pub record GivesUp {E H C F D V W : Type 0} (allows : Allows H) (refuses : Refuses H)
+    (end : E → ℕ) (child : C → ChildView) (feed : F → JobView V) (drain : D → JobView W)
+    (may : ℕ → Answer → Type 0) (actions : List (Action E H)) (old next : JournalView)
+    (before after : PoolView C) (error : Error) : Type 0 where
+  pub held : Held E C F D
+  pub stopped : JournalView
+  pub swept : PoolView C
+  pub refused : RunRefused allows refuses end actions old stopped
+      (held_view end child feed drain held) error
+  pub new : AreNew child feed drain held
+  pub closes : Closes (held_ends end held) stopped next
+  pub leaves : Leaves may [] (pool_view child before) (pool_view child swept)
+  pub takes : swept.given + length held.children.items < 2 ^ 63
+      → Takes may child held.children.items swept after

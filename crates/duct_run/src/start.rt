@@ -1,0 +1,100 @@
+//! A start: its actions are run, and what a refusal leaves is given up.
+ghost use Rattle.std.specs.Prelude.{◌≡◌, [], All, length, is_some, OnOk, IfOk, IfErr};
+ghost use Rattle.duct_start.specs.Holdings.{empty};
+ghost use Rattle.duct_start.specs.Left.{Leaves, pool_view};
+ghost use Rattle.duct_start.specs.Listed.{AreOutwards, IsWithin, resolved_all};
+ghost use Rattle.duct_start.specs.Ran.{HaveWorkers, Runs, RunRefused, SomeLeads};
+ghost use Rattle.duct_run.specs.ActionView.{actions_view};
+ghost use Rattle.duct_run.specs.GivesUp.{GivesUp};
+ghost use Rattle.duct_run.specs.HeldView.{AreNew, held_view};
+ghost use Rattle.duct_run.specs.ScopeView.{all_scopes, scopes_view};
+
+use crate::action::Action;
+use crate::ending::give_up;
+use crate::held::Held;
+use crate::requests::{finish_err, finish_out};
+use crate::run::perform_all;
+use crate::scope::Scope;
+use duct_base::pool::{Place, Pool};
+use duct_system::error::Error;
+use duct_system::spec::Hook;
+use duct_system::system::System;
+
+// The environment, then the actions, then the workers of the capture pipes.
+fn run<S: System, H: Hook>(
+    sys: &mut S,
+    pool: &mut Pool<S::Child>,
+    scopes: &[Scope<'_, S::End, H>],
+    actions: &[Action<'_, S::End>],
+    held: &mut Held<S::End, Place<S::Child>, S::Feed, S::Drain>,
+) -> Result<(), Error>
+    requires outwards { AreOutwards (scopes_view scopes.now) }
+    requires within { All (IsWithin (length scopes.now)) (actions_view actions.now) }
+    requires begun { held_view S.End.number_of S.Child.child_view S.Feed.job_view S.Drain.job_view
+        held.old ≡ empty }
+    requires leads { SomeLeads S.End.number_of
+        (resolved_all (all_scopes scopes.now) (actions_view actions.now)) }
+    ensures ok { OnOk result (Runs H.allows S.End.number_of
+        (resolved_all (all_scopes scopes.now) (actions_view actions.now)) (S.journal_view sys.old)
+        (S.journal_view sys.new) (held_view S.End.number_of S.Child.child_view S.Feed.job_view
+        S.Drain.job_view held.new)) }
+    ensures err { IfErr result (RunRefused H.allows H.refuses S.End.number_of
+        (resolved_all (all_scopes scopes.now) (actions_view actions.now)) (S.journal_view sys.old)
+        (S.journal_view sys.new) (held_view S.End.number_of S.Child.child_view S.Feed.job_view
+        S.Drain.job_view held.new)) }
+    ensures workers { OnOk result (HaveWorkers S.End.number_of
+        (resolved_all (all_scopes scopes.now) (actions_view actions.now))
+        (is_some held.new.output_worker) (is_some held.new.error_worker)) }
+    ensures new { AreNew S.Child.child_view S.Feed.job_view S.Drain.job_view held.old
+        → AreNew S.Child.child_view S.Feed.job_view S.Drain.job_view held.new }
+    ensures pool { Leaves S.Child.may_answer [] (pool_view S.Child.child_view pool.old)
+        (pool_view S.Child.child_view pool.new) }
+{
+    let pairs = sys.environment()?;
+    perform_all(sys, pool, &pairs, scopes, actions, held)?;
+    finish_out::<S, H>(sys, held)?;
+    finish_err::<S, H>(sys, held)
+}
+
+/// Runs the actions of a start, where nothing is held yet, and answers what they leave. Before each command the pool is swept.
+/// Refused by the fault of the first request that is, by a hook, or by `Error::Memory`. Then each end that is held is closed,
+/// each child that was started is asked once and goes into the pool if it runs, and the workers are let go.
+pub fn start<S: System, H: Hook>(
+    sys: &mut S,
+    pool: &mut Pool<S::Child>,
+    scopes: &[Scope<'_, S::End, H>],
+    actions: &[Action<'_, S::End>],
+    held: Held<S::End, Place<S::Child>, S::Feed, S::Drain>,
+) -> Result<Held<S::End, Place<S::Child>, S::Feed, S::Drain>, Error>
+    requires outwards { AreOutwards (scopes_view scopes.now) }
+    requires within { All (IsWithin (length scopes.now)) (actions_view actions.now) }
+    requires begun { held_view S.End.number_of S.Child.child_view S.Feed.job_view S.Drain.job_view
+        held ≡ empty }
+    requires new { AreNew S.Child.child_view S.Feed.job_view S.Drain.job_view held }
+    requires leads { SomeLeads S.End.number_of
+        (resolved_all (all_scopes scopes.now) (actions_view actions.now)) }
+    ensures ok { IfOk result (λ kept. Runs H.allows S.End.number_of
+        (resolved_all (all_scopes scopes.now) (actions_view actions.now)) (S.journal_view sys.old)
+        (S.journal_view sys.new) (held_view S.End.number_of S.Child.child_view S.Feed.job_view
+        S.Drain.job_view kept)) }
+    ensures kept { IfOk result
+        (λ kept. AreNew S.Child.child_view S.Feed.job_view S.Drain.job_view kept) }
+    ensures workers { IfOk result (λ kept. HaveWorkers S.End.number_of
+        (resolved_all (all_scopes scopes.now) (actions_view actions.now))
+        (is_some kept.output_worker) (is_some kept.error_worker)) }
+    ensures swept { OnOk result (Leaves S.Child.may_answer []
+        (pool_view S.Child.child_view pool.old) (pool_view S.Child.child_view pool.new)) }
+    ensures err { IfErr result (GivesUp H.allows H.refuses S.End.number_of S.Child.child_view
+        S.Feed.job_view S.Drain.job_view S.Child.may_answer
+        (resolved_all (all_scopes scopes.now) (actions_view actions.now)) (S.journal_view sys.old)
+        (S.journal_view sys.new) pool.old pool.new) }
+{
+    let mut held = held;
+    match run(sys, pool, scopes, actions, &mut held) {
+        Ok(()) => Ok(held),
+        Err(error) => {
+            give_up(sys, pool, held);
+            Err(error)
+        }
+    }
+}
