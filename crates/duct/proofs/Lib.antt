@@ -1,8 +1,7 @@
-pub mod Debug
 pub mod Environments
 pub mod InTurn
 pub mod Jobs
-pub mod OneCommand
+pub mod Orders
 pub mod Polls
-pub mod Printing
+pub mod Starting
 pub mod Unasked

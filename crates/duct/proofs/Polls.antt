@@ -12,16 +12,16 @@ use Rattle.duct.specs.Polled.{AskedIfDue, ChangedAt}
 use Rattle.duct.specs.Stored.{Bytes, word_of, stored_word, stored_latest}
 
 -- the word that a child stores
-abbrev said : ChildView → Word
+abbrev pub said : ChildView → Word
 said child = stored_word child.ending child.last
 
 -- a child whose word is none of an ending has no ending
-no_ending : (ending : Option ExitStatus) (last : Option Answer) → is_word_due (Some (stored_word ending last)) ≡ true → ending ≡ None
+pub no_ending : (ending : Option ExitStatus) (last : Option Answer) → is_word_due (Some (stored_word ending last)) ≡ true → ending ≡ None
 no_ending (Some status) last due = absurd (cc)
 no_ending None last due = refl
 
 -- a child whose word is an ending has that ending, and is not asked
-left_alone : (ending : Option ExitStatus) (last : Option Answer) (P Q : Type 0) → is_word_due (Some (stored_word ending last)) ≡ false → Q → MatchOption ending P (λ status. Q)
+pub left_alone : (ending : Option ExitStatus) (last : Option Answer) (P Q : Type 0) → is_word_due (Some (stored_word ending last)) ≡ false → Q → MatchOption ending P (λ status. Q)
 left_alone (Some status) last P Q over q = q
 left_alone None (Some (Err fault)) P Q over q = absurd (cc)
 left_alone None (Some (Ok found)) P Q over q = absurd (cc)
@@ -47,34 +47,54 @@ word_changed before after may answer polls none =
     ap (λ e. word_after (stored_word e before.last) (word_of answer)) none ∙ word_replaced before.last (word_of answer) ∙ sym (word_heard answer)
     ∙ sym (ap (λ (c : ChildView). said c) polls.after_is ∙ ap (λ e. stored_word (ending_after e answer) (Some answer)) none)
 
-module _ {C : Type 0} (view : C → ChildView) (may : ℕ → Answer → Type 0) where
-  abbrev words : List C → List Word
+module _ {C : Type 0} (view : C → ChildView) where
+  abbrev pub words : List C → List Word
   words children = map said (map view children)
 
-  not_asked : (children : List C) (at : ℕ) → at < length children → is_word_due (slice_get (words children) at) ≡ false → ChangedAt (AskedIfDue may) at (map view children) (map view children)
-  not_asked [] at low over = absurd (omega arith)
-  not_asked (child ∷ children) zero low over = (left_alone (view child).ending (view child).last _ _ over refl, refl)
-  not_asked (child ∷ children) (suc at) low over = (refl, not_asked children at (omega arith) over)
+  pub within : (items children : List C) (at : ℕ) → items ≡ children → at < length children → at < length items
+  within items children at same low = subst (λ (cs : List C). at < length cs) (sym same) low
+
+  -- another child in the place of one with the same word
+  pub word_at : (children : List C) (at : ℕ) (before after : C) → at < length children → before ≡ get_or children at before → said (view after) ≡ said (view before) →
+      words (set children at after) ≡ words children
+  word_at [] at before after low is same = absurd (omega arith)
+  word_at (child ∷ children) zero before after low is same = ap (λ w. w ∷ words children) (same ∙ ap (λ c. said (view c)) is)
+  word_at (child ∷ children) (suc at) before after low is same = ap (λ ws. said (view child) ∷ ws) (word_at children at before after (omega arith) is same)
+
+  module _ (changes : ChildView → ChildView → Type 0) where
+    -- a child that has ended is left as it is
+    pub left_at : ((child : ChildView) → is_word_due (Some (said child)) ≡ false → changes child child) → (children : List C) (at : ℕ) → at < length children →
+        is_word_due (slice_get (words children) at) ≡ false → ChangedAt changes at (map view children) (map view children)
+    left_at left [] at low over = absurd (omega arith)
+    left_at left (child ∷ children) zero low over = (left (view child) over, refl)
+    left_at left (child ∷ children) (suc at) low over = (refl, left_at left children at (omega arith) over)
+
+    -- another is changed
+    pub changed_at : (children : List C) (at : ℕ) (before after : C) → at < length children → before ≡ get_or children at before → is_word_due (slice_get (words children) at) ≡ true →
+        (is_word_due (Some (said (view before))) ≡ true → changes (view before) (view after)) → ChangedAt changes at (map view children) (map view (set children at after))
+    changed_at [] at before after low is due change = absurd (omega arith)
+    changed_at (child ∷ children) zero before after low is due change =
+        let change' = subst (λ c. is_word_due (Some (said (view c))) ≡ true → changes (view c) (view after)) is change in (change' due, refl)
+    changed_at (child ∷ children) (suc at) before after low is due change = (refl, changed_at children at before after (omega arith) is due change)
+
+module _ {C : Type 0} (view : C → ChildView) (may : ℕ → Answer → Type 0) where
+  not_asked : (children : List C) (at : ℕ) → at < length children → is_word_due (slice_get (words view children) at) ≡ false → ChangedAt (AskedIfDue may) at (map view children) (map view children)
+  not_asked = left_at view (AskedIfDue may) (λ child over. left_alone child.ending child.last _ _ over refl)
 
   asked : (children : List C) (at : ℕ) (before after : C) (answer : Answer) → at < length children → before ≡ get_or children at before →
-      PollsChild may (view before) answer (view after) → is_word_due (slice_get (words children) at) ≡ true → ChangedAt (AskedIfDue may) at (map view children) (map view (set children at after))
-  asked [] at before after answer low is polls due = absurd (omega arith)
-  asked (child ∷ children) zero before after answer low is polls due =
-      let polls' = subst (λ c. PollsChild may (view c) answer (view after)) is polls in
-      (asked_once (view child) (view after) may answer polls' (no_ending (view child).ending (view child).last due), refl)
-  asked (child ∷ children) (suc at) before after answer low is polls due = (refl, asked children at before after answer (omega arith) is polls due)
+      PollsChild may (view before) answer (view after) → is_word_due (slice_get (words view children) at) ≡ true → ChangedAt (AskedIfDue may) at (map view children) (map view (set children at after))
+  asked children at before after answer low is polls due =
+      changed_at view (AskedIfDue may) children at before after low is due
+      (λ alive. asked_once (view before) (view after) may answer polls (no_ending (view before).ending (view before).last alive))
 
   words_changed : (children : List C) (at : ℕ) (before after : C) (answer : Answer) → at < length children → before ≡ get_or children at before →
-      PollsChild may (view before) answer (view after) → is_word_due (slice_get (words children) at) ≡ true →
-      change_at (λ old. word_after old (word_of answer)) at (words children) ≡ words (set children at after)
+      PollsChild may (view before) answer (view after) → is_word_due (slice_get (words view children) at) ≡ true →
+      change_at (λ old. word_after old (word_of answer)) at (words view children) ≡ words view (set children at after)
   words_changed [] at before after answer low is polls due = absurd (omega arith)
   words_changed (child ∷ children) zero before after answer low is polls due =
       let polls' = subst (λ c. PollsChild may (view c) answer (view after)) is polls in
-      ap (λ w. w ∷ words children) (word_changed (view child) (view after) may answer polls' (no_ending (view child).ending (view child).last due))
+      ap (λ w. w ∷ words view children) (word_changed (view child) (view after) may answer polls' (no_ending (view child).ending (view child).last due))
   words_changed (child ∷ children) (suc at) before after answer low is polls due = ap (λ ws. said (view child) ∷ ws) (words_changed children at before after answer (omega arith) is polls due)
-
-  within : (items children : List C) (at : ℕ) → items ≡ children → at < length children → at < length items
-  within items children at same low = subst (λ (cs : List C). at < length cs) (sym same) low
 
   -- the same, by the words that a core keeps of the children, beside these workers
   module _ (feeds : List (JobView (Unit {0}))) (output error : Option (JobView Bytes)) where
@@ -85,9 +105,9 @@ module _ {C : Type 0} (view : C → ChildView) (may : ℕ → Answer → Type 0)
         → kept ≡ stored items → at < length children → is_due kept at ≡ false →
         ChangedAt (AskedIfDue may) at (map view children) (map view children)
     not_asked_in items children at kept same is low over =
-        not_asked children at low (ap (λ cs. is_word_due (slice_get (words cs) at)) (sym same) ∙ ap (λ (w : Latest). is_due w at) (sym is) ∙ over)
+        not_asked children at low (ap (λ cs. is_word_due (slice_get (words view cs) at)) (sym same) ∙ ap (λ (w : Latest). is_due w at) (sym is) ∙ over)
 
-    due_in : (items : List C) (at : ℕ) (kept : Latest) → kept ≡ stored items → is_due kept at ≡ true → is_word_due (slice_get (words items) at) ≡ true
+    due_in : (items : List C) (at : ℕ) (kept : Latest) → kept ≡ stored items → is_due kept at ≡ true → is_word_due (slice_get (words view items) at) ≡ true
     due_in items at kept is due = ap (λ (w : Latest). is_due w at) (sym is) ∙ due
 
     pub asked_in : (items children : List C) (at : ℕ) (before after : C) (answer : Answer)
@@ -96,7 +116,7 @@ module _ {C : Type 0} (view : C → ChildView) (may : ℕ → Answer → Type 0)
         is_due kept at ≡ true → before ≡ get_or items at before → PollsChild may (view before) answer (view after) → ChangedAt (AskedIfDue may) at (map view children) (map view (set items at after))
     asked_in items children at before after answer kept same is low due found polls =
         subst (λ (cs : List C). ChangedAt (AskedIfDue may) at (map view cs) (map view (set items at after))) same
-        (asked items at before after answer (within items children at same low) found polls (due_in items at kept is due))
+        (asked items at before after answer (within view items children at same low) found polls (due_in items at kept is due))
 
     -- a core that was told what the child answered keeps the words that are stored
     pub words_in_step : (items children : List C) (at : ℕ) (before after : C) (answer : Answer)
@@ -106,4 +126,4 @@ module _ {C : Type 0} (view : C → ChildView) (may : ℕ → Answer → Type 0)
         later ≡ stored (set items at after)
     words_in_step items children at before after answer kept later heard same is low due found polls hears told =
         told ∙ ap (λ (h : Word). latest_after kept (from_command at h)) hears ∙ ap (λ (w : Latest). latest_after w (from_command at (word_of answer))) is
-        ∙ ap (λ (ws : List Word). record (stored items) { commands = ws }) (words_changed items at before after answer (within items children at same low) found polls (due_in items at kept is due))
+        ∙ ap (λ (ws : List Word). record (stored items) { commands = ws }) (words_changed items at before after answer (within view items children at same low) found polls (due_in items at kept is due))

@@ -2,69 +2,18 @@
 ghost use Rattle.std.specs.Prelude.{◌≡◌, ◌∷◌, map, string_bytes, IfOk, IsOkUnless};
 ghost use Rattle.duct_system.specs.SpecView.{texts_of};
 ghost use Rattle.duct_start.specs.TreeView.{command};
-ghost use Rattle.duct.specs.TreeView.{tree_view, node_view};
+ghost use Rattle.duct_tree.specs.NodeView.{node_view};
+ghost use Rattle.duct.specs.TreeView.{tree_view};
 
 mod builders;
 mod debug;
 
 use duct_base::error::Error;
 use duct_base::exe::IntoExecutablePath;
-use duct_base::names::EnvNameString;
 use duct_base::spec::HookBox;
+use duct_tree::tree::Node;
 use std::alloc::{AllocError, Global};
-use std::collections::BTreeMap;
 use std::sync::Arc;
-
-/// What a node asks of the one expression that it stands round. `Expression` has a call of the same name for each.
-#[derive(Drop)]
-pub enum Modifier<E, H> {
-    StdinBytes(Arc<Vec<u8>>),
-    StdinPath(String),
-    StdinFile(E),
-    StdinNull,
-    StdoutPath(String),
-    StdoutFile(E),
-    StdoutNull,
-    StdoutCapture,
-    StdoutToStderr,
-    StderrPath(String),
-    StderrFile(E),
-    StderrNull,
-    StderrCapture,
-    StderrToStdout,
-    StdoutStderrSwap,
-    Dir(String),
-    Env(EnvNameString, String),
-    EnvRemove(EnvNameString),
-    FullEnv(BTreeMap<EnvNameString, String>),
-    Unchecked,
-    BeforeSpawn(H, Vec<E>),
-}
-
-/// A node of a tree: a command with its words, the program first; a pipe from its left side to its right side; or a modifier
-/// round one expression. The words of a command are shared with the shape that a start answers.
-pub enum Node<E, H> {
-    Cmd(Arc<Vec<String>>),
-    Pipe(Arc<Node<E, H>>, Arc<Node<E, H>>),
-    Io(Modifier<E, H>, Arc<Node<E, H>>),
-}
-
-// A loop, so that many nodes round one another take no stack. Only the right sides of pipes stand within one another.
-impl<E: Drop, H: Drop> Drop for Node<E, H> {
-    fn drop(mut self) {
-        loop {
-            let inner = match self {
-                Node::Cmd(_) => return,
-                Node::Pipe(left, _) => left,
-                Node::Io(_, inner) => inner,
-            };
-            match Arc::into_inner(inner) {
-                Some(node) => self = node,
-                None => return,
-            }
-        }
-    }
-}
 
 /// A command, a pipe of two expressions, or a modifier round one expression, with ends of type `E` and hooks of type `H`.
 /// Its parts are shared: each call that makes one of an old one adds one node, and leaves the old one as it was.

@@ -10,9 +10,7 @@
 #![tactic(auto)]
 
 mod expression;
-mod flatten;
 mod running;
-mod shape;
 mod start;
 
 // An expression: a command, a pipe, or a modifier round an expression.
@@ -21,7 +19,7 @@ pub use expression::{Expression, cmd};
 
 /// The tree of an expression, for crates that read it.
 pub mod tree {
-    pub use crate::expression::{Modifier, Node};
+    pub use duct_tree::tree::{Modifier, Node};
 }
 
 // What changes a command before it is started.

@@ -10,6 +10,8 @@ ghost use Rattle.duct_status.specs.ShapeView.{command_count, input_count, shape_
 ghost use Rattle.duct.specs.Polled.{IsConclusion, Gives, IsOutcome, AskedIfDue, AllAsked, PolledIfRuns, AllPolled, PolledWhere, ChangedAt};
 ghost use Rattle.duct.specs.Stored.{AreUnasked, word_of, stored_in};
 
+mod orders;
+
 use duct_base::error::Error;
 use duct_base::pool::Place;
 use duct_base::status::{Core, Event, Reply, Word};
@@ -17,8 +19,8 @@ use duct_base::system::{Child, ExitStatus, Fault, Job, Output, Side, System};
 use std::marker::Model;
 use std::sync::Arc;
 
-/// What a start leaves: its children, its workers, and what they said so far. It is asked by `poll`, and is to be spent: by
-/// `into_parts`.
+/// What a start leaves: its children, its workers, and what they said so far. It is asked by `poll`, ordered by `kill`
+/// and `signal`, and is to be spent: by `into_parts` or `give_up`.
 pub struct Running<S: System> {
     core: Core,
     children: Vec<Place<S::Child>>,

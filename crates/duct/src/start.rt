@@ -1,122 +1,146 @@
 //! The start of an expression: what is asked of the system, and what is kept of it.
-ghost use Rattle.std.specs.Prelude.{◌≡◌, ℕ, List, map, string_bytes, is_some, IfOk, IfErr, OnOk, OnErr, IsOkUnless};
-ghost use Rattle.duct_system.specs.Child.{IsUnasked};
-ghost use Rattle.duct_system.specs.SpecView.{AreOrdered, pair_text, said_of, var_view, variable_in};
-ghost use Rattle.duct_system.specs.Started.{StartsOne, StartsNone};
+ghost use Rattle.std.specs.Prelude.{◌≡◌, ◌+◌, ◌<◌, ◌≤◌, ◌^◌, [], false, length, is_some, vec_capacity, IfOk, IfErr, OnOk, OnErr, IsOkUnless};
+ghost use Rattle.duct_system.specs.Started.{children_in};
 ghost use Rattle.duct_system.specs.Trace.{segment};
-ghost use Rattle.duct_start.specs.Asked.{IsAsked};
-ghost use Rattle.duct_start.specs.Found.{plain};
-ghost use Rattle.duct_start.specs.Left.{LeavesStarted};
-ghost use Rattle.duct_start.specs.Plan.{plan_of, program_of};
+ghost use Rattle.duct_system.specs.declared.system.Side.TheVariants as side;
+ghost use Rattle.duct_status.specs.CoreView.{latest_in, shape_in};
+ghost use Rattle.duct_status.specs.Latest.{latest_told};
+ghost use Rattle.duct_status.specs.ShapeView.{command_count, input_count};
+ghost use Rattle.duct_start.specs.Actions.{captures_in, is_capture};
+ghost use Rattle.duct_start.specs.Left.{Leaves, LeavesStarted, pool_view};
+ghost use Rattle.duct_start.specs.Plan.{plan_of, plan_of_reader};
+ghost use Rattle.duct_start.specs.Ran.{MadeReader};
 ghost use Rattle.duct_start.specs.Running.{IsRunning};
-ghost use Rattle.duct_start.specs.Start.{StartSucceeds, StartRefused, IsCommand};
-ghost use Rattle.duct_start.specs.TreeView.{command};
+ghost use Rattle.duct_start.specs.ShapeOfTree.{shape_of_tree};
+ghost use Rattle.duct_start.specs.Start.{StartSucceeds, StartRefused};
+ghost use Rattle.duct_run.specs.ActionView.{action_view, actions_view};
+ghost use Rattle.duct_run.specs.HeldView.{AreNew, IsEmpty};
+ghost use Rattle.duct_tree.specs.NodeView.{node_view};
 ghost use Rattle.duct.specs.TreeView.{tree_view};
 
-use crate::expression::{Expression, Node};
+use crate::expression::Expression;
 use crate::running::Running;
 use duct_base::error::Error;
-use duct_base::names::EnvNameString;
-use duct_base::pool::{Place, Pool, Seat, place_new, seat_new};
-use duct_base::spec::{CommandSpec, Hook, Port, spec_of};
-use duct_base::status::{Core, Drains, Shape};
-use duct_base::system::{Stdio, System};
+use duct_base::pool::{Place, Pool};
+use duct_base::spec::Hook;
+use duct_base::status::{Core, Drains};
+use duct_base::system::{Side, System};
+use duct_run::action::Action;
+use duct_run::held::{Held, nothing_held};
+use duct_run::start::{start, start_reader};
+use duct_tree::flatten::{Listing, flatten, flatten_captured};
+use duct_tree::shape::shape_of;
+use duct_tree::tree::Node;
 use std::alloc::Global;
-use std::collections::BTreeMap;
 
-// The variables of these pairs, each name with its first spelling and its last value.
-fn variables(
-    alloc: Global,
-    pairs: Vec<(String, String)>,
-) -> Result<BTreeMap<EnvNameString, String>, Error>
-    ensures found { IfOk result (λ vars. (name : List ℕ) →
-        variable_in name (map var_view vars.entries)
-        ≡ said_of name (map pair_text pairs.items)) }
-    ensures ordered { IfOk result (λ vars. AreOrdered (map var_view vars.entries)) }
-    ensures memory { IsOkUnless result Error.Memory }
+// Whether an action opens the capture pipe of this side.
+fn is_capture<E>(action: Action<'_, E>, side: Side) -> bool
+    ensures { result ≡ is_capture side (action_view action.entry) }
 {
-    let mut vars = BTreeMap::new(alloc);
-    for (name, value) in pairs {
-        vars.insert(EnvNameString::from(name), value)?;
+    match action {
+        Action::Capture(which) => which == side,
+        Action::OpenRead(_)
+        | Action::Create(_)
+        | Action::Pipe
+        | Action::Input
+        | Action::Duplicate(_)
+        | Action::Tap(_)
+        | Action::Lend(_)
+        | Action::Parent(_)
+        | Action::Close
+        | Action::Spawn(_, _, _)
+        | Action::Feed(_) => false,
     }
-    Ok(vars)
 }
 
-// A copy of the words.
-fn copied(alloc: Global, words: &[String]) -> Result<Vec<String>, Error>
-    ensures words { IfOk result (λ copy. map string_bytes copy.items ≡ map string_bytes words.now) }
-    ensures memory { IsOkUnless result Error.Memory }
+// Whether some action does.
+fn captures<E>(actions: &[Action<'_, E>], side: Side) -> bool
+    ensures { result ≡ captures_in side (actions_view actions.now) }
 {
-    let mut copy = Vec::new(alloc);
-    for word in words {
-        copy.push(word.clone()?)?;
+    for action in actions {
+        if is_capture(*action, side) {
+            return true;
+        }
     }
-    Ok(copy)
+    false
 }
 
-// The spec of a command with nothing round it: these words, the parent's folder and streams, and the variables of these pairs.
-fn spec_for(
+// What a start makes beside its list before it asks anything: a core for this tree, room for the capture workers, and nothing
+// held, with room for what the list gets.
+fn prepare<E: Drop, H, C: Drop, F: Drop, D: Drop>(
     alloc: Global,
-    pairs: Vec<(String, String)>,
-    words: &[String],
-) -> Result<CommandSpec, Error>
-    ensures asked { IfOk result (λ spec.
-        let texts = map string_bytes words.now in
-        IsAsked {E = Unit {0}} {H = Unit {0}} (map pair_text pairs.items)
-        (program_of texts) plain texts spec) }
+    root: &Node<E, H>,
+    list: &Listing<'_, E, H>,
+    drains: Drains,
+) -> Result<(Core, Vec<D>, Held<E, C, F, D>), Error>
+    ensures shape { IfOk result (λ made. shape_in made.0 ≡ shape_of_tree (node_view root.now)) }
+    ensures silent { IfOk result
+        (λ made. latest_in made.0 ≡ latest_told (shape_in made.0) drains []) }
+    ensures empty { IfOk result (λ made. made.1.items ≡ []) }
+    ensures room { IfOk result (λ made. 2 ≤ vec_capacity made.1) }
+    ensures nothing { IfOk result (λ made. IsEmpty made.2) }
     ensures memory { IsOkUnless result Error.Memory }
 {
-    let vars = variables(alloc, pairs)?;
-    let copy = copied(alloc, words)?;
-    let spec = spec_of(
-        copy,
-        None,
-        vars,
-        Port::Inherit,
-        Port::Inherit,
-        Port::Inherit,
-    );
-    Ok(spec)
+    let core = Core::new(alloc, shape_of(alloc, root)?, drains)?;
+    let room = Vec::with_capacity(alloc, 2)?;
+    let held = nothing_held(
+        alloc,
+        list.deepest.saturating_add(3),
+        list.commands.saturating_add(1),
+        list.inputs.saturating_add(1),
+    )?;
+    Ok((core, room, held))
 }
 
-// Starts one command with the parent's streams, folder and environment.
-fn command<S: System, H: Hook>(
-    alloc: Global,
-    sys: &mut S,
-    words: &[String],
-    seat: Seat<S::Child>,
-) -> Result<Place<S::Child>, Error>
-    ensures ok { OnOk result (let tree = command (map string_bytes words.now) in
-        StartSucceeds H.allows S.End.number_of tree (plan_of tree) (S.journal_view sys.old)
-        (S.journal_view sys.new)) }
-    ensures child { IfOk result (λ place.
-        StartsOne (S.Child.number_of place)
-        (segment (S.journal_view sys.old).entries (S.journal_view sys.new).entries)) }
-    ensures unasked { IfOk result (λ place. IsUnasked (S.Child.child_view place)) }
-    ensures err { IfErr result (let tree = command (map string_bytes words.now) in
-        StartRefused H.allows H.refuses S.End.number_of tree (plan_of tree) (S.journal_view sys.old)
-        (S.journal_view sys.new)) }
-    ensures no_child { OnErr result
-        (StartsNone (segment (S.journal_view sys.old).entries (S.journal_view sys.new).entries)) }
+// What runs, of what a run left.
+fn running_of<S: System>(
+    core: Core,
+    kept: Held<S::End, Place<S::Child>, S::Feed, S::Drain>,
+    room: Vec<S::Drain>,
+) -> Running<S>
+    requires silent { latest_in core ≡ latest_told (shape_in core)
+        (record { out = is_some kept.output_worker; err = is_some kept.error_worker }) [] }
+    requires commands { length kept.children.items ≡ command_count (shape_in core) }
+    requires inputs { length kept.feeds.items ≡ input_count (shape_in core) }
+    requires new { AreNew S.Child.child_view S.Feed.job_view S.Drain.job_view kept }
+    requires empty { room.items ≡ [] }
+    requires room { 2 ≤ vec_capacity room }
+    ensures { result ≡ record {
+      shape = core.shape;
+      children = kept.children.items;
+      feeds = kept.feeds.items;
+      output = kept.output_worker;
+      error = kept.error_worker;
+    } }
 {
-    let pairs = sys.environment()?;
-    let spec = spec_for(alloc, pairs, words)?;
-    let child = sys.spawn(spec, [Stdio::Inherit, Stdio::Inherit, Stdio::Inherit])?;
-    Ok(place_new(child, seat))
+    let Held {
+        stack,
+        output,
+        error,
+        children,
+        feeds,
+        output_worker,
+        error_worker,
+    } = kept;
+    drop((stack, output, error));
+    Running::of_start(core, children, feeds, output_worker, error_worker, room)
 }
 
 impl<E: Drop, H: Hook> Expression<E, H> {
-    /// Starts the expression, and answers what runs. Today this is for one command alone, with nothing round it.
+    /// Starts the expression, and answers what runs.
     ///
-    /// Asks the system for the environment, then for the child, with the parent's streams and folder. All memory but that
-    /// of the environment and of the spec is taken before. Refused by `Error::System` where the system refused, which is
-    /// asked nothing afterwards, and by `Error::Memory`; the pool is then as it was, and no child runs.
+    /// Asks the system for the environment, then what the nodes ask, each before what it wraps and the left side of a pipe
+    /// before the right, and at the end for the workers of the capture pipes. Before each command the pool is swept. The list of
+    /// all this, and the room for what runs, are made before the first request.
+    ///
+    /// Refused by `Error::System` where the system refused a request, by `Error::Hook` and `Error::HookEnd` where a hook stopped
+    /// a command, and by `Error::Memory`. Then nothing more is asked: each end that the start got is closed, each child that it
+    /// had started is asked once and goes into the pool if it runs, and a worker that it had started ends by itself.
     pub fn launch<S: System<End = E>>(
         &self,
         sys: &mut S,
         pool: &mut Pool<S::Child>,
     ) -> Result<Running<S>, Error>
-        requires { IsCommand (tree_view self.now) }
         ensures ok { OnOk result (let tree = tree_view self.now in
             StartSucceeds H.allows E.number_of tree (plan_of tree) (S.journal_view sys.old)
             (S.journal_view sys.new)) }
@@ -124,33 +148,67 @@ impl<E: Drop, H: Hook> Expression<E, H> {
             IsRunning S.Child.child_view S.Feed.job_view S.Drain.job_view tree
             (is_some (plan_of tree).out) (is_some (plan_of tree).err)
             (segment (S.journal_view sys.old).entries (S.journal_view sys.new).entries)) }
+        ensures swept { OnOk result (Leaves S.Child.may_answer []
+            (pool_view S.Child.child_view pool.old) (pool_view S.Child.child_view pool.new)) }
         ensures err { IfErr result (let tree = tree_view self.now in
             StartRefused H.allows H.refuses E.number_of tree (plan_of tree) (S.journal_view sys.old)
             (S.journal_view sys.new)) }
-        ensures pool_given { OnErr result
-            (LeavesStarted S.Child.may_answer S.Child.child_view
-            (segment (S.journal_view sys.old).entries
-            (S.journal_view sys.new).entries) pool.old pool.new) }
 
-        // One command leaves nothing to a pool, whatever it answers.
-        ensures pool_kept { pool.new ≡ pool.old }
+        // The bound is that of the lists of the standard library.
+        ensures pool_given { OnErr result
+            (let added = segment (S.journal_view sys.old).entries (S.journal_view sys.new).entries in
+            pool.old.given + length (children_in added) < 2 ^ 63
+            → LeavesStarted S.Child.may_answer S.Child.child_view added pool.old pool.new) }
     {
-        let _pool = pool;
-        let words = match self.root() {
-            Node::Cmd(words) => words,
-            Node::Pipe(_, _) | Node::Io(_, _) => unreachable!(),
-        };
         let alloc = self.allocator();
-        let seat = seat_new(alloc)?;
-        let mut children = Vec::with_capacity(alloc, 1)?;
+        let list = flatten(alloc, self.root())?;
+        let drains = Drains {
+            out: captures(&list.actions, Side::Out),
+            err: captures(&list.actions, Side::Err),
+        };
+        let (core, room, held) = prepare(alloc, self.root(), &list, drains)?;
+        let kept = start(sys, pool, &list.scopes, &list.actions, held)?;
+        Ok(running_of(core, kept, room))
+    }
+
+    /// Starts the expression as `launch` does, inside of one more `stdout_capture`, and answers what runs and the reader of stdout's
+    /// capture pipe, which has no worker. The reader is the last that the start asks for.
+    ///
+    /// Refused as `launch` is, and what a refusal leaves is the same.
+    pub fn launch_reader<S: System<End = E>>(
+        &self,
+        sys: &mut S,
+        pool: &mut Pool<S::Child>,
+    ) -> Result<(Running<S>, S::Reader), Error>
+        ensures ok { OnOk result (let tree = tree_view self.now in
+            StartSucceeds H.allows E.number_of tree (plan_of_reader tree) (S.journal_view sys.old)
+            (S.journal_view sys.new)) }
+        ensures running { IfOk result (λ made. let tree = tree_view self.now in
+            IsRunning S.Child.child_view S.Feed.job_view S.Drain.job_view tree
+            false (is_some (plan_of_reader tree).err)
+            (segment (S.journal_view sys.old).entries (S.journal_view sys.new).entries) made.0) }
+        ensures reader { IfOk result (λ made. MadeReader S.may_read
+            (segment (S.journal_view sys.old).entries (S.journal_view sys.new).entries) made.1) }
+        ensures swept { OnOk result (Leaves S.Child.may_answer []
+            (pool_view S.Child.child_view pool.old) (pool_view S.Child.child_view pool.new)) }
+        ensures err { IfErr result (let tree = tree_view self.now in
+            StartRefused H.allows H.refuses E.number_of tree (plan_of_reader tree)
+            (S.journal_view sys.old) (S.journal_view sys.new)) }
+
+        // The bound is that of the lists of the standard library.
+        ensures pool_given { OnErr result
+            (let added = segment (S.journal_view sys.old).entries (S.journal_view sys.new).entries in
+            pool.old.given + length (children_in added) < 2 ^ 63
+            → LeavesStarted S.Child.may_answer S.Child.child_view added pool.old pool.new) }
+    {
+        let alloc = self.allocator();
+        let list = flatten_captured(alloc, self.root())?;
         let drains = Drains {
             out: false,
-            err: false,
+            err: captures(&list.actions, Side::Err),
         };
-        let core = Core::new(alloc, Shape::Command(words.clone()?), drains)?;
-        children.push_reserved(command::<S, H>(alloc, sys, words, seat)?);
-        let feeds = Vec::new(alloc);
-        let room = Vec::new(alloc);
-        Ok(Running::of_start(core, children, feeds, None, None, room))
+        let (core, room, held) = prepare(alloc, self.root(), &list, drains)?;
+        let (kept, reader) = start_reader(sys, pool, &list.scopes, &list.actions, held)?;
+        Ok((running_of(core, kept, room), reader))
     }
 }

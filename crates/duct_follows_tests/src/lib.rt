@@ -1,4 +1,4 @@
-//! Tests of whether a journal follows a plan: journals that are written by hand, and one of the scripted system.
+//! Tests of whether a journal follows a plan: journals that are written by hand, one of the scripted system, and those of starts.
 #![tactic(auto)]
 
 #[cfg(test)]
@@ -11,3 +11,5 @@ mod messages;
 mod plans;
 #[cfg(test)]
 mod script;
+#[cfg(test)]
+mod starts;

@@ -73,7 +73,7 @@ fn new_bench(rt: &HostRuntime) -> Result<Bench, Fail> {
 }
 
 /// The text of a line.
-fn filled(alloc: Global, line: &str, place: &str, id: u32) -> Result<String, AllocError> {
+pub fn filled(alloc: Global, line: &str, place: &str, id: u32) -> Result<String, AllocError> {
     let line = line.replace(alloc, "{nul}", "\0")?;
     let line = line.replace(alloc, "{feed}", "\n")?;
     let line = line.replace(alloc, "{place}", place)?;
@@ -86,7 +86,7 @@ fn with_id(alloc: Global, line: &str, id: u32) -> Result<String, AllocError> {
 }
 
 /// The text before the first space, and the text after it.
-fn first_word(text: &str) -> (&str, &str) {
+pub fn first_word(text: &str) -> (&str, &str) {
     text.split_once(' ').unwrap_or((text, ""))
 }
 
@@ -276,7 +276,7 @@ fn adopted_file(rt: &HostRuntime, held: &mut Held, path: &str) -> Result<End, Fa
 }
 
 /// Changes files.
-fn arrange(rt: &HostRuntime, word: &str, rest: &str) -> io::Result<()> {
+pub fn arrange(rt: &HostRuntime, word: &str, rest: &str) -> io::Result<()> {
     let (path, more) = first_word(rest);
     match word {
         "write" => fs::write(rt, path, more),
@@ -296,6 +296,7 @@ fn arrange(rt: &HostRuntime, word: &str, rest: &str) -> io::Result<()> {
 fn mode(shown: &str) -> u32 {
     match shown {
         "rw-r--r--" => 0o644,
+        "rwxr-xr-x" => 0o755,
         "r-x------" => 0o500,
         "-w-------" => 0o200,
         _ => 0,

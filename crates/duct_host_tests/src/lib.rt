@@ -1,4 +1,4 @@
-//! Tests of the host over the real machine: what no contract can say of it.
+//! Tests over the real machine: of the host, and of whole expressions that it runs. They test what no contract can say of it.
 #![tactic(auto)]
 
 #[cfg(test)]
@@ -14,4 +14,10 @@ mod faults;
 #[cfg(test)]
 mod held;
 #[cfg(test)]
+mod leftovers;
+#[cfg(test)]
+mod starts;
+#[cfg(test)]
 mod support;
+#[cfg(test)]
+mod trees;

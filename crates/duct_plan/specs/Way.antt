@@ -3,7 +3,7 @@ use Rattle.std.specs.Prelude.{List, map}
 use Rattle.duct_start.specs.Path as path
 use Rattle.duct_start.specs.Path.{Path}
 use Rattle.duct_start.specs.TreeView.{stdout_capture}
-use Rattle.duct.specs.TreeView.{modifier_view}
+use Rattle.duct_tree.specs.NodeView.{modifier_view}
 use Rattle.duct_plan.specs.declared.way.Crumb.{Crumb}
 use Rattle.duct_plan.specs.declared.way.Crumb.TheVariants.{LeftOf, RightOf, Within, Captured}
 

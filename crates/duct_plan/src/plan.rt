@@ -1,7 +1,8 @@
 //! What a start asks of the system, made from the tree alone.
 ghost use Rattle.std.specs.Prelude.{◌≡◌, IfOk, map, string_bytes};
 ghost use Rattle.duct_start.specs.Plan.{asks, captures_out, captures_err, opened, place_for, closed, program_of, is_canonical, commanded, planned, begun, drains, reads, plan_of, plan_of_reader};
-ghost use Rattle.duct.specs.TreeView.{node_view, tree_view};
+ghost use Rattle.duct_tree.specs.NodeView.{node_view};
+ghost use Rattle.duct.specs.TreeView.{tree_view};
 ghost use Rattle.duct_plan.specs.Found.{found_of};
 ghost use Rattle.duct_plan.specs.PlanView.{item_of, plan_view};
 ghost use Rattle.duct_plan.specs.Step.{opening_of, closing_of};

@@ -1,7 +1,7 @@
 //! What one node of a tree does: what it asks, how it turns streams, and what it says of folder, variables and hooks.
 ghost use Rattle.std.specs.Prelude.{◌≡◌, Some};
 ghost use Rattle.duct_start.specs.Step.{step};
-ghost use Rattle.duct.specs.TreeView.{modifier_view};
+ghost use Rattle.duct_tree.specs.NodeView.{modifier_view};
 ghost use Rattle.duct_plan.specs.Step.{idle, IsStep};
 
 use crate::found::Change;

@@ -36,6 +36,9 @@ fn a_relative_program_with_a_slash_is_made_canonical_in_a_folder(
         plan: Environment, Canonicalize ./x, Spawn ./x
         folders: ./x -> /in
         starts: /real/./x -> /in
+        trace: Environment, Canonicalize ./x, Spawn ./x -> inherit inherit inherit in /in
+        canonical: ./x:/real/x
+        trace: Environment, Canonicalize ./x, Spawn /real/x -> inherit inherit inherit in /in
 
         expression: d/y,./z dir=/in
         plan: Environment, Canonicalize d/y, Spawn d/y ./z
@@ -54,6 +57,7 @@ fn other_programs_stand_as_they_are(rt: HostRuntime) -> Result<(), Fail> {
         plan: Environment, Spawn x d/y
         folders: x d/y -> /in
         starts: x d/y -> /in
+        trace: Environment, Spawn x d/y -> inherit inherit inherit in /in
 
         expression: /d/x dir=/in
         plan: Environment, Spawn /d/x
@@ -64,6 +68,7 @@ fn other_programs_stand_as_they_are(rt: HostRuntime) -> Result<(), Fail> {
         plan: Environment, Spawn ./x
         folders: ./x -> the parent's
         starts: ./x -> the parent's
+        trace: Environment, Spawn ./x -> inherit inherit inherit
         ",
     )
 }

@@ -11,6 +11,7 @@ fn the_outermost_hook_is_the_first(rt: HostRuntime) -> Result<(), Fail> {
         plan: Environment, Spawn echo
         hooks: echo -> x y
         given: echo -> inherit inherit inherit
+        trace: Environment, Spawn echo x y -> inherit inherit inherit
 
         expression: a before_spawn=inner,8 before_spawn=outer,7
         plan: Environment, Spawn a

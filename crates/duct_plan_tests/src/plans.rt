@@ -29,6 +29,7 @@ fn a_pipe_is_opened_before_its_sides(rt: HostRuntime) -> Result<(), Fail> {
 
         expression: foo,bar,baz bing,bong pipe
         plan: Environment, Pipe, Spawn foo bar baz, Spawn bing bong
+        trace: Environment, Pipe, Spawn foo bar baz -> inherit writer-1 inherit, Spawn bing bong -> reader-1 inherit inherit
 
         expression: a b pipe c pipe
         plan: Environment, Pipe, Pipe, Spawn a, Spawn b, Spawn c
@@ -171,6 +172,13 @@ fn a_hundred_unchecked_nodes_ask_nothing(rt: HostRuntime) -> Result<(), Fail> {
         "
         expression: a stdin_path=i unchecked=100
         plan: Environment, OpenRead i, Spawn a
+        trace: Environment, OpenRead i, Spawn a -> file-1 inherit inherit
+        within: 14
+
+        expression: a unchecked=100 stdin_path=i
+        plan: Environment, OpenRead i, Spawn a
+        trace: Environment, OpenRead i, Spawn a -> file-1 inherit inherit
+        within: 14
         ",
     )
 }

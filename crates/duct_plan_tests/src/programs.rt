@@ -1,16 +1,23 @@
 //! The programs of commands, given as texts and as paths.
 use duct::{Error, cmd};
 use duct_plan::plan::plan;
+use duct_rows::checks::trace_of;
 use duct_rows::expressions::Tree;
 use duct_rows::texts::plan_text;
 use std::alloc::Global;
 use std::path::{Path, PathBuf};
 use std::test::Fail;
 
-/// Compares the plan of an expression that may have been refused.
+/// Compares the plan, and the trace of the start, of an expression that may have been refused.
 fn is(alloc: Global, expression: Result<Tree, Error>, wanted: &str) -> Result<(), Fail> {
     let tree = expression?;
-    let plan = plan(alloc, &tree)?;
+    is_planned(alloc, &tree, wanted)?;
+    let started = format!(in alloc; "{wanted} -> inherit inherit inherit")?;
+    same(trace_of(alloc, &tree)?.as_str(), started.as_str())
+}
+
+fn is_planned(alloc: Global, tree: &Tree, wanted: &str) -> Result<(), Fail> {
+    let plan = plan(alloc, tree)?;
     same(plan_text(alloc, &plan)?.as_str(), wanted)
 }
 

@@ -35,10 +35,12 @@ fn the_nearer_value_counts(rt: HostRuntime) -> Result<(), Fail> {
         expression: a env=A,2 env=A,3
         parent: A:1
         variables: a -> A=2
+        trace: Environment, Spawn a -> inherit inherit inherit A=2
 
         expression: a env_remove=A
         parent: A:1
         variables: a ->
+        trace: Environment, Spawn a -> inherit inherit inherit
 
         expression: a env=A,2 env_remove=A
         parent: A:1
@@ -63,6 +65,7 @@ fn a_removed_variable_that_the_parent_lacks(rt: HostRuntime) -> Result<(), Fail>
         expression: a env=A,1 env_remove=A
         parent:
         variables: a -> A=1
+        trace: Environment, Spawn a -> inherit inherit inherit A=1
 
         expression: a env_remove=A env_remove=B
         parent: C:1
@@ -83,6 +86,7 @@ fn a_full_environment_hides_what_stands_outside(rt: HostRuntime) -> Result<(), F
         expression: a full_env=B:x,B:y env=A,3
         parent: A:1
         variables: a -> B=y
+        trace: Environment, Spawn a -> inherit inherit inherit B=y
 
         expression: a full_env=B:x,B:y env=B,z env_remove=B
         parent: A:1

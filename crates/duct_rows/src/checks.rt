@@ -1,8 +1,11 @@
 //! What is said of a journal beside a plan, and of an error beside a journal, in words.
-use crate::expressions::written;
+use crate::expressions::{Tree, written};
+use crate::scenes::{Scene, bench_of};
+use crate::starts::{Way, started_tree};
 use crate::texts::TestPlan;
+use crate::told::trace_text;
 use crate::words::{fault, first_word};
-use duct::{Entry, Error};
+use duct::{Entry, Error, System};
 use duct_follows::causes::{answers_last_fault, has_cause};
 use duct_follows::follows::{follows, follows_whole};
 use duct_follows::untold::Untold;
@@ -31,9 +34,15 @@ pub fn followed_by(
     expression: &str,
     entries: &[Entry],
 ) -> Result<&'static str, Fail> {
-    let tree = written(alloc, expression)?;
+    let tree = written(alloc, None, expression)?;
     let plan = plan(alloc, &tree)?;
     followed(alloc, &plan, entries)
+}
+
+/// The trace of the start of an expression over a plain system.
+pub fn trace_of(alloc: Global, tree: &Tree) -> Result<String, Fail> {
+    let start = started_tree(alloc, tree, Way::Launched, bench_of(alloc, Scene::plain())?)?;
+    Ok(trace_text(alloc, start.bench.sys.journal())?)
 }
 
 /// `cause` where the error of this text has a cause in a journal beside the plan, or `no cause`.

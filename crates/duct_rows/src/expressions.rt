@@ -2,23 +2,28 @@
 //! The arguments of a call stand behind a `=` and are parted by commas: `a env=A,2 dir=/in`, and pairs by colons:
 //! `full_env=A:1,B:2`. A word that is no call is a command: `echo,hi` has two words. `before_spawn=x,7,8` is a hook that adds the
 //! word `x`, with the ends of the numbers 7 and 8 beside it; what else a hook may do stands in `hooks`. `unchecked=9` is nine
-//! nodes of that call.
+//! nodes of that call. `again` is the last expression once more: `a again pipe` is `a.pipe(&a)`.
 use crate::hooks::hook;
 use crate::words::{pairs, pieces};
 use duct::{Error, Expression, Fault};
+use duct_script::calls::CallLog;
 use duct_script::hook::ScriptHook;
 use duct_script::system::{Script, ScriptEnd};
 use std::alloc::Global;
+use std::sync::Arc;
 use std::test::Fail;
 
 /// An expression of a row. The scripted system can start it.
 pub type Tree = Expression<ScriptEnd, ScriptHook>;
 
+/// A log in which the hooks of an expression note their calls, if there is one.
+pub type Log<'c> = Option<&'c Arc<CallLog>>;
+
 /// The expression of a text.
-pub fn written(alloc: Global, text: &str) -> Result<Tree, Fail> {
+pub fn written(alloc: Global, calls: Log, text: &str) -> Result<Tree, Fail> {
     let mut built = Vec::new(alloc);
     for step in text.split_whitespace() {
-        add(alloc, &mut built, step)?;
+        add(alloc, calls, &mut built, step)?;
     }
     only(built)
 }
@@ -42,9 +47,9 @@ fn last(built: &mut Vec<Tree>) -> Result<Tree, Fail> {
 }
 
 /// Makes one step.
-fn add(alloc: Global, built: &mut Vec<Tree>, step: &str) -> Result<(), Fail> {
+fn add(alloc: Global, calls: Log, built: &mut Vec<Tree>, step: &str) -> Result<(), Fail> {
     let made = match step.split_once('=') {
-        Some((call, values)) => with_values(alloc, &last(built)?, call, values)?,
+        Some((call, values)) => with_values(alloc, calls, &last(built)?, call, values)?,
         None => bare(alloc, built, step)?,
     };
     built.push(made)?;
@@ -55,6 +60,7 @@ fn add(alloc: Global, built: &mut Vec<Tree>, step: &str) -> Result<(), Fail> {
 fn bare(alloc: Global, built: &mut Vec<Tree>, step: &str) -> Result<Tree, Fail> {
     match step {
         "pipe" => piped(&last(built)?, built),
+        "again" => again(built),
         "unchecked" => Ok(last(built)?.unchecked()?),
         _ if step.starts_with("std") => redirected(&last(built)?, step),
         _ => command(alloc, step),
@@ -64,6 +70,14 @@ fn bare(alloc: Global, built: &mut Vec<Tree>, step: &str) -> Result<Tree, Fail> 
 /// A pipe from the last expression into this one.
 fn piped(right: &Tree, built: &mut Vec<Tree>) -> Result<Tree, Fail> {
     Ok(last(built)?.pipe(right)?)
+}
+
+/// The last expression, which stays there.
+fn again(built: &[Tree]) -> Result<Tree, Fail> {
+    match built.last() {
+        Some(tree) => Ok(tree.clone()?),
+        None => Err(Fail::from("no expression")),
+    }
 }
 
 /// A command of the words that commas part.
@@ -92,7 +106,13 @@ fn redirected(inner: &Tree, call: &str) -> Result<Tree, Fail> {
 }
 
 /// A call with arguments.
-fn with_values(alloc: Global, inner: &Tree, call: &str, values: &str) -> Result<Tree, Fail> {
+fn with_values(
+    alloc: Global,
+    calls: Log,
+    inner: &Tree,
+    call: &str,
+    values: &str,
+) -> Result<Tree, Fail> {
     let made = match call {
         "stdin_bytes" => with_bytes(alloc, inner, values),
         "stdin_path" => inner.stdin_path(values),
@@ -100,7 +120,7 @@ fn with_values(alloc: Global, inner: &Tree, call: &str, values: &str) -> Result<
         "stderr_path" => inner.stderr_path(values),
         "dir" => inner.dir(values),
         "env_remove" => inner.env_remove(values),
-        other => return with_more(alloc, inner, other, values),
+        other => return with_more(alloc, calls, inner, other, values),
     };
     Ok(made?)
 }
@@ -110,12 +130,18 @@ fn with_bytes(alloc: Global, inner: &Tree, text: &str) -> Result<Tree, Error> {
 }
 
 /// A call whose arguments are no single text.
-fn with_more(alloc: Global, inner: &Tree, call: &str, values: &str) -> Result<Tree, Fail> {
+fn with_more(
+    alloc: Global,
+    calls: Log,
+    inner: &Tree,
+    call: &str,
+    values: &str,
+) -> Result<Tree, Fail> {
     let (first, rest) = values.split_once(',').unwrap_or((values, ""));
     match call {
         "env" => Ok(inner.env(first, rest)?),
         "full_env" => full_env(alloc, inner, values),
-        "before_spawn" => hooked(alloc, inner, first, rest),
+        "before_spawn" => hooked(alloc, calls, inner, first, rest),
         "unchecked" => unchecked(inner, values),
         stream => with_end(alloc, inner, stream, values),
     }
@@ -148,9 +174,15 @@ fn with_end(alloc: Global, inner: &Tree, call: &str, number: &str) -> Result<Tre
 }
 
 /// This hook, with the ends of these numbers.
-fn hooked(alloc: Global, inner: &Tree, text: &str, numbers: &str) -> Result<Tree, Fail> {
+fn hooked(
+    alloc: Global,
+    calls: Log,
+    inner: &Tree,
+    text: &str,
+    numbers: &str,
+) -> Result<Tree, Fail> {
     let ends = ends(alloc, numbers)?;
-    Ok(inner.before_spawn(hook(alloc, text)?, ends)?)
+    Ok(inner.before_spawn(hook(alloc, calls, text)?, ends)?)
 }
 
 /// The ends of the numbers that commas part.

@@ -1,14 +1,20 @@
 //! Hooks that are written as texts. `x` adds the word `x`; `out>0` lets stdout go to the end at the place 0 of those beside the
 //! hook, `out>inherit` to the parent's stream and `out>null` nowhere; `set:A:1` gives the variable `A` the value `1`, and
-//! `unset:A` takes it away; `refuse:Other` refuses each spec by `Other`. Several are parted by `+`: `err>1+x`.
+//! `unset:A` takes it away; `dir:/in` sets the folder; `refuse:Other` refuses each spec by `Other`, and `refuse_word:b:Other`
+//! each that has the word `b`; `label:1` is what a log knows it by. Several are parted by `+`: `err>1+x`.
+use crate::expressions::Log;
 use crate::words::{fault, stream};
 use duct_script::hook::{Change, HookAnswer, ScriptHook, Target};
 use std::alloc::{AllocError, Global};
+use std::sync::Arc;
 use std::test::Fail;
 
 /// The hook of a text.
-pub fn hook(alloc: Global, text: &str) -> Result<ScriptHook, Fail> {
+pub fn hook(alloc: Global, calls: Log, text: &str) -> Result<ScriptHook, Fail> {
     let mut hook = ScriptHook::new(alloc);
+    if let Some(calls) = calls {
+        hook.calls = Some(Arc::try_clone(calls)?);
+    }
     for part in text.split('+') {
         tell(alloc, &mut hook, part)?;
     }
@@ -19,14 +25,26 @@ pub fn hook(alloc: Global, text: &str) -> Result<ScriptHook, Fail> {
 fn tell(alloc: Global, hook: &mut ScriptHook, part: &str) -> Result<(), Fail> {
     match part.split_once(':') {
         Some(("refuse", kind)) => hook.answer = HookAnswer::Refuse(fault(kind)?),
+        Some(("refuse_word", rest)) => hook.answer = refuse_word(alloc, rest)?,
         Some(("set", pair)) => hook.changes.push(set(alloc, pair)?)?,
         Some(("unset", name)) => {
             hook.changes
                 .push(Change::NoVar(String::from_str(alloc, name)?))?
         }
+        Some(("dir", folder)) => {
+            hook.changes
+                .push(Change::Folder(String::from_str(alloc, folder)?))?
+        }
+        Some(("label", label)) => hook.label = label.parse::<u8>()?,
         _ => hook.changes.push(change(alloc, part)?)?,
     }
     Ok(())
+}
+
+fn refuse_word(alloc: Global, text: &str) -> Result<HookAnswer, Fail> {
+    let (word, kind) = text.split_once(':').ok_or("no kind of fault")?;
+    let word = String::from_str(alloc, word)?;
+    Ok(HookAnswer::RefuseWord(word, fault(kind)?))
 }
 
 fn set(alloc: Global, pair: &str) -> Result<Change, AllocError> {

@@ -4,7 +4,7 @@ use Rattle.std.proofs.lemmas.List.{drop_all, get_or-map, length-map}
 use Rattle.std.proofs.lemmas.List.Elements.{All-get_or}
 use Rattle.std.proofs.Math.Seq.{drop-cons}
 use Rattle.std.specs.Option.{option_map, option_to_list}
-use Rattle.std.specs.Prelude.{None, Some, slice_get}
+use Rattle.std.specs.Prelude.{None, Some, is_some, slice_get}
 use Rattle.std.specs.declared.option.Option.{Option}
 use Rattle.duct_system.specs.Child.{ChildView}
 use Rattle.duct_system.specs.Child as child_spec
@@ -34,6 +34,12 @@ use Rattle.duct_run.specs.declared.action.Action as declared
 use Rattle.duct_run.specs.declared.held.Held.{Held}
 use Rattle.duct_start.proofs.Running.{items_grow}
 use Rattle.duct_run.proofs.Pushed.{still}
+
+-- whether a pipe is held is seen by its numbers
+pub some_mapped : {A B : Type 0} (f : A → B) (o : Option A)
+    → is_some (option_map f o) ≡ is_some o
+some_mapped f None = refl
+some_mapped f (Some x) = refl
 
 -- an action pops as many ends, whatever its scope
 pub pops_resolved : {E H : Type 0} (scopes : List (Scope E H)) (act : ActionOf E ℕ)

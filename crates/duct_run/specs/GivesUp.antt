@@ -9,7 +9,7 @@ use Rattle.duct_start.specs.Actions.{Action}
 use Rattle.duct_start.specs.Chain.{Allows, Refuses}
 use Rattle.duct_start.specs.Closes.{Closes}
 use Rattle.duct_start.specs.Left.{Leaves, pool_view}
-use Rattle.duct_start.specs.Ran.{RunRefused}
+use Rattle.duct_start.specs.Ran.{Ending, RunRefused}
 use Rattle.duct_run.specs.HeldEnds.{held_ends}
 use Rattle.duct_run.specs.HeldView.{AreNew, held_view}
 use Rattle.duct_run.specs.declared.held.Held.{Held}
@@ -17,12 +17,12 @@ use Rattle.duct_run.specs.declared.held.Held.{Held}
 -- the run was refused with this error and held this; the pool was swept while it ran, each end was closed, and each child given
 pub record GivesUp {E H C F D V W : Type 0} (allows : Allows H) (refuses : Refuses H)
     (end : E → ℕ) (child : C → ChildView) (feed : F → JobView V) (drain : D → JobView W)
-    (may : ℕ → Answer → Type 0) (actions : List (Action E H)) (old next : JournalView)
-    (before after : PoolView C) (error : Error) : Type 0 where
+    (may : ℕ → Answer → Type 0) (ending : Ending E H) (actions : List (Action E H))
+    (old next : JournalView) (before after : PoolView C) (error : Error) : Type 0 where
   pub held : Held E C F D
   pub stopped : JournalView
   pub swept : PoolView C
-  pub refused : RunRefused allows refuses end actions old stopped
+  pub refused : RunRefused allows refuses end ending actions old stopped
       (held_view end child feed drain held) error
   pub new : AreNew child feed drain held
   pub closes : Closes (held_ends end held) stopped next

@@ -52,8 +52,9 @@ pub(crate) fn close_all<S: System, C, F, D>(sys: &mut S, held: &mut Held<S::End,
     close_pair(sys, held.error.take());
 }
 
-// Gives these children to a pool, in order.
-pub(crate) fn give_all<C: Child>(pool: &mut Pool<C>, children: Vec<Place<C>>)
+/// Gives these children to a pool, in order. Each is asked once: one that runs goes behind the others, one that ended counts
+/// as reaped, and one that answered a fault as lost. It takes no memory.
+pub fn give_all<C: Child>(pool: &mut Pool<C>, children: Vec<Place<C>>)
     ensures { pool.old.given + length children.items < 2 ^ 63
         → Takes C.may_answer C.child_view children.items pool.old pool.new }
 {

@@ -1,12 +1,13 @@
 //! A start: its actions are run, and what a refusal leaves is given up.
-ghost use Rattle.std.specs.Prelude.{◌≡◌, [], All, length, is_some, OnOk, IfOk, IfErr};
+ghost use Rattle.std.specs.Prelude.{◌≡◌, [], All, length, is_some, true, None, OnOk, IfOk, IfErr};
+ghost use Rattle.duct_system.specs.Trace.{segment};
 ghost use Rattle.duct_start.specs.Holdings.{empty};
 ghost use Rattle.duct_start.specs.Left.{Leaves, pool_view};
 ghost use Rattle.duct_start.specs.Listed.{AreOutwards, IsWithin, resolved_all};
-ghost use Rattle.duct_start.specs.Ran.{HaveWorkers, Runs, RunRefused, SomeLeads};
+ghost use Rattle.duct_start.specs.Ran.{HavePipes, MadeReader, OpensOut, Runs, RunRefused, SomeLeads, drained, drained_and_read, nothing_more};
 ghost use Rattle.duct_run.specs.ActionView.{actions_view};
 ghost use Rattle.duct_run.specs.GivesUp.{GivesUp};
-ghost use Rattle.duct_run.specs.HeldView.{AreNew, held_view};
+ghost use Rattle.duct_run.specs.HeldView.{AreNew, HasSameWorkers, held_view};
 ghost use Rattle.duct_run.specs.ScopeView.{all_scopes, scopes_view};
 
 use crate::action::Action;
@@ -20,7 +21,39 @@ use duct_system::error::Error;
 use duct_system::spec::Hook;
 use duct_system::system::System;
 
-// The environment, then the actions, then the workers of the capture pipes.
+// The environment, then the actions.
+fn run_actions<S: System, H: Hook>(
+    sys: &mut S,
+    pool: &mut Pool<S::Child>,
+    scopes: &[Scope<'_, S::End, H>],
+    actions: &[Action<'_, S::End>],
+    held: &mut Held<S::End, Place<S::Child>, S::Feed, S::Drain>,
+) -> Result<(), Error>
+    requires outwards { AreOutwards (scopes_view scopes.now) }
+    requires within { All (IsWithin (length scopes.now)) (actions_view actions.now) }
+    requires begun { held_view S.End.number_of S.Child.child_view S.Feed.job_view S.Drain.job_view
+        held.old ≡ empty }
+    requires leads { SomeLeads S.End.number_of
+        (resolved_all (all_scopes scopes.now) (actions_view actions.now)) }
+    ensures ok { OnOk result (Runs H.allows S.End.number_of nothing_more
+        (resolved_all (all_scopes scopes.now) (actions_view actions.now)) (S.journal_view sys.old)
+        (S.journal_view sys.new) (held_view S.End.number_of S.Child.child_view S.Feed.job_view
+        S.Drain.job_view held.new)) }
+    ensures err { IfErr result (RunRefused H.allows H.refuses S.End.number_of nothing_more
+        (resolved_all (all_scopes scopes.now) (actions_view actions.now)) (S.journal_view sys.old)
+        (S.journal_view sys.new) (held_view S.End.number_of S.Child.child_view S.Feed.job_view
+        S.Drain.job_view held.new)) }
+    ensures workers { HasSameWorkers held.old held.new }
+    ensures new { AreNew S.Child.child_view S.Feed.job_view S.Drain.job_view held.old
+        → AreNew S.Child.child_view S.Feed.job_view S.Drain.job_view held.new }
+    ensures pool { Leaves S.Child.may_answer [] (pool_view S.Child.child_view pool.old)
+        (pool_view S.Child.child_view pool.new) }
+{
+    let pairs = sys.environment()?;
+    perform_all(sys, pool, &pairs, scopes, actions, held)
+}
+
+// The environment, the actions, and the workers of the capture pipes.
 fn run<S: System, H: Hook>(
     sys: &mut S,
     pool: &mut Pool<S::Child>,
@@ -34,15 +67,15 @@ fn run<S: System, H: Hook>(
         held.old ≡ empty }
     requires leads { SomeLeads S.End.number_of
         (resolved_all (all_scopes scopes.now) (actions_view actions.now)) }
-    ensures ok { OnOk result (Runs H.allows S.End.number_of
+    ensures ok { OnOk result (Runs H.allows S.End.number_of drained
         (resolved_all (all_scopes scopes.now) (actions_view actions.now)) (S.journal_view sys.old)
         (S.journal_view sys.new) (held_view S.End.number_of S.Child.child_view S.Feed.job_view
         S.Drain.job_view held.new)) }
-    ensures err { IfErr result (RunRefused H.allows H.refuses S.End.number_of
+    ensures err { IfErr result (RunRefused H.allows H.refuses S.End.number_of drained
         (resolved_all (all_scopes scopes.now) (actions_view actions.now)) (S.journal_view sys.old)
         (S.journal_view sys.new) (held_view S.End.number_of S.Child.child_view S.Feed.job_view
         S.Drain.job_view held.new)) }
-    ensures workers { OnOk result (HaveWorkers S.End.number_of
+    ensures workers { OnOk result (HavePipes S.End.number_of
         (resolved_all (all_scopes scopes.now) (actions_view actions.now))
         (is_some held.new.output_worker) (is_some held.new.error_worker)) }
     ensures new { AreNew S.Child.child_view S.Feed.job_view S.Drain.job_view held.old
@@ -50,10 +83,55 @@ fn run<S: System, H: Hook>(
     ensures pool { Leaves S.Child.may_answer [] (pool_view S.Child.child_view pool.old)
         (pool_view S.Child.child_view pool.new) }
 {
-    let pairs = sys.environment()?;
-    perform_all(sys, pool, &pairs, scopes, actions, held)?;
+    run_actions(sys, pool, scopes, actions, held)?;
     finish_out::<S, H>(sys, held)?;
     finish_err::<S, H>(sys, held)
+}
+
+// The environment, the actions, stderr's capture worker, and the reader of stdout's capture pipe.
+fn run_reader<S: System, H: Hook>(
+    sys: &mut S,
+    pool: &mut Pool<S::Child>,
+    scopes: &[Scope<'_, S::End, H>],
+    actions: &[Action<'_, S::End>],
+    held: &mut Held<S::End, Place<S::Child>, S::Feed, S::Drain>,
+) -> Result<S::Reader, Error>
+    requires outwards { AreOutwards (scopes_view scopes.now) }
+    requires within { All (IsWithin (length scopes.now)) (actions_view actions.now) }
+    requires begun { held_view S.End.number_of S.Child.child_view S.Feed.job_view S.Drain.job_view
+        held.old ≡ empty }
+    requires leads { SomeLeads S.End.number_of
+        (resolved_all (all_scopes scopes.now) (actions_view actions.now)) }
+    requires opens { OpensOut S.End.number_of
+        (resolved_all (all_scopes scopes.now) (actions_view actions.now)) }
+    ensures ok { OnOk result (Runs H.allows S.End.number_of drained_and_read
+        (resolved_all (all_scopes scopes.now) (actions_view actions.now)) (S.journal_view sys.old)
+        (S.journal_view sys.new) (held_view S.End.number_of S.Child.child_view S.Feed.job_view
+        S.Drain.job_view held.new)) }
+    ensures reader { IfOk result (MadeReader S.may_read
+        (segment (S.journal_view sys.old).entries (S.journal_view sys.new).entries)) }
+    ensures err { IfErr result (RunRefused H.allows H.refuses S.End.number_of drained_and_read
+        (resolved_all (all_scopes scopes.now) (actions_view actions.now)) (S.journal_view sys.old)
+        (S.journal_view sys.new) (held_view S.End.number_of S.Child.child_view S.Feed.job_view
+        S.Drain.job_view held.new)) }
+    ensures output { OnOk result (held.new.output_worker ≡ None) }
+    ensures workers { OnOk result (HavePipes S.End.number_of
+        (resolved_all (all_scopes scopes.now) (actions_view actions.now)) true
+        (is_some held.new.error_worker)) }
+    ensures new { AreNew S.Child.child_view S.Feed.job_view S.Drain.job_view held.old
+        → AreNew S.Child.child_view S.Feed.job_view S.Drain.job_view held.new }
+    ensures pool { Leaves S.Child.may_answer [] (pool_view S.Child.child_view pool.old)
+        (pool_view S.Child.child_view pool.new) }
+{
+    run_actions(sys, pool, scopes, actions, held)?;
+    finish_err::<S, H>(sys, held)?;
+    match held.output.take() {
+        Some((reader, writer)) => {
+            sys.close(writer);
+            Ok(sys.reader(reader))
+        }
+        None => unreachable!(),
+    }
 }
 
 /// Runs the actions of a start, where nothing is held yet, and answers what they leave. Before each command the pool is swept.
@@ -73,25 +151,73 @@ pub fn start<S: System, H: Hook>(
     requires new { AreNew S.Child.child_view S.Feed.job_view S.Drain.job_view held }
     requires leads { SomeLeads S.End.number_of
         (resolved_all (all_scopes scopes.now) (actions_view actions.now)) }
-    ensures ok { IfOk result (λ kept. Runs H.allows S.End.number_of
+    ensures ok { IfOk result (λ kept. Runs H.allows S.End.number_of drained
         (resolved_all (all_scopes scopes.now) (actions_view actions.now)) (S.journal_view sys.old)
         (S.journal_view sys.new) (held_view S.End.number_of S.Child.child_view S.Feed.job_view
         S.Drain.job_view kept)) }
     ensures kept { IfOk result
         (λ kept. AreNew S.Child.child_view S.Feed.job_view S.Drain.job_view kept) }
-    ensures workers { IfOk result (λ kept. HaveWorkers S.End.number_of
+    ensures workers { IfOk result (λ kept. HavePipes S.End.number_of
         (resolved_all (all_scopes scopes.now) (actions_view actions.now))
         (is_some kept.output_worker) (is_some kept.error_worker)) }
     ensures swept { OnOk result (Leaves S.Child.may_answer []
         (pool_view S.Child.child_view pool.old) (pool_view S.Child.child_view pool.new)) }
     ensures err { IfErr result (GivesUp H.allows H.refuses S.End.number_of S.Child.child_view
-        S.Feed.job_view S.Drain.job_view S.Child.may_answer
+        S.Feed.job_view S.Drain.job_view S.Child.may_answer drained
         (resolved_all (all_scopes scopes.now) (actions_view actions.now)) (S.journal_view sys.old)
         (S.journal_view sys.new) pool.old pool.new) }
 {
     let mut held = held;
     match run(sys, pool, scopes, actions, &mut held) {
         Ok(()) => Ok(held),
+        Err(error) => {
+            give_up(sys, pool, held);
+            Err(error)
+        }
+    }
+}
+
+/// Runs the actions of a reader's start, which open stdout's capture pipe, where nothing is held yet. Answers what they leave, and
+/// the reader of that pipe, which has no worker. Before each command the pool is swept. Refused by the fault of the first request that is, by a hook, or by `Error::Memory`. Then each end that is held is closed,
+/// each child that was started is asked once and goes into the pool if it runs, and the workers are let go.
+pub fn start_reader<S: System, H: Hook>(
+    sys: &mut S,
+    pool: &mut Pool<S::Child>,
+    scopes: &[Scope<'_, S::End, H>],
+    actions: &[Action<'_, S::End>],
+    held: Held<S::End, Place<S::Child>, S::Feed, S::Drain>,
+) -> Result<(Held<S::End, Place<S::Child>, S::Feed, S::Drain>, S::Reader), Error>
+    requires outwards { AreOutwards (scopes_view scopes.now) }
+    requires within { All (IsWithin (length scopes.now)) (actions_view actions.now) }
+    requires begun { held_view S.End.number_of S.Child.child_view S.Feed.job_view S.Drain.job_view
+        held ≡ empty }
+    requires new { AreNew S.Child.child_view S.Feed.job_view S.Drain.job_view held }
+    requires leads { SomeLeads S.End.number_of
+        (resolved_all (all_scopes scopes.now) (actions_view actions.now)) }
+    requires opens { OpensOut S.End.number_of
+        (resolved_all (all_scopes scopes.now) (actions_view actions.now)) }
+    ensures ok { IfOk result (λ made. Runs H.allows S.End.number_of drained_and_read
+        (resolved_all (all_scopes scopes.now) (actions_view actions.now)) (S.journal_view sys.old)
+        (S.journal_view sys.new) (held_view S.End.number_of S.Child.child_view S.Feed.job_view
+        S.Drain.job_view made.0)) }
+    ensures reader { IfOk result (λ made. MadeReader S.may_read
+        (segment (S.journal_view sys.old).entries (S.journal_view sys.new).entries) made.1) }
+    ensures kept { IfOk result
+        (λ made. AreNew S.Child.child_view S.Feed.job_view S.Drain.job_view made.0) }
+    ensures output { IfOk result (λ made. made.0.output_worker ≡ None) }
+    ensures workers { IfOk result (λ made. HavePipes S.End.number_of
+        (resolved_all (all_scopes scopes.now) (actions_view actions.now)) true
+        (is_some made.0.error_worker)) }
+    ensures swept { OnOk result (Leaves S.Child.may_answer []
+        (pool_view S.Child.child_view pool.old) (pool_view S.Child.child_view pool.new)) }
+    ensures err { IfErr result (GivesUp H.allows H.refuses S.End.number_of S.Child.child_view
+        S.Feed.job_view S.Drain.job_view S.Child.may_answer drained_and_read
+        (resolved_all (all_scopes scopes.now) (actions_view actions.now)) (S.journal_view sys.old)
+        (S.journal_view sys.new) pool.old pool.new) }
+{
+    let mut held = held;
+    match run_reader(sys, pool, scopes, actions, &mut held) {
+        Ok(reader) => Ok((held, reader)),
         Err(error) => {
             give_up(sys, pool, held);
             Err(error)

@@ -28,7 +28,7 @@ none_place : (o : Option ℕ) → is_some o ≡ false → o ≡ None
 none_place None is = refl
 none_place (Some place) is = absurd (cc)
 
-some_place : (o : Option ℕ) → is_some o ≡ true → o ≡ Some (unwrap_or o 0)
+pub some_place : (o : Option ℕ) → is_some o ≡ true → o ≡ Some (unwrap_or o 0)
 some_place None is = absurd (cc)
 some_place (Some place) is = refl
 
@@ -36,7 +36,7 @@ pair_reads : (L : List EntryView) (o : Option ℕ) (r w : ℕ) → IsPair L o (S
 pair_reads L None r w is = absurd is
 pair_reads L (Some place) r w is = is.0
 
-top_some : {A : Type 0} (a b : A) (xs ys : List (Option A)) → Some a ∷ xs ≡ Some b ∷ ys → a ≡ b
+pub top_some : {A : Type 0} (a b : A) (xs ys : List (Option A)) → Some a ∷ xs ≡ Some b ∷ ys → a ≡ b
 top_some a b xs ys is = cc
 
 -- what is held without stdout's capture pipe, and with these on the stack
@@ -112,10 +112,10 @@ module _ {E H : Type 0} (allows : Allows H) (number_of : E → ℕ) where
       subst (λ (s : State E H). Stands allows number_of course s now held) same stands
 
   -- its write end is closed, and its read end stands on the stack for a moment
-  abbrev mid_out : State E H → State E H
+  abbrev pub mid_out : State E H → State E H
   mid_out st = record { stack = ReaderAt (unwrap_or st.plan.out 0) ∷ st.stack; plan = record { items = st.plan.items; out = None; err = st.plan.err } }
 
-  closes_out : (course : Course) (st : State E H) (r w : ℕ) (now next : JournalView) (held : Holdings) → held.out ≡ Some (r, w) → GivesEnds (Close w) 1 now next → length st.stack ≤ course.bound →
+  pub closes_out : (course : Course) (st : State E H) (r w : ℕ) (now next : JournalView) (held : Holdings) → held.out ≡ Some (r, w) → GivesEnds (Close w) 1 now next → length st.stack ≤ course.bound →
       Stands allows number_of course st now held → Stands allows number_of course (mid_out st) next (without_out (r ∷ []) held)
   closes_out course st r w now next held is gives low stands =
       let kept = without_out (r ∷ []) held in

@@ -12,11 +12,11 @@ use Rattle.duct_system.specs.EntryView.{EntryView, Environment, Pipe, OpenRead, 
 use Rattle.duct_system.specs.Journal.{JournalView}
 use Rattle.duct_system.specs.Ledger.{IsBalanced, got, spent, held, count_of}
 use Rattle.duct_system.specs.Started.{children_in, child_by}
-use Rattle.duct_system.specs.Trace.{segment, trace, is_close, IsClean, fault_of}
+use Rattle.duct_system.specs.Trace.{segment, trace, is_close, IsClean, fault_of, StopsAtFault}
 use Rattle.duct_system.specs.declared.error.Error.{Error}
 use Rattle.duct_system.specs.declared.error.Error.TheVariants.{System, Checked, NotUtf8, Hook, HookEnd, Deadline, Memory}
 use Rattle.duct_system.specs.declared.system.Fault.{Fault}
-use Rattle.duct_start.specs.Causes.{HasCause, AnswersLastFault, StoppedBy, asked_in, last_fault}
+use Rattle.duct_start.specs.Causes.{HasCause, AnswersLastFault, StoppedBy, asked_in, last_fault, MayAnswer}
 use Rattle.duct_start.specs.Chain.{Allows, Refuses}
 use Rattle.duct_start.specs.Closes.{Closes}
 use Rattle.duct_start.specs.Commands.{Refused}
@@ -195,6 +195,29 @@ module _ {E H : Type 0} (allows : Allows H) (refuses : Refuses H) (number_of : E
   cause_ended added error (hooked clean is) same cause = cause_hooked error is cause
   cause_ended added error (refused front entry fault clean is) same cause = inr (same ∙ last_is front entry fault is)
 
+may_answer : (entries added : List EntryView) (error : Error) → Ended added error → last_fault entries ≡ last_fault added → MayAnswer entries error
+may_answer entries added error (unasked clean un) same = by error un
+  where
+    by : (error : Error) → IsUnasked error → MayAnswer entries error
+    by (System fault) un = inl un
+    by (Checked text) un = absurd un
+    by NotUtf8 un = absurd un
+    by (Hook fault) un = absurd un
+    by (HookEnd place) un = absurd un
+    by Deadline un = absurd un
+    by Memory un = tt
+may_answer entries added error (hooked clean is) same = by error is
+  where
+    by : (error : Error) → IsHooks error → MayAnswer entries error
+    by (System fault) is = absurd is
+    by (Checked text) is = absurd is
+    by NotUtf8 is = absurd is
+    by (Hook fault) is = tt
+    by (HookEnd place) is = tt
+    by Deadline is = absurd is
+    by Memory is = absurd is
+may_answer entries added error (refused front entry fault clean is) same = inr (same ∙ last_is front entry fault is)
+
 -- a start that was refused, by its run and the closes behind it
 
 module _ {E H : Type 0} (allows : Allows H) (refuses : Refuses H) (number_of : E → ℕ) (tree : TreeView E H) (plan : Plan E H) (course : Course) (items : List (Item E H)) (now then : JournalView)
@@ -248,6 +271,8 @@ module _ {E H : Type 0} (allows : Allows H) (refuses : Refuses H) (number_of : E
         grows = grows_by_added course.old then all all_are
             (omega (arith, counted, books.counted, length-append first (map Close numbers), closes_long numbers))
             (omega (arith, next, books.next_grows)) (omega (arith, room, many, books.room_is));
+        stops = subst StopsAtFault segment_same (ended_stops first error numbers run.stopped.ended);
+        reason = subst (λ (l : List EntryView). MayAnswer l error) segment_same (may_answer all first error run.stopped.ended (closed_fault first numbers));
         follows = λ earlier. subst (λ (l : List EntryView). Follows allows number_of plan l) segment_same (all_follow earlier);
         cause = λ earlier. subst (λ (l : List EntryView). HasCause allows refuses number_of plan l error) segment_same (all_caused earlier);
         last_fault = subst (λ (l : List EntryView). AnswersLastFault l error) segment_same (λ fault is. ended_answers first error run.stopped.ended fault (sym (closed_fault first numbers) ∙ is));

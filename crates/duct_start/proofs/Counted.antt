@@ -24,7 +24,7 @@ use Rattle.duct_start.specs.Holdings.{Holdings}
 use Rattle.duct_start.specs.Listed.{listed_of, resolved, resolved_all, scopes_from}
 use Rattle.duct_start.specs.Kinds.{Kind, of_spawn, of_feed, of_other, entry_kind, item_kind, spawns, feeds, spawns_asked, feeds_asked}
 use Rattle.duct_start.specs.Path.{Path, left_of, right_of, within}
-use Rattle.duct_start.specs.Plan.{Plan, asks, begun, commanded, drains, is_canonical, opened, place_for, planned, plan_of, reads}
+use Rattle.duct_start.specs.Plan.{Plan, asks, begun, commanded, drains, is_canonical, opened, place_for, planned, plan_of, plan_of_reader, reads}
 use Rattle.duct_start.specs.ShapeOfTree.{shape_around, shape_of_tree}
 use Rattle.duct_start.specs.Standing.{Course, Stands}
 use Rattle.duct_start.specs.Lookup.{found_on}
@@ -173,18 +173,6 @@ module _ {E H : Type 0} where
       × (feeds_asked (planned [] tree begun).items ≡ input_count (shape_of_tree tree))
   planned_counts tree = let adds = adds_tree [] tree begun in (omega (arith, adds.spawns), omega (arith, adds.feeds))
 
-  -- the worker of a capture pipe is none of both
-  pub drains_counts : (place : Option ℕ) (plan : Plan E H)
-      → (spawns_asked (drains place plan).items ≡ spawns_asked plan.items)
-      × (feeds_asked (drains place plan).items ≡ feeds_asked plan.items)
-  drains_counts place plan = let adds = adds_drains place plan in (omega (arith, adds.spawns), omega (arith, adds.feeds))
-
-  -- nor is its reader
-  pub reads_counts : (place : Option ℕ) (plan : Plan E H)
-      → (spawns_asked (reads place plan).items ≡ spawns_asked plan.items)
-      × (feeds_asked (reads place plan).items ≡ feeds_asked plan.items)
-  reads_counts place plan = let adds = adds_reads place plan in (omega (arith, adds.spawns), omega (arith, adds.feeds))
-
   -- a run that stands at the whole plan of a tree holds a child for each command and a worker for each input
   pub started_counts : (allows : Allows H) (number_of : E → ℕ) (course : Course) (state : State E H)
       (now : JournalView) (held : Holdings) (tree : TreeView E H)
@@ -199,20 +187,20 @@ module _ {E H : Type 0} where
       let here = planned_counts tree in
       (omega (arith, all.0, ap (λ l. spawns_asked l) is, out.spawns, err.spawns, here.0), omega (arith, all.1, ap (λ l. feeds_asked l) is, out.feeds, err.feeds, here.1))
 
-  -- so does one that stands before the reader of a reader's start
+  -- so does one that stands at the whole plan of a reader's start
   pub reader_counts : (allows : Allows H) (number_of : E → ℕ) (course : Course) (state : State E H)
       (now : JournalView) (held : Holdings) (tree : TreeView E H)
       → Stands allows number_of course state now held
-      → (let plan = planned [] (around stdout_capture tree) begun in
-      state.plan.items ≡ (drains plan.err plan).items)
+      → state.plan.items ≡ (plan_of_reader tree).items
       → (length held.children ≡ command_count (shape_of_tree tree))
       × (length held.feeds ≡ input_count (shape_of_tree tree))
   reader_counts allows number_of course state now held tree stands is =
       let plan = planned [] (around stdout_capture tree) begun in
       let all = counted allows number_of course state now held stands in
       let err = adds_drains plan.err plan in
+      let out = adds_reads plan.out (drains plan.err plan) in
       let here = planned_counts (around stdout_capture tree) in
-      (omega (arith, all.0, ap (λ l. spawns_asked l) is, err.spawns, here.0), omega (arith, all.1, ap (λ l. feeds_asked l) is, err.feeds, here.1))
+      (omega (arith, all.0, ap (λ l. spawns_asked l) is, out.spawns, err.spawns, here.0), omega (arith, all.1, ap (λ l. feeds_asked l) is, out.feeds, err.feeds, here.1))
 
   if_of : {X : Type 0} (f : Plan E H → X) (b : Bool) (p q : Plan E H) → f p ≡ f q → f (if b then p else q) ≡ f q
   if_of f true p q same = same

@@ -9,7 +9,9 @@ use Rattle.duct_base.specs.Pool.{PoolView, AsksAll, IsSwept, Sieves, Takes, coun
 use Rattle.duct_system.specs.Child.{Answer, ChildView, PollsChild, IsUnasked}
 use Rattle.duct_system.specs.EntryView.{EntryView}
 use Rattle.duct_system.specs.Started.{children_in}
+use Rattle.duct_system.specs.Trace.{segment}
 use Rattle.duct_start.specs.Left.{Leaves, LeavesStarted, StaysInPool, pool_view}
+use Rattle.duct_start.proofs.Whole.{segment-added}
 
 stays_same : (child : ChildView) → StaysInPool child child
 stays_same child = record { number_is = refl; process_is = refl; orders_are = refl }
@@ -157,6 +159,13 @@ module _ (may : ℕ → Answer → Type 0) where
           reaped_is = takes.reaped_is ∙ ap (λ (n : ℕ). counted before.reaped n) reaped;
           lost_is = takes.lost_is ∙ ap (λ (n : ℕ). counted before.lost n) lost;
         }
+
+    -- nothing was asked
+    pub leaves_unasked : (entries : List EntryView) (pool : PoolView C)
+        → LeavesStarted may view (segment entries entries) pool pool
+    leaves_unasked entries pool =
+        let nothing : segment entries entries ≡ [] = ap (λ (l : List EntryView). segment entries l) (sym (append-nil entries)) ∙ segment-added entries [] in
+        ([], sym (ap (λ (l : List EntryView). children_in l) nothing), All-nil IsUnasked, leaves_same (pool_view view pool))
 
     numbers_seen : (children : List C) → map (λ c. c.number) (map view children) ≡ map (λ c. (view c).number) children
     numbers_seen [] = refl

@@ -19,6 +19,7 @@ pub mod Leaving
 pub mod Origins
 pub mod Outwards
 pub mod Ran
+pub mod Reading
 pub mod Resolved
 pub mod Running
 pub mod ScopeIn

@@ -1,14 +1,15 @@
 -- A run that came to its end is a start that succeeds.
-use Rattle.std.proofs.Common.{◌≡◌, ℕ, ◌+◌, ◌*◌, ◌≤◌, List, [], ◌∷◌, ◌++◌, length, refl, ap, sym, ◌∙◌, arith, subst}
+use Rattle.std.proofs.Common.{◌≡◌, ℕ, ◌+◌, ◌*◌, ◌≤◌, List, [], ◌∷◌, ◌++◌, length, map, refl, ap, sym, ◌∙◌, arith, subst}
 use Rattle.std.proofs.lemmas.List.{append-nil}
 use Rattle.duct_system.specs.EntryView.{EntryView}
 use Rattle.duct_system.specs.Journal.{JournalView}
 use Rattle.duct_system.specs.Ledger.{IsBalanced, count_of}
-use Rattle.duct_system.specs.Trace.{segment, trace}
+use Rattle.duct_system.specs.Trace.{IsClean, segment, trace}
 use Rattle.duct_start.specs.Actions.{State}
 use Rattle.duct_start.specs.Chain.{Allows}
 use Rattle.duct_start.specs.Follows.{AnswersFrom, FollowsWhole}
 use Rattle.duct_start.specs.Holdings.{Holdings, ends}
+use Rattle.duct_start.specs.Kinds.{entry_kind, item_kind}
 use Rattle.duct_start.specs.Plan.{Plan}
 use Rattle.duct_start.specs.Standing.{Course, IsLater, Stands}
 use Rattle.duct_start.specs.Start.{AreEarlier, Grows, HoldsFew, StartSucceeds, ceiling, depth}
@@ -18,7 +19,7 @@ use Rattle.duct_start.proofs.Ceiling.{ceiling_low}
 use Rattle.duct_start.proofs.Ending.{clean_stops}
 use Rattle.duct_start.proofs.Standing.{as_many}
 
-segment-added : (old added : List EntryView) → segment old (old ++ added) ≡ added
+pub segment-added : (old added : List EntryView) → segment old (old ++ added) ≡ added
 segment-added [] added = refl
 segment-added (entry ∷ old) added = segment-added old added
 
@@ -70,6 +71,8 @@ module _ {E H : Type 0} (allows : Allows H) (number_of : E → ℕ) (tree : Tree
       let books = stands.books in
       let same = sym (segment_is course.old.entries now.entries stands.added books.entries_are) in record {
         grows = grows_by_added course.old now stands.added books.entries_are books.counted books.next_grows (omega (arith, books.room_is));
+        clean = subst IsClean same stands.clean;
+        kinds = ap (λ (l : List EntryView). map entry_kind (trace l)) (sym same) ∙ stands.kinds ∙ ap (λ (l : List (Item E H)). map item_kind l) items_are;
         whole = λ earlier. subst (λ (l : List EntryView). FollowsWhole allows number_of plan l) same (whole earlier);
         balanced = subst IsBalanced same (λ n. (omega (arith, books.even n, none_held n), books.once n));
         few = subst (λ (l : List EntryView). HoldsFew tree l) same (λ count. omega (arith, bound_is, stands.few count));

@@ -5,7 +5,7 @@ use Rattle.std.specs.Option.{option_and_then}
 use Rattle.duct_system.specs.EntryView.{EntryView}
 use Rattle.duct_system.specs.Trace.{trace, is_close, fault_of}
 use Rattle.duct_system.specs.declared.error.Error.{Error}
-use Rattle.duct_system.specs.declared.error.Error.TheVariants.{System, Hook, HookEnd, Memory}
+use Rattle.duct_system.specs.declared.error.Error.TheVariants.{System, Checked, NotUtf8, Hook, HookEnd, Deadline, Memory}
 use Rattle.duct_system.specs.declared.system.Fault.{Fault}
 use Rattle.duct_system.specs.declared.system.Kind.TheVariants.{OutOfMemory}
 use Rattle.duct_start.specs.Chain.{Wired, Allows, Refuses, ChainStops, lent}
@@ -37,12 +37,22 @@ StoppedNext allows refuses number_of plan added error =
     let place = length (trace added) in
     StoppedBy allows refuses number_of (trace added) place (slice_get plan.items place) error
 
+-- a start may answer this error: a system's fault but want of memory is that of the last entry which is no close; a hook's fault, a
+-- place of a hook that isn't there, or want of memory
+abbrev pub MayAnswer : List EntryView → Error → Type 0
+MayAnswer added (System fault) = (fault.kind ≡ OutOfMemory) ⊎ (last_fault added ≡ Some fault)
+MayAnswer added (Checked text) = ⊥
+MayAnswer added NotUtf8 = ⊥
+MayAnswer added (Hook fault) = Unit {0}
+MayAnswer added (HookEnd place) = Unit {0}
+MayAnswer added Deadline = ⊥
+MayAnswer added Memory = Unit {0}
+
 -- the error has a cause: a system's fault but want of memory is that of the last entry which is no close; a hook's is that of the
 -- next command; a start answers no other but want of memory
 abbrev pub HasCause : {E H : Type 0} → Allows H → Refuses H → (E → ℕ) → Plan E H → List EntryView
     → Error → Type 0
-HasCause allows refuses number_of plan added (System fault) =
-    (fault.kind ≡ OutOfMemory) ⊎ (last_fault added ≡ Some fault)
+HasCause allows refuses number_of plan added (System fault) = MayAnswer added (System fault)
 HasCause allows refuses number_of plan added (Hook fault) =
     StoppedNext allows refuses number_of plan added (Hook fault)
 HasCause allows refuses number_of plan added (HookEnd place) =

@@ -1,18 +1,36 @@
--- What a whole run promises, from the environment to the capture workers.
-use Rattle.std.specs.Prelude.{◌≡◌, Bool, is_some, ℕ, List, [], None}
+-- What a whole run promises, from the environment to the capture pipes.
+use Rattle.std.specs.Prelude.{◌≡◌, Bool, is_some, ℕ, List, [], ◌∷◌, ◌++◌, IsSome, None}
+use Rattle.duct_system.specs.EntryView.{EntryView, Reader}
 use Rattle.duct_system.specs.Journal.{JournalView}
 use Rattle.duct_system.specs.SpecView.{Vars}
 use Rattle.duct_system.specs.declared.error.Error.{Error}
-use Rattle.duct_start.specs.Actions.{Action, Leads, with_plan}
+use Rattle.duct_system.specs.declared.system.Side.TheVariants as side
+use Rattle.duct_start.specs.Actions.{Action, Leads, finished, with_plan}
 use Rattle.duct_start.specs.Chain.{Allows, Refuses}
 use Rattle.duct_start.specs.Commands.{Refused}
 use Rattle.duct_start.specs.Holdings.{Holdings}
-use Rattle.duct_start.specs.Plan.{Plan, begun, drains}
+use Rattle.duct_start.specs.Plan.{Plan, begun, reads}
 use Rattle.duct_start.specs.Standing.{Course, Stands}
 
--- a plan with the workers of its capture pipes
-abbrev pub drained_of : {E H : Type 0} → Plan E H → Plan E H
-drained_of plan = drains plan.err (drains plan.out plan)
+-- what is asked once the commands run
+abbrev pub Ending : Type 0 → Type 0 → Type 0
+Ending E H = Plan E H → Plan E H
+
+-- nothing
+abbrev pub nothing_more : {E H : Type 0} → Ending E H
+nothing_more plan = plan
+
+-- the workers of the capture pipes
+abbrev pub drained : {E H : Type 0} → Ending E H
+drained plan = finished side.Err (finished side.Out plan)
+
+-- the reader of stdout's capture pipe
+abbrev pub read : {E H : Type 0} → Ending E H
+read plan = record { items = (reads plan.out plan).items; out = None; err = plan.err }
+
+-- stderr's worker, and the reader
+abbrev pub drained_and_read : {E H : Type 0} → Ending E H
+drained_and_read plan = read (finished side.Err plan)
 
 -- a run that began here
 abbrev pub course_of : JournalView → ℕ → ℕ → Vars → Course
@@ -25,27 +43,38 @@ SomeLeads {E} {H} number_of actions =
     (base : ℕ) × (bound : ℕ) × (plan : Plan E H)
     × Leads number_of base bound (with_plan begun) actions (with_plan plan)
 
--- they ran, and so did the workers of the capture pipes: to whatever plan they lead, that was asked
-abbrev pub Runs : {E H : Type 0} → Allows H → (E → ℕ) → List (Action E H) → JournalView
-    → JournalView → Holdings → Type 0
-Runs {E} {H} allows number_of actions old now held =
+-- these actions open stdout's capture pipe, to whatever plan they lead
+abbrev pub OpensOut : {E H : Type 0} → (E → ℕ) → List (Action E H) → Type 0
+OpensOut {E} {H} number_of actions =
+    (base bound : ℕ) (plan : Plan E H)
+    → Leads number_of base bound (with_plan begun) actions (with_plan plan) → IsSome plan.out
+
+-- they ran, and so did the ending: to whatever plan they lead, that was asked
+abbrev pub Runs : {E H : Type 0} → Allows H → (E → ℕ) → Ending E H → List (Action E H)
+    → JournalView → JournalView → Holdings → Type 0
+Runs {E} {H} allows number_of ending actions old now held =
     (pairs : Vars) × ((base bound : ℕ) (plan : Plan E H)
     → Leads number_of base bound (with_plan begun) actions (with_plan plan)
-    → Stands allows number_of (course_of old base bound pairs)
-    (with_plan (record { items = (drained_of plan).items; out = None; err = None })) now held)
+    → Stands allows number_of (course_of old base bound pairs) (with_plan (ending plan)) now held)
 
 -- they were refused
-abbrev pub RunRefused : {E H : Type 0} → Allows H → Refuses H → (E → ℕ) → List (Action E H)
-    → JournalView → JournalView → Holdings → Error → Type 0
-RunRefused {E} {H} allows refuses number_of actions old now held error =
+abbrev pub RunRefused : {E H : Type 0} → Allows H → Refuses H → (E → ℕ) → Ending E H
+    → List (Action E H) → JournalView → JournalView → Holdings → Error → Type 0
+RunRefused {E} {H} allows refuses number_of ending actions old now held error =
     (pairs : Vars) × ((base bound : ℕ) (plan : Plan E H)
     → Leads number_of base bound (with_plan begun) actions (with_plan plan)
-    → Refused allows refuses number_of (course_of old base bound pairs) (drained_of plan).items now
-    held error)
+    → Refused allows refuses number_of (course_of old base bound pairs) (ending plan).items now held
+    error)
 
--- these truth values say whether stdout and stderr have a capture worker, to whatever plan the actions lead
-abbrev pub HaveWorkers : {E H : Type 0} → (E → ℕ) → List (Action E H) → Bool → Bool → Type 0
-HaveWorkers {E} {H} number_of actions output error =
+-- these truth values say whether stdout and stderr have a capture pipe, to whatever plan the actions lead
+abbrev pub HavePipes : {E H : Type 0} → (E → ℕ) → List (Action E H) → Bool → Bool → Type 0
+HavePipes {E} {H} number_of actions output error =
     (base bound : ℕ) (plan : Plan E H)
     → Leads number_of base bound (with_plan begun) actions (with_plan plan)
     → (output ≡ is_some plan.out) × (error ≡ is_some plan.err)
+
+-- the last of these entries made this reader
+abbrev pub MadeReader : {R : Type 0} → (ℕ → R → Type 0) → List EntryView → R → Type 0
+MadeReader may entries reader =
+    (front : List EntryView) × (number : ℕ) × (entries ≡ front ++ Reader number ∷ [])
+    × may number reader

@@ -1,13 +1,14 @@
 -- What a start promises of the journal.
-use Rattle.std.specs.Prelude.{ℕ, ◌+◌, ◌*◌, ◌<◌, ◌≤◌, max, List, [], ◌∷◌, ◌++◌, ◌≡◌, length, take, All}
+use Rattle.std.specs.Prelude.{ℕ, ◌+◌, ◌*◌, ◌<◌, ◌≤◌, max, List, [], ◌∷◌, ◌++◌, ◌≡◌, length, map, take, All}
 use Rattle.duct_system.specs.Journal.{JournalView}
 use Rattle.duct_system.specs.Ledger.{IsBalanced, held}
 use Rattle.duct_system.specs.EntryView.{EntryView}
-use Rattle.duct_system.specs.Trace.{segment}
+use Rattle.duct_system.specs.Trace.{IsClean, StopsAtFault, segment, trace}
 use Rattle.duct_system.specs.declared.error.Error.{Error}
-use Rattle.duct_start.specs.Causes.{HasCause, AnswersLastFault}
+use Rattle.duct_start.specs.Causes.{HasCause, MayAnswer, AnswersLastFault}
 use Rattle.duct_start.specs.Chain.{Allows, Refuses}
 use Rattle.duct_start.specs.Follows.{Follows, FollowsWhole}
+use Rattle.duct_start.specs.Kinds.{entry_kind, item_kind}
 use Rattle.duct_start.specs.Plan.{Plan}
 use Rattle.duct_start.specs.TreeView.{ModifierView, TreeView, command, pipe, around, stdin_bytes, stdin_path, stdin_file, stdin_null, stdout_path, stdout_file, stdout_null, stdout_capture, stdout_to_stderr, stderr_path, stderr_file, stderr_null, stderr_capture, stderr_to_stdout, stdout_stderr_swap, dir, env, env_remove, full_env, unchecked, before_spawn}
 
@@ -95,21 +96,27 @@ pub record Grows (old new : JournalView) : Type 0 where
   pub next_grows : old.next ≤ new.next
   pub room_grows : old.room ≤ new.room
 
--- a start that succeeds: the journal has grown, by what follows the whole plan; each end got was spent
+-- a start that succeeds: the journal has grown, by entries none of which was refused, as many of each kind as the plan asks and in its
+-- order, which follow the whole plan; each end got was spent
 pub record StartSucceeds {E H : Type 0} (allows : Allows H) (number_of : E → ℕ)
     (tree : TreeView E H) (plan : Plan E H) (old new : JournalView) : Type 0 where
   pub grows : Grows old new
+  pub clean : IsClean (segment old.entries new.entries)
+  pub kinds : map entry_kind (trace (segment old.entries new.entries))
+      ≡ map item_kind plan.items
   pub whole : AreEarlier number_of old tree
       → FollowsWhole allows number_of plan (segment old.entries new.entries)
   pub balanced : IsBalanced (segment old.entries new.entries)
   pub few : HoldsFew tree (segment old.entries new.entries)
 
--- a start that is refused: the journal has grown, by what follows the plan up to the refusal, where the error has its cause; each end
--- got was spent
+-- a start that is refused: the journal has grown, by what follows the plan up to the refusal, where the error has its cause, and after a
+-- fault by closes alone; each end got was spent
 pub record StartRefused {E H : Type 0} (allows : Allows H) (refuses : Refuses H) (number_of : E → ℕ)
     (tree : TreeView E H) (plan : Plan E H)
     (old new : JournalView) (error : Error) : Type 0 where
   pub grows : Grows old new
+  pub stops : StopsAtFault (segment old.entries new.entries)
+  pub reason : MayAnswer (segment old.entries new.entries) error
   pub follows : AreEarlier number_of old tree
       → Follows allows number_of plan (segment old.entries new.entries)
   pub cause : AreEarlier number_of old tree
@@ -117,9 +124,3 @@ pub record StartRefused {E H : Type 0} (allows : Allows H) (refuses : Refuses H)
   pub last_fault : AnswersLastFault (segment old.entries new.entries) error
   pub balanced : IsBalanced (segment old.entries new.entries)
   pub few : HoldsFew tree (segment old.entries new.entries)
-
--- a tree of one command
-abbrev pub IsCommand : {E H : Type 0} → TreeView E H → Type 0
-IsCommand (command words) = Unit {0}
-IsCommand (pipe left right) = ⊥
-IsCommand (around modifier inner) = ⊥

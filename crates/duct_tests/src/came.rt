@@ -1,5 +1,5 @@
 //! What comes of runs where memory may be refused.
-use crate::command::memory::{starts, starved};
+use crate::command::memory::{pipes, starts, starved};
 use crate::expression::memory::{builders, commands, writes};
 use crate::texts::Stop;
 use duct::Error;
@@ -42,6 +42,7 @@ fn all_memory_is_there(rt: HostRuntime) {
         .then(commands(alloc))
         .then(writes(alloc))
         .then(starts(alloc))
+        .then(pipes(alloc))
         .then(starved(alloc));
     assert_eq!(rt; came, Came::Whole);
 }

@@ -1,10 +1,8 @@
 //! The start of one command over the scripted system, and its polls.
-ghost use Rattle.std.specs.Prelude.{IfOk};
-ghost use Rattle.duct_start.specs.Start.{IsCommand};
-ghost use Rattle.duct.specs.TreeView.{tree_view};
 
 mod bench;
 pub mod memory;
+mod orders;
 mod starts;
 
 use crate::texts::pieces;
@@ -15,9 +13,7 @@ use std::alloc::Global;
 use std::sync::Arc;
 
 // The command of these words, which commas part.
-fn command(alloc: Global, words: &str) -> Result<Expression<ScriptEnd>, Error>
-    ensures { IfOk result (λ made. IsCommand (tree_view made)) }
-{
+fn command(alloc: Global, words: &str) -> Result<Expression<ScriptEnd>, Error> {
     let words = pieces(alloc, words)?;
     match words.split_first() {
         Some((program, args)) => cmd(alloc, *program, args),
@@ -33,6 +29,16 @@ pub(crate) fn launched(
     words: &str,
 ) -> Result<Running<Script>, Error> {
     command(alloc, words)?.launch(sys, pool)
+}
+
+// Starts a pipe of two commands.
+pub(crate) fn piped(
+    alloc: Global,
+    sys: &mut Script,
+    pool: &mut Pool<ScriptChild>,
+) -> Result<Running<Script>, Error> {
+    let left = command(alloc, "a")?;
+    left.pipe(&command(alloc, "b")?)?.launch(sys, pool)
 }
 
 // What a poll answers.

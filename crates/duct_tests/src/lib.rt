@@ -1,4 +1,4 @@
-//! Tests of duct that stand over several of its crates: expressions, and the start of one command over the scripted system.
+//! Tests of duct that stand over several of its crates: expressions, and starts of small ones over the scripted system.
 #![tactic(auto)]
 
 #[cfg(test)]

@@ -1,7 +1,4 @@
 //! What the program does with its arguments: it starts their command, waits for its end, and says what went wrong.
-ghost use Rattle.std.specs.Prelude.{IfOk};
-ghost use Rattle.duct_start.specs.Start.{IsCommand};
-ghost use Rattle.duct.specs.TreeView.{tree_view};
 
 use crate::pause::Pause;
 use duct::{Error, Expression, Pool, Running, System, cmd};
@@ -16,9 +13,7 @@ use std::rt::{Env, Files};
 use std::sync::Wait;
 
 /// The command of these words. A host's ends are of type `End`.
-fn command(alloc: Global, program: &str, args: &[String]) -> Result<Expression<End>, Error>
-    ensures { IfOk result (λ made. IsCommand (tree_view made)) }
-{
+fn command(alloc: Global, program: &str, args: &[String]) -> Result<Expression<End>, Error> {
     let mut words = Vec::new(alloc);
     for arg in args {
         words.push(arg.as_str())?;

@@ -139,7 +139,8 @@ fn poll_answers(alloc: Global, answers: &str) -> Result<Vec<PollAnswer>, Stop> {
     Ok(made)
 }
 
-fn poll_answer(answer: &str) -> Result<PollAnswer, Stop> {
+/// What a child answers to a poll.
+pub fn poll_answer(answer: &str) -> Result<PollAnswer, Stop> {
     if answer == "running" {
         return Ok(PollAnswer::Running);
     }
@@ -193,7 +194,7 @@ fn poll_text(
 }
 
 /// What a poll answered: nothing, a status with the numbers of bytes, or the text of an error.
-fn push_poll(
+pub fn push_poll(
     text: &mut String,
     polled: &Result<Option<Arc<Output>>, Error>,
 ) -> Result<(), AllocError> {

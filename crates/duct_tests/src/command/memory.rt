@@ -1,9 +1,11 @@
 //! Want of memory: whichever one request for memory is refused, a start and a poll answer as with ample memory, or name the
 //! refusal and lose nothing.
-use super::{launched, parts, poll};
+use super::{launched, parts, piped, poll};
 use crate::came::Came;
 use duct::{Entry, Error, ExitStatus, Fault, Kind, Output, Pool, Running, System};
-use duct_script::child::{PollAnswer, ScriptChild};
+use duct_base::pool::{place_new, pool_take, seat_new};
+use duct_script::answers::Answers;
+use duct_script::child::{ChildScript, PollAnswer, ScriptChild};
 use duct_script::system::Script;
 use std::alloc::{AllocError, Global};
 use std::sync::Arc;
@@ -144,4 +146,76 @@ pub fn starved(alloc: Global) -> Came {
 #[test]
 fn memory_that_the_system_finds_no_more_of(rt: HostRuntime) {
     assert_ne!(rt; starved(rt.alloc()), Came::Wrong);
+}
+
+// A pool that keeps a child, which has ended when it is asked next.
+fn pool(alloc: Global) -> Result<Pool<ScriptChild>, AllocError> {
+    let answers = [PollAnswer::Running, PollAnswer::Ended(ExitStatus::Code(0))];
+    let mut script = ChildScript::running(alloc);
+    script.polls = Answers::of(Vec::from_slice(alloc, &answers)?);
+    let seat = seat_new(alloc)?;
+    let mut pool = Pool::new(alloc);
+    pool_take(
+        &mut pool,
+        place_new(ScriptChild::new(alloc, 90, script, None), seat),
+    );
+    Ok(pool)
+}
+
+// How many children a pool keeps, was given, and found ended.
+fn counts(pool: &Pool<ScriptChild>) -> (usize, u64, u64) {
+    (pool.len(), pool.given(), pool.reaped())
+}
+
+// How many children a journal says were started.
+fn started(journal: &[Entry]) -> u64 {
+    let mut count = 0;
+    for entry in journal {
+        if let Entry::Spawn(_, _, Ok(_)) = entry {
+            count += 1;
+        }
+    }
+    count
+}
+
+// Whether a refused start left such a pool right: as it was, where nothing was asked, else with each child that was started.
+fn is_left(journal: &[Entry], pool: (usize, u64, u64)) -> bool {
+    if journal.is_empty() {
+        pool == (1, 1, 0)
+    } else {
+        pool.1 == 1 + started(journal)
+    }
+}
+
+// Starts a pipe.
+fn start_pipe(alloc: Global, sys: &mut Script, pool: &mut Pool<ScriptChild>) -> Came {
+    match piped(alloc, sys, pool) {
+        Ok(running) => {
+            let (children, _, _) = parts(running);
+            if children.len() == 2 && counts(pool) == (0, 1, 1) {
+                Came::Whole
+            } else {
+                Came::Wrong
+            }
+        }
+        Err(error) => {
+            if is_memory(&error) && is_left(sys.journal(), counts(pool)) {
+                Came::Refused
+            } else {
+                Came::Wrong
+            }
+        }
+    }
+}
+
+pub fn pipes(alloc: Global) -> Came {
+    match (Script::new(alloc), pool(alloc)) {
+        (Ok(mut sys), Ok(mut pool)) => start_pipe(alloc, &mut sys, &mut pool),
+        _ => Came::Refused,
+    }
+}
+
+#[test]
+fn memory_of_the_start_of_a_pipe(rt: HostRuntime) {
+    assert_ne!(rt; pipes(rt.alloc()), Came::Wrong);
 }

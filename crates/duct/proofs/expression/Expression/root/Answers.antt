@@ -1,5 +1,5 @@
 use Rattle.std.proofs.Common.{ap}
-use Rattle.duct.specs.TreeView.{node_view}
+use Rattle.duct_tree.specs.NodeView.{node_view}
 use Rattle.duct.proofs.expression.Expression.root.Goals as goal
 
 pub returns : goal.returns

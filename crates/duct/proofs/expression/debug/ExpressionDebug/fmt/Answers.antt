@@ -1,7 +1,7 @@
 -- What the root prints is the text that is promised.
-use Rattle.duct.specs.TreeView.{node_view}
-use Rattle.duct.specs.Text.{form_text, is_form_printable, printed, tree_form}
-use Rattle.duct.proofs.Printing.{form_prints, displays_if}
+use Rattle.duct_tree.specs.NodeView.{node_view}
+use Rattle.duct_tree.specs.Text.{form_text, is_form_printable, printed, tree_form}
+use Rattle.duct_tree.proofs.Printing.{form_prints, displays_if}
 use Rattle.duct.proofs.expression.debug.ExpressionDebug.fmt.Goals as goal
 
 pub returns : goal.returns

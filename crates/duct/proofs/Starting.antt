@@ -1,0 +1,42 @@
+-- The list that a start runs is that of its tree.
+use Rattle.std.proofs.Common.{◌≡◌, ℕ, List, ◌∷◌, [], ◌∙◌, ap, length, subst, sym}
+use Rattle.std.proofs.lemmas.List.{length-map}
+use Rattle.std.specs.List.{All}
+use Rattle.std.specs.Prelude.{Err, Ok, OnErr, is_some}
+use Rattle.std.specs.declared.result.Result.{Result}
+use Rattle.duct_system.specs.declared.system.Side.{Side}
+use Rattle.duct_start.specs.Actions.{ActionOf, capture_at, captures_in}
+use Rattle.duct_start.specs.Flat.{flat_of, rooted}
+use Rattle.duct_start.specs.Listed.{AreOutwards, IsWithin, ListedScope, listed_of, resolved_all, scopes_from}
+use Rattle.duct_start.specs.Plan.{begun, planned}
+use Rattle.duct_start.specs.TreeView.{TreeView}
+use Rattle.duct_start.proofs.Counted.{list_captures}
+use Rattle.duct_start.proofs.Outwards.{listed_outwards}
+use Rattle.duct_start.proofs.Resolved.{list_resolves}
+use Rattle.duct_start.proofs.Within.{listed_within}
+use Rattle.duct_run.specs.ActionView.{actions_view}
+use Rattle.duct_run.specs.ScopeView.{all_scopes, scopes_view}
+use Rattle.duct_run.specs.declared.action.Action.{Action}
+use Rattle.duct_run.specs.declared.scope.Scope as declared
+
+pub on_err : {T E Q : Type 0} (r : Result T E) → Q → OnErr r Q
+on_err (Ok value) q = tt
+on_err (Err error) q = q
+
+-- these scopes and actions were made for this tree
+module _ {E H : Type 0} (tree : TreeView E H) (scopes : List (declared.Scope E H)) (actions : List (Action E))
+    (scopes_are : scopes_view scopes ≡ (listed_of tree).scopes) (actions_are : actions_view actions ≡ (listed_of tree).actions) where
+  pub runs_flat : resolved_all (all_scopes scopes) (actions_view actions) ≡ flat_of tree
+  runs_flat = (λ i. resolved_all (scopes_from (rooted ∷ []) (scopes_are i)) (actions_are i)) ∙ list_resolves tree
+
+  pub outwards : AreOutwards (scopes_view scopes)
+  outwards = subst (λ (l : List (ListedScope E H)). AreOutwards l) (sym scopes_are) (listed_outwards tree)
+
+  pub within : All (IsWithin (length scopes)) (actions_view actions)
+  within =
+      let count : length (listed_of tree).scopes ≡ length scopes = sym (sym (length-map scopes _) ∙ ap (λ (l : List (ListedScope E H)). length l) scopes_are) in
+      subst (λ (n : ℕ). All (IsWithin n) (actions_view actions)) count (subst (λ (l : List (ActionOf E ℕ)). All (IsWithin (length (listed_of tree).scopes)) l) (sym actions_are) (listed_within tree))
+
+  -- whether a list opens a capture pipe is seen from its tree
+  pub captured : (which : Side) → captures_in which (actions_view actions) ≡ is_some (capture_at which (planned [] tree begun))
+  captured which = ap (λ (l : List (ActionOf E ℕ)). captures_in which l) actions_are ∙ sym (list_captures which tree)

@@ -1,6 +1,0 @@
--- Each call has one variable less to write.
-use Rattle.std.proofs.Common.{length}
-use Rattle.duct.proofs.expression.debug.+write_vars.Given as goal
-
-abbrev pub decreases-write_vars : goal.decreases-write_vars
-decreases-write_vars g l = length l.rest

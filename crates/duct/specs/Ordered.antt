@@ -1,0 +1,43 @@
+-- An order to the commands of a start that have not ended, and the leftmost fault of their answers.
+use Rattle.std.specs.Prelude.{ℕ, List, [], ◌∷◌, ◌≡◌, MatchOption, Ok, Err}
+use Rattle.std.specs.declared.result.Result.{Result}
+use Rattle.duct_system.specs.Child.{ChildView, Obeyed, OrdersChild}
+use Rattle.duct_system.specs.declared.error.Error.{Error}
+use Rattle.duct_system.specs.declared.error.Error.TheVariants as error
+use Rattle.duct_system.specs.declared.system.Order.{Order}
+
+-- a child was given an order, or had ended, answers Ok and is as before
+abbrev pub OrderedIfDue : (ℕ → Order → Obeyed → Type 0) → Order → ChildView → Obeyed → ChildView
+    → Type 0
+OrderedIfDue may order before answer after =
+    MatchOption before.ending (OrdersChild may order before answer after)
+    (λ status. (answer ≡ Ok tt) × (after ≡ before))
+
+-- the same of each of them, with as many answers
+abbrev pub AllOrdered : (ℕ → Order → Obeyed → Type 0) → Order → List ChildView → List Obeyed
+    → List ChildView → Type 0
+AllOrdered may order [] [] [] = Unit {0}
+AllOrdered may order [] [] (after ∷ afters) = ⊥
+AllOrdered may order [] (answer ∷ answers) afters = ⊥
+AllOrdered may order (before ∷ befores) [] afters = ⊥
+AllOrdered may order (before ∷ befores) (answer ∷ answers) [] = ⊥
+AllOrdered may order (before ∷ befores) (answer ∷ answers) (after ∷ afters) =
+    OrderedIfDue may order before answer after × AllOrdered may order befores answers afters
+
+-- the leftmost fault, and Ok where there is none
+abbrev pub leftmost : List Obeyed → Obeyed
+leftmost [] = Ok tt
+leftmost (Ok done ∷ answers) = leftmost answers
+leftmost (Err fault ∷ answers) = Err fault
+
+-- the fault of the answer is the error of the result, or neither has any
+abbrev pub Answers : Obeyed → Result (Unit {0}) Error → Type 0
+Answers (Ok done) result = result ≡ Ok tt
+Answers (Err fault) result = result ≡ Err (error.System fault)
+
+-- each of them was given the order if it had not ended, and the result is the leftmost fault of their answers
+abbrev pub IsOrdered : (ℕ → Order → Obeyed → Type 0) → Order → List ChildView
+    → Result (Unit {0}) Error → List ChildView → Type 0
+IsOrdered may order befores result afters =
+    (answers : List Obeyed) × AllOrdered may order befores answers afters
+    × Answers (leftmost answers) result

@@ -1,0 +1,21 @@
+-- What a refused run of a reader leaves is given up.
+use Rattle.duct_run.proofs.GivenUp.{room_left}
+use Rattle.duct_run.proofs.start.start_reader.Goals as goal
+
+pub give_up-requires : goal.give_up-requires
+give_up-requires g c =
+    let l = c.requires.leads in
+    let refused = c.in-Err.ensures.err.1 l.0 l.1 l.2 l.3 in
+    record { room = room_left g.H.Hook.allows g.H.Hook.refuses g.S.End.Numbered.number_of g.S.Child.Child.child_view g.S.Feed.Job.job_view g.S.Drain.Job.job_view _ _ _ c.run_reader.new.held _ refused }
+
+pub returns-in-Err-clause-err : goal.returns-in-Err-clause-err
+returns-in-Err-clause-err g c = record {
+  held = c.run_reader.new.held;
+  stopped = g.S.System.journal_view c.run_reader.new.sys;
+  swept = c.run_reader.new.pool;
+  refused = c.in-Err.ensures.err;
+  new = c.in-Err.ensures.new c.requires.new;
+  closes = c.give_up.ensures.closes;
+  leaves = c.in-Err.ensures.pool;
+  takes = c.give_up.ensures.given;
+}

@@ -1,0 +1,56 @@
+-- The end of a reader's start: the write end of stdout's capture pipe is closed, and a reader made of its read end.
+use Rattle.std.proofs.Common.{◌≡◌, ℕ, ◌≤◌, List, [], ◌∷◌, ◌++◌, length, refl, ap, sym, ◌∙◌, arith, subst, append_assoc}
+use Rattle.std.proofs.lemmas.List.{append-nil}
+use Rattle.std.specs.Prelude.{None, Some, is_some, unwrap_or}
+use Rattle.std.specs.declared.option.Option.{Option}
+use Rattle.duct_system.specs.EntryView.{EntryView, Close, Reader}
+use Rattle.duct_system.specs.Journal.{JournalView, GivesEnds}
+use Rattle.duct_system.specs.Trace.{segment}
+use Rattle.duct_start.specs.Actions.{Action, State, with_plan}
+use Rattle.duct_start.specs.Chain.{Allows}
+use Rattle.duct_start.specs.Holdings.{Holdings}
+use Rattle.duct_start.specs.Plan.{reads}
+use Rattle.duct_start.specs.Ran.{Ending, MadeReader, Runs, SomeLeads, course_of, read}
+use Rattle.duct_start.specs.Standing.{Course, IsLater, Stands}
+use Rattle.duct_start.specs.Step.{Item, AskReader}
+use Rattle.duct_start.proofs.Captured.{closes_out, mid_out, some_place, top_some, without_out}
+use Rattle.duct_start.proofs.Going.{pop_changes, popped}
+use Rattle.duct_start.proofs.Standing.{Changes, few_of, sources_now, stands_more}
+use Rattle.duct_start.proofs.Whole.{segment-added}
+
+module _ {E H : Type 0} (allows : Allows H) (number_of : E → ℕ) (r w : ℕ) (now mid next : JournalView) (held : Holdings) (is : held.out ≡ Some (r, w))
+    (closed : GivesEnds (Close w) 1 now mid) (made : GivesEnds (Reader r) 1 mid next) where
+  reads_on : (course : Course) (st : State E H) → length st.stack ≤ course.bound → Stands allows number_of course st now held
+      → Stands allows number_of course (record { stack = st.stack; plan = read st.plan }) next (without_out [] held)
+  reads_on course st low stands =
+      let first = closes_out allows number_of course st r w now mid held is closed low stands in
+      let one = mid_out allows number_of st in
+      let before = without_out (r ∷ []) held in
+      let kept = without_out [] held in
+      let entry = Reader r in
+      let asked : List (Item E H) = AskReader (unwrap_or st.plan.out 0) ∷ [] in
+      let then_st : State E H = record { stack = st.stack; plan = record { items = st.plan.items ++ asked; out = None; err = st.plan.err } } in
+      let ch : Changes entry mid next before kept = pop_changes entry r held.stack held.children held.feeds held.drains mid next before made refl refl refl (sym (append-nil held.children)) (sym (append-nil held.feeds)) (sym (append-nil held.drains)) in
+      let from = λ (more : List EntryView) (later : IsLater course next.next more). sources_now allows number_of course one then_st asked mid next before kept entry first refl ch more later in
+      let open' = some_place st.plan.out (sym stands.shaped.out ∙ ap (λ o. is_some o) is) in
+      let same : then_st ≡ record { stack = st.stack; plan = read st.plan } = ap (λ (o : Option ℕ). record { stack = st.stack; plan = record { items = (reads o st.plan).items; out = None; err = st.plan.err } }) (sym open') in
+      subst (λ (s : State E H). Stands allows number_of course s next kept) same
+      (stands_more allows number_of course one then_st asked mid next before kept entry first refl ch (few_of course.bound kept (omega (arith, stands.shaped.stack, low))) (record { stack = stands.shaped.stack; out = refl; err = stands.shaped.err }) refl refl
+      (λ more later. (top_some _ _ _ _ (from more later).stack, tt))
+      (λ more later. let z = from more later in record { stack = popped _ _ r held.stack one.stack z.stack; out = tt; err = z.err }))
+
+  module _ (ending : Ending E H) (actions : List (Action E H)) (old : JournalView) (runs : Runs allows number_of ending actions old now held) where
+    pub run_reads : Runs allows number_of (λ plan. read (ending plan)) actions old next
+        (without_out [] held)
+    run_reads = (runs.0, λ base bound plan leads. reads_on (course_of old base bound runs.0) (with_plan (ending plan)) (omega arith) (runs.1 base bound plan leads))
+
+    -- the reader is the last that was asked for
+    pub reader_last : {R : Type 0} (may : ℕ → R → Type 0) (reader : R) → may r reader
+        → SomeLeads number_of actions → MadeReader may (segment old.entries next.entries) reader
+    reader_last may reader told leads =
+        let stands = runs.1 leads.0 leads.1 leads.2 leads.3 in
+        let added = stands.added ++ Close w ∷ [] in
+        let all : next.entries ≡ old.entries ++ (added ++ Reader r ∷ []) =
+        made.entries_are ∙ ap (λ (l : List EntryView). l ++ Reader r ∷ []) (closed.entries_are ∙ ap (λ (l : List EntryView). l ++ Close w ∷ []) stands.books.entries_are)
+        ∙ ap (λ (l : List EntryView). l ++ Reader r ∷ []) (append_assoc old.entries stands.added (Close w ∷ [])) ∙ append_assoc old.entries added (Reader r ∷ []) in
+        (added, r, ap (λ (l : List EntryView). segment old.entries l) all ∙ segment-added old.entries (added ++ Reader r ∷ []), told)

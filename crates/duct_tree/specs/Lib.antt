@@ -1,0 +1,5 @@
+pub mod ActionCounts
+pub mod InsideView
+pub mod ListingView
+pub mod NodeView
+pub mod Text

@@ -1,0 +1,60 @@
+//! What of a tree counts for the answer of a start: its commands with their words, pipes, input and unchecked.
+ghost use Rattle.std.specs.Prelude.{◌≡◌, IfOk, IsOkUnless};
+ghost use Rattle.duct_status.specs.ShapeView.{shape_view};
+ghost use Rattle.duct_start.specs.ShapeOfTree.{shape_around, shape_of_tree};
+ghost use Rattle.duct_tree.specs.NodeView.{modifier_view, node_view};
+
+use crate::tree::{Modifier, Node};
+use duct_base::error::Error;
+use duct_base::status::Shape;
+use std::alloc::Global;
+
+/// The shape of the tree of a node. It shares the words of the commands.
+pub fn shape_of<E, H>(alloc: Global, node: &Node<E, H>) -> Result<Shape, Error>
+    ensures shape { IfOk result (λ shape. shape_view shape ≡ shape_of_tree (node_view node.now)) }
+    ensures memory { IsOkUnless result Error.Memory }
+{
+    match node {
+        Node::Cmd(words) => Ok(Shape::Command(words.clone()?)),
+        Node::Pipe(left, right) => {
+            let left = Box::new(alloc, shape_of(alloc, left)?)?;
+            let right = Box::new(alloc, shape_of(alloc, right)?)?;
+            Ok(Shape::Pipe(left, right))
+        }
+        Node::Io(modifier, inner) => {
+            let inner = shape_of(alloc, inner)?;
+            around(alloc, modifier, inner)
+        }
+    }
+}
+
+// The shape of a modifier round what has this shape.
+fn around<E, H>(alloc: Global, modifier: &Modifier<E, H>, inner: Shape) -> Result<Shape, Error>
+    ensures shape { IfOk result
+        (λ shape. shape_view shape ≡ shape_around (modifier_view modifier.now) (shape_view inner)) }
+    ensures memory { IsOkUnless result Error.Memory }
+{
+    match modifier {
+        Modifier::StdinBytes(_) => Ok(Shape::Input(Box::new(alloc, inner)?)),
+        Modifier::Unchecked => Ok(Shape::Unchecked(Box::new(alloc, inner)?)),
+        Modifier::StdinPath(_)
+        | Modifier::StdinFile(_)
+        | Modifier::StdinNull
+        | Modifier::StdoutPath(_)
+        | Modifier::StdoutFile(_)
+        | Modifier::StdoutNull
+        | Modifier::StdoutCapture
+        | Modifier::StdoutToStderr
+        | Modifier::StderrPath(_)
+        | Modifier::StderrFile(_)
+        | Modifier::StderrNull
+        | Modifier::StderrCapture
+        | Modifier::StderrToStdout
+        | Modifier::StdoutStderrSwap
+        | Modifier::Dir(_)
+        | Modifier::Env(_, _)
+        | Modifier::EnvRemove(_)
+        | Modifier::FullEnv(_)
+        | Modifier::BeforeSpawn(_, _) => Ok(inner),
+    }
+}
