@@ -1,38 +1,14 @@
--- Variables that are put in one after the other, and what a look-up finds of them.
-use Rattle.std.specs.Prelude.{Bool, true, false, ℕ, List, [], ◌∷◌, ◌++◌, cond, fold, map, string_bytes, Some}
-use Rattle.std.specs.declared.string.String.{String}
-use Rattle.std.specs.BTreeMap.{insert_entry}
+-- What a look-up finds of variables that are put in one after the other, and what a nearer change hides.
+use Rattle.std.specs.Prelude.{Bool, true, false, ℕ, List, [], ◌∷◌, ◌++◌, cond, fold, Some}
 use Rattle.std.specs.List.Sorted.{IsStrictlySortedBy}
-use Rattle.std.specs.Map.{keys_of}
-use Rattle.std.proofs.Common.{Option, ◌≡◌, ◌+◌, suc, length, refl, ap, sym, ◌∙◌, arith, append_assoc}
-use Rattle.std.proofs.lemmas.List.{append-nil, map-append}
-use Rattle.duct_system.specs.Name.{is_same_name, name_cmp}
-use Rattle.duct_system.specs.SpecView.{Vars, AreOrdered, pair_text, said_of, spelled, var_view, variable_in, with_var}
-use Rattle.duct_system.proofs.Entries.{insert_var, are_ordered}
+use Rattle.std.specs.Option.{option_map}
+use Rattle.std.proofs.Common.{Option, ◌≡◌, refl, ap, sym, ◌∙◌, append_assoc}
+use Rattle.std.proofs.lemmas.List.{append-nil}
+use Rattle.duct_system.specs.Name.{is_same_name}
+use Rattle.duct_system.specs.SpecView.{Vars, AreOrdered, said_of, spelled, variable_in, with_var}
 use Rattle.duct_system.proofs.Variables.{name_equiv, same_at, variable_in-with, said_of-more, with_ordered}
 use Rattle.duct.specs.LastValues.{last_values}
 use Rattle.duct_start.specs.Found.{Change, Sets, variable, value_found}
-use Rattle.std.specs.Option.{option_map}
-
--- what is found of a name in these variables is what was said of it
-abbrev pub FindsSaid : {Z : Type 0} → List (List ℕ × String Z) → Vars → Type 0
-FindsSaid es said = (name : List ℕ) → variable_in name (map var_view es) ≡ said_of name said
-
--- one more pair that is said and put in
-pub finds_more : {Z : Type 0} (es new : List (List ℕ × String Z))
-    (pairs : List (String Z × String Z)) (item : String Z × String Z) (k : List ℕ) (v : String Z) →
-    FindsSaid es (map pair_text pairs) → IsStrictlySortedBy name_cmp (keys_of es)
-    → new ≡ insert_entry name_cmp es k v
-    → k ≡ string_bytes item.0 → string_bytes v ≡ string_bytes item.1
-    → FindsSaid new (map pair_text (pairs ++ item ∷ []))
-finds_more es new pairs item k v finds sorted is same_name same_value = λ name.
-    let said : Vars = map pair_text pairs in
-    ap (λ xs. variable_in name (map var_view xs)) is ∙ ap (variable_in name) (insert_var es k v)
-    ∙ variable_in-with name (map var_view es) k (string_bytes v) (are_ordered es sorted)
-    ∙ ap (λ o. cond (is_same_name name k) (Some (spelled k o, string_bytes v)) o) (finds name)
-    ∙ sym (said_of-more name said k (string_bytes v))
-    ∙ (λ i. said_of name (said ++ (same_name i, same_value i) ∷ []))
-    ∙ sym (ap (said_of name) (map-append pair_text pairs (item ∷ [])))
 
 finds_all : (pairs vars said : Vars) → AreOrdered vars → ((name : List ℕ) → variable_in name vars ≡ said_of name said) →
     (name : List ℕ) → variable_in name (fold (λ vars pair. with_var pair.0 pair.1 vars) vars pairs) ≡ said_of name (said ++ pairs)
@@ -73,17 +49,3 @@ inner_hides_outer pairs changes name inner value outer other same =
     hidden true c o is = refl
     hidden false false o is = refl
     hidden false true o is = absurd (cc)
-
--- what is left of a list, after one more of its items
-pub left_more : {X : Type 0} (all so_far rest left : List X) (x : X) → all ≡ so_far ++ rest
-    → rest ≡ x ∷ left → all ≡ (so_far ++ x ∷ []) ++ left
-left_more all so_far rest left x is next = is ∙ ap (λ xs. so_far ++ xs) next ∙ sym (append_assoc so_far (x ∷ []) left)
-
-pub length_left : {X : Type 0} (rest left : List X) (x : X) (count less : ℕ) → rest ≡ x ∷ left
-    → count ≡ length rest → less + 1 ≡ count → less ≡ length left
-length_left rest left x count less next is one = let e : length rest ≡ suc (length left) = ap length next in omega arith
-
-pub left_none : {X : Type 0} (all so_far rest : List X) (count : ℕ) → all ≡ so_far ++ rest
-    → count ≡ length rest → count ≡ 0 → so_far ≡ all
-left_none all so_far [] count is len none = sym (is ∙ append-nil so_far)
-left_none all so_far (x ∷ rest) count is len none = absurd (omega arith)

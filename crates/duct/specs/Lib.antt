@@ -1,6 +1,3 @@
 pub mod LastValues
-pub mod Ordered
 pub mod Pairs
-pub mod Polled
-pub mod Stored
 pub mod TreeView

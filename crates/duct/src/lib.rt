@@ -10,7 +10,6 @@
 #![tactic(auto)]
 
 mod expression;
-mod running;
 mod start;
 
 // An expression: a command, a pipe, or a modifier round an expression.
@@ -34,7 +33,7 @@ pub use duct_base::system::{
 // What runs, how it ended, and why a call was refused.
 pub use duct_base::error::Error;
 pub use duct_base::system::{ExitStatus, Output};
-pub use running::Running;
+pub use duct_running::running::Running;
 
 // How an expression ended, by what its commands and workers said.
 pub use duct_base::status::{Core, Drains, Event, Reply, Shape, Word};

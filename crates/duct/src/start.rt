@@ -5,7 +5,7 @@ ghost use Rattle.duct_system.specs.Trace.{segment};
 ghost use Rattle.duct_system.specs.declared.system.Side.TheVariants as side;
 ghost use Rattle.duct_status.specs.CoreView.{latest_in, shape_in};
 ghost use Rattle.duct_status.specs.Latest.{latest_told};
-ghost use Rattle.duct_status.specs.ShapeView.{command_count, input_count};
+ghost use Rattle.duct_status.specs.ShapeView.{command_count, input_count, shape_view};
 ghost use Rattle.duct_start.specs.Actions.{captures_in, is_capture};
 ghost use Rattle.duct_start.specs.Left.{Leaves, LeavesStarted, pool_view};
 ghost use Rattle.duct_start.specs.Plan.{plan_of, plan_of_reader};
@@ -19,15 +19,15 @@ ghost use Rattle.duct_tree.specs.NodeView.{node_view};
 ghost use Rattle.duct.specs.TreeView.{tree_view};
 
 use crate::expression::Expression;
-use crate::running::Running;
 use duct_base::error::Error;
 use duct_base::pool::{Place, Pool};
 use duct_base::spec::Hook;
-use duct_base::status::{Core, Drains};
+use duct_base::status::{Core, Drains, Shape};
 use duct_base::system::{Side, System};
 use duct_run::action::Action;
 use duct_run::held::{Held, nothing_held};
 use duct_run::start::{start, start_reader};
+use duct_running::running::{Room, Running, running_of};
 use duct_tree::flatten::{Listing, flatten, flatten_captured};
 use duct_tree::shape::shape_of;
 use duct_tree::tree::Node;
@@ -65,24 +65,57 @@ fn captures<E>(actions: &[Action<'_, E>], side: Side) -> bool
     false
 }
 
-// What a start makes beside its list before it asks anything: a core for this tree, room for the capture workers, and nothing
-// held, with room for what the list gets.
+// How many commands a shape has. Refused, by `Error::Memory`, where they can't be counted.
+fn commands_of(shape: &Shape) -> Result<usize, Error>
+    ensures count { IfOk result (λ count. count ≡ command_count (shape_view shape.now)) }
+    ensures memory { IsOkUnless result Error.Memory }
+{
+    match shape {
+        Shape::Command(_) => Ok(1),
+        Shape::Pipe(left, right) => {
+            let count = commands_of(left)?;
+            count.checked_add(commands_of(right)?).ok_or(Error::Memory)
+        }
+        Shape::Input(inner) | Shape::Unchecked(inner) => commands_of(inner),
+    }
+}
+
+// Room for the ids of the commands of this shape, and for two capture workers.
+fn room_for<D: Drop>(alloc: Global, shape: &Shape) -> Result<Room<D>, Error>
+    ensures unnamed { IfOk result (λ room. room.ids.items ≡ []) }
+    ensures named { IfOk result
+        (λ room. command_count (shape_view shape.now) ≤ vec_capacity room.ids) }
+    ensures empty { IfOk result (λ room. room.drains.items ≡ []) }
+    ensures drained { IfOk result (λ room. 2 ≤ vec_capacity room.drains) }
+    ensures memory { IsOkUnless result Error.Memory }
+{
+    let ids = Vec::with_capacity(alloc, commands_of(shape)?)?;
+    let drains = Vec::with_capacity(alloc, 2)?;
+    Ok(Room { ids, drains })
+}
+
+// What a start makes beside its list before it asks anything: a core for this tree, room for what runs, and nothing held,
+// with room for what the list gets.
 fn prepare<E: Drop, H, C: Drop, F: Drop, D: Drop>(
     alloc: Global,
     root: &Node<E, H>,
     list: &Listing<'_, E, H>,
     drains: Drains,
-) -> Result<(Core, Vec<D>, Held<E, C, F, D>), Error>
+) -> Result<(Core, Room<D>, Held<E, C, F, D>), Error>
     ensures shape { IfOk result (λ made. shape_in made.0 ≡ shape_of_tree (node_view root.now)) }
     ensures silent { IfOk result
         (λ made. latest_in made.0 ≡ latest_told (shape_in made.0) drains []) }
-    ensures empty { IfOk result (λ made. made.1.items ≡ []) }
-    ensures room { IfOk result (λ made. 2 ≤ vec_capacity made.1) }
+    ensures unnamed { IfOk result (λ made. made.1.ids.items ≡ []) }
+    ensures named { IfOk result
+        (λ made. command_count (shape_in made.0) ≤ vec_capacity made.1.ids) }
+    ensures empty { IfOk result (λ made. made.1.drains.items ≡ []) }
+    ensures drained { IfOk result (λ made. 2 ≤ vec_capacity made.1.drains) }
     ensures nothing { IfOk result (λ made. IsEmpty made.2) }
     ensures memory { IsOkUnless result Error.Memory }
 {
-    let core = Core::new(alloc, shape_of(alloc, root)?, drains)?;
-    let room = Vec::with_capacity(alloc, 2)?;
+    let shape = shape_of(alloc, root)?;
+    let room = room_for(alloc, &shape)?;
+    let core = Core::new(alloc, shape, drains)?;
     let held = nothing_held(
         alloc,
         list.deepest.saturating_add(3),
@@ -93,18 +126,20 @@ fn prepare<E: Drop, H, C: Drop, F: Drop, D: Drop>(
 }
 
 // What runs, of what a run left.
-fn running_of<S: System>(
+fn running<S: System>(
     core: Core,
     kept: Held<S::End, Place<S::Child>, S::Feed, S::Drain>,
-    room: Vec<S::Drain>,
+    room: Room<S::Drain>,
 ) -> Running<S>
     requires silent { latest_in core ≡ latest_told (shape_in core)
         (record { out = is_some kept.output_worker; err = is_some kept.error_worker }) [] }
     requires commands { length kept.children.items ≡ command_count (shape_in core) }
     requires inputs { length kept.feeds.items ≡ input_count (shape_in core) }
     requires new { AreNew S.Child.child_view S.Feed.job_view S.Drain.job_view kept }
-    requires empty { room.items ≡ [] }
-    requires room { 2 ≤ vec_capacity room }
+    requires unnamed { room.ids.items ≡ [] }
+    requires named { command_count (shape_in core) ≤ vec_capacity room.ids }
+    requires empty { room.drains.items ≡ [] }
+    requires drained { 2 ≤ vec_capacity room.drains }
     ensures { result ≡ record {
       shape = core.shape;
       children = kept.children.items;
@@ -123,7 +158,7 @@ fn running_of<S: System>(
         error_worker,
     } = kept;
     drop((stack, output, error));
-    Running::of_start(core, children, feeds, output_worker, error_worker, room)
+    running_of(core, children, feeds, output_worker, error_worker, room)
 }
 
 impl<E: Drop, H: Hook> Expression<E, H> {
@@ -168,7 +203,7 @@ impl<E: Drop, H: Hook> Expression<E, H> {
         };
         let (core, room, held) = prepare(alloc, self.root(), &list, drains)?;
         let kept = start(sys, pool, &list.scopes, &list.actions, held)?;
-        Ok(running_of(core, kept, room))
+        Ok(running(core, kept, room))
     }
 
     /// Starts the expression as `launch` does, inside of one more `stdout_capture`, and answers what runs and the reader of stdout's
@@ -209,6 +244,6 @@ impl<E: Drop, H: Hook> Expression<E, H> {
         };
         let (core, room, held) = prepare(alloc, self.root(), &list, drains)?;
         let (kept, reader) = start_reader(sys, pool, &list.scopes, &list.actions, held)?;
-        Ok((running_of(core, kept, room), reader))
+        Ok((running(core, kept, room), reader))
     }
 }

@@ -3,7 +3,7 @@ use Rattle.std.proofs.Common.{ap, ◌∙◌, ◌++◌, [], ◌∷◌, map, take,
 use Rattle.std.proofs.lemmas.List.{take_all, take_more}
 use Rattle.duct_system.proofs.Entries.{are_ordered}
 use Rattle.duct_system.specs.SpecView.{pair_text, said_of}
-use Rattle.duct.proofs.Environments.{FindsSaid, finds_more}
+use Rattle.duct_run.proofs.Changed.{FindsSaid, finds_more}
 use Rattle.duct_plan.proofs.variables.said.Goals as goal
 
 pub loop-name-preserved : goal.loop-name-preserved

@@ -3,7 +3,7 @@ use Rattle.std.proofs.Common.{map, take}
 use Rattle.std.specs.BTreeMap.{IsOrdered}
 use Rattle.duct_system.specs.Name.{name_cmp}
 use Rattle.duct_system.specs.SpecView.{pair_text}
-use Rattle.duct.proofs.Environments.{FindsSaid}
+use Rattle.duct_run.proofs.Changed.{FindsSaid}
 use Rattle.duct_plan.proofs.variables.said.Given as goal
 
 abbrev pub invariant-loop-name : goal.invariant-loop-name

@@ -121,8 +121,8 @@ returns-in_err-kept-clause-pool_given g c =
     on_err c.from_residual-in_err-kept.result (λ fits. left_started allows g.H.Hook.refuses num child feed drain _ _ e.stopped e.held _ refused (g.S.System.journal_view c.start.new.sys) e.closes
     g.S.Child.Child.may_answer c.args.pool.now e.swept c.start.new.pool e.new e.leaves e.takes fits)
 
-pub running_of-requires-clause-silent : goal.running_of-requires-clause-silent
-running_of-requires-clause-silent g c =
+pub running-requires-clause-silent : goal.running-requires-clause-silent
+running-requires-clause-silent g c =
     let tree = tree_view c.args.self.now in
     let num = g.E.Numbered.number_of in
     let allows = g.H.Hook.allows in
@@ -140,8 +140,8 @@ running_of-requires-clause-silent g c =
     let err : c.captures-2-2.result ≡ is_some kept.error_worker = c.captures-2-2.ensures ∙ captured tree scopes c.deref-2.result.now scopes_are second side.Err ∙ sym workers.1 in
     c.in_ok-core.ensures.silent ∙ (λ i. latest_told (shape_in c.in_ok-core.core) (record { out = out i; err = err i }) [])
 
-pub running_of-requires-clause-commands : goal.running_of-requires-clause-commands
-running_of-requires-clause-commands g c =
+pub running-requires-clause-commands : goal.running-requires-clause-commands
+running-requires-clause-commands g c =
     let tree = tree_view c.args.self.now in
     let num = g.E.Numbered.number_of in
     let allows = g.H.Hook.allows in
@@ -162,8 +162,8 @@ running_of-requires-clause-commands g c =
     let counts = started_counts allows num _ _ new (held_view num child feed drain kept) tree stands (drained_items (planned [] tree begun)) in
     sym (length-map kept.children.items _) ∙ counts.0 ∙ ap (λ s. command_count s) (sym shapes)
 
-pub running_of-requires-clause-inputs : goal.running_of-requires-clause-inputs
-running_of-requires-clause-inputs g c =
+pub running-requires-clause-inputs : goal.running-requires-clause-inputs
+running-requires-clause-inputs g c =
     let tree = tree_view c.args.self.now in
     let num = g.E.Numbered.number_of in
     let allows = g.H.Hook.allows in
@@ -224,4 +224,4 @@ returns-clause-running g c =
     let pipes = drained_pipes (planned [] tree begun) in
     let out : is_some kept.output_worker ≡ is_some (plan_of tree).out = workers.0 ∙ pipes.0 in
     let err : is_some kept.error_worker ≡ is_some (plan_of tree).err = workers.1 ∙ pipes.1 in
-    rw (c.running_of.ensures, ← out, ← err) (runs_started child feed drain num tree c.in_ok-core.core.shape kept c.in_ok-kept.ensures.kept shapes allows _ _ new stands)
+    rw (c.running.ensures, ← out, ← err) (runs_started child feed drain num tree c.in_ok-core.core.shape kept c.in_ok-kept.ensures.kept shapes allows _ _ new stands)

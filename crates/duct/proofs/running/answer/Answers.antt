@@ -1,5 +1,0 @@
-use Rattle.std.proofs.Common.{refl}
-use Rattle.duct.proofs.running.answer.Goals as goal
-
-pub returns-in-Answer : goal.returns-in-Answer
-returns-in-Answer c = rw c.in-Answer.is (refl, refl, refl)

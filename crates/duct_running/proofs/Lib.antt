@@ -1,0 +1,7 @@
+pub mod InTurn
+pub mod Jobs
+pub mod Orders
+pub mod Pending
+pub mod Polls
+pub mod Told
+pub mod Unasked

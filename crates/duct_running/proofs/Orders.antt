@@ -1,0 +1,102 @@
+-- One order to a child that is held, and the orders to all of them in turn.
+use Rattle.std.specs.Prelude.{ℕ, zero, true, false, List, [], ◌∷◌, ◌++◌, map, length, get_or, set, slice_get, MatchOption, Ok, Err, None}
+use Rattle.std.specs.declared.option.Option.{Option}
+use Rattle.std.specs.Result.{result_and}
+use Rattle.std.proofs.Common.{◌≡◌, ◌<◌, ◌≤◌, refl, ap, sym, ◌∙◌, subst, arith, inl, inr}
+use Rattle.duct_system.specs.Child.{ChildView, Obeyed, OrdersChild}
+use Rattle.duct_system.specs.Job.{JobView}
+use Rattle.duct_system.specs.declared.system.Order.{Order}
+use Rattle.duct_status.specs.Latest.{Latest, is_due, is_word_due}
+use Rattle.duct_status.specs.declared.status.Word.{Word}
+use Rattle.duct_running.specs.Ordered.{OrderedIfDue, AllOrdered, leftmost}
+use Rattle.duct_running.specs.Polled.{ChangedAt}
+use Rattle.duct_running.specs.Stored.{Bytes, stored_latest}
+use Rattle.duct_running.proofs.Polls.{said, words, left_at, changed_at, same_at, within, no_ending, left_alone}
+
+module _ (may : ℕ → Order → Obeyed → Type 0) (order : Order) where
+  -- an order changes no word
+  word_kept : (before after : ChildView) (answer : Obeyed) → OrdersChild may order before answer after → said after ≡ said before
+  word_kept before after answer (inl given) = ap (λ (c : ChildView). said c) given.0
+  word_kept before after answer (inr unasked) = ap (λ (c : ChildView). said c) unasked.0
+
+  -- and no id
+  pub id_kept : (before after : ChildView) (answer : Obeyed) → OrdersChild may order before answer after → after.process ≡ before.process
+  id_kept before after answer (inl given) = ap (λ (c : ChildView). c.process) given.0
+  id_kept before after answer (inr unasked) = ap (λ (c : ChildView). c.process) unasked.0
+
+  ordered_once : (before after : ChildView) (answer : Obeyed) → OrdersChild may order before answer after → before.ending ≡ None → OrderedIfDue may order before answer after
+  ordered_once before after answer orders none =
+      subst (λ ending. MatchOption ending (OrdersChild may order before answer after) (λ status. (answer ≡ Ok tt) × (after ≡ before))) (sym none) orders
+
+  -- by the words that a core keeps of the children, beside these workers
+  module _ {C : Type 0} (view : C → ChildView) (feeds : List (JobView (Unit {0}))) (output error : Option (JobView Bytes)) where
+    abbrev stored : List C → Latest
+    stored items = stored_latest (map view items) feeds output error
+
+    due_is : (items : List C) (at : ℕ) (kept : Latest) → kept ≡ stored items → is_word_due (slice_get (words view items) at) ≡ is_due kept at
+    due_is items at kept is = ap (λ (w : Latest). is_due w at) (sym is)
+
+    -- a child that has ended is as before, and answers Ok
+    pub unordered_in : (items children : List C) (at : ℕ) (kept : Latest) → items ≡ children
+        → kept ≡ stored items → at < length children → is_due kept at ≡ false
+        → ChangedAt (λ before. OrderedIfDue may order before (Ok tt)) at (map view children) (map view children)
+    unordered_in items children at kept same is low over =
+        left_at view (λ before. OrderedIfDue may order before (Ok tt)) (λ child ended. left_alone child.ending child.last _ _ ended (refl, refl)) children at low
+        (ap (λ cs. is_word_due (slice_get (words view cs) at)) (sym same) ∙ due_is items at kept is ∙ over)
+
+    -- another is given the order
+    pub ordered_in : (items children : List C) (at : ℕ) (before after : C) (answer : Obeyed) (kept : Latest) → items ≡ children
+        → kept ≡ stored items → at < length children → is_due kept at ≡ true
+        → before ≡ get_or items at before → OrdersChild may order (view before) answer (view after)
+        → ChangedAt (λ before. OrderedIfDue may order before answer) at (map view children) (map view (set items at after))
+    ordered_in items children at before after answer kept same is low due found orders =
+        subst (λ (cs : List C). ChangedAt (λ b. OrderedIfDue may order b answer) at (map view cs) (map view (set items at after))) same
+        (changed_at view (λ b. OrderedIfDue may order b answer) items at before after (within view items children at same low) found (due_is items at kept is ∙ due)
+        (λ alive. ordered_once (view before) (view after) answer orders (no_ending (view before).ending (view before).last alive)))
+
+    -- the words that are kept stay those that are stored
+    pub words_in_order : (items children : List C) (at : ℕ) (before after : C) (answer : Obeyed) (kept : Latest) → items ≡ children
+        → kept ≡ stored items → at < length children
+        → before ≡ get_or items at before → OrdersChild may order (view before) answer (view after) → kept ≡ stored (set items at after)
+    words_in_order items children at before after answer kept same is low found orders =
+        is ∙ ap (λ (ws : List Word). record (stored items) { commands = ws })
+        (sym (same_at view (λ c. said c) items at before after (within view items children at same low) found (word_kept (view before) (view after) answer orders)))
+
+  -- the first ones were ordered, with these answers, and the others are as before
+  abbrev pub OrderedTo : List ChildView → List Obeyed → List ChildView → Type 0
+  OrderedTo befores [] afters = afters ≡ befores
+  OrderedTo [] (answer ∷ answers) afters = ⊥
+  OrderedTo (before ∷ befores) (answer ∷ answers) [] = ⊥
+  OrderedTo (before ∷ befores) (answer ∷ answers) (after ∷ afters) = OrderedIfDue may order before answer after × OrderedTo befores answers afters
+
+  -- one more was ordered
+  pub one_more_ordered : (befores : List ChildView) (answers : List Obeyed) (between afters : List ChildView) (answer : Obeyed) → OrderedTo befores answers between
+      → ChangedAt (λ before. OrderedIfDue may order before answer) (length answers) between afters → OrderedTo befores (answers ++ answer ∷ []) afters
+  one_more_ordered [] [] [] afters answer so_far changed = absurd changed
+  one_more_ordered [] [] (b ∷ between) afters answer so_far changed = absurd (cc)
+  one_more_ordered (before ∷ befores) [] [] afters answer so_far changed = absurd changed
+  one_more_ordered (before ∷ befores) [] (b ∷ between) [] answer so_far changed = absurd changed
+  one_more_ordered (before ∷ befores) [] (b ∷ between) (after ∷ afters) answer so_far changed =
+      let changed' = subst (λ ls. ChangedAt (λ c. OrderedIfDue may order c answer) zero ls (after ∷ afters)) so_far changed in (changed'.0, changed'.1)
+  one_more_ordered [] (a ∷ answers) between afters answer so_far changed = absurd so_far
+  one_more_ordered (before ∷ befores) (a ∷ answers) [] afters answer so_far changed = absurd changed
+  one_more_ordered (before ∷ befores) (a ∷ answers) (b ∷ between) [] answer so_far changed = absurd changed
+  one_more_ordered (before ∷ befores) (a ∷ answers) (b ∷ between) (after ∷ afters) answer so_far changed =
+      (subst (λ (c : ChildView). OrderedIfDue may order before a c) (sym changed.0) so_far.0, one_more_ordered befores answers between afters answer so_far.1 changed.1)
+
+  -- all of them were
+  pub all_ordered : (befores : List ChildView) (answers : List Obeyed) (afters : List ChildView) → length befores ≤ length answers
+      → OrderedTo befores answers afters → AllOrdered may order befores answers afters
+  all_ordered [] [] [] few so_far = tt
+  all_ordered [] [] (after ∷ afters) few so_far = absurd (cc)
+  all_ordered [] (answer ∷ answers) afters few so_far = absurd so_far
+  all_ordered (before ∷ befores) [] afters few so_far = absurd (omega arith)
+  all_ordered (before ∷ befores) (answer ∷ answers) [] few so_far = absurd so_far
+  all_ordered (before ∷ befores) (answer ∷ answers) (after ∷ afters) few so_far = (so_far.0, all_ordered befores answers afters (omega arith) so_far.1)
+
+-- the leftmost fault stays the leftmost
+pub leftmost_next : (answers : List Obeyed) (answer : Obeyed) → result_and (leftmost answers) answer ≡ leftmost (answers ++ answer ∷ [])
+leftmost_next [] (Ok done) = refl
+leftmost_next [] (Err fault) = refl
+leftmost_next (Ok done ∷ answers) answer = leftmost_next answers answer
+leftmost_next (Err fault ∷ answers) answer = refl

@@ -1,0 +1,25 @@
+use Rattle.duct_status.specs.ShapeView.{command_count, input_count}
+use Rattle.std.proofs.Common.{ap, sym, ◌∙◌, map}
+use Rattle.std.specs.Option.{option_map}
+use Rattle.duct_system.specs.declared.system.Side.TheVariants.{Err}
+use Rattle.duct_running.proofs.Jobs.{error_fits, error_in_step, polled_where_found}
+use Rattle.duct_running.proofs.Told.{error_told}
+use Rattle.duct_running.proofs.running.Running.ask_error.Goals as goal
+
+pub invariant_of-self-2 : goal.invariant_of-self-2
+invariant_of-self-2 g c = record {
+  heard = error_in_step g.S.Drain.Job.job_view g.S.Drain.Job.may_say g.S.Drain.Job.same g.S.Drain.Job.refusable (map g.S.Child.Child.child_view c.self.inside.children.items) (map g.S.Feed.Job.job_view c.self.inside.feeds.items)
+      (option_map g.S.Drain.Job.job_view c.self.inside.output) c.self.inside.error _ c.poll-heard.new.self c.poll-heard.result _ _ c.self.invariant.heard c.in-Some.is c.poll-heard.ensures c.step.ensures.words;
+  told = error_told g.S.Child.Child.may_answer g.S.Feed.Job.may_say g.S.Drain.Job.may_say g.S.Drain.Job.job_view (map g.S.Child.Child.child_view c.self.inside.children.items) (map g.S.Feed.Job.job_view c.self.inside.feeds.items) _ c.poll-heard.new.self g.S.Drain.Job.same g.S.Drain.Job.refusable c.poll-heard.result c.poll-heard.ensures
+      (option_map g.S.Drain.Job.job_view c.self.inside.output) c.self.inside.error c.in-Some.is c.self.invariant.told;
+  commands = c.self.invariant.commands ∙ ap (λ s. command_count s) (sym c.step.ensures.shape);
+  inputs = c.self.invariant.inputs ∙ ap (λ s. input_count s) (sym c.step.ensures.shape);
+  named = c.self.invariant.named;
+  empty = c.self.invariant.empty;
+  fits = error_fits c.self.inside.output c.self.inside.error _ c.poll-heard.new.self _ c.in-Some.is c.self.invariant.fits;
+}
+
+pub returns-clause-asked : goal.returns-clause-asked
+returns-clause-asked g c =
+    polled_where_found g.S.Child.Child.child_view g.S.Feed.Job.job_view g.S.Drain.Job.job_view g.S.Drain.Job.may_say g.S.Drain.Job.same g.S.Drain.Job.refusable Err c.in-Some-Err.field-0 _ c.args.self.now
+    _ _ _ _ c.self.view_is c.self.invariant.heard c.awaited.ensures c.in-Some-Err.is c.in-Some-Err.field-0-is (rw (← c.self.view_is, c.in-Some.is) (c.poll-heard.result, c.poll-heard.ensures))

@@ -1,0 +1,25 @@
+-- The numbers of the children and of the workers of a start.
+use Rattle.std.specs.Prelude.{ℕ, List, map}
+use Rattle.std.specs.Option.{option_map}
+use Rattle.std.specs.declared.option.Option.{Option}
+use Rattle.duct_system.specs.Child.{ChildView}
+use Rattle.duct_system.specs.Job.{JobView}
+use Rattle.duct_start.specs.Running.{RunningView}
+
+-- those of the children from left to right, of the input workers in tree order, and of the capture workers of stdout and of
+-- stderr
+pub record Numbers : Type 0 where
+  pub children : List ℕ
+  pub feeds : List ℕ
+  pub output : Option ℕ
+  pub error : Option ℕ
+
+-- those of what runs
+abbrev pub numbers_in : {C F D V W : Type 0} → (C → ChildView) → (F → JobView V)
+    → (D → JobView W) → RunningView C F D → Numbers
+numbers_in child feed drain running = record {
+  children = map (λ c. c.number) (map child running.children);
+  feeds = map (λ f. f.number) (map feed running.feeds);
+  output = option_map (λ d. d.number) (option_map drain running.output);
+  error = option_map (λ d. d.number) (option_map drain running.error);
+}

@@ -1,0 +1,58 @@
+-- What children and workers store of what they were asked, as the words that a core is told.
+use Rattle.std.specs.Prelude.{ℕ, ◌≡◌, List, All, map, Ok, Err, Some, None}
+use Rattle.std.specs.Option.{option_map, option_to_list}
+use Rattle.std.specs.declared.alloc.Global.{Global}
+use Rattle.std.specs.declared.option.Option.{Option}
+use Rattle.std.specs.declared.sync.Arc.{Arc}
+use Rattle.std.specs.declared.vec.Vec.{Vec}
+use Rattle.duct_system.specs.Child.{Answer, ChildView, IsUnasked}
+use Rattle.duct_system.specs.Job.{JobView, unpolled_job}
+use Rattle.duct_start.specs.Running.{RunningView}
+use Rattle.duct_status.specs.EventView.{bytes_said}
+use Rattle.duct_status.specs.Latest.{Latest}
+use Rattle.duct_status.specs.declared.status.Word.{Word}
+use Rattle.duct_status.specs.declared.status.Word.TheVariants as word
+use Rattle.duct_system.specs.declared.system.ExitStatus.{ExitStatus}
+
+-- the word of an answer
+abbrev pub word_of : Answer → Word
+word_of (Ok (Some status)) = word.Ended status
+word_of (Ok None) = word.Running
+word_of (Err fault) = word.Fault fault
+
+-- the word that a child stores: its ending, else the fault of its last answer, and else Running
+abbrev pub stored_word : Option ExitStatus → Option Answer → Word
+stored_word (Some status) last = word.Ended status
+stored_word None (Some (Err fault)) = word.Fault fault
+stored_word None (Some (Ok found)) = word.Running
+stored_word None None = word.Running
+
+-- the bytes that a capture worker gives
+abbrev pub Bytes : Type 0
+Bytes = Arc (Vec ℕ Global) Global
+
+-- the words that children, input workers and the capture workers of stdout and of stderr store
+abbrev pub stored_latest : List ChildView → List (JobView (Unit {0})) → Option (JobView Bytes)
+    → Option (JobView Bytes) → Latest
+stored_latest children feeds output error = record {
+  commands = map (λ child. stored_word child.ending child.last) children;
+  inputs = map (λ feed. feed.kept) feeds;
+  output = option_map (λ drain. bytes_said drain.kept) output;
+  error = option_map (λ drain. bytes_said drain.kept) error;
+}
+
+-- the words that the children and the workers of a start store
+abbrev pub stored_in : {C F D : Type 0} → (C → ChildView) → (F → JobView (Unit {0}))
+    → (D → JobView Bytes) → RunningView C F D → Latest
+stored_in child feed drain running =
+    stored_latest (map child running.children) (map feed running.feeds)
+    (option_map drain running.output) (option_map drain running.error)
+
+-- nobody has asked these children or polled these workers
+pub record AreUnasked {C F D V W : Type 0} (child : C → ChildView) (feed : F → JobView V)
+    (drain : D → JobView W) (children : List C) (feeds : List F) (output error : Option D)
+    : Type 0 where
+  pub children_unasked : All (λ c. IsUnasked (child c)) children
+  pub feeds_unpolled : All (λ f. feed f ≡ unpolled_job (feed f).number) feeds
+  pub output_unpolled : All (λ d. drain d ≡ unpolled_job (drain d).number) (option_to_list output)
+  pub error_unpolled : All (λ d. drain d ≡ unpolled_job (drain d).number) (option_to_list error)

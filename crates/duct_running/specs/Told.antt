@@ -1,0 +1,41 @@
+-- That what children and workers store was told of their numbers.
+use Rattle.std.specs.Prelude.{ℕ, ◌⊎◌, ◌++◌, List, All, Contains, IfSome, Ok, Some, None}
+use Rattle.std.specs.Option.{option_to_list}
+use Rattle.std.specs.declared.option.Option.{Option}
+use Rattle.duct_system.specs.Child.{Answer, ChildView}
+use Rattle.duct_system.specs.Job.{JobView}
+use Rattle.duct_system.specs.declared.system.Said.{Said}
+use Rattle.duct_system.specs.declared.system.Said.TheVariants as said
+use Rattle.duct_running.specs.Polled.{WhileRuns}
+use Rattle.duct_running.specs.Numbers.{Numbers}
+use Rattle.duct_running.specs.Stored.{Bytes}
+
+-- the last answer of a child, and its ending, may be answered by a child of its number
+pub record IsTold (may : ℕ → Answer → Type 0) (child : ChildView) : Type 0 where
+  pub answered : IfSome child.last (λ answer. may child.number answer)
+  pub ended : IfSome child.ending (λ status. may child.number (Ok (Some status)))
+
+-- the result or the fault that a worker keeps may be said by one of its number
+abbrev pub IsKeptTold : {T : Type 0} → (ℕ → Said T → Type 0) → JobView T → Type 0
+IsKeptTold may job = WhileRuns job.kept (Unit {0}) (may job.number job.kept)
+
+-- the same of all children and workers
+pub record AreTold (answer : ℕ → Answer → Type 0) (feed : ℕ → Said (Unit {0}) → Type 0)
+    (drain : ℕ → Said Bytes → Type 0) (children : List ChildView)
+    (feeds : List (JobView (Unit {0}))) (output error : Option (JobView Bytes)) : Type 0 where
+  pub children_told : All (IsTold answer) children
+  pub feeds_told : All (IsKeptTold feed) feeds
+  pub output_told : IfSome output (IsKeptTold drain)
+  pub error_told : IfSome error (IsKeptTold drain)
+
+-- one of these numbers may answer this
+abbrev pub SomeSays : {A : Type 0} → (ℕ → A → Type 0) → A → List ℕ → Type 0
+SomeSays may answer numbers = (number : ℕ) × Contains numbers number × may number answer
+
+-- a child, an input worker or a capture worker of these numbers may say that it runs
+abbrev pub OneRuns : (ℕ → Answer → Type 0) → (ℕ → Said (Unit {0}) → Type 0)
+    → (ℕ → Said Bytes → Type 0) → Numbers → Type 0
+OneRuns answer feed drain numbers =
+    SomeSays answer (Ok None) numbers.children ⊎ SomeSays feed said.Running numbers.feeds
+    ⊎ SomeSays drain said.Running
+    (option_to_list numbers.output ++ option_to_list numbers.error)

@@ -1,0 +1,353 @@
+//! An expression that runs: its children, its workers, and what they said so far.
+ghost use Rattle.std.specs.Prelude.{◌≡◌, ◌<◌, ◌≤◌, [], ◌++◌, length, map, is_some, vec_capacity, Ok, None};
+ghost use Rattle.std.specs.Option.{option_map, option_to_list};
+ghost use Rattle.duct_system.specs.declared.system.Side.TheVariants.{Out, Err};
+ghost use Rattle.duct_status.specs.CoreView.{latest_in, shape_in};
+ghost use Rattle.duct_status.specs.Latest.{latest_told};
+ghost use Rattle.duct_status.specs.Outcome.{awaited};
+ghost use Rattle.duct_status.specs.ReplyView.{reply_view};
+ghost use Rattle.duct_status.specs.ShapeView.{command_count, input_count, shape_view};
+ghost use Rattle.duct_running.specs.Polled.{IsConclusion, Gives, IsOutcome, AskedIfDue, AllAsked, PolledIfRuns, AllPolled, PolledWhere, ChangedAt};
+ghost use Rattle.duct_running.specs.Stored.{AreUnasked, word_of, stored_in};
+ghost use Rattle.duct_running.specs.Numbers.{numbers_in};
+ghost use Rattle.duct_running.specs.Told.{AreTold, OneRuns};
+
+mod orders;
+
+use duct_base::error::Error;
+use duct_base::pool::Place;
+use duct_base::status::{Core, Event, Reply, Word};
+use duct_base::system::{Child, ExitStatus, Fault, Job, Output, Side, System};
+use std::marker::Model;
+use std::sync::Arc;
+
+/// What a start leaves: its children, its workers, and what they said so far. It is asked by `poll`, ordered by `kill`
+/// and `signal`, and is to be spent: by `into_parts` or `give_up`.
+pub struct Running<S: System> {
+    core: Core,
+    // The ids of the children.
+    ids: Vec<u32>,
+    children: Vec<Place<S::Child>>,
+    feeds: Vec<S::Feed>,
+    output: Option<S::Drain>,
+    error: Option<S::Drain>,
+    // Empty, with room for the capture workers, so that `into_parts` takes no memory.
+    room: Vec<S::Drain>,
+}
+
+impl<S: System> Model for Running<S> {
+    ghost use Rattle.std.specs.Coded.{codes};
+    ghost use Rattle.duct_status.specs.CoreView.{latest_in, shape_in};
+    ghost use Rattle.duct_status.specs.contracts.status.Shape as shape;
+    ghost use Rattle.duct_start.specs.Running.{RunningView};
+    ghost use Rattle.duct_running.specs.Holds.{Holds};
+
+    ghost Value = { RunningView S.Child S.Feed S.Drain };
+
+    ghost coded = { Prim.hlevel (codes, shape.the_row.coded) };
+
+    ghost view = { λ r. record {
+      shape = r.core.shape;
+      children = r.children.items;
+      feeds = r.feeds.items;
+      output = r.output;
+      error = r.error;
+    } };
+
+    ghost invariant = { λ r. Holds S.Child.child_view S.Feed.job_view S.Drain.job_view
+        S.Child.may_answer S.Feed.may_say S.Drain.may_say (shape_in r.core) (latest_in r.core)
+        r.ids.items r.children.items r.feeds.items r.output r.error r.room };
+}
+
+// The word of a child's answer.
+fn word(answer: Result<Option<ExitStatus>, Fault>) -> Word
+    ensures { result ≡ word_of answer }
+{
+    match answer {
+        Ok(Some(status)) => Word::Ended(status),
+        Ok(None) => Word::Running,
+        Err(fault) => Word::Fault(fault),
+    }
+}
+
+// Notes the ids of these children, for which there is room.
+fn note_ids<C: Child>(ids: &mut Vec<u32>, children: &[Place<C>])
+    requires empty { ids.old.items ≡ [] }
+    requires room { length children.now ≤ vec_capacity ids.old }
+    ensures { ids.new.items ≡ map (λ c. c.process) (map C.child_view children.now) }
+{
+    for child in children {
+        ids.push_reserved(child.id());
+    }
+}
+
+/// Room for what runs beside what a start gets: for the ids of the children, and for the capture workers in `into_parts`.
+#[derive(Drop)]
+pub struct Room<D> {
+    pub ids: Vec<u32>,
+    pub drains: Vec<D>,
+}
+
+/// What a start leaves: a core that was told nothing, and children and workers that nobody has asked yet, as many as its
+/// shape has commands, inputs and captures. Room for the ids and the capture workers was made before. For a start alone.
+pub fn running_of<S: System>(
+    core: Core,
+    children: Vec<Place<S::Child>>,
+    feeds: Vec<S::Feed>,
+    output: Option<S::Drain>,
+    error: Option<S::Drain>,
+    room: Room<S::Drain>,
+) -> Running<S>
+    requires silent { latest_in core
+        ≡ latest_told (shape_in core) (record { out = is_some output; err = is_some error }) [] }
+    requires commands { length children.items ≡ command_count (shape_in core) }
+    requires inputs { length feeds.items ≡ input_count (shape_in core) }
+    requires unasked { AreUnasked S.Child.child_view S.Feed.job_view S.Drain.job_view
+        children.items feeds.items output error }
+    requires empty { room.drains.items ≡ [] }
+    requires unnamed { room.ids.items ≡ [] }
+    requires named { length children.items ≤ vec_capacity room.ids }
+    requires drained { length (option_to_list output ++ option_to_list error)
+        ≤ vec_capacity room.drains }
+    ensures { result ≡ record {
+      shape = core.shape;
+      children = children.items;
+      feeds = feeds.items;
+      output = output;
+      error = error;
+    } }
+{
+    let Room { mut ids, drains } = room;
+    note_ids(&mut ids, &children);
+    Running {
+        core,
+        ids,
+        children,
+        feeds,
+        output,
+        error,
+        room: drains,
+    }
+}
+
+impl<S: System> Running<S> {
+    /// The ids by which the machine knows the children, one a command, from left to right. It takes no memory.
+    pub fn pids(&self) -> &[u32]
+        ensures { result.now ≡ map (λ c. c.process) (map S.Child.child_view self.now.children) }
+    {
+        &self.ids
+    }
+
+    /// What children and workers store was told of their numbers. It asks nothing.
+    pub fn are_told(&self)
+        ensures { ∥ AreTold S.Child.may_answer S.Feed.may_say S.Drain.may_say
+            (map S.Child.child_view self.now.children) (map S.Feed.job_view self.now.feeds)
+            (option_map S.Drain.job_view self.now.output)
+            (option_map S.Drain.job_view self.now.error) ∥₁ }
+    {
+        let _ = &self.core;
+    }
+
+    /// The children from left to right, the input workers in tree order, and the capture workers of stdout and of stderr.
+    /// Nobody polls them from then on.
+    pub fn into_parts(self) -> (Vec<Place<S::Child>>, Vec<S::Feed>, Vec<S::Drain>)
+        ensures children { result.0.items ≡ self.children }
+        ensures feeds { result.1.items ≡ self.feeds }
+        ensures drains { result.2.items ≡ option_to_list self.output ++ option_to_list self.error }
+    {
+        let Running {
+            core,
+            ids,
+            children,
+            feeds,
+            output,
+            error,
+            room: mut drains,
+        } = self;
+        drop((core, ids));
+        if let Some(worker) = output {
+            drains.push_reserved(worker);
+        }
+        if let Some(worker) = error {
+            drains.push_reserved(worker);
+        }
+        (children, feeds, drains)
+    }
+
+    // Polls the child at this place, if it has not ended, and tells the core.
+    fn ask(&mut self, at: usize)
+        requires { at < length self.old.children }
+        ensures shape { shape_view self.new.shape ≡ shape_view self.old.shape }
+        ensures asked { ChangedAt (AskedIfDue S.Child.may_answer) at
+            (map S.Child.child_view self.old.children) (map S.Child.child_view self.new.children) }
+        ensures feeds { self.new.feeds ≡ self.old.feeds }
+        ensures output { self.new.output ≡ self.old.output }
+        ensures error { self.new.error ≡ self.old.error }
+    {
+        if !self.core.is_due(at) {
+            return;
+        }
+        let heard = word(self.children[at].poll());
+        let _ = self.core.step(Event::Command(at, heard));
+    }
+
+    // Polls each child that has not ended, once and from left to right.
+    fn ask_children(&mut self)
+        ensures shape { shape_view self.new.shape ≡ shape_view self.old.shape }
+        ensures asked { AllAsked S.Child.may_answer (map S.Child.child_view self.old.children)
+            (map S.Child.child_view self.new.children) }
+        ensures feeds { self.new.feeds ≡ self.old.feeds }
+        ensures output { self.new.output ≡ self.old.output }
+        ensures error { self.new.error ≡ self.old.error }
+    {
+        for at in 0..self.children.len() {
+            self.ask(at);
+        }
+    }
+
+    // Polls the input worker at this place, if it has not finished, and tells the core.
+    fn ask_feed(&mut self, at: usize)
+        requires { at < length self.old.feeds }
+        ensures shape { shape_view self.new.shape ≡ shape_view self.old.shape }
+        ensures children { self.new.children ≡ self.old.children }
+        ensures asked { ChangedAt
+            (PolledIfRuns S.Feed.may_say S.Feed.same S.Feed.refusable) at
+            (map S.Feed.job_view self.old.feeds) (map S.Feed.job_view self.new.feeds) }
+        ensures output { self.new.output ≡ self.old.output }
+        ensures error { self.new.error ≡ self.old.error }
+    {
+        if !self.core.is_input_due(at) {
+            return;
+        }
+        let heard = self.feeds[at].poll();
+        let _ = self.core.step(Event::Input(at, heard));
+    }
+
+    // Polls each input worker that has not finished, once and in tree order.
+    fn ask_feeds(&mut self)
+        ensures shape { shape_view self.new.shape ≡ shape_view self.old.shape }
+        ensures children { self.new.children ≡ self.old.children }
+        ensures asked { AllPolled S.Feed.may_say S.Feed.same S.Feed.refusable
+            (map S.Feed.job_view self.old.feeds) (map S.Feed.job_view self.new.feeds) }
+        ensures output { self.new.output ≡ self.old.output }
+        ensures error { self.new.error ≡ self.old.error }
+    {
+        for at in 0..self.feeds.len() {
+            self.ask_feed(at);
+        }
+    }
+
+    // Polls stdout's capture worker, if the outcome waits for it, and tells the core.
+    fn ask_output(&mut self)
+        ensures shape { shape_view self.new.shape ≡ shape_view self.old.shape }
+        ensures children { self.new.children ≡ self.old.children }
+        ensures feeds { self.new.feeds ≡ self.old.feeds }
+        ensures asked { PolledWhere S.Drain.may_say S.Drain.same S.Drain.refusable Out
+            (awaited (shape_view self.old.shape)
+            (stored_in S.Child.child_view S.Feed.job_view S.Drain.job_view self.old))
+            (option_map S.Drain.job_view self.old.output)
+            (option_map S.Drain.job_view self.new.output) }
+        ensures error { self.new.error ≡ self.old.error }
+    {
+        let Some(Side::Out) = self.core.awaited() else {
+            return;
+        };
+        let Some(worker) = &mut self.output else {
+            return;
+        };
+        let heard = worker.poll();
+        let _ = self.core.step(Event::Drain(Side::Out, heard));
+    }
+
+    // Polls stderr's capture worker, if the outcome waits for it, and tells the core.
+    fn ask_error(&mut self)
+        ensures shape { shape_view self.new.shape ≡ shape_view self.old.shape }
+        ensures children { self.new.children ≡ self.old.children }
+        ensures feeds { self.new.feeds ≡ self.old.feeds }
+        ensures output { self.new.output ≡ self.old.output }
+        ensures asked { PolledWhere S.Drain.may_say S.Drain.same S.Drain.refusable Err
+            (awaited (shape_view self.old.shape)
+            (stored_in S.Child.child_view S.Feed.job_view S.Drain.job_view self.old))
+            (option_map S.Drain.job_view self.old.error)
+            (option_map S.Drain.job_view self.new.error) }
+    {
+        let Some(Side::Err) = self.core.awaited() else {
+            return;
+        };
+        let Some(worker) = &mut self.error else {
+            return;
+        };
+        let heard = worker.poll();
+        let _ = self.core.step(Event::Drain(Side::Err, heard));
+    }
+
+    /// Asks each child that has not ended, once and from left to right, and then each input worker that has not finished,
+    /// once and in tree order; then stdout's capture worker where the outcome waits for it, and then stderr's likewise.
+    /// Answers the outcome of what children and workers then store: nothing while it waits for one of them, the first fault
+    /// in tree order, or how the expression ended. A checked failure is `Error::Checked`. `Error::Memory` comes only for
+    /// want of memory; all that was heard is kept, and the next poll tries again.
+    pub fn poll(&mut self) -> Result<Option<Arc<Output>>, Error>
+        ensures shape { shape_view self.new.shape ≡ shape_view self.old.shape }
+        ensures asked { AllAsked S.Child.may_answer (map S.Child.child_view self.old.children)
+            (map S.Child.child_view self.new.children) }
+        ensures asked_feeds { AllPolled S.Feed.may_say S.Feed.same S.Feed.refusable
+            (map S.Feed.job_view self.old.feeds) (map S.Feed.job_view self.new.feeds) }
+
+        // By what children and input workers now store, and the capture workers stored before.
+        ensures asked_output { PolledWhere S.Drain.may_say S.Drain.same S.Drain.refusable Out
+            (awaited (shape_view self.new.shape)
+            (stored_in S.Child.child_view S.Feed.job_view S.Drain.job_view
+            (record self.new { output = self.old.output; error = self.old.error })))
+            (option_map S.Drain.job_view self.old.output)
+            (option_map S.Drain.job_view self.new.output) }
+
+        // By what children, input workers and stdout's capture worker now store, and stderr's stored before.
+        ensures asked_error { PolledWhere S.Drain.may_say S.Drain.same S.Drain.refusable Err
+            (awaited (shape_view self.new.shape)
+            (stored_in S.Child.child_view S.Feed.job_view S.Drain.job_view
+            (record self.new { error = self.old.error })))
+            (option_map S.Drain.job_view self.old.error)
+            (option_map S.Drain.job_view self.new.error) }
+        ensures outcome { IsOutcome (shape_view self.new.shape)
+            (stored_in S.Child.child_view S.Feed.job_view S.Drain.job_view self.new) result }
+        ensures pending { result ≡ Ok None
+            → OneRuns S.Child.may_answer S.Feed.may_say S.Drain.may_say
+            (numbers_in S.Child.child_view S.Feed.job_view S.Drain.job_view self.new) }
+    {
+        self.ask_children();
+        self.ask_feeds();
+        self.ask_output();
+        self.ask_error();
+        self.conclude()
+    }
+
+    // The outcome of what the children and the workers said.
+    fn conclude(&mut self) -> Result<Option<Arc<Output>>, Error>
+        ensures shape { shape_view self.new.shape ≡ shape_view self.old.shape }
+        ensures commands { length self.new.children ≡ command_count (shape_view self.new.shape) }
+        ensures inputs { length self.new.feeds ≡ input_count (shape_view self.new.shape) }
+        ensures children { self.new.children ≡ self.old.children }
+        ensures feeds { self.new.feeds ≡ self.old.feeds }
+        ensures output { self.new.output ≡ self.old.output }
+        ensures error { self.new.error ≡ self.old.error }
+        ensures outcome { IsOutcome (shape_view self.new.shape)
+            (stored_in S.Child.child_view S.Feed.job_view S.Drain.job_view self.new) result }
+    {
+        answer(self.core.step(Event::Conclude))
+    }
+}
+
+// What a poll answers by the core's reply to the question.
+fn answer(reply: Reply) -> Result<Option<Arc<Output>>, Error>
+    requires { IsConclusion (reply_view reply) }
+    ensures { Gives (reply_view reply) result }
+{
+    match reply {
+        Reply::Pending => Ok(None),
+        Reply::Fault(fault) => Err(Error::System(fault)),
+        Reply::Answer(output) => Ok(Some(output)),
+        Reply::Failed(text) => Err(Error::Checked(text)),
+        Reply::Memory => Err(Error::Memory),
+        Reply::Noted | Reply::Unknown => unreachable!(),
+    }
+}

@@ -1,0 +1,105 @@
+//! The orders to the commands of an expression that runs, and how it is given up.
+ghost use Rattle.std.specs.Prelude.{◌≡◌, ◌<◌, ◌+◌, ◌^◌, length, map};
+ghost use Rattle.duct_base.specs.Pool.{Takes};
+ghost use Rattle.duct_system.specs.Child.{OrdersChild};
+ghost use Rattle.duct_system.specs.declared.system.Order.TheVariants.{Kill, Signal};
+ghost use Rattle.duct_running.specs.Ordered.{Answers, OrderedIfDue, IsOrdered};
+ghost use Rattle.duct_running.specs.Polled.{ChangedAt};
+
+use crate::running::Running;
+use duct_base::error::Error;
+use duct_base::pool::Pool;
+use duct_base::system::{Child, Fault, Order, System};
+use duct_run::ending::give_all;
+
+// Gives a child an order.
+fn give<C: Child>(child: &mut C, order: Order) -> Result<(), Fault>
+    ensures { OrdersChild C.may_obey order (C.child_view child.old) result
+        (C.child_view child.new) }
+{
+    match order {
+        Order::Kill => child.kill(),
+        Order::Signal(signal) => child.signal(signal),
+    }
+}
+
+// An answer, with its fault as the system's error.
+fn result_of(answer: Result<(), Fault>) -> Result<(), Error>
+    ensures { Answers answer result }
+{
+    Ok(answer?)
+}
+
+impl<S: System> Running<S> {
+    /// Kills each command that is not known as ended, once and from left to right, also behind one that refused. Answers the
+    /// leftmost fault. A command that had no memory to note the order was not asked, and answered `OutOfMemory`.
+    pub fn kill(&mut self) -> Result<(), Error>
+        ensures shape { self.new.shape ≡ self.old.shape }
+        ensures ordered { IsOrdered S.Child.may_obey Kill
+            (map S.Child.child_view self.old.children) result
+            (map S.Child.child_view self.new.children) }
+        ensures feeds { self.new.feeds ≡ self.old.feeds }
+        ensures output { self.new.output ≡ self.old.output }
+        ensures error { self.new.error ≡ self.old.error }
+    {
+        self.order_all(Order::Kill)
+    }
+
+    /// Sends a signal to each command that is not known as ended, as `kill` kills them.
+    pub fn signal(&mut self, signal: i32) -> Result<(), Error>
+        ensures shape { self.new.shape ≡ self.old.shape }
+        ensures ordered { IsOrdered S.Child.may_obey (Signal signal)
+            (map S.Child.child_view self.old.children) result
+            (map S.Child.child_view self.new.children) }
+        ensures feeds { self.new.feeds ≡ self.old.feeds }
+        ensures output { self.new.output ≡ self.old.output }
+        ensures error { self.new.error ≡ self.old.error }
+    {
+        self.order_all(Order::Signal(signal))
+    }
+
+    /// Gives the children to a pool, from left to right. Each is asked once: one that runs goes behind the pool's others, one
+    /// that ended counts as reaped, and one that answered a fault as lost. The workers are let go. It takes no memory.
+    pub fn give_up(self, pool: &mut Pool<S::Child>)
+        ensures { pool.old.given + length self.children < 2 ^ 63
+            → Takes S.Child.may_answer S.Child.child_view self.children pool.old pool.new }
+    {
+        let (children, feeds, drains) = self.into_parts();
+        drop((feeds, drains));
+        give_all(pool, children);
+    }
+
+    // Gives an order to the child at this place, if it has not ended.
+    fn order(&mut self, at: usize, order: Order) -> Result<(), Fault>
+        requires { at < length self.old.children }
+        ensures shape { self.new.shape ≡ self.old.shape }
+        ensures ordered { ChangedAt
+            (λ before. OrderedIfDue S.Child.may_obey order before result) at
+            (map S.Child.child_view self.old.children) (map S.Child.child_view self.new.children) }
+        ensures feeds { self.new.feeds ≡ self.old.feeds }
+        ensures output { self.new.output ≡ self.old.output }
+        ensures error { self.new.error ≡ self.old.error }
+    {
+        if !self.core.is_due(at) {
+            return Ok(());
+        }
+        give(&mut self.children[at], order)
+    }
+
+    // Gives an order to each child that has not ended, from left to right, and answers the first fault.
+    fn order_all(&mut self, order: Order) -> Result<(), Error>
+        ensures shape { self.new.shape ≡ self.old.shape }
+        ensures ordered { IsOrdered S.Child.may_obey order
+            (map S.Child.child_view self.old.children) result
+            (map S.Child.child_view self.new.children) }
+        ensures feeds { self.new.feeds ≡ self.old.feeds }
+        ensures output { self.new.output ≡ self.old.output }
+        ensures error { self.new.error ≡ self.old.error }
+    {
+        let mut answer = Ok(());
+        for at in 0..self.children.len() {
+            answer = answer.and(self.order(at, order));
+        }
+        result_of(answer)
+    }
+}
