@@ -1,5 +1,6 @@
 pub mod InTurn
 pub mod Jobs
+pub mod Numbered
 pub mod Orders
 pub mod Pending
 pub mod Polls

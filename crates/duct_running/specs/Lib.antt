@@ -1,5 +1,6 @@
+pub mod Answered
 pub mod Holds
-pub mod Numbers
+pub mod NumbersView
 pub mod Ordered
 pub mod Polled
 pub mod Stored

@@ -7,7 +7,7 @@ use Rattle.duct_system.specs.Job.{JobView}
 use Rattle.duct_system.specs.declared.system.Said.{Said}
 use Rattle.duct_system.specs.declared.system.Said.TheVariants as said
 use Rattle.duct_running.specs.Polled.{WhileRuns}
-use Rattle.duct_running.specs.Numbers.{Numbers}
+use Rattle.duct_running.specs.NumbersView.{NumbersView}
 use Rattle.duct_running.specs.Stored.{Bytes}
 
 -- the last answer of a child, and its ending, may be answered by a child of its number
@@ -34,7 +34,7 @@ SomeSays may answer numbers = (number : ℕ) × Contains numbers number × may n
 
 -- a child, an input worker or a capture worker of these numbers may say that it runs
 abbrev pub OneRuns : (ℕ → Answer → Type 0) → (ℕ → Said (Unit {0}) → Type 0)
-    → (ℕ → Said Bytes → Type 0) → Numbers → Type 0
+    → (ℕ → Said Bytes → Type 0) → NumbersView → Type 0
 OneRuns answer feed drain numbers =
     SomeSays answer (Ok None) numbers.children ⊎ SomeSays feed said.Running numbers.feeds
     ⊎ SomeSays drain said.Running

@@ -9,7 +9,7 @@ ghost use Rattle.duct_status.specs.ReplyView.{reply_view};
 ghost use Rattle.duct_status.specs.ShapeView.{command_count, input_count, shape_view};
 ghost use Rattle.duct_running.specs.Polled.{IsConclusion, Gives, IsOutcome, AskedIfDue, AllAsked, PolledIfRuns, AllPolled, PolledWhere, ChangedAt};
 ghost use Rattle.duct_running.specs.Stored.{AreUnasked, word_of, stored_in};
-ghost use Rattle.duct_running.specs.Numbers.{numbers_in};
+ghost use Rattle.duct_running.specs.NumbersView.{numbers_in};
 ghost use Rattle.duct_running.specs.Told.{AreTold, OneRuns};
 
 mod orders;
@@ -24,13 +24,13 @@ use std::sync::Arc;
 /// What a start leaves: its children, its workers, and what they said so far. It is asked by `poll`, ordered by `kill`
 /// and `signal`, and is to be spent: by `into_parts` or `give_up`.
 pub struct Running<S: System> {
-    core: Core,
+    pub(crate) core: Core,
     // The ids of the children.
     ids: Vec<u32>,
-    children: Vec<Place<S::Child>>,
-    feeds: Vec<S::Feed>,
-    output: Option<S::Drain>,
-    error: Option<S::Drain>,
+    pub(crate) children: Vec<Place<S::Child>>,
+    pub(crate) feeds: Vec<S::Feed>,
+    pub(crate) output: Option<S::Drain>,
+    pub(crate) error: Option<S::Drain>,
     // Empty, with room for the capture workers, so that `into_parts` takes no memory.
     room: Vec<S::Drain>,
 }

@@ -5,10 +5,11 @@ use Rattle.std.specs.declared.option.Option.{Option}
 use Rattle.duct_system.specs.Child.{ChildView}
 use Rattle.duct_system.specs.Job.{JobView}
 use Rattle.duct_start.specs.Running.{RunningView}
+use Rattle.duct_running.specs.declared.numbers.Numbers.{Numbers}
 
 -- those of the children from left to right, of the input workers in tree order, and of the capture workers of stdout and of
 -- stderr
-pub record Numbers : Type 0 where
+pub record NumbersView : Type 0 where
   pub children : List ℕ
   pub feeds : List ℕ
   pub output : Option ℕ
@@ -16,10 +17,19 @@ pub record Numbers : Type 0 where
 
 -- those of what runs
 abbrev pub numbers_in : {C F D V W : Type 0} → (C → ChildView) → (F → JobView V)
-    → (D → JobView W) → RunningView C F D → Numbers
+    → (D → JobView W) → RunningView C F D → NumbersView
 numbers_in child feed drain running = record {
   children = map (λ c. c.number) (map child running.children);
   feeds = map (λ f. f.number) (map feed running.feeds);
   output = option_map (λ d. d.number) (option_map drain running.output);
   error = option_map (λ d. d.number) (option_map drain running.error);
+}
+
+-- what contracts see of the numbers beside it
+abbrev pub numbers_view : Numbers → NumbersView
+numbers_view numbers = record {
+  children = numbers.children.items;
+  feeds = numbers.feeds.items;
+  output = numbers.output;
+  error = numbers.error;
 }

@@ -1,0 +1,47 @@
+-- What was concluded of what children and workers were told.
+use Rattle.std.specs.Prelude.{ℕ, ◌≡◌, ◌⊎◌, List, Err, map}
+use Rattle.std.specs.Option.{option_map}
+use Rattle.std.specs.declared.option.Option.{Option}
+use Rattle.duct_system.specs.Child.{Answer, ChildView}
+use Rattle.duct_system.specs.Job.{JobView}
+use Rattle.duct_system.specs.declared.error.Error.TheVariants as error
+use Rattle.duct_system.specs.declared.system.Kind.TheVariants.{Other}
+use Rattle.duct_system.specs.declared.system.Said.{Said}
+use Rattle.duct_status.specs.Outcome.{Concludes}
+use Rattle.duct_status.specs.ReplyView.{ReplyView}
+use Rattle.duct_status.specs.ShapeView.{ShapeView}
+use Rattle.duct_running.specs.NumbersView.{NumbersView}
+use Rattle.duct_running.specs.Polled.{Gives, Polled}
+use Rattle.duct_running.specs.Stored.{Bytes, stored_latest}
+use Rattle.duct_running.specs.Told.{AreTold}
+
+-- there are children and workers of these numbers, which store what was told of their numbers, and this is its outcome in a tree
+-- of this shape
+pub record Concluded (answer : ℕ → Answer → Type 0) (feed : ℕ → Said (Unit {0}) → Type 0)
+    (drain : ℕ → Said Bytes → Type 0) (shape : ShapeView) (numbers : NumbersView)
+    (reply : ReplyView) : Type 0 where
+  pub children : List ChildView
+  pub feeds : List (JobView (Unit {0}))
+  pub output : Option (JobView Bytes)
+  pub error : Option (JobView Bytes)
+  pub children_are : map (λ c. c.number) children ≡ numbers.children
+  pub feeds_are : map (λ f. f.number) feeds ≡ numbers.feeds
+  pub output_is : option_map (λ d. d.number) output ≡ numbers.output
+  pub error_is : option_map (λ d. d.number) error ≡ numbers.error
+  pub told : ∥ AreTold answer feed drain children feeds output error ∥₁
+  pub concludes : Concludes shape (stored_latest children feeds output error) reply
+
+-- the same, without the children and workers
+abbrev pub WasConcluded : (ℕ → Answer → Type 0) → (ℕ → Said (Unit {0}) → Type 0)
+    → (ℕ → Said Bytes → Type 0) → ShapeView → NumbersView → ReplyView → Type 0
+WasConcluded answer feed drain shape numbers reply =
+    ∥ Concluded answer feed drain shape numbers reply ∥₁
+
+-- the answer is given by what was concluded; or there was no memory; or shape and numbers differ, which no start brings about
+abbrev pub IsAnswer : (ℕ → Answer → Type 0) → (ℕ → Said (Unit {0}) → Type 0)
+    → (ℕ → Said Bytes → Type 0) → ShapeView → NumbersView → Polled → Type 0
+IsAnswer answer feed drain shape numbers polled =
+    ((reply : ReplyView) × WasConcluded answer feed drain shape numbers reply
+    × Gives reply polled)
+    ⊎ (polled ≡ Err error.Memory)
+    ⊎ (polled ≡ Err (error.System (record { kind = Other })))

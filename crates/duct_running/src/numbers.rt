@@ -1,0 +1,127 @@
+//! The numbers of the children and the workers of a start, and how they are compared with those of what runs.
+ghost use Rattle.std.specs.Prelude.{◌≡◌, ◌≤◌, [], length, map, vec_capacity, IfOk, IsOkUnless, IsTrue};
+ghost use Rattle.std.specs.Option.{option_map};
+ghost use Rattle.duct_running.specs.NumbersView.{numbers_in, numbers_view};
+ghost use Rattle.duct_status.specs.ShapeView.{command_count, input_count, shape_view};
+
+use crate::running::Running;
+use duct_base::error::Error;
+use duct_base::status::Shape;
+use duct_base::system::{Numbered, System};
+use std::alloc::Global;
+
+/// The numbers of the children from left to right, of the input workers in tree order, and of the capture workers of stdout
+/// and of stderr.
+#[derive(Drop)]
+pub struct Numbers {
+    pub children: Vec<u64>,
+    pub feeds: Vec<u64>,
+    pub output: Option<u64>,
+    pub error: Option<u64>,
+}
+
+impl Numbers {
+    /// None, with room for those of so many children and input workers. Refused, by `Error::Memory`, only for want of memory.
+    pub fn with_room(alloc: Global, children: usize, feeds: usize) -> Result<Numbers, Error>
+        ensures children { IfOk result (λ numbers. numbers.children.items ≡ []) }
+        ensures feeds { IfOk result (λ numbers. numbers.feeds.items ≡ []) }
+        ensures children_room { IfOk result (λ numbers. children ≤ vec_capacity numbers.children) }
+        ensures feeds_room { IfOk result (λ numbers. feeds ≤ vec_capacity numbers.feeds) }
+        ensures memory { IsOkUnless result Error.Memory }
+    {
+        let children = Vec::with_capacity(alloc, children)?;
+        let feeds = Vec::with_capacity(alloc, feeds)?;
+        Ok(Numbers {
+            children,
+            feeds,
+            output: None,
+            error: None,
+        })
+    }
+
+    /// Whether these are the same.
+    pub fn is_same(&self, other: &Numbers) -> bool
+        ensures { IsTrue result → numbers_view self.now ≡ numbers_view other.now }
+    {
+        self.children.as_slice() == other.children.as_slice()
+            && self.feeds.as_slice() == other.feeds.as_slice()
+            && self.output == other.output
+            && self.error == other.error
+    }
+}
+
+// Notes the numbers of these, for which there is room.
+fn note<N: Numbered>(numbers: &mut Vec<u64>, items: &[N])
+    requires empty { numbers.old.items ≡ [] }
+    requires room { length items.now ≤ vec_capacity numbers.old }
+    ensures { numbers.new.items ≡ map N.number_of items.now }
+{
+    for item in items {
+        numbers.push_reserved(item.number());
+    }
+}
+
+// The number of this, if it is there.
+fn number_of<N: Numbered>(item: &Option<N>) -> Option<u64>
+    ensures { result ≡ option_map N.number_of item.now }
+{
+    match item {
+        Some(item) => Some(item.number()),
+        None => None,
+    }
+}
+
+// Whether these have these numbers, in order.
+fn have_numbers<N: Numbered>(items: &[N], numbers: &[u64]) -> bool
+    ensures { IsTrue result → map N.number_of items.now ≡ numbers.now }
+{
+    if items.len() != numbers.len() {
+        return false;
+    }
+    for at in 0..items.len() {
+        if items[at].number() != numbers[at] {
+            return false;
+        }
+    }
+    true
+}
+
+impl<S: System> Running<S> {
+    /// Notes the numbers of the children and the workers in what has none so far, and room for them.
+    pub fn note_numbers(&self, numbers: &mut Numbers)
+        requires children { numbers.old.children.items ≡ [] }
+        requires feeds { numbers.old.feeds.items ≡ [] }
+        requires children_room { command_count (shape_view self.now.shape)
+            ≤ vec_capacity numbers.old.children }
+        requires feeds_room { input_count (shape_view self.now.shape)
+            ≤ vec_capacity numbers.old.feeds }
+        ensures { numbers_view numbers.new
+            ≡ numbers_in S.Child.child_view S.Feed.job_view S.Drain.job_view self.now }
+    {
+        note(&mut numbers.children, &self.children);
+        note(&mut numbers.feeds, &self.feeds);
+        numbers.output = number_of(&self.output);
+        numbers.error = number_of(&self.error);
+    }
+
+    /// Whether it has this shape, and children and workers of these numbers.
+    pub fn is_of(&self, shape: &Shape, numbers: &Numbers) -> bool
+        ensures shape { IsTrue result → shape_view self.now.shape ≡ shape_view shape.now }
+        ensures numbers { IsTrue result → numbers_in S.Child.child_view S.Feed.job_view
+            S.Drain.job_view self.now ≡ numbers_view numbers.now }
+    {
+        if !self.core.shape().is_same(shape) {
+            return false;
+        }
+        if !have_numbers(&self.children, &numbers.children) {
+            return false;
+        }
+        if !have_numbers(&self.feeds, &numbers.feeds) {
+            return false;
+        }
+        if number_of(&self.output) != numbers.output {
+            return false;
+        }
+        number_of(&self.error) == numbers.error
+    }
+}
