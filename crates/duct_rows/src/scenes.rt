@@ -133,7 +133,7 @@ fn sort(name: &str) -> Option<Sort> {
 }
 
 /// Sets what the children answer, in the order of their spawns: `running, code 0; Other`.
-fn set_children(alloc: Global, sys: &mut Script, children: &str) -> Result<(), Fail> {
+pub fn set_children(alloc: Global, sys: &mut Script, children: &str) -> Result<(), Fail> {
     if !children.is_empty() {
         for answers in children.split(';') {
             let answers = poll_answers(alloc, answers)?;

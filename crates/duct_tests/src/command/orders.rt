@@ -22,6 +22,7 @@ fn orders(rt: HostRuntime) -> Result<(), Fail> {
         running refuses NotFound,running refuses Other | kill,signal -> started. system: NotFound. system: NotFound. | Kill Signal(15) | Kill Signal(15)
         code 0 refuses Other,running | poll,kill -> started. nothing. ok. | | Kill
         code 0 refuses Other,code 0 refuses Other | poll,kill,signal -> started. Code(0) 0 0. ok. ok. | |
+        code 0,running refuses Other,running | poll,kill -> started. nothing. system: Other. | | Kill | Kill
         code 0,code 0 | kill -> started. ok. | Kill | Kill
         Other,running | poll,kill -> started. system: Other. ok. | Kill | Kill
         running,code 0,running,Other | give_up -> 2 kept, 4 given, 1 reaped, 1 lost
