@@ -169,10 +169,10 @@ fn counts(pool: &Pool<ScriptChild>) -> (usize, u64, u64) {
 
 // How many children a journal says were started.
 fn started(journal: &[Entry]) -> u64 {
-    let mut count = 0;
+    let mut count: u64 = 0;
     for entry in journal {
         if let Entry::Spawn(_, _, Ok(_)) = entry {
-            count += 1;
+            count = count.saturating_add(1);
         }
     }
     count
