@@ -183,7 +183,7 @@ fn is_left(journal: &[Entry], pool: (usize, u64, u64)) -> bool {
     if journal.is_empty() {
         pool == (1, 1, 0)
     } else {
-        pool.1 == 1 + started(journal)
+        pool.1 == started(journal).saturating_add(1)
     }
 }
 
