@@ -1,7 +1,9 @@
 //! What a node stands inside of. The walk passes it inwards: it owns its ends, and each side of a pipe has one of its own.
 use crate::requests::close;
-use duct::{Error, Stream, System};
+use duct_base::error::Error;
 use duct_base::names::EnvNameString;
+use duct_base::spec::Stream;
+use duct_base::system::System;
 use duct_script::hook::ScriptHook;
 use duct_script::system::{Script, ScriptEnd};
 use std::alloc::{AllocError, Global};

@@ -1,7 +1,8 @@
 //! What a hook changes.
 use crate::context::{Context, Goes};
-use duct::{CommandSpec, Error, Hook, Port, Stream, System};
-use duct_base::spec::give;
+use duct_base::error::Error;
+use duct_base::spec::{CommandSpec, Hook, Port, Stream, give};
+use duct_base::system::System;
 use duct_script::hook::ScriptHook;
 use duct_script::system::{Script, ScriptEnd};
 

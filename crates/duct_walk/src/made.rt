@@ -1,8 +1,9 @@
 //! What a walk has made so far, and how it is given up.
 use crate::context::Goes;
 use crate::requests::close;
-use duct::{Error, Place, Pool, System};
-use duct_base::pool::pool_take;
+use duct_base::error::Error;
+use duct_base::pool::{Place, Pool, pool_take};
+use duct_base::system::System;
 use duct_script::child::ScriptChild;
 use duct_script::job::{ScriptDrain, ScriptFeed};
 use duct_script::system::{Script, ScriptEnd};

@@ -3,11 +3,14 @@ use crate::command::command;
 use crate::context::{Context, Goes, copy};
 use crate::made::{Made, tap};
 use crate::requests::{close, feed};
-use duct::tree::{Modifier, Node};
-use duct::{Error, Pool, Stream, System};
+use duct_base::error::Error;
+use duct_base::pool::Pool;
+use duct_base::spec::Stream;
+use duct_base::system::System;
 use duct_script::child::ScriptChild;
 use duct_script::hook::ScriptHook;
 use duct_script::system::{Script, ScriptEnd};
+use duct_tree::tree::{Modifier, Node};
 use std::mem::swap;
 use std::sync::Arc;
 

@@ -4,7 +4,9 @@ ghost use Rattle.std.specs.Prelude.{◌≡◌, []};
 ghost use Rattle.duct_system.specs.Streams.{end_of};
 
 use crate::context::{Context, Goes};
-use duct::{CommandSpec, Error, Fault, Kind, Stdio, System};
+use duct_base::error::Error;
+use duct_base::spec::CommandSpec;
+use duct_base::system::{Fault, Kind, Stdio, System};
 use duct_script::child::ScriptChild;
 use duct_script::job::{ScriptDrain, ScriptFeed};
 use duct_script::reader::ScriptReader;

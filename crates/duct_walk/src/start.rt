@@ -3,12 +3,16 @@ use crate::context::Context;
 use crate::made::{Capture, Made, give_up, tap};
 use crate::nodes::walk_node;
 use crate::requests::{close, drain, reader};
-use duct::{Error, Expression, Place, Pool, Stream, System};
+use duct_base::error::Error;
+use duct_base::pool::{Place, Pool};
+use duct_base::spec::Stream;
+use duct_base::system::System;
 use duct_script::child::ScriptChild;
 use duct_script::hook::ScriptHook;
 use duct_script::job::{ScriptDrain, ScriptFeed};
 use duct_script::reader::ScriptReader;
 use duct_script::system::{Script, ScriptEnd};
+use duct_tree::tree::Node;
 use std::alloc::Global;
 
 /// What runs: the children from left to right, and the input workers and capture workers in the order of their starts.
@@ -19,16 +23,16 @@ pub struct Walked {
     pub drains: Vec<ScriptDrain>,
 }
 
-/// Starts an expression as `Expression::launch` does, but for where duplicates, ends of the parent's streams and closes stand.
-/// Refused as that is.
+/// Starts the expression of this root as its `launch` does, but for where duplicates, ends of the parent's streams and closes
+/// stand. Refused as that is.
 pub fn walk(
     alloc: Global,
-    tree: &Expression<ScriptEnd, ScriptHook>,
+    root: &Node<ScriptEnd, ScriptHook>,
     sys: &mut Script,
     pool: &mut Pool<ScriptChild>,
 ) -> Result<Walked, Error> {
     let mut made = Made::nothing(alloc);
-    match start(alloc, tree, sys, pool, &mut made) {
+    match start(alloc, root, sys, pool, &mut made) {
         Ok(()) => Ok(running(made)),
         Err(error) => {
             give_up(sys, pool, made);
@@ -37,15 +41,15 @@ pub fn walk(
     }
 }
 
-/// Starts an expression as `Expression::launch_reader` does, with the same differences. Refused as that is.
+/// Starts the expression of this root as its `launch_reader` does, with the same differences. Refused as that is.
 pub fn walk_reader(
     alloc: Global,
-    tree: &Expression<ScriptEnd, ScriptHook>,
+    root: &Node<ScriptEnd, ScriptHook>,
     sys: &mut Script,
     pool: &mut Pool<ScriptChild>,
 ) -> Result<(Walked, ScriptReader), Error> {
     let mut made = Made::nothing(alloc);
-    match start_reader(alloc, tree, sys, pool, &mut made) {
+    match start_reader(alloc, root, sys, pool, &mut made) {
         Ok(reader) => Ok((running(made), reader)),
         Err(error) => {
             give_up(sys, pool, made);
@@ -65,13 +69,13 @@ fn running(made: Made) -> Walked {
 // The environment, the tree, and the workers of the capture pipes.
 fn start(
     alloc: Global,
-    tree: &Expression<ScriptEnd, ScriptHook>,
+    root: &Node<ScriptEnd, ScriptHook>,
     sys: &mut Script,
     pool: &mut Pool<ScriptChild>,
     made: &mut Made,
 ) -> Result<(), Error> {
     let pairs = sys.environment()?;
-    walk_node(tree.root(), Context::root(alloc, pairs)?, sys, pool, made)?;
+    walk_node(root, Context::root(alloc, pairs)?, sys, pool, made)?;
     if let Some(end) = captured(&mut made.output, sys) {
         made.drains.push(drain(sys, end)?)?;
     }
@@ -81,7 +85,7 @@ fn start(
 // The environment, one more capture of stdout with the tree inside of it, stderr's worker, and the reader of stdout's pipe.
 fn start_reader(
     alloc: Global,
-    tree: &Expression<ScriptEnd, ScriptHook>,
+    root: &Node<ScriptEnd, ScriptHook>,
     sys: &mut Script,
     pool: &mut Pool<ScriptChild>,
     made: &mut Made,
@@ -89,7 +93,7 @@ fn start_reader(
     let pairs = sys.environment()?;
     let mut context = Context::root(alloc, pairs)?;
     context.turn(Stream::Out, tap(&mut made.output, sys)?, sys);
-    walk_node(tree.root(), context, sys, pool, made)?;
+    walk_node(root, context, sys, pool, made)?;
     drain_error(sys, made)?;
     match captured(&mut made.output, sys) {
         Some(end) => reader(sys, end),

@@ -67,7 +67,7 @@ fn answered(
     bench: &mut Bench,
 ) -> Result<Result<Runs, Error>, AllocError> {
     let answer = match case.way {
-        Way::Launched => walk(alloc, &case.tree, &mut bench.sys, &mut bench.pool),
+        Way::Launched => walk(alloc, case.tree.root(), &mut bench.sys, &mut bench.pool),
         Way::Read => read(alloc, case, bench),
     };
     match answer {
@@ -77,7 +77,7 @@ fn answered(
 }
 
 fn read(alloc: Global, case: &Case, bench: &mut Bench) -> Result<Walked, Error> {
-    let (walked, reader) = walk_reader(alloc, &case.tree, &mut bench.sys, &mut bench.pool)?;
+    let (walked, reader) = walk_reader(alloc, case.tree.root(), &mut bench.sys, &mut bench.pool)?;
     drop(reader);
     Ok(walked)
 }

@@ -56,6 +56,21 @@ fn follow_random(alloc: Global, first: u64, count: u64) -> Result<(), Fail> {
 }
 
 #[test]
-fn random_starts_follow_their_plans(rt: HostRuntime) -> Result<(), Fail> {
-    follow_random(rt.alloc(), 1000, 100)
+fn the_first_500_random_starts(rt: HostRuntime) -> Result<(), Fail> {
+    follow_random(rt.alloc(), 1000, 500)
+}
+
+#[test]
+fn the_second_500_random_starts(rt: HostRuntime) -> Result<(), Fail> {
+    follow_random(rt.alloc(), 1500, 500)
+}
+
+#[test]
+fn the_third_500_random_starts(rt: HostRuntime) -> Result<(), Fail> {
+    follow_random(rt.alloc(), 2000, 500)
+}
+
+#[test]
+fn the_last_500_random_starts(rt: HostRuntime) -> Result<(), Fail> {
+    follow_random(rt.alloc(), 2500, 500)
 }
