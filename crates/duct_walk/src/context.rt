@@ -67,6 +67,18 @@ impl<'t> Context<'t> {
         let_go(had, sys);
     }
 
+    /// Gives a variable a value. The spelling that is there is kept.
+    pub(crate) fn set(&mut self, name: &EnvNameString, value: &String) -> Result<(), AllocError> {
+        let (name, value) = (name.clone()?, value.clone()?);
+        self.variables.insert(name, value)?;
+        Ok(())
+    }
+
+    /// Takes a variable away.
+    pub(crate) fn unset(&mut self, name: &EnvNameString) {
+        self.variables.remove(name);
+    }
+
     /// Opens a pipe, and answers what its left side stands inside of. This becomes what its right side stands inside of.
     pub(crate) fn fork(&mut self, sys: &mut Script) -> Result<Context<'t>, Error> {
         let variables = self.variables.clone()?;
@@ -107,11 +119,26 @@ fn let_go(goes: Goes, sys: &mut Script) {
     }
 }
 
+/// To a file that is opened to be read.
+pub(crate) fn opened(path: &str, sys: &mut Script) -> Result<Goes, Error> {
+    Ok(Goes::End(sys.open_read(path)?))
+}
+
+/// To a file that is made.
+pub(crate) fn created(path: &str, sys: &mut Script) -> Result<Goes, Error> {
+    Ok(Goes::End(sys.create(path)?))
+}
+
+/// To one more of this end.
+pub(crate) fn lent(end: &ScriptEnd, sys: &mut Script) -> Result<Goes, Error> {
+    Ok(Goes::End(sys.duplicate(end)?))
+}
+
 /// One more that goes there.
 pub(crate) fn copy(goes: &Goes, sys: &mut Script) -> Result<Goes, Error> {
     match goes {
         Goes::Parents(stream) => Ok(Goes::Parents(*stream)),
         Goes::Nothing => Ok(Goes::Nothing),
-        Goes::End(end) => Ok(Goes::End(sys.duplicate(end)?)),
+        Goes::End(end) => lent(end, sys),
     }
 }

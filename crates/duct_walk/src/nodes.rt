@@ -1,6 +1,6 @@
 //! The walk over the nodes of a tree.
 use crate::command::command;
-use crate::context::{Context, Goes, copy};
+use crate::context::{Context, Goes, copy, created, lent, opened};
 use crate::made::{Made, tap};
 use crate::requests::{close, feed};
 use duct_base::error::Error;
@@ -60,52 +60,33 @@ fn enter<'t>(
     sys: &mut Script,
     made: &mut Made,
 ) -> Result<Option<Input<'t>>, Error> {
-    let (stream, goes) = match modifier {
+    match modifier {
         Modifier::StdinBytes(bytes) => {
             let (reader, writer) = sys.pipe()?;
             context.turn(Stream::In, Goes::End(reader), sys);
             return Ok(Some((writer, bytes)));
         }
-        Modifier::StdinPath(path) => (Stream::In, Goes::End(sys.open_read(path.as_str())?)),
-        Modifier::StdinFile(end) => (Stream::In, Goes::End(sys.duplicate(end)?)),
-        Modifier::StdinNull => (Stream::In, Goes::Nothing),
-        Modifier::StdoutPath(path) => (Stream::Out, Goes::End(sys.create(path.as_str())?)),
-        Modifier::StdoutFile(end) => (Stream::Out, Goes::End(sys.duplicate(end)?)),
-        Modifier::StdoutNull => (Stream::Out, Goes::Nothing),
-        Modifier::StdoutCapture => (Stream::Out, tap(&mut made.output, sys)?),
-        Modifier::StdoutToStderr => (Stream::Out, copy(&context.error, sys)?),
-        Modifier::StderrPath(path) => (Stream::Err, Goes::End(sys.create(path.as_str())?)),
-        Modifier::StderrFile(end) => (Stream::Err, Goes::End(sys.duplicate(end)?)),
-        Modifier::StderrNull => (Stream::Err, Goes::Nothing),
-        Modifier::StderrCapture => (Stream::Err, tap(&mut made.error, sys)?),
-        Modifier::StderrToStdout => (Stream::Err, copy(&context.output, sys)?),
-        Modifier::StdoutStderrSwap => {
-            swap(&mut context.output, &mut context.error);
-            return Ok(None);
-        }
-        Modifier::Dir(folder) => {
-            context.folder = Some(folder.as_str());
-            return Ok(None);
-        }
-        Modifier::Env(name, value) => {
-            context.variables.insert(name.clone()?, value.clone()?)?;
-            return Ok(None);
-        }
-        Modifier::EnvRemove(name) => {
-            context.variables.remove(name);
-            return Ok(None);
-        }
-        Modifier::FullEnv(variables) => {
-            context.variables = variables.clone()?;
-            return Ok(None);
-        }
-        Modifier::BeforeSpawn(hook, ends) => {
-            context.hooks.push((hook, ends.as_slice()))?;
-            return Ok(None);
-        }
-        Modifier::Unchecked => return Ok(None),
-    };
-    context.turn(stream, goes, sys);
+        Modifier::StdinPath(path) => context.turn(Stream::In, opened(path.as_str(), sys)?, sys),
+        Modifier::StdinFile(end) => context.turn(Stream::In, lent(end, sys)?, sys),
+        Modifier::StdinNull => context.turn(Stream::In, Goes::Nothing, sys),
+        Modifier::StdoutPath(path) => context.turn(Stream::Out, created(path.as_str(), sys)?, sys),
+        Modifier::StdoutFile(end) => context.turn(Stream::Out, lent(end, sys)?, sys),
+        Modifier::StdoutNull => context.turn(Stream::Out, Goes::Nothing, sys),
+        Modifier::StdoutCapture => context.turn(Stream::Out, tap(&mut made.output, sys)?, sys),
+        Modifier::StdoutToStderr => context.turn(Stream::Out, copy(&context.error, sys)?, sys),
+        Modifier::StderrPath(path) => context.turn(Stream::Err, created(path.as_str(), sys)?, sys),
+        Modifier::StderrFile(end) => context.turn(Stream::Err, lent(end, sys)?, sys),
+        Modifier::StderrNull => context.turn(Stream::Err, Goes::Nothing, sys),
+        Modifier::StderrCapture => context.turn(Stream::Err, tap(&mut made.error, sys)?, sys),
+        Modifier::StderrToStdout => context.turn(Stream::Err, copy(&context.output, sys)?, sys),
+        Modifier::StdoutStderrSwap => swap(&mut context.output, &mut context.error),
+        Modifier::Dir(folder) => context.folder = Some(folder.as_str()),
+        Modifier::Env(name, value) => context.set(name, value)?,
+        Modifier::EnvRemove(name) => context.unset(name),
+        Modifier::FullEnv(variables) => context.variables = variables.clone()?,
+        Modifier::Unchecked => {}
+        Modifier::BeforeSpawn(hook, ends) => context.hooks.push((hook, ends.as_slice()))?,
+    }
     Ok(None)
 }
 
