@@ -67,6 +67,20 @@ impl<'t> Context<'t> {
         let_go(had, sys);
     }
 
+    /// Lets stdout go where stderr goes.
+    pub(crate) fn output_to_error(&mut self, sys: &mut Script) -> Result<(), Error> {
+        let goes = copy(&self.error, sys)?;
+        self.turn(Stream::Out, goes, sys);
+        Ok(())
+    }
+
+    /// Lets stderr go where stdout goes.
+    pub(crate) fn error_to_output(&mut self, sys: &mut Script) -> Result<(), Error> {
+        let goes = copy(&self.output, sys)?;
+        self.turn(Stream::Err, goes, sys);
+        Ok(())
+    }
+
     /// Gives a variable a value. The spelling that is there is kept.
     pub(crate) fn set(&mut self, name: &EnvNameString, value: &String) -> Result<(), AllocError> {
         let (name, value) = (name.clone()?, value.clone()?);
@@ -134,8 +148,8 @@ pub(crate) fn lent(end: &ScriptEnd, sys: &mut Script) -> Result<Goes, Error> {
     Ok(Goes::End(sys.duplicate(end)?))
 }
 
-/// One more that goes there.
-pub(crate) fn copy(goes: &Goes, sys: &mut Script) -> Result<Goes, Error> {
+// One more that goes there.
+fn copy(goes: &Goes, sys: &mut Script) -> Result<Goes, Error> {
     match goes {
         Goes::Parents(stream) => Ok(Goes::Parents(*stream)),
         Goes::Nothing => Ok(Goes::Nothing),

@@ -1,6 +1,6 @@
 //! The walk over the nodes of a tree.
 use crate::command::command;
-use crate::context::{Context, Goes, copy, created, lent, opened};
+use crate::context::{Context, Goes, created, lent, opened};
 use crate::made::{Made, tap};
 use crate::requests::{close, feed};
 use duct_base::error::Error;
@@ -73,12 +73,12 @@ fn enter<'t>(
         Modifier::StdoutFile(end) => context.turn(Stream::Out, lent(end, sys)?, sys),
         Modifier::StdoutNull => context.turn(Stream::Out, Goes::Nothing, sys),
         Modifier::StdoutCapture => context.turn(Stream::Out, tap(&mut made.output, sys)?, sys),
-        Modifier::StdoutToStderr => context.turn(Stream::Out, copy(&context.error, sys)?, sys),
+        Modifier::StdoutToStderr => context.output_to_error(sys)?,
         Modifier::StderrPath(path) => context.turn(Stream::Err, created(path.as_str(), sys)?, sys),
         Modifier::StderrFile(end) => context.turn(Stream::Err, lent(end, sys)?, sys),
         Modifier::StderrNull => context.turn(Stream::Err, Goes::Nothing, sys),
         Modifier::StderrCapture => context.turn(Stream::Err, tap(&mut made.error, sys)?, sys),
-        Modifier::StderrToStdout => context.turn(Stream::Err, copy(&context.output, sys)?, sys),
+        Modifier::StderrToStdout => context.error_to_output(sys)?,
         Modifier::StdoutStderrSwap => swap(&mut context.output, &mut context.error),
         Modifier::Dir(folder) => context.folder = Some(folder.as_str()),
         Modifier::Env(name, value) => context.set(name, value)?,
