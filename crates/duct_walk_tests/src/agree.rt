@@ -7,7 +7,7 @@ use duct_rows::starts::Way;
 use std::alloc::Global;
 use std::test::Fail;
 
-/// Trees that have each kind of request.
+/// Trees that have each kind of request, and two with a hook that refuses its command.
 pub(crate) const LAUNCHED: &[&str] = &[
     "a",
     "a stdin_path=i stdout_path=o stderr_path=e",
@@ -19,6 +19,8 @@ pub(crate) const LAUNCHED: &[&str] = &[
     "a stdout_to_stderr b stderr_to_stdout pipe unchecked",
     "./x before_spawn=in>0+out>1,1,2 dir=/in b pipe",
     "a stdin_file=1 b stdout_file=2 pipe env=A,1",
+    "./x before_spawn=in>0+out>1+refuse:Other,1,2 dir=/in b pipe",
+    "a b before_spawn=x before_spawn=refuse_word:b:PermissionDenied pipe",
 ];
 
 /// Trees that are started by a reader.
