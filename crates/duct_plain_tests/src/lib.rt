@@ -7,6 +7,4 @@ mod build;
 #[cfg(test)]
 mod checker;
 #[cfg(test)]
-mod dice;
-#[cfg(test)]
 mod random;

@@ -1,12 +1,12 @@
 //! The core against the plain programs, on random trees of up to six commands and random events.
 use crate::build::{OTHER, command, done, pipe};
-use crate::dice::Dice;
 use duct_base::status::{Core, Drains, Event, Reply, Shape, Word};
 use duct_base::system::{ExitStatus, Fault, Said, Side};
 use duct_plain::count::{commands_in, inputs_in};
 use duct_plain::latest::latest_of_command;
 use duct_plain::outcome::{Outcome, outcome_of_events};
 use duct_plain::winner::winner;
+use duct_rows::dice::Dice;
 use std::alloc::{AllocError, Global};
 use std::process::Abort;
 use std::test::Fail;

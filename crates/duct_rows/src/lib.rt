@@ -4,14 +4,15 @@
 
 pub mod checks;
 mod children;
+pub mod dice;
 pub mod expressions;
 mod hooks;
 pub mod journals;
 pub mod rows;
 pub mod scenes;
-mod starts;
+pub mod starts;
 mod streams;
 pub mod texts;
-mod told;
+pub mod told;
 mod traces;
 pub mod words;

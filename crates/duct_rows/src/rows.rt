@@ -158,8 +158,8 @@ fn start_text(alloc: Global, start: &Start, key: &str, text: &str) -> Result<Str
     let entries = start.bench.sys.journal();
     match key {
         "trace" => Ok(trace_text(alloc, entries)?),
-        "answers" => Ok(answer_text(alloc, start)?),
-        "pool" => Ok(pool_text(alloc, start)?),
+        "answers" => Ok(answer_text(alloc, &start.answer)?),
+        "pool" => Ok(pool_text(alloc, &start.bench.pool)?),
         "calls" => Ok(calls_text(alloc, start)?),
         "lent" => Ok(lent_text(alloc, entries)?),
         _ => Ok(most_text(alloc, entries, text)?),

@@ -62,7 +62,7 @@ pub struct Bench {
 pub const FIRST: u64 = 100;
 
 /// How many calls the log keeps.
-const CALLS: usize = 64;
+pub const CALLS: usize = 512;
 
 /// The system and the pool of a scene.
 pub fn bench_of(alloc: Global, scene: Scene) -> Result<Bench, Fail> {

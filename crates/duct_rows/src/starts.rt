@@ -1,14 +1,16 @@
 //! Starts of expressions over the scripted system, what came of them, and what has to hold of each.
 use crate::checks::followed;
 use crate::expressions::{Tree, written};
-use crate::scenes::{Bench, FIRST, Scene, bench_of};
+use crate::scenes::{Bench, CALLS, FIRST, Scene, bench_of};
 use crate::texts::TestPlan;
 use duct::tree::{Modifier, Node};
-use duct::{Entry, Error, Numbered, Running, System};
+use duct::{Entry, Error, Numbered, Place, Running, System};
 use duct_follows::causes::{answers_last_fault, has_cause};
 use duct_plain::checker::{held, is_balanced};
 use duct_plan::plan::{plan, plan_of_reader};
 use duct_script::calls::{Call, CallLog};
+use duct_script::child::ScriptChild;
+use duct_script::job::{ScriptDrain, ScriptFeed};
 use duct_script::system::Script;
 use std::alloc::{AllocError, Global};
 use std::test::Fail;
@@ -104,13 +106,25 @@ fn answered_by_reader(
 
 fn parts_of(alloc: Global, running: Running<Script>) -> Result<Runs, AllocError> {
     let (children, feeds, drains) = running.into_parts();
-    let children = numbers(alloc, children.as_slice())?;
-    let feeds = numbers(alloc, feeds.as_slice())?;
-    let drains = numbers(alloc, drains.as_slice())?;
+    runs_of(
+        alloc,
+        children.as_slice(),
+        feeds.as_slice(),
+        drains.as_slice(),
+    )
+}
+
+/// What runs, of these children, input workers and capture workers.
+pub fn runs_of(
+    alloc: Global,
+    children: &[Place<ScriptChild>],
+    feeds: &[ScriptFeed],
+    drains: &[ScriptDrain],
+) -> Result<Runs, AllocError> {
     Ok(Runs {
-        children,
-        feeds,
-        drains,
+        children: numbers(alloc, children)?,
+        feeds: numbers(alloc, feeds)?,
+        drains: numbers(alloc, drains)?,
     })
 }
 
@@ -144,6 +158,7 @@ fn runs_in(alloc: Global, entries: &[Entry]) -> Result<Runs, AllocError> {
 fn is_right(alloc: Global, tree: &Tree, way: Way, start: &Start) -> Result<(), Fail> {
     let entries = start.bench.sys.journal();
     let bound = deepest(tree.root()).saturating_mul(2).saturating_add(12);
+    right(start.calls.1 <= CALLS as u64, "the log was too short")?;
     right(is_balanced(alloc, entries)?, "an end was not spent once")?;
     right(
         most_held(alloc, entries)? <= bound,

@@ -1,11 +1,12 @@
 //! What came of a start over the scripted system, in words.
 use crate::scenes::FIRST;
-use crate::starts::{Start, most_held};
+use crate::starts::{Runs, Start, most_held};
 use crate::streams::push_origin;
-use duct::{CommandSpec, Entry, Error, Stdio, System};
+use duct::{CommandSpec, Entry, Error, Pool, Stdio, System};
 use duct_follows::stops::fault_of;
 use duct_plain::checker::{origin, trace};
 use duct_script::calls::Call;
+use duct_script::child::ScriptChild;
 use duct_script::requests::Sort;
 use std::alloc::{AllocError, Global};
 
@@ -127,8 +128,8 @@ fn push_variables(text: &mut String, spec: &CommandSpec) -> Result<(), Error> {
 }
 
 /// How many children and workers run, or the text of the error.
-pub fn answer_text(alloc: Global, start: &Start) -> Result<String, AllocError> {
-    match &start.answer {
+pub fn answer_text(alloc: Global, answer: &Result<Runs, Error>) -> Result<String, AllocError> {
+    match answer {
         Ok(runs) => {
             let (children, feeds) = (runs.children.len(), runs.feeds.len());
             let drains = runs.drains.len();
@@ -139,8 +140,7 @@ pub fn answer_text(alloc: Global, start: &Start) -> Result<String, AllocError> {
 }
 
 /// How many children the pool keeps, was given, found ended, and lost.
-pub fn pool_text(alloc: Global, start: &Start) -> Result<String, AllocError> {
-    let pool = &start.bench.pool;
+pub fn pool_text(alloc: Global, pool: &Pool<ScriptChild>) -> Result<String, AllocError> {
     let (len, given) = (pool.len(), pool.given());
     let (reaped, lost) = (pool.reaped(), pool.lost());
     format!(in alloc; "len {len}, given {given}, reaped {reaped}, lost {lost}")

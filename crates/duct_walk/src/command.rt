@@ -1,0 +1,109 @@
+//! A command: its canonical name, its streams, its hooks, and its spawn.
+use crate::context::{Context, Goes, Variables};
+use crate::hooks::change;
+use crate::made::Made;
+use crate::requests::spawn;
+use duct_base::error::Error;
+use duct_base::exe::asks_canonical;
+use duct_base::pool::{Pool, Seat, place_new, seat_new};
+use duct_base::spec::{CommandSpec, Port, Stream, spec_of};
+use duct_base::system::{Side, System};
+use duct_script::child::ScriptChild;
+use duct_script::system::Script;
+use std::alloc::Global;
+use std::mem::replace;
+
+/// Starts the command of these words inside of this.
+pub(crate) fn command(
+    words: &[String],
+    mut context: Context<'_>,
+    sys: &mut Script,
+    pool: &mut Pool<ScriptChild>,
+    made: &mut Made,
+) -> Result<(), Error> {
+    pool.sweep();
+    match ready(words, &mut context, sys) {
+        Ok((seat, spec)) => {
+            let child = spawn(sys, spec, context)?;
+            made.children.push(place_new(child, seat))?;
+            Ok(())
+        }
+        Err(error) => {
+            context.close(sys);
+            Err(error)
+        }
+    }
+}
+
+// The place of a command's child, and its spec once its hooks ran.
+fn ready(
+    words: &[String],
+    context: &mut Context<'_>,
+    sys: &mut Script,
+) -> Result<(Seat<ScriptChild>, CommandSpec), Error> {
+    let alloc = *context.hooks.allocator();
+    let seat = seat_new(alloc)?;
+    let words = named(alloc, words, context.folder, sys)?;
+    find(&mut context.output, Stream::Out, sys)?;
+    find(&mut context.error, Stream::Err, sys)?;
+    let mut spec = asked(alloc, words, context)?;
+    let hooks = replace(&mut context.hooks, Vec::new(alloc));
+    for (hook, ends) in hooks.iter() {
+        change(hook, ends, sys, &mut spec, context)?;
+    }
+    Ok((seat, spec))
+}
+
+// The words of a command, the program by its canonical name where that is to be asked.
+fn named(
+    alloc: Global,
+    words: &[String],
+    folder: Option<&str>,
+    sys: &mut Script,
+) -> Result<Vec<String>, Error> {
+    let mut named = Vec::new(alloc);
+    for word in words {
+        if named.is_empty() && asks_canonical(word.as_str(), folder.is_some()) {
+            named.push(sys.canonicalize(word.as_str())?)?;
+        } else {
+            named.push(word.clone()?)?;
+        }
+    }
+    Ok(named)
+}
+
+// Gets the parent's stream for a stream that goes to the other one.
+fn find(goes: &mut Goes, stream: Stream, sys: &mut Script) -> Result<(), Error> {
+    let side = match (&*goes, stream) {
+        (Goes::Parents(Stream::Out), Stream::Err) => Side::Out,
+        (Goes::Parents(Stream::Err), Stream::Out) => Side::Err,
+        (Goes::Parents(_) | Goes::Nothing | Goes::End(_), _) => return Ok(()),
+    };
+    *goes = Goes::End(sys.parent(side)?);
+    Ok(())
+}
+
+// The spec that a command is asked for.
+fn asked(
+    alloc: Global,
+    words: Vec<String>,
+    context: &mut Context<'_>,
+) -> Result<CommandSpec, Error> {
+    let folder = match context.folder {
+        Some(folder) => Some(String::from_str(alloc, folder)?),
+        None => None,
+    };
+    let variables = replace(&mut context.variables, Variables::new(alloc));
+    let input = port(&context.input);
+    let output = port(&context.output);
+    let error = port(&context.error);
+    Ok(spec_of(words, folder, variables, input, output, error))
+}
+
+fn port(goes: &Goes) -> Port {
+    match goes {
+        Goes::Parents(_) => Port::Inherit,
+        Goes::Nothing => Port::Null,
+        Goes::End(_) => Port::Given,
+    }
+}

@@ -1,0 +1,158 @@
+//! What a node stands inside of. The walk passes it inwards: it owns its ends, and each side of a pipe has one of its own.
+use crate::requests::close;
+use duct_base::error::Error;
+use duct_base::names::EnvNameString;
+use duct_base::spec::Stream;
+use duct_base::system::System;
+use duct_script::hook::ScriptHook;
+use duct_script::system::{Script, ScriptEnd};
+use std::alloc::{AllocError, Global};
+use std::collections::BTreeMap;
+use std::mem::replace;
+
+/// Where a stream goes.
+#[derive(Drop)]
+pub(crate) enum Goes {
+    /// To this stream of the parent.
+    Parents(Stream),
+    Nothing,
+    End(ScriptEnd),
+}
+
+/// The variables of a child.
+pub(crate) type Variables = BTreeMap<EnvNameString, String>;
+
+/// A hook, with the ends beside it.
+pub(crate) type Hooked<'t> = (&'t ScriptHook, &'t [ScriptEnd]);
+
+/// What a node stands inside of.
+#[derive(Drop)]
+pub(crate) struct Context<'t> {
+    pub input: Goes,
+    pub output: Goes,
+    pub error: Goes,
+    pub folder: Option<&'t str>,
+    pub variables: Variables,
+    /// The outermost first.
+    pub hooks: Vec<Hooked<'t>>,
+}
+
+impl<'t> Context<'t> {
+    /// What the root stands inside of, where the parent's environment has these pairs.
+    pub(crate) fn root(
+        alloc: Global,
+        pairs: Vec<(String, String)>,
+    ) -> Result<Context<'t>, AllocError> {
+        let mut variables = Variables::new(alloc);
+        for (name, value) in pairs {
+            variables.insert(EnvNameString::from(name), value)?;
+        }
+        Ok(Context {
+            input: Goes::Parents(Stream::In),
+            output: Goes::Parents(Stream::Out),
+            error: Goes::Parents(Stream::Err),
+            folder: None,
+            variables,
+            hooks: Vec::new(alloc),
+        })
+    }
+
+    /// Lets a stream go there. What it had is closed.
+    pub(crate) fn turn(&mut self, stream: Stream, goes: Goes, sys: &mut Script) {
+        let had = match stream {
+            Stream::In => replace(&mut self.input, goes),
+            Stream::Out => replace(&mut self.output, goes),
+            Stream::Err => replace(&mut self.error, goes),
+        };
+        let_go(had, sys);
+    }
+
+    /// Lets stdout go where stderr goes.
+    pub(crate) fn output_to_error(&mut self, sys: &mut Script) -> Result<(), Error> {
+        let goes = copy(&self.error, sys)?;
+        self.turn(Stream::Out, goes, sys);
+        Ok(())
+    }
+
+    /// Lets stderr go where stdout goes.
+    pub(crate) fn error_to_output(&mut self, sys: &mut Script) -> Result<(), Error> {
+        let goes = copy(&self.output, sys)?;
+        self.turn(Stream::Err, goes, sys);
+        Ok(())
+    }
+
+    /// Gives a variable a value. The spelling that is there is kept.
+    pub(crate) fn set(&mut self, name: &EnvNameString, value: &String) -> Result<(), AllocError> {
+        let (name, value) = (name.clone()?, value.clone()?);
+        self.variables.insert(name, value)?;
+        Ok(())
+    }
+
+    /// Takes a variable away.
+    pub(crate) fn unset(&mut self, name: &EnvNameString) {
+        self.variables.remove(name);
+    }
+
+    /// Opens a pipe, and answers what its left side stands inside of. This becomes what its right side stands inside of.
+    pub(crate) fn fork(&mut self, sys: &mut Script) -> Result<Context<'t>, Error> {
+        let variables = self.variables.clone()?;
+        let hooks = Vec::from_slice(*self.hooks.allocator(), self.hooks.as_slice())?;
+        let (reader, writer) = sys.pipe()?;
+        let mut left = Context {
+            input: replace(&mut self.input, Goes::End(reader)),
+            output: Goes::End(writer),
+            error: Goes::Nothing,
+            folder: self.folder,
+            variables,
+            hooks,
+        };
+        match copy(&self.error, sys) {
+            Ok(error) => {
+                left.error = error;
+                Ok(left)
+            }
+            Err(error) => {
+                left.close(sys);
+                Err(error)
+            }
+        }
+    }
+
+    /// Closes all that it has.
+    pub(crate) fn close(self, sys: &mut Script) {
+        let_go(self.input, sys);
+        let_go(self.output, sys);
+        let_go(self.error, sys);
+    }
+}
+
+fn let_go(goes: Goes, sys: &mut Script) {
+    match goes {
+        Goes::Parents(_) | Goes::Nothing => {}
+        Goes::End(end) => close(sys, end),
+    }
+}
+
+/// To a file that is opened to be read.
+pub(crate) fn opened(path: &str, sys: &mut Script) -> Result<Goes, Error> {
+    Ok(Goes::End(sys.open_read(path)?))
+}
+
+/// To a file that is made.
+pub(crate) fn created(path: &str, sys: &mut Script) -> Result<Goes, Error> {
+    Ok(Goes::End(sys.create(path)?))
+}
+
+/// To one more of this end.
+pub(crate) fn lent(end: &ScriptEnd, sys: &mut Script) -> Result<Goes, Error> {
+    Ok(Goes::End(sys.duplicate(end)?))
+}
+
+// One more that goes there.
+fn copy(goes: &Goes, sys: &mut Script) -> Result<Goes, Error> {
+    match goes {
+        Goes::Parents(stream) => Ok(Goes::Parents(*stream)),
+        Goes::Nothing => Ok(Goes::Nothing),
+        Goes::End(end) => lent(end, sys),
+    }
+}

@@ -1,0 +1,57 @@
+//! What a hook changes.
+use crate::context::{Context, Goes};
+use duct_base::error::Error;
+use duct_base::spec::{CommandSpec, Hook, Port, Stream, give};
+use duct_base::system::System;
+use duct_script::hook::ScriptHook;
+use duct_script::system::{Script, ScriptEnd};
+
+/// Runs a hook: it changes the spec, and then each stream goes where the spec says.
+pub(crate) fn change(
+    hook: &ScriptHook,
+    ends: &[ScriptEnd],
+    sys: &mut Script,
+    spec: &mut CommandSpec,
+    context: &mut Context<'_>,
+) -> Result<(), Error> {
+    if let Err(fault) = hook.change(spec) {
+        return Err(Error::Hook(fault));
+    }
+    for stream in [Stream::In, Stream::Out, Stream::Err] {
+        is_there(spec.port(stream), ends)?;
+    }
+    for stream in [Stream::In, Stream::Out, Stream::Err] {
+        settle(stream, ends, sys, spec, context)?;
+    }
+    Ok(())
+}
+
+// Refused where a port names no end of these.
+fn is_there(port: Port, ends: &[ScriptEnd]) -> Result<(), Error> {
+    match port {
+        Port::Place(place) if place >= ends.len() => Err(Error::HookEnd(place)),
+        Port::Place(_) | Port::Inherit | Port::Null | Port::Given => Ok(()),
+    }
+}
+
+// Turns a stream to where the spec says.
+fn settle(
+    stream: Stream,
+    ends: &[ScriptEnd],
+    sys: &mut Script,
+    spec: &mut CommandSpec,
+    context: &mut Context<'_>,
+) -> Result<(), Error> {
+    let goes = match spec.port(stream) {
+        Port::Given => return Ok(()),
+        Port::Inherit => Goes::Parents(stream),
+        Port::Null => Goes::Nothing,
+        Port::Place(place) => {
+            let end = sys.duplicate(ends.get(place).ok_or(Error::HookEnd(place))?)?;
+            give(spec, stream);
+            Goes::End(end)
+        }
+    };
+    context.turn(stream, goes, sys);
+    Ok(())
+}

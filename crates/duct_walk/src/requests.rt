@@ -1,0 +1,79 @@
+//! The requests that are given ends. The interface wants room for their entries, which was made as the ends were got: so none of
+//! these is refused for want of it.
+ghost use Rattle.std.specs.Prelude.{◌≡◌, []};
+ghost use Rattle.duct_system.specs.Streams.{end_of};
+
+use crate::context::{Context, Goes};
+use duct_base::error::Error;
+use duct_base::spec::CommandSpec;
+use duct_base::system::{Fault, Kind, Stdio, System};
+use duct_script::child::ScriptChild;
+use duct_script::job::{ScriptDrain, ScriptFeed};
+use duct_script::reader::ScriptReader;
+use duct_script::system::{Script, ScriptEnd};
+use std::sync::Arc;
+
+pub(crate) fn close(sys: &mut Script, end: ScriptEnd) {
+    if sys.room() > 0 {
+        sys.close(end);
+    }
+}
+
+pub(crate) fn spawn(
+    sys: &mut Script,
+    spec: CommandSpec,
+    context: Context<'_>,
+) -> Result<ScriptChild, Error> {
+    let (input, output, error) = (context.input, context.output, context.error);
+    if sys.room() > 0 {
+        return Ok(sys.spawn(spec, [stream(input), stream(output), stream(error)])?);
+    }
+    Ok(sys.spawn(spec, [endless(input), endless(output), endless(error)])?)
+}
+
+fn stream(goes: Goes) -> Stdio<ScriptEnd> {
+    match goes {
+        Goes::Parents(_) => Stdio::Inherit,
+        Goes::Nothing => Stdio::Null,
+        Goes::End(end) => Stdio::End(end),
+    }
+}
+
+// The same of what is no end.
+fn endless(goes: Goes) -> Stdio<ScriptEnd>
+    ensures { end_of result ≡ [] }
+{
+    match goes {
+        Goes::Parents(_) => Stdio::Inherit,
+        Goes::Nothing | Goes::End(_) => Stdio::Null,
+    }
+}
+
+pub(crate) fn feed(
+    sys: &mut Script,
+    end: ScriptEnd,
+    bytes: Arc<Vec<u8>>,
+) -> Result<ScriptFeed, Error> {
+    if sys.room() == 0 {
+        return Err(no_room());
+    }
+    Ok(sys.start_feed(end, bytes)?)
+}
+
+pub(crate) fn drain(sys: &mut Script, end: ScriptEnd) -> Result<ScriptDrain, Error> {
+    if sys.room() == 0 {
+        return Err(no_room());
+    }
+    Ok(sys.start_drain(end)?)
+}
+
+pub(crate) fn reader(sys: &mut Script, end: ScriptEnd) -> Result<ScriptReader, Error> {
+    if sys.room() == 0 {
+        return Err(no_room());
+    }
+    Ok(sys.reader(end))
+}
+
+fn no_room() -> Error {
+    Error::System(Fault::new(Kind::OutOfMemory))
+}

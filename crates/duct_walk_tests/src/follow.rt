@@ -1,0 +1,76 @@
+//! Starts by the library go as every start has to, which the tables of rows check: on chosen trees with a fault at each request
+//! in turn, and on random trees, with one at a random request.
+use crate::agree::{LAUNCHED, READ};
+use crate::cases::{Case, case_of, case_with};
+use duct::{Fault, Kind};
+use duct_rows::dice::Dice;
+use duct_rows::scenes::{Scene, bench_of};
+use duct_rows::starts::{Way, started_tree};
+use std::alloc::Global;
+use std::test::Fail;
+
+/// Starts a case where the request of this number is refused, which counts all. Answers how many requests there were.
+fn follows(alloc: Global, case: &Case, refused: u64) -> Result<u64, Fail> {
+    let mut bench = bench_of(alloc, case.scene)?;
+    bench.sys.refuse(refused, Fault::new(Kind::NotFound))?;
+    let start = started_tree(alloc, &case.tree, case.way, bench)?;
+    Ok(start.bench.sys.requests())
+}
+
+fn follows_each(alloc: Global, expression: &str, way: Way) -> Result<(), Fail> {
+    let expression = String::from_str(alloc, expression)?;
+    let case = case_with(alloc, expression, way, Scene::plain())?;
+    for refused in 0..follows(alloc, &case, 0)? {
+        let _ = follows(alloc, &case, refused.saturating_add(1))?;
+    }
+    Ok(())
+}
+
+fn follow_each(alloc: Global, expressions: &[&str], way: Way) -> Result<(), Fail> {
+    for expression in expressions {
+        follows_each(alloc, expression, way)?;
+    }
+    Ok(())
+}
+
+#[test]
+fn each_request_is_refused_in_turn(rt: HostRuntime) -> Result<(), Fail> {
+    follow_each(rt.alloc(), LAUNCHED, Way::Launched)?;
+    follow_each(rt.alloc(), READ, Way::Read)
+}
+
+/// Starts the random case of a seed, without fault and with one at a random request.
+fn follows_random(alloc: Global, seed: u64) -> Result<(), Fail> {
+    let case = case_of(alloc, seed)?;
+    let requests = follows(alloc, &case, 0)?;
+    let refused = Dice::new(seed).roll(requests).saturating_add(1);
+    let _ = follows(alloc, &case, refused)?;
+    Ok(())
+}
+
+fn follow_random(alloc: Global, first: u64, count: u64) -> Result<(), Fail> {
+    for seed in first..first.saturating_add(count) {
+        follows_random(alloc, seed)?;
+    }
+    Ok(())
+}
+
+#[test]
+fn the_first_500_random_starts(rt: HostRuntime) -> Result<(), Fail> {
+    follow_random(rt.alloc(), 1000, 500)
+}
+
+#[test]
+fn the_second_500_random_starts(rt: HostRuntime) -> Result<(), Fail> {
+    follow_random(rt.alloc(), 1500, 500)
+}
+
+#[test]
+fn the_third_500_random_starts(rt: HostRuntime) -> Result<(), Fail> {
+    follow_random(rt.alloc(), 2000, 500)
+}
+
+#[test]
+fn the_last_500_random_starts(rt: HostRuntime) -> Result<(), Fail> {
+    follow_random(rt.alloc(), 2500, 500)
+}

@@ -1,0 +1,12 @@
+//! Tests of starts by a second body, the plain walk: over chosen trees with a fault at each entry, and over random ones. Random
+//! trees beside the definitions of a start, too.
+#![tactic(auto)]
+
+#[cfg(test)]
+mod agree;
+#[cfg(test)]
+mod bodies;
+#[cfg(test)]
+mod cases;
+#[cfg(test)]
+mod follow;
