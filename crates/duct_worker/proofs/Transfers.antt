@@ -16,12 +16,12 @@ pub writes_more : (a b c : Option (List ℕ)) (bytes done rest : List ℕ) (take
     → (more : List ℕ) × (bytes ≡ more ++ take (length rest - taken) (drop taken rest))
     × Appends a c more
 writes_more a b c bytes done rest taken split before now = (
-      done ++ take taken rest,
-      split ∙ ap (λ l. done ++ l) (sym (take-append-drop taken rest))
+  done ++ take taken rest,
+  split ∙ ap (λ l. done ++ l) (sym (take-append-drop taken rest))
       ∙ sym (append_assoc done (take taken rest) (drop taken rest))
       ∙ ap (λ l. (done ++ take taken rest) ++ l) (sym (take_rest rest taken)),
-      Appends-trans a b c _ _ before now,
-    )
+  Appends-trans a b c _ _ before now,
+)
 
 -- where so much was done and no more, a front was written
 pub front_so_far : (a b c : Option (List ℕ)) (bytes done rest : List ℕ)

@@ -100,9 +100,14 @@ where
         (λ fault. (fault.kind ≡ OutOfMemory) ⊎ (fault.kind ≡ Other)) }
 {
     let (place, theirs) = two_owners(alloc)?;
-    let started = thread::spawn(rt, move || requires { F.pre work } {
-        let _ = theirs.try_set(work());
-    });
+    let started = thread::spawn(
+        rt,
+        move ||
+            requires { F.pre work }
+        {
+            let _ = theirs.try_set(work());
+        },
+    );
     if started.is_err() {
         return Err(Fault::new(Kind::Other));
     }
@@ -112,7 +117,13 @@ where
 /// An empty place for a result, with two owners.
 fn two_owners<T: Drop>(
     alloc: Global,
-) -> Result<(Arc<OnceLock<Result<T, Fault>>>, Arc<OnceLock<Result<T, Fault>>>), Fault>
+) -> Result<
+    (
+        Arc<OnceLock<Result<T, Fault>>>,
+        Arc<OnceLock<Result<T, Fault>>>,
+    ),
+    Fault,
+>
     ensures { IfErr result (λ fault. fault.kind ≡ OutOfMemory) }
 {
     let refused = Fault::new(Kind::OutOfMemory);

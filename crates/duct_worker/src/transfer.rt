@@ -96,11 +96,7 @@ pub fn drain<R: Read>(alloc: Global, reader: &mut R) -> Result<Vec<u8>, Fault>
 }
 
 /// One read into the list behind the bytes that are filled. What stands behind the answered count more is room for a later read.
-fn read_block<R: Read>(
-    reader: &mut R,
-    bytes: &mut Vec<u8>,
-    filled: usize,
-) -> Result<usize, Fault>
+fn read_block<R: Read>(reader: &mut R, bytes: &mut Vec<u8>, filled: usize) -> Result<usize, Fault>
     requires { filled ≤ vec_len bytes.old }
     ensures within { filled ≤ vec_len bytes.new }
     ensures front { take filled bytes.new.items ≡ take filled bytes.old.items }

@@ -7,7 +7,7 @@ returns-in-Ok g c = (Ok tt, c.in-Ok.ensures.whole, refl)
 
 pub returns-in-Err : goal.returns-in-Err
 returns-in-Err g c = (
-      Err (error_kind c.in-Err.error),
-      (c.in-Err.ensures.front, c.in-Err.ensures.retried),
-      c.fault_of_write.ensures,
-    )
+  Err (error_kind c.in-Err.error),
+  (c.in-Err.ensures.front, c.in-Err.ensures.retried),
+  c.fault_of_write.ensures,
+)

@@ -25,10 +25,10 @@ pub loop-preserved : goal.loop-preserved
 loop-preserved g c =
     let (done, split, before) = c.loop.invariant in
     elim c.match-write.branch [
-      in-Ok w ↦
+      | in-Ok w ↦
           let more = writes_more _ _ _ _ done _ w.in-Ok.taken split before w.in-Ok.ensures.bytes in
           rw (ap (λ r. r.now) w.rest-is) more
-    | in-Err+else-not-is_interrupted w ↦
+      | in-Err+else-not-is_interrupted w ↦
           rw (ap (λ r. r.now) w.rest-is)
           (done, split, Appends-kept _ _ _ done before w.in-Err.ensures.bytes)
     ]
