@@ -25,7 +25,7 @@ fn shared(alloc: Global, count: usize) -> Result<Arc<Vec<u8>>, Fail> {
 }
 
 /// What a worker comes to.
-fn heard<J: Job>(rt: &impl Clock, worker: &mut J) -> Result<Result<J::Result, Fault>, Fail> {
+pub fn heard<J: Job>(rt: &impl Clock, worker: &mut J) -> Result<Result<J::Result, Fault>, Fail> {
     for _ in 0..TURNS {
         match worker.poll() {
             Said::Running => thread::sleep(rt, Duration::from_millis(1)),
@@ -119,6 +119,21 @@ fn through_a_pipe<R: Threads + Files + Clock>(
 fn two_workers_of_a_pipe(rt: HostRuntime) -> Result<(), Fail> {
     let gate = Gate::new(rt.alloc())?;
     through_a_pipe(&rt, rt.alloc(), &gate)
+}
+
+/// A reader of so many zeros.
+#[derive(Drop)]
+pub struct Zeros {
+    pub left: usize,
+}
+
+impl Read for Zeros {
+    fn read(&mut self, buf: &mut [u8]) -> io::Result<usize> {
+        let count = self.left.min(buf.len());
+        buf[..count].fill(0);
+        self.left -= count;
+        Ok(count)
+    }
 }
 
 /// A writer and a reader that fail.
