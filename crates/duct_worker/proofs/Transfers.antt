@@ -1,5 +1,5 @@
 -- Lemmas on what was written and read so far, one step at a time.
-use Rattle.std.proofs.Common.{◌≡◌, ℕ, ◌+◌, ◌-◌, ◌≤◌, List, ◌++◌, IfOk, length, take, drop, sym, ap, subst, ◌∙◌, append_assoc, take-append-drop, take-add, take-take, drop_at, arith}
+use Rattle.std.proofs.Common.{◌≡◌, ℕ, ◌+◌, ◌-◌, List, ◌++◌, IfOk, length, take, drop, sym, ap, subst, ◌∙◌, append_assoc, take-append-drop, take-add, drop_at}
 use lib.Seq.{take-append-le}
 use Rattle.std.proofs.KnownBytes.{Appends-trans, Appends-kept, Consumes-trans}
 use Rattle.std.proofs.lemmas.List.{take_rest}

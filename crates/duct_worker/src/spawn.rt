@@ -6,7 +6,7 @@ ghost use Rattle.duct_worker.specs.WorkerView.{worker_view};
 
 use crate::shared::Shared;
 use crate::transfer::{drain, feed};
-use crate::worker::Worker;
+use crate::worker::{Left, Worker};
 use duct_system::system::{Fault, Kind};
 use std::alloc::Global;
 use std::io::{Read, Write};
@@ -99,7 +99,7 @@ where
     ensures err { IfErr result
         (λ fault. (fault.kind ≡ OutOfMemory) ⊎ (fault.kind ≡ Other)) }
 {
-    let (place, theirs) = two_owners(alloc)?;
+    let (left, theirs) = two_owners(alloc)?;
     let started = thread::spawn(
         rt,
         move ||
@@ -111,27 +111,19 @@ where
     if started.is_err() {
         return Err(Fault::new(Kind::Other));
     }
-    Ok(Worker::new(number, place))
+    Ok(Worker::new(number, left))
 }
 
-/// An empty place for a result, with two owners.
-fn two_owners<T: Drop>(
-    alloc: Global,
-) -> Result<
-    (
-        Arc<OnceLock<Result<T, Fault>>>,
-        Arc<OnceLock<Result<T, Fault>>>,
-    ),
-    Fault,
->
+/// An empty place for a result, by two owners of it.
+fn two_owners<T: Drop>(alloc: Global) -> Result<(Left<T>, Left<T>), Fault>
     ensures { IfErr result (λ fault. fault.kind ≡ OutOfMemory) }
 {
     let refused = Fault::new(Kind::OutOfMemory);
-    let Ok(place) = Arc::new(alloc, OnceLock::new()) else {
+    let Ok(left) = Arc::new(alloc, OnceLock::new()) else {
         return Err(refused);
     };
-    match Arc::try_clone(&place) {
-        Ok(theirs) => Ok((place, theirs)),
+    match Arc::try_clone(&left) {
+        Ok(theirs) => Ok((left, theirs)),
         Err(_) => Err(refused),
     }
 }

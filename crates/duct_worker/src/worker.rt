@@ -9,12 +9,15 @@ use duct_system::system::{Fault, Job, Numbered, Said};
 use std::snapshot::Snapshot;
 use std::sync::{Arc, OnceLock};
 
+/// Where a thread leaves its result, for all who ask.
+pub(crate) type Left<T> = Arc<OnceLock<Result<T, Fault>>>;
+
 /// A worker on a thread of its own, with what it said. Where it is let go, its thread goes on to its end.
 #[derive(Drop)]
 pub struct Worker<T: Shared> {
     number: u64,
     polls: u64,
-    place: Arc<OnceLock<Result<T, Fault>>>,
+    left: Left<T>,
     said: Said<T>,
     kept: Snapshot<Said<T>>,
     ghost same_word: { word_of T.bytes_of said ≡ word_of T.bytes_of kept.value },
@@ -23,8 +26,8 @@ pub struct Worker<T: Shared> {
 impl<T: Shared> Worker<T> {
     ghost use Rattle.duct_worker.specs.WorkerView.{worker_view};
 
-    /// The worker of this number whose thread leaves its result in this place, before anybody asks it.
-    pub(crate) fn new(number: u64, place: Arc<OnceLock<Result<T, Fault>>>) -> Worker<T>
+    /// The worker of this number whose thread leaves its result there, before anybody asks it.
+    pub(crate) fn new(number: u64, left: Left<T>) -> Worker<T>
         ensures { worker_view result ≡ unpolled_job number }
     {
         let said = Said::Running;
@@ -32,7 +35,7 @@ impl<T: Shared> Worker<T> {
         Worker {
             number,
             polls: 0,
-            place,
+            left,
             said,
             kept,
         }
@@ -69,7 +72,7 @@ impl<T: Shared> Job for Worker<T> {
         if !is_running(&self.said) {
             return said_again(&self.said).unwrap_or(Said::Running);
         }
-        let Some(answer) = look(&self.place) else {
+        let Some(answer) = look(&self.left) else {
             return Said::Running;
         };
         let Some(said) = said_again(&answer) else {
@@ -82,8 +85,8 @@ impl<T: Shared> Job for Worker<T> {
 }
 
 /// What the thread left so far. It is none where one more owner of its result is refused.
-fn look<T: Shared>(place: &OnceLock<Result<T, Fault>>) -> Option<Said<T>> {
-    match place.get() {
+fn look<T: Shared>(left: &OnceLock<Result<T, Fault>>) -> Option<Said<T>> {
+    match left.get() {
         None => Some(Said::Running),
         Some(Ok(value)) => Some(Said::Done(value.share()?)),
         Some(Err(fault)) => Some(Said::Fault(*fault)),
