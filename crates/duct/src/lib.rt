@@ -35,6 +35,12 @@ pub use duct_base::error::Error;
 pub use duct_base::system::{ExitStatus, Output};
 pub use duct_running::running::Running;
 
+// What a worker does, and workers on threads of their own.
+pub use duct_worker::shared::Shared;
+pub use duct_worker::spawn::{spawn_drain, spawn_feed};
+pub use duct_worker::transfer::{drain, feed};
+pub use duct_worker::worker::Worker;
+
 // How an expression ended, by what its commands and workers said.
 pub use duct_base::status::{Core, Drains, Event, Reply, Shape, Word};
 

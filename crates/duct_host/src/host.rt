@@ -12,18 +12,20 @@ use crate::fault::{ask, no_memory};
 use crate::parents::Parents;
 use crate::reader::Reader;
 use crate::spawn::{all_wired, count_of_ends, start};
-use crate::worker::{DrainWorker, FeedWorker};
 use duct_base::journal::Journal;
 use duct_base::spec::CommandSpec;
 use duct_base::system::{Entry, Fault, Kind, Numbered, Side, Stdio, System};
+use duct_worker::spawn::{spawn_numbered_drain, spawn_numbered_feed};
+use duct_worker::worker::Worker;
 use std::alloc::{AllocError, Global};
 use std::fs::File;
 use std::io::{PipeReader, PipeWriter};
 use std::marker::Model;
 use std::os::fd::OwnedFd;
-use std::process::Processes;
+use std::process::{ChildStdin, ChildStdout, Processes};
 use std::rt::{Env, Files};
 use std::sync::Arc;
+use std::thread::Threads;
 use std::{io, process};
 
 /// A system over the runtime `R`, with its journal. It owns none of the ends that it gives: who has one closes it.
@@ -191,8 +193,35 @@ impl<R: Processes + Files<File = File> + Env + Parents + Clone + Drop> Host<R> {
     }
 }
 
+impl<R: Threads> Host<R> {
+    ghost use Rattle.duct_system.specs.Job.{unpolled_job};
+    ghost use Rattle.duct_worker.specs.WorkerView.{worker_view};
+
+    /// Starts a worker that writes the bytes to the end and closes it. Where it is refused the end is closed, and nothing was
+    /// written.
+    fn new_feed(&self, end: End, bytes: &Arc<Vec<u8>>) -> Result<Worker<()>, Fault>
+        ensures { IfOk result (λ worker. worker_view worker ≡ unpolled_job end) }
+    {
+        let number = end.number();
+        let Ok(theirs) = Arc::try_clone(bytes) else {
+            return Err(no_memory());
+        };
+        let writer = ChildStdin::from(end.into_descriptor());
+        spawn_numbered_feed(&self.rt, self.alloc, number, writer, theirs)
+    }
+
+    /// Starts a worker that reads the end to its end and closes it. Where it is refused the end is closed, and nothing was read.
+    fn new_drain(&self, end: End) -> Result<Worker<Arc<Vec<u8>>>, Fault>
+        ensures { IfOk result (λ worker. worker_view worker ≡ unpolled_job end) }
+    {
+        let number = end.number();
+        let reader = ChildStdout::from(end.into_descriptor());
+        spawn_numbered_drain(&self.rt, self.alloc, number, reader)
+    }
+}
+
 /// What the machine may give by a reader is left open.
-impl<R: Processes + Files<File = File> + Env + Parents + Clone + Drop> System for Host<R> {
+impl<R: Processes + Files<File = File> + Env + Parents + Threads + Clone + Drop> System for Host<R> {
     ghost use Rattle.std.specs.Prelude.{◌≤◌, length, map, min, Ok, Err, IfOk, IfErr};
     ghost use Rattle.std.proofs.Common.{lit<};
     ghost use Rattle.duct_system.specs.Child.{IsUnasked};
@@ -205,9 +234,9 @@ impl<R: Processes + Files<File = File> + Env + Parents + Clone + Drop> System fo
 
     type Child = Child<R>;
 
-    type Feed = FeedWorker;
+    type Feed = Worker<()>;
 
-    type Drain = DrainWorker;
+    type Drain = Worker<Arc<Vec<u8>>>;
 
     type Reader = Reader;
 
@@ -354,19 +383,32 @@ impl<R: Processes + Files<File = File> + Env + Parents + Clone + Drop> System fo
         }
     }
 
-    fn start_feed(&mut self, end: End, bytes: Arc<Vec<u8>>) -> Result<FeedWorker, Fault> {
-        let fault = Fault::new(Kind::Unsupported);
-        self.journal
-            .add(Entry::Feed(end.number(), bytes, Err(fault)));
-        drop(end);
-        Err(fault)
+    fn start_feed(&mut self, end: End, bytes: Arc<Vec<u8>>) -> Result<Worker<()>, Fault> {
+        let number = end.number();
+        match self.new_feed(end, &bytes) {
+            Ok(worker) => {
+                self.journal.add(Entry::Feed(number, bytes, Ok(())));
+                Ok(worker)
+            }
+            Err(fault) => {
+                self.journal.add(Entry::Feed(number, bytes, Err(fault)));
+                Err(fault)
+            }
+        }
     }
 
-    fn start_drain(&mut self, end: End) -> Result<DrainWorker, Fault> {
-        let fault = Fault::new(Kind::Unsupported);
-        self.journal.add(Entry::Drain(end.number(), Err(fault)));
-        drop(end);
-        Err(fault)
+    fn start_drain(&mut self, end: End) -> Result<Worker<Arc<Vec<u8>>>, Fault> {
+        let number = end.number();
+        match self.new_drain(end) {
+            Ok(worker) => {
+                self.journal.add(Entry::Drain(number, Ok(())));
+                Ok(worker)
+            }
+            Err(fault) => {
+                self.journal.add(Entry::Drain(number, Err(fault)));
+                Err(fault)
+            }
+        }
     }
 
     fn reader(&mut self, end: End) -> Reader {

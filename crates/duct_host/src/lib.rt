@@ -9,4 +9,3 @@ pub mod host;
 pub mod parents;
 pub mod reader;
 pub mod spawn;
-pub mod worker;

@@ -2,8 +2,8 @@
 //! each of which has a host of its own. A line is a request, or what stands round requests in a test; an end is named by its
 //! number, and a child is the last one. `says` has what was said so far.
 //!
-//! - `pipe`, `open_read f`, `create f`, `duplicate 3`, `parent out`, `canonicalize ./x`, `feed 2`, `drain 1`, `close 1`, and
-//!   `clear`, which empties the journal.
+//! - `pipe`, `open_read f`, `create f`, `duplicate 3`, `parent out`, `canonicalize ./x`, `close 1`, and `clear`, which empties the
+//!   journal. `feed 2` starts a worker that writes `xyz`, `drain 1` one that reads; they say what it comes to.
 //! - `spawn null 2 inherit (/bin/echo,a b)` has the words of a command in brackets, and none without them. `folder /in` and
 //!   `variables A=1,B=2` are those of the commands that follow. Then `poll`, `kill`, `signal 15`, and `ending`, which waits for the
 //!   child's end and says how it ended.
@@ -19,23 +19,26 @@
 //! a line feed.
 
 use crate::held::{Held, taken};
-use crate::support::{Started, command, ending, open_descriptors, place, same, say, story, tell};
+use crate::support::{
+    Real, command, ending, open_descriptors, own_id, place, same, say, story, tell,
+};
 use duct_base::system::{Child, Numbered, System};
+use duct_host::child;
 use duct_host::end::End;
 use std::alloc::{AllocError, Global};
 use std::fs::{File, Permissions};
 use std::io::Write;
 use std::os::unix::fs::PermissionsExt;
 use std::test::Fail;
-use std::{fs, io, process};
+use std::{fs, io};
 
 /// A host with its ends, the ends that it adopted, the last child, and what was said so far.
 #[derive(Drop)]
-struct Bench {
-    rt: HostRuntime,
-    held: Held,
+struct Bench<R: Real> {
+    rt: R,
+    held: Held<R>,
     adopted: Vec<End>,
-    child: Option<Started>,
+    child: Option<child::Child<R>>,
     folder: String,
     variables: String,
     said: String,
@@ -43,19 +46,19 @@ struct Bench {
 }
 
 /// Tries all rows of a table.
-pub fn rows(rt: &HostRuntime, table: &str) -> Result<(), Fail> {
-    let place = place(rt, rt.process(), "")?;
+pub fn rows<R: Real>(rt: &R, table: &str) -> Result<(), Fail> {
+    let place = place(rt, "")?;
     for row in table.split("\n\n") {
         try_row(rt, place.as_str(), row)?;
     }
     Ok(())
 }
 
-fn try_row(rt: &HostRuntime, place: &str, row: &str) -> Result<(), Fail> {
+fn try_row<R: Real>(rt: &R, place: &str, row: &str) -> Result<(), Fail> {
     new_bench(rt)?.lines(place, row)
 }
 
-fn new_bench(rt: &HostRuntime) -> Result<Bench, Fail> {
+fn new_bench<R: Real>(rt: &R) -> Result<Bench<R>, Fail> {
     let alloc = rt.alloc();
     let opened = open_descriptors(rt)?;
     let own = rt.clone()?;
@@ -90,7 +93,7 @@ pub fn first_word(text: &str) -> (&str, &str) {
     text.split_once(' ').unwrap_or((text, ""))
 }
 
-impl Bench {
+impl<R: Real> Bench<R> {
     fn lines(&mut self, place: &str, row: &str) -> Result<(), Fail> {
         for line in row.trim().lines() {
             self.fill(place, line.trim())?;
@@ -99,7 +102,7 @@ impl Bench {
     }
 
     fn fill(&mut self, place: &str, line: &str) -> Result<(), Fail> {
-        let id = process::id(self.rt.process());
+        let id = own_id(&self.rt)?;
         let line = filled(self.rt.alloc(), line, place, id)?;
         self.line(line.as_str())
     }
@@ -121,7 +124,7 @@ impl Bench {
     }
 
     fn ask(&mut self, word: &str, rest: &str) -> Result<(), Fail> {
-        if self.held.ask(word, rest, &mut self.said)? {
+        if self.held.ask(&self.rt, word, rest, &mut self.said)? {
             return Ok(());
         }
         Ok(arrange(&self.rt, word, rest)?)
@@ -233,9 +236,9 @@ fn id_in(text: &str) -> Option<u32> {
 }
 
 /// Asks a child.
-fn order(
-    rt: &HostRuntime,
-    child: &mut Started,
+fn order<R: Real>(
+    rt: &R,
+    child: &mut child::Child<R>,
     word: &str,
     rest: &str,
     said: &mut String,
@@ -249,7 +252,7 @@ fn order(
 }
 
 /// Waits for a child's end, over which its names stay.
-fn end(rt: &HostRuntime, child: &mut Started, said: &mut String) -> Result<(), Fail> {
+fn end<R: Real>(rt: &R, child: &mut child::Child<R>, said: &mut String) -> Result<(), Fail> {
     let names = (child.number(), child.id());
     let status = ending(rt, child)?;
     let are_kept = (child.number(), child.id()) == names;
@@ -261,7 +264,7 @@ fn end(rt: &HostRuntime, child: &mut Started, said: &mut String) -> Result<(), F
 }
 
 /// The ends of a new pipe with a text in it.
-fn adopted_pipe(rt: &HostRuntime, held: &mut Held, text: &str) -> Result<(End, End), Fail> {
+fn adopted_pipe<R: Real>(rt: &R, held: &mut Held<R>, text: &str) -> Result<(End, End), Fail> {
     let (reader, mut writer) = io::pipe(rt)?;
     writer.write_all(text.as_bytes())?;
     let read = held.host.adopt_reader(reader)?;
@@ -270,13 +273,13 @@ fn adopted_pipe(rt: &HostRuntime, held: &mut Held, text: &str) -> Result<(End, E
 }
 
 /// An end of a file.
-fn adopted_file(rt: &HostRuntime, held: &mut Held, path: &str) -> Result<End, Fail> {
+fn adopted_file<R: Real>(rt: &R, held: &mut Held<R>, path: &str) -> Result<End, Fail> {
     let file = File::open(rt, path)?;
     Ok(held.host.adopt_file(file)?)
 }
 
 /// Changes files.
-pub fn arrange(rt: &HostRuntime, word: &str, rest: &str) -> io::Result<()> {
+pub fn arrange<R: Real>(rt: &R, word: &str, rest: &str) -> io::Result<()> {
     let (path, more) = first_word(rest);
     match word {
         "write" => fs::write(rt, path, more),

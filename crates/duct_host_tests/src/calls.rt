@@ -1,6 +1,6 @@
 //! Each call of the host once, with its answer and its entry.
 use crate::asks::rows;
-use crate::support::{Machine, same};
+use crate::support::{Real, same};
 use duct_base::system::{Entry, System};
 use duct_host::host::Host;
 use std::alloc::{AllocError, Global};
@@ -34,25 +34,29 @@ fn entries_of(alloc: Global, pairs: &[(String, String)]) -> Result<String, Alloc
 }
 
 /// The entries that this process was started with.
-fn started_with(rt: &HostRuntime) -> Result<String, Fail> {
+fn started_with<R: Real>(rt: &R) -> Result<String, Fail> {
     let environ = fs::read(rt, "/proc/self/environ")?;
     Ok(readable(rt.alloc(), environ.as_slice())?)
 }
 
 /// Fails unless a host has just answered these variables, and has noted them.
-fn answers(host: &Machine, pairs: &[(String, String)], expected: &str) -> Result<(), Fail> {
+fn answers<R: Real>(
+    host: &Host<R>,
+    pairs: &[(String, String)],
+    expected: &str,
+) -> Result<(), Fail> {
     let text = entries_of(host.allocator(), pairs)?;
     same((text.as_str(), noted(host)), (expected, Some(pairs)))
 }
 
 /// Fails unless a host answers these entries as its environment.
-fn has_environment(host: &mut Machine, expected: &str) -> Result<(), Fail> {
+fn has_environment<R: Real>(host: &mut Host<R>, expected: &str) -> Result<(), Fail> {
     let pairs = host.environment()?;
     answers(host, pairs.as_slice(), expected)
 }
 
 /// The variables of a journal whose only entry has some.
-fn noted(host: &Machine) -> Option<&[(String, String)]> {
+fn noted<R: Real>(host: &Host<R>) -> Option<&[(String, String)]> {
     match host.journal() {
         [Entry::Environment(Ok(pairs))] => Some(pairs.as_slice()),
         _ => None,
@@ -67,7 +71,8 @@ fn the_environment_is_the_parents(rt: HostRuntime) -> Result<(), Fail> {
 }
 
 /// A pipe carries what a child writes, and a duplicate writes to the same pipe; a file is emptied, written and read; a canonical
-/// name follows links; numbers go on after the journal is emptied; workers are refused.
+/// name follows links; numbers go on after the journal is emptied; a worker writes and
+/// another reads to the end, a pipe that nobody reads ends a writer well, and an end that can't be written or read is a fault.
 #[test]
 fn requests(rt: HostRuntime) -> Result<(), Fail> {
     rows(
@@ -117,7 +122,17 @@ fn requests(rt: HostRuntime) -> Result<(), Fail> {
         feed 2
         drain 1
         journal
-        says (1, 2); Unsupported; Unsupported; Pipe Ok((1, 2)); Feed 2 Err(Fault { kind: Unsupported }); Drain 1 Err(Fault { kind: Unsupported });
+        says (1, 2); (); "xyz"; Pipe Ok((1, 2)); Feed 2 Ok(()); Drain 1 Ok(());
+
+        pipe
+        close 1
+        feed 2
+        says (1, 2); ();
+
+        pipe
+        feed 1
+        drain 2
+        says (1, 2); Other; Other;
         "#,
     )
 }

@@ -1,10 +1,11 @@
 //! Children: their endings, and what kills and signals do to them.
 use crate::asks::rows;
+use crate::support::Real;
 use std::test::Fail;
 
 /// Fails unless a sleeping child, which each signal would end, goes on until it is sent this one, and then ends by it. It is there
 /// once it has said so.
-fn ends_by(rt: &HostRuntime, signal: i32) -> Result<(), Fail> {
+fn ends_by<R: Real>(rt: &R, signal: i32) -> Result<(), Fail> {
     let table = format!(in rt.alloc();
         "
         pipe

@@ -22,7 +22,7 @@ fn a_child_gets_no_descriptor_above_2(rt: HostRuntime) -> Result<(), Fail> {
     )
 }
 
-/// Ends that are closed leave nothing open, nor do ends that a child gets, ends of refused workers, adopted ends that are dropped,
+/// Ends that are closed leave nothing open, nor do ends that a child gets, ends of workers that are done, adopted ends that are dropped,
 /// and signals.
 #[test]
 fn nothing_stays_open(rt: HostRuntime) -> Result<(), Fail> {
@@ -63,7 +63,7 @@ fn nothing_stays_open(rt: HostRuntime) -> Result<(), Fail> {
         feed 2
         drain 1
         opened
-        says (1, 2); Unsupported; Unsupported; Some(0);
+        says (1, 2); (); "xyz"; Some(0);
 
         adopt_pipe
         adopt_file /dev/null

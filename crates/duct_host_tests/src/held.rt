@@ -2,25 +2,27 @@
 ghost use Rattle.std.specs.Prelude.{◌≡◌, ◌+◌, ◌≤◌, [], ◌∷◌, length, vec_len, IfOk, OnOk, OnErr};
 ghost use Rattle.duct_system.specs.Streams.{ends_of};
 
-use crate::support::{Machine, Started, same, say, tell, text_of};
+use crate::support::{Real, heard, same, say, tell, text_of};
 use duct_base::spec::CommandSpec;
 use duct_base::system::{Fault, Numbered, Side, Stdio, System};
+use duct_host::child::Child;
 use duct_host::end::End;
 use duct_host::host::Host;
 use std::io::Read;
+use std::rt::Clock;
 use std::sync::Arc;
 use std::test::Fail;
 
 /// A host, and the ends that it gave and that aren't spent. There is room for the entry of each.
 #[derive(Drop)]
-pub struct Held {
-    pub host: Machine,
+pub struct Held<R> {
+    pub host: Host<R>,
     pub ends: Vec<End>,
     ghost roomy: { vec_len ends ≤ host.room },
 }
 
-impl Held {
-    pub fn new(rt: HostRuntime) -> Held {
+impl<R: Real> Held<R> {
+    pub fn new(rt: R) -> Held<R> {
         let alloc = rt.alloc();
         Held {
             host: Host::new(rt, alloc),
@@ -38,7 +40,13 @@ impl Held {
     }
 
     /// Asks the host for what this word says, and answers whether it says a request.
-    pub fn ask(&mut self, word: &str, rest: &str, said: &mut String) -> Result<bool, Fail> {
+    pub fn ask(
+        &mut self,
+        rt: &impl Clock,
+        word: &str,
+        rest: &str,
+        said: &mut String,
+    ) -> Result<bool, Fail> {
         match word {
             "pipe" => self.pipe(said)?,
             "open_read" => self.open_read(rest, said)?,
@@ -46,20 +54,13 @@ impl Held {
             "parent" => self.parent(side(rest)?, said)?,
             "canonicalize" => self.canonicalize(rest, said)?,
             "clear" => self.host.clear_journal(),
-            "duplicate" | "feed" | "drain" | "close" => self.ask_with(word, rest.parse()?, said)?,
+            "feed" => self.feed(rt, rest.parse()?, said)?,
+            "drain" => self.drain(rt, rest.parse()?, said)?,
+            "duplicate" => self.duplicate(rest.parse()?, said)?,
+            "close" => self.close(rest.parse()?)?,
             _ => return Ok(false),
         }
         Ok(true)
-    }
-
-    /// Asks what has an end.
-    fn ask_with(&mut self, word: &str, number: u64, said: &mut String) -> Result<(), Fail> {
-        match word {
-            "duplicate" => self.duplicate(number, said),
-            "feed" => self.feed(number, said),
-            "drain" => self.drain(number, said),
-            _ => self.close(number),
-        }
     }
 
     fn pipe(&mut self, said: &mut String) -> Result<(), Fail> {
@@ -108,18 +109,23 @@ impl Held {
         tell(said, &answer)
     }
 
-    fn feed(&mut self, number: u64, said: &mut String) -> Result<(), Fail> {
+    /// Starts a worker that writes `xyz`, and says what it comes to.
+    fn feed(&mut self, rt: &impl Clock, number: u64, said: &mut String) -> Result<(), Fail> {
         let alloc = self.host.allocator();
         let bytes = Arc::new(alloc, Vec::from_slice(alloc, b"xyz")?)?;
         let end = taken(&mut self.ends, number)?;
-        let answer = self.host.start_feed(end, bytes).map(drop);
-        tell(said, &answer)
+        let mut worker = self.host.start_feed(end, bytes)?;
+        tell(said, &heard(rt, &mut worker)?)
     }
 
-    fn drain(&mut self, number: u64, said: &mut String) -> Result<(), Fail> {
+    /// Starts a worker that reads, and says what it comes to, as text.
+    fn drain(&mut self, rt: &impl Clock, number: u64, said: &mut String) -> Result<(), Fail> {
         let end = taken(&mut self.ends, number)?;
-        let answer = self.host.start_drain(end).map(drop);
-        tell(said, &answer)
+        let mut worker = self.host.start_drain(end)?;
+        match heard(rt, &mut worker)? {
+            Ok(bytes) => tell_bytes(said, bytes.as_slice()),
+            Err(fault) => say(said, &fault.kind),
+        }
     }
 
     fn close(&mut self, number: u64) -> Result<(), Fail> {
@@ -143,9 +149,17 @@ impl Held {
         same(&line, b"ready\n")
     }
 
-    pub fn spawn(&mut self, spec: CommandSpec, io: &str) -> Result<Result<Started, Fault>, Fail> {
+    pub fn spawn(&mut self, spec: CommandSpec, io: &str) -> Result<Result<Child<R>, Fault>, Fail> {
         let io = streams(&mut self.ends, io)?;
         Ok(self.host.spawn(spec, io))
+    }
+}
+
+/// Says bytes as text.
+fn tell_bytes(said: &mut String, bytes: &[u8]) -> Result<(), Fail> {
+    match str::from_utf8(bytes) {
+        Ok(text) => say(said, &text),
+        Err(_) => say(said, &bytes.len()),
     }
 }
 

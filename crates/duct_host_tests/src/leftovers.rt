@@ -114,9 +114,9 @@ fn refused_at_once(rt: HostRuntime) -> Result<(), Fail> {
     )
 }
 
-/// The host serves no workers yet.
+/// A start that is refused behind a capture and an input: their pipes are closed, and the child before it gets no input.
 #[test]
-fn refused_workers(rt: HostRuntime) -> Result<(), Fail> {
+fn refused_with_workers(rt: HostRuntime) -> Result<(), Fail> {
     rows(
         &rt,
         "workers-",
@@ -124,6 +124,10 @@ fn refused_workers(rt: HostRuntime) -> Result<(), Fail> {
         adopt_pipe
         command /bin/cat
         .stdin_file 1
+        command /no-such-program
+        .stdin_bytes text
+        pipe
+        .stderr_capture
         .stdout_capture
         runs
         opened
@@ -133,22 +137,7 @@ fn refused_workers(rt: HostRuntime) -> Result<(), Fail> {
         sweep
         opened
         children
-        says system: Unsupported; Some(1); Some(1); (1, 1, 0, 0); Some(0); Some(0);
-
-        adopt_pipe
-        command /bin/cat
-        .stdin_file 1
-        .stdin_bytes text
-        .stderr_capture
-        runs
-        opened
-        children
-        pool
-        drop 2
-        sweep
-        opened
-        children
-        says system: Unsupported; Some(1); Some(1); (1, 1, 0, 0); Some(0); Some(0);
+        says system: NotFound; Some(1); Some(1); (1, 1, 0, 0); Some(0); Some(0);
         "#,
     )
 }

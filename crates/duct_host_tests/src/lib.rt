@@ -21,3 +21,5 @@ mod starts;
 mod support;
 #[cfg(test)]
 mod trees;
+#[cfg(test)]
+mod workers;

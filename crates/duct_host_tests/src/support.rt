@@ -1,23 +1,43 @@
 //! What the tests share: commands, waiting, journals as texts, and the descriptors of this process.
 use duct_base::names::EnvNameString;
 use duct_base::spec::{CommandSpec, Port, spec_of};
-use duct_base::system::{Child, Entry, ExitStatus, Fault};
-use duct_host::host::Host;
+use duct_base::system::{Child, Entry, ExitStatus, Fault, Job, Said};
+use duct_host::parents::Parents;
 use std::alloc::{AllocError, Global};
 use std::collections::BTreeMap;
 use std::fmt::{Debug, Write};
+use std::fs::File;
 use std::io::Read;
-use std::process::{self, Process};
+use std::process::Processes;
 use std::rt::{Clock, Env, Files};
 use std::test::Fail;
+use std::thread::Threads;
 use std::time::Duration;
 use std::{env, fs, io, thread};
 
-/// A host of the tests.
-pub type Machine = Host<HostRuntime>;
+/// The runtime of a test, as what a host and the tests beside it ask of it.
+pub trait Real: Processes
+    + Files<File = File>
+    + Env
+    + Parents
+    + Threads
+    + Clock
+    + AllocGlobal
+    + Clone
+    + Drop {}
 
-/// A child of the tests.
-pub type Started = duct_host::child::Child<HostRuntime>;
+impl<R> Real for R
+where
+    R: Processes
+        + Files<File = File>
+        + Env
+        + Parents
+        + Threads
+        + Clock
+        + AllocGlobal
+        + Clone
+        + Drop,
+{}
 
 /// Fails where a value is not the expected one.
 pub fn same<T: PartialEq + Debug + Drop>(found: T, expected: T) -> Result<(), Fail> {
@@ -106,6 +126,18 @@ pub fn ending<C: Child>(rt: &impl Clock, child: &mut C) -> Result<ExitStatus, Fa
     Err(Fail::new("the child goes on"))
 }
 
+/// What a worker comes to, which is polled for half a minute at most.
+pub fn heard<J: Job>(rt: &impl Clock, worker: &mut J) -> Result<Result<J::Result, Fault>, Fail> {
+    for _ in 0..30_000 {
+        match worker.poll() {
+            Said::Running => thread::sleep(rt, Duration::from_millis(1)),
+            Said::Done(done) => return Ok(Ok(done)),
+            Said::Fault(fault) => return Ok(Err(fault)),
+        }
+    }
+    Err(Fail::new("the worker goes on"))
+}
+
 /// All that is read from an end, as text.
 pub fn text_of<R: Read>(alloc: Global, mut reader: R) -> Result<String, Fail>
 where
@@ -182,9 +214,16 @@ pub fn open_descriptors<R: Files + Alloc + Clone>(rt: &R) -> io::Result<usize> {
     Ok(count)
 }
 
+/// The number of this process.
+pub fn own_id<R: Files + AllocGlobal>(rt: &R) -> Result<u32, Fail> {
+    let folder = fs::canonicalize(rt, "/proc/self")?.into_string();
+    let (_, id) = folder.as_str().rsplit_once('/').unwrap_or(("", ""));
+    Ok(id.parse()?)
+}
+
 /// The path of a file for a test of this process.
-pub fn place<R: Env + AllocGlobal>(rt: &R, process: Process, name: &str) -> Result<String, Fail> {
+pub fn place<R: Files + Env + AllocGlobal>(rt: &R, name: &str) -> Result<String, Fail> {
     let folder = env::temp_dir(rt)?.into_string();
-    let id = process::id(process);
+    let id = own_id(rt)?;
     Ok(format!(in rt.alloc(); "{folder}/duct_host-{id}-{name}")?)
 }

@@ -4,11 +4,12 @@
 //! - `command /bin/echo,a b` makes a command, whose words commas part, and `pipe` one expression of the last two. A line with a
 //!   dot is a call on the last expression, as `.stdout_path f`, `.env A 1`, `.full_env A=1,B=2` or `.stdin_file 1`.
 //!   `.connect out 2` is a hook that lets stdout go to the end 2 beside it, and `.connect out` names an end that is not there.
-//!   `.captured` gives stdout to a pipe that the test reads.
+//!   `.captured` gives stdout to a pipe that the test reads. `.stdin_bytes text` has a text as input, and `.stdin_zeros 9` so many
+//!   zeros.
 //! - `adopt_pipe` adopts both ends of a pipe, `adopt_file f` a file that is there, and `adopt_new f` a new one: their numbers begin
 //!   with 1. `drop 2` drops one.
 //! - `runs` starts the last expression, drops it, reads the pipe of `.captured` to its end, and polls until there is an answer. It
-//!   says the answer, and what was read.
+//!   says the answer with what was captured, and what was read.
 //! - `asked` says the canonical names that were asked for. `file f` says the text of a file, and removes the file. `opened` and
 //!   `children` say how many descriptors and children there are more than at first.
 //! - `pool` says how many children the pool keeps, was given, found ended and lost; `sweep` sweeps it until it is empty.
@@ -17,22 +18,22 @@
 
 use crate::asks::{arrange, filled, first_word};
 use crate::held::taken;
-use crate::support::{Machine, Started, open_descriptors, place, same, say};
+use crate::support::{Real, open_descriptors, own_id, place, same, say};
 use duct::{
     CommandSpec, Entry, Error, Expression, Fault, Hook, Output, Pool, Port, Running, Stream,
     System, cmd,
 };
+use duct_host::child::Child;
 use duct_host::end::End;
 use duct_host::host::Host;
 use std::alloc::Global;
 use std::fmt::Write;
 use std::fs::{self, File};
 use std::io::{self, PipeReader};
-use std::rt::Clock;
 use std::sync::Arc;
 use std::test::Fail;
+use std::thread;
 use std::time::Duration;
-use std::{process, thread};
 
 /// A hook that lets a stream go to the first end beside it.
 #[derive(Drop)]
@@ -61,10 +62,10 @@ type Tree = Expression<End, Connect>;
 
 /// A host with a pool, the expressions and the ends that are not used yet, and what was said so far.
 #[derive(Drop)]
-struct Stage {
-    rt: HostRuntime,
-    host: Machine,
-    pool: Pool<Started>,
+struct Stage<R: Real> {
+    rt: R,
+    host: Host<R>,
+    pool: Pool<Child<R>>,
     built: Vec<Tree>,
     ends: Vec<End>,
     captured: Option<PipeReader>,
@@ -74,19 +75,19 @@ struct Stage {
 }
 
 /// Tries all rows of a table. The files of one test begin with its name.
-pub fn rows(rt: &HostRuntime, test: &str, table: &str) -> Result<(), Fail> {
-    let place = place(rt, rt.process(), test)?;
+pub fn rows<R: Real>(rt: &R, test: &str, table: &str) -> Result<(), Fail> {
+    let place = place(rt, test)?;
     for row in table.split("\n\n") {
         try_row(rt, place.as_str(), row)?;
     }
     Ok(())
 }
 
-fn try_row(rt: &HostRuntime, place: &str, row: &str) -> Result<(), Fail> {
+fn try_row<R: Real>(rt: &R, place: &str, row: &str) -> Result<(), Fail> {
     new_stage(rt)?.lines(place, row)
 }
 
-fn new_stage(rt: &HostRuntime) -> Result<Stage, Fail> {
+fn new_stage<R: Real>(rt: &R) -> Result<Stage<R>, Fail> {
     let alloc = rt.alloc();
     let opened = open_descriptors(rt)?;
     let children = children(rt)?;
@@ -106,12 +107,12 @@ fn new_stage(rt: &HostRuntime) -> Result<Stage, Fail> {
 }
 
 /// How many children this thread has, with those that ended and that nobody has asked since.
-fn children(rt: &HostRuntime) -> io::Result<usize> {
+fn children<R: Real>(rt: &R) -> io::Result<usize> {
     let text = fs::read_to_string(rt, "/proc/thread-self/children")?;
     Ok(text.split_whitespace().count())
 }
 
-impl Stage {
+impl<R: Real> Stage<R> {
     fn lines(&mut self, place: &str, row: &str) -> Result<(), Fail> {
         for line in row.trim().lines() {
             self.fill(place, line.trim())?;
@@ -120,7 +121,7 @@ impl Stage {
     }
 
     fn fill(&mut self, place: &str, line: &str) -> Result<(), Fail> {
-        let id = process::id(self.rt.process());
+        let id = own_id(&self.rt)?;
         let line = filled(self.rt.alloc(), line, place, id)?;
         match line.as_str().strip_prefix('.') {
             Some(call) => self.call(call),
@@ -307,6 +308,7 @@ fn with_end(inner: &Tree, call: &str, end: End) -> Result<Tree, Error> {
 fn with_text(alloc: Global, inner: &Tree, call: &str, text: &str) -> Result<Tree, Fail> {
     let made = match call {
         "stdin_bytes" => inner.stdin_bytes(Vec::from_slice(alloc, text.as_bytes())?),
+        "stdin_zeros" => inner.stdin_bytes(vec![in alloc; 0; text.parse()?]?),
         "stdin_path" => inner.stdin_path(text),
         "stdout_path" => inner.stdout_path(text),
         "stderr_path" => inner.stderr_path(text),
@@ -351,7 +353,7 @@ fn bare(inner: &Tree, call: &str) -> Result<Tree, Fail> {
 }
 
 /// The answer of what runs, which is polled for half a minute at most, and is then spent.
-fn finished(rt: &impl Clock, mut running: Running<Machine>) -> Result<Option<Arc<Output>>, Error> {
+fn finished<R: Real>(rt: &R, mut running: Running<Host<R>>) -> Result<Option<Arc<Output>>, Error> {
     let mut answer = running.poll();
     for _ in 0..30_000 {
         if !matches!(answer, Ok(None)) {
@@ -375,9 +377,22 @@ fn drained(alloc: Global, reader: Option<PipeReader>) -> io::Result<Option<Strin
 /// Says how an expression ended, or why it did not.
 fn tell_answer(said: &mut String, answer: Result<Option<Arc<Output>>, Error>) -> Result<(), Fail> {
     match answer {
-        Ok(Some(output)) => say(said, &output.status),
+        Ok(Some(output)) => {
+            say(said, &output.status)?;
+            tell_captured(said, "out", output.stdout.as_slice())?;
+            tell_captured(said, "err", output.stderr.as_slice())
+        }
         Ok(None) => Err(Fail::new("the commands go on")),
         Err(error) => Ok(write!(said, "{error}; ")?),
+    }
+}
+
+/// Says what was captured, if it is anything: a text, and of a long one how long it is.
+fn tell_captured(said: &mut String, stream: &str, bytes: &[u8]) -> Result<(), Fail> {
+    match str::from_utf8(bytes) {
+        Ok("") => Ok(()),
+        Ok(text) if text.len() <= 200 => Ok(write!(said, "{stream} {text:?}; ")?),
+        _ => Ok(write!(said, "{stream} {}; ", bytes.len())?),
     }
 }
 
@@ -391,7 +406,7 @@ fn tell_text(said: &mut String, text: Option<String>) -> Result<(), Fail> {
 }
 
 /// Sweeps a pool until it is empty, for half a minute at most.
-fn sweep(rt: &impl Clock, pool: &mut Pool<Started>) -> Result<(), Fail> {
+fn sweep<R: Real>(rt: &R, pool: &mut Pool<Child<R>>) -> Result<(), Fail> {
     for _ in 0..30_000 {
         pool.sweep();
         if pool.len() == 0 {

@@ -11,6 +11,7 @@ use std::io::Write;
 use std::process::Processes;
 use std::rt::{Env, Files};
 use std::sync::Wait;
+use std::thread::Threads;
 
 /// The command of these words. A host's ends are of type `End`.
 fn command(alloc: Global, program: &str, args: &[String]) -> Result<Expression<End>, Error> {
@@ -34,7 +35,7 @@ fn wait<S: System, W: Wait>(rt: &W, running: &mut Running<S>) -> Result<(), Erro
 }
 
 /// Starts the command and waits for its end.
-fn run<W: Wait, R: Processes + Files<File = File> + Env + Parents + Clone + Drop>(
+fn run<W: Wait, R: Processes + Files<File = File> + Env + Parents + Threads + Clone + Drop>(
     rt: &W,
     host: &mut Host<R>,
     program: &str,
@@ -52,7 +53,7 @@ fn run<W: Wait, R: Processes + Files<File = File> + Env + Parents + Clone + Drop
 /// Does the program's work: all arguments are the words of one command, which has the program's own streams. Answers the
 /// program's status: 0 where the command succeeded; 1 after an error, whose text is written to `err` behind `host: `; 2
 /// where there are no words, which `err` is told too; and 1 where a write to `err` fails.
-pub fn perform<W: Wait, R: Processes + Files<File = File> + Env + Parents + Clone + Drop>(
+pub fn perform<W: Wait, R: Processes + Files<File = File> + Env + Parents + Threads + Clone + Drop>(
     rt: &W,
     host: &mut Host<R>,
     args: &[String],

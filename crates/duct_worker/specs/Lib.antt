@@ -1,0 +1,3 @@
+pub mod Transfer
+pub mod Word
+pub mod WorkerView

@@ -1,0 +1,12 @@
+-- What contracts see of a worker.
+use Rattle.duct_system.specs.Job.{JobView}
+use Rattle.duct_worker.specs.declared.shared.Shared.{Ghosts}
+use Rattle.duct_worker.specs.declared.worker.Worker.{Worker}
+
+-- a worker, which keeps what it said first
+abbrev pub worker_view : {T : Type 0} {shared : Ghosts T} → Worker T shared → JobView T
+worker_view worker = record {
+  number = worker.number;
+  polls = worker.polls;
+  kept = worker.kept.value;
+}

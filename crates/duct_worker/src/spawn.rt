@@ -1,0 +1,129 @@
+//! Workers are started on threads of their own.
+ghost use Rattle.std.specs.Prelude.{◌≡◌, ◌⊎◌, IfOk, IfErr};
+ghost use Rattle.duct_system.specs.Job.{unpolled_job};
+ghost use Rattle.duct_system.specs.declared.system.Kind.TheVariants.{OutOfMemory, Other};
+ghost use Rattle.duct_worker.specs.WorkerView.{worker_view};
+
+use crate::shared::Shared;
+use crate::transfer::{drain, feed};
+use crate::worker::{Left, Worker};
+use duct_system::system::{Fault, Kind};
+use std::alloc::Global;
+use std::io::{Read, Write};
+use std::sync::{Arc, OnceLock};
+use std::thread;
+use std::thread::Threads;
+
+/// Starts a worker that writes the bytes to the writer as `feed` does, lets the writer go, and says `Done`, or the fault. Its
+/// number is 0. Where there is no memory the answer is `OutOfMemory`, and where no thread can be made `Other`; the writer
+/// is let go then, and nothing was written.
+pub fn spawn_feed<R: Threads, W: Write + Send + Drop + 'static>(
+    rt: &R,
+    alloc: Global,
+    writer: W,
+    bytes: Arc<Vec<u8>>,
+) -> Result<Worker<()>, Fault>
+    ensures ok { IfOk result (λ worker. worker_view worker ≡ unpolled_job 0) }
+    ensures err { IfErr result
+        (λ fault. (fault.kind ≡ OutOfMemory) ⊎ (fault.kind ≡ Other)) }
+{
+    spawn_numbered_feed(rt, alloc, 0, writer, bytes)
+}
+
+/// As `spawn_feed`, with this number.
+pub fn spawn_numbered_feed<R: Threads, W: Write + Send + Drop + 'static>(
+    rt: &R,
+    alloc: Global,
+    number: u64,
+    writer: W,
+    bytes: Arc<Vec<u8>>,
+) -> Result<Worker<()>, Fault>
+    ensures ok { IfOk result (λ worker. worker_view worker ≡ unpolled_job number) }
+    ensures err { IfErr result
+        (λ fault. (fault.kind ≡ OutOfMemory) ⊎ (fault.kind ≡ Other)) }
+{
+    spawn_work(rt, alloc, number, move || {
+        let mut writer = writer;
+        feed(&mut writer, bytes.as_slice())
+    })
+}
+
+/// Starts a worker that reads the reader to its end as `drain` does, lets the reader go, and says the bytes, or the fault. Its
+/// number is 0, and it is refused as `spawn_feed` is; nothing was read then.
+pub fn spawn_drain<R: Threads, S: Read + Send + Drop + 'static>(
+    rt: &R,
+    alloc: Global,
+    reader: S,
+) -> Result<Worker<Arc<Vec<u8>>>, Fault>
+    ensures ok { IfOk result (λ worker. worker_view worker ≡ unpolled_job 0) }
+    ensures err { IfErr result
+        (λ fault. (fault.kind ≡ OutOfMemory) ⊎ (fault.kind ≡ Other)) }
+{
+    spawn_numbered_drain(rt, alloc, 0, reader)
+}
+
+/// As `spawn_drain`, with this number.
+pub fn spawn_numbered_drain<R: Threads, S: Read + Send + Drop + 'static>(
+    rt: &R,
+    alloc: Global,
+    number: u64,
+    reader: S,
+) -> Result<Worker<Arc<Vec<u8>>>, Fault>
+    ensures ok { IfOk result (λ worker. worker_view worker ≡ unpolled_job number) }
+    ensures err { IfErr result
+        (λ fault. (fault.kind ≡ OutOfMemory) ⊎ (fault.kind ≡ Other)) }
+{
+    spawn_work(rt, alloc, number, move || {
+        let mut reader = reader;
+        drained(alloc, &mut reader)
+    })
+}
+
+/// The bytes of a reader, to be shared.
+fn drained<S: Read>(alloc: Global, reader: &mut S) -> Result<Arc<Vec<u8>>, Fault> {
+    let bytes = drain(alloc, reader)?;
+    Arc::new(alloc, bytes).map_err(|_| Fault::new(Kind::OutOfMemory))
+}
+
+/// Starts a thread that does the work, and then keeps what came of it for all who ask.
+fn spawn_work<R: Threads, T: Shared + Send + Sync + 'static, F: FnOnce() -> Result<T, Fault>>(
+    rt: &R,
+    alloc: Global,
+    number: u64,
+    work: F,
+) -> Result<Worker<T>, Fault>
+where
+    F: Send + 'static,
+    requires { F.pre work }
+    ensures ok { IfOk result (λ worker. worker_view worker ≡ unpolled_job number) }
+    ensures err { IfErr result
+        (λ fault. (fault.kind ≡ OutOfMemory) ⊎ (fault.kind ≡ Other)) }
+{
+    let (left, theirs) = two_owners(alloc)?;
+    let started = thread::spawn(
+        rt,
+        move ||
+            requires { F.pre work }
+        {
+            let _ = theirs.try_set(work());
+        },
+    );
+    if started.is_err() {
+        return Err(Fault::new(Kind::Other));
+    }
+    Ok(Worker::new(number, left))
+}
+
+/// An empty place for a result, by two owners of it.
+fn two_owners<T: Drop>(alloc: Global) -> Result<(Left<T>, Left<T>), Fault>
+    ensures { IfErr result (λ fault. fault.kind ≡ OutOfMemory) }
+{
+    let refused = Fault::new(Kind::OutOfMemory);
+    let Ok(left) = Arc::new(alloc, OnceLock::new()) else {
+        return Err(refused);
+    };
+    match Arc::try_clone(&left) {
+        Ok(theirs) => Ok((left, theirs)),
+        Err(_) => Err(refused),
+    }
+}
