@@ -221,7 +221,8 @@ impl<R: Threads> Host<R> {
 }
 
 /// What the machine may give by a reader is left open.
-impl<R: Processes + Files<File = File> + Env + Parents + Threads + Clone + Drop> System for Host<R> {
+impl<R: Processes + Files<File = File> + Env + Parents + Threads + Clone + Drop> System
+    for Host<R> {
     ghost use Rattle.std.specs.Prelude.{◌≤◌, length, map, min, Ok, Err, IfOk, IfErr};
     ghost use Rattle.std.proofs.Common.{lit<};
     ghost use Rattle.duct_system.specs.Child.{IsUnasked};
