@@ -1,5 +1,5 @@
 //! The numbers of the children and the workers of a start, and how they are compared with those of what runs.
-ghost use Rattle.std.specs.Prelude.{◌≡◌, ◌≤◌, [], length, map, vec_capacity, IfOk, IsOkUnless, IsTrue};
+ghost use Rattle.std.specs.Prelude.{◌≡◌, ◌↔◌, ◌≤◌, [], length, map, vec_capacity, IfOk, IsOkUnless, IsTrue};
 ghost use Rattle.std.specs.Option.{option_map};
 ghost use Rattle.duct_running.specs.NumbersView.{numbers_in, numbers_view};
 ghost use Rattle.duct_status.specs.ShapeView.{command_count, input_count, shape_view};
@@ -41,7 +41,7 @@ impl Numbers {
 
     /// Whether these are the same.
     pub fn is_same(&self, other: &Numbers) -> bool
-        ensures { IsTrue result → numbers_view self.now ≡ numbers_view other.now }
+        ensures { IsTrue result ↔ (numbers_view self.now ≡ numbers_view other.now) }
     {
         self.children.as_slice() == other.children.as_slice()
             && self.feeds.as_slice() == other.feeds.as_slice()

@@ -31,6 +31,8 @@ pub struct Running<S: System> {
     pub(crate) feeds: Vec<S::Feed>,
     pub(crate) output: Option<S::Drain>,
     pub(crate) error: Option<S::Drain>,
+    // Whether a command said `Running` at the last poll.
+    busy: bool,
     // Empty, with room for the capture workers, so that `into_parts` takes no memory.
     room: Vec<S::Drain>,
 }
@@ -126,6 +128,7 @@ pub fn running_of<S: System>(
         feeds,
         output,
         error,
+        busy: true,
         room: drains,
     }
 }
@@ -136,6 +139,11 @@ impl<S: System> Running<S> {
         ensures { result.now ≡ map (λ c. c.process) (map S.Child.child_view self.now.children) }
     {
         &self.ids
+    }
+
+    /// Whether a command said `Running` at the last poll, or was not polled yet. No clause says so; tests do.
+    pub fn is_busy(&self) -> bool {
+        self.busy
     }
 
     /// What children and workers store was told of their numbers. It asks nothing.
@@ -162,6 +170,7 @@ impl<S: System> Running<S> {
             feeds,
             output,
             error,
+            busy: _,
             room: mut drains,
         } = self;
         drop((core, ids));
@@ -188,7 +197,15 @@ impl<S: System> Running<S> {
             return;
         }
         let heard = word(self.children[at].poll());
+        self.busy |= heard == Word::Running;
         let _ = self.core.step(Event::Command(at, heard));
+    }
+
+    // Forgets who said `Running`.
+    fn begin_poll(&mut self)
+        ensures { self.new ≡ self.old }
+    {
+        self.busy = false;
     }
 
     // Polls each child that has not ended, once and from left to right.
@@ -314,6 +331,7 @@ impl<S: System> Running<S> {
             → OneRuns S.Child.may_answer S.Feed.may_say S.Drain.may_say
             (numbers_in S.Child.child_view S.Feed.job_view S.Drain.job_view self.new) }
     {
+        self.begin_poll();
         self.ask_children();
         self.ask_feeds();
         self.ask_output();

@@ -1,4 +1,5 @@
-use Rattle.std.proofs.Common.{◌≡◌, arith, map, subst, sym, ◌∙◌}
+use Rattle.std.proofs.Common.{◌≡◌, ap, arith, map, subst, sym, ◌∙◌}
+use Rattle.duct_start.specs.Running.{RunningView}
 use Rattle.std.proofs.lemmas.List.{length-map}
 use Rattle.std.specs.Option.{option_map}
 use Rattle.duct_system.specs.declared.system.Side.TheVariants as side
@@ -10,7 +11,7 @@ use Rattle.duct_running.proofs.Pending.{one_runs}
 use Rattle.duct_running.proofs.running.Running.poll.Goals as goal
 
 pub returns-clause-asked_feeds : goal.returns-clause-asked_feeds
-returns-clause-asked_feeds g c = rw (c.conclude.ensures.feeds, c.ask_error.ensures.feeds, c.ask_output.ensures.feeds, ← c.ask_children.ensures.feeds) c.ask_feeds.ensures.asked
+returns-clause-asked_feeds g c = rw (c.conclude.ensures.feeds, c.ask_error.ensures.feeds, c.ask_output.ensures.feeds, ← (c.ask_children.ensures.feeds ∙ ap (λ (r : RunningView _ _ _). r.feeds) c.begin_poll.ensures)) c.ask_feeds.ensures.asked
 
 pub returns-clause-pending : goal.returns-clause-pending
 returns-clause-pending g c = λ none.
@@ -32,9 +33,9 @@ returns-clause-pending g c = λ none.
     let whole = sym (shapes ∙ c.ask_output.ensures.shape) in
     let Polled = PolledWhere g.S.Drain.Job.may_say g.S.Drain.Job.same g.S.Drain.Job.refusable in
     one_runs g.S.Child.Child.may_answer g.S.Feed.Job.may_say g.S.Feed.Job.same g.S.Feed.Job.refusable g.S.Drain.Job.may_say g.S.Drain.Job.same g.S.Drain.Job.refusable
-    (shape_view now.shape) (map child c.args.self.now.children) (map child now.children) (map feed c.ask_children.new.self.feeds) (map feed now.feeds)
+    (shape_view now.shape) (map child c.begin_poll.new.self.children) (map child now.children) (map feed c.ask_children.new.self.feeds) (map feed now.feeds)
     (option_map drain one.output) (option_map drain now.output) (option_map drain one.error) (option_map drain now.error)
-    (subst (λ cs. AllAsked g.S.Child.Child.may_answer (map child c.args.self.now.children) (map child cs)) first c.ask_children.ensures.asked)
+    (subst (λ cs. AllAsked g.S.Child.Child.may_answer (map child c.begin_poll.new.self.children) (map child cs)) first c.ask_children.ensures.asked)
     (subst (λ fs. AllPolled g.S.Feed.Job.may_say g.S.Feed.Job.same g.S.Feed.Job.refusable (map feed c.ask_children.new.self.feeds) (map feed fs)) second c.ask_feeds.ensures.asked)
     (subst (λ (X : Type 0). X) (λ i. Polled side.Out (awaited (whole i) (stored_latest (map child (third i)) (map feed (second i)) (option_map drain one.output) (option_map drain one.error)))
     (option_map drain one.output) (option_map drain (sym output i))) c.ask_output.ensures.asked)

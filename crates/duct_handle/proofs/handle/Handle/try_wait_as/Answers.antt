@@ -1,0 +1,76 @@
+use Rattle.std.proofs.Common.{Ok, Err, None, ap, subst, sym, ◌∙◌}
+use Rattle.std.proofs.lemmas.Result.{err_from_is_err_and}
+use Rattle.std.specs.Option.{option_map}
+use Rattle.once_cell.specs.Once.{Agrees}
+use Rattle.duct_status.specs.ShapeView.{shape_view}
+use Rattle.duct_running.specs.Answered.{IsAnswer}
+use Rattle.duct_running.specs.NumbersView.{numbers_view}
+use Rattle.duct_running.specs.Told.{OneRuns}
+use Rattle.duct_handle.specs.HandleView.{HandleView, SeenView}
+use Rattle.duct_handle.specs.Waited.{Waited}
+use Rattle.duct_handle.proofs.Sharing.{refused, shared, unknown}
+use Rattle.duct_handle.proofs.handle.Handle.try_wait_as.Goals as goal
+
+pub returns-in-Some : goal.returns-in-Some
+returns-in-Some g c =
+    let may = g.S.Child.Child.may_answer in
+    let feed = g.S.Feed.Job.may_say in
+    let drain = g.S.Drain.Job.may_say in
+    let s = c.share.ensures in
+    let after : SeenView = record { cell = c.get_as.new.note.cell; known = option_map (λ p. record { shape = p.shape; numbers = numbers_view p.numbers; answer = p.answer }) c.get_as.new.note.known } in
+    subst (λ seen. Waited may feed drain c.args.self.now seen after c.share.result) c.seen.view_is
+    (shared may feed drain (λ p. record { shape = p.shape; numbers = numbers_view p.numbers; answer = p.answer }) c.args.self.now c.seen.inside.note.cell c.get_as.new.note.cell c.seen.inside.note.known c.get_as.new.note.known c.in-Some.published.now c.share.result
+    c.in-Some.ensures.value.0 c.in-Some.ensures.value.1 (c.in-Some.ensures.cell ∙ ap (λ (v : SeenView). v.cell) c.seen.view_is ∙ c.requires) s.told s.pending s.knows s.again)
+
+pub returns-in-Some-get_as : goal.returns-in-Some-get_as
+returns-in-Some-get_as g c =
+    let may = g.S.Child.Child.may_answer in
+    let feed = g.S.Feed.Job.may_say in
+    let drain = g.S.Drain.Job.may_say in
+    let s = c.share-in-Some-get_as.ensures in
+    let after : SeenView = record { cell = c.get_as-2.new.note.cell; known = option_map (λ p. record { shape = p.shape; numbers = numbers_view p.numbers; answer = p.answer }) c.get_as-2.new.note.known } in
+    subst (λ seen. Waited may feed drain c.args.self.now seen after c.share-in-Some-get_as.result) c.seen.view_is
+    (shared may feed drain (λ p. record { shape = p.shape; numbers = numbers_view p.numbers; answer = p.answer }) c.args.self.now c.seen.inside.note.cell c.get_as-2.new.note.cell c.seen.inside.note.known c.get_as-2.new.note.known c.in-Some-get_as.published.now c.share-in-Some-get_as.result
+    c.in-Some-get_as.ensures.value.0 (subst (λ o. Agrees o c.in-Some-get_as.published.now) (sym c.in_default.ensures.value.0) tt) (c.in-Some-get_as.ensures.cell ∙ c.in_default.ensures.cell ∙ ap (λ (v : SeenView). v.cell) c.seen.view_is ∙ c.requires) s.told s.pending s.knows s.again)
+
+pub returns : goal.returns
+returns g c =
+    let may = g.S.Child.Child.may_answer in
+    let feed = g.S.Feed.Job.may_say in
+    let drain = g.S.Drain.Job.may_say in
+    let s = c.share-in-Some-get_as-2.ensures in
+    let after : SeenView = record { cell = c.get_as-3.new.note.cell; known = option_map (λ p. record { shape = p.shape; numbers = numbers_view p.numbers; answer = p.answer }) c.get_as-3.new.note.known } in
+    subst (λ seen. Waited may feed drain c.args.self.now seen after c.share-in-Some-get_as-2.result) c.seen.view_is
+    (shared may feed drain (λ p. record { shape = p.shape; numbers = numbers_view p.numbers; answer = p.answer }) c.args.self.now c.seen.inside.note.cell c.get_as-3.new.note.cell c.seen.inside.note.known c.get_as-3.new.note.known c.in-Some-get_as-2.published.now c.share-in-Some-get_as-2.result
+    c.in-Some-get_as-2.ensures.value.0 (subst (λ o. Agrees o c.in-Some-get_as-2.published.now) (sym c.in_default.ensures.value.0) tt) (c.in-Some-get_as-2.ensures.cell ∙ c.set_as.ensures.cell ∙ c.in_default-get_as.ensures.cell ∙ c.in_default.ensures.cell ∙ ap (λ (v : SeenView). v.cell) c.seen.view_is ∙ c.requires) s.told s.pending s.knows s.again)
+
+pub returns-in_err-published : goal.returns-in_err-published
+returns-in_err-published g c =
+    let may = g.S.Child.Child.may_answer in
+    let feed = g.S.Feed.Job.may_say in
+    let drain = g.S.Drain.Job.may_say in
+    let note = c.get_as-2.new.note in
+    let shapes = ap (λ (h : HandleView). shape_view h.shape) c.self.view_is in
+    let numbers = ap (λ (h : HandleView). h.numbers) c.self.view_is in
+    let cell = c.in_default-get_as.ensures.cell ∙ c.in_default.ensures.cell ∙ ap (λ (v : SeenView). v.cell) c.seen.view_is ∙ c.requires in
+    let after : SeenView = record { cell = note.cell; known = option_map (λ p. record { shape = p.shape; numbers = numbers_view p.numbers; answer = p.answer }) note.known } in
+    let p = err_from_is_err_and c.from_residual.result c.from_residual.ensures.1 in
+    rw (p.1, p.2) (subst (λ seen. Waited may feed drain c.args.self.now seen after (Err c.in_err-published.field-0.0)) c.seen.view_is
+    (refused may feed drain (λ p. record { shape = p.shape; numbers = numbers_view p.numbers; answer = p.answer }) c.args.self.now c.seen.inside.note.cell note.cell c.seen.inside.note.known note.known c.in_err-published.field-0.0 c.in_default.ensures.value.0 cell
+    (subst (λ (X : Type 0). X) (λ i. IsAnswer may feed drain (shapes i) (numbers i) (Err c.in_err-published.field-0.0)) c.in_err-published.ensures.err) c.in_err-published.ensures.fault))
+
+pub returns-in_default-2 : goal.returns-in_default-2
+returns-in_default-2 g c =
+    let may = g.S.Child.Child.may_answer in
+    let feed = g.S.Feed.Job.may_say in
+    let drain = g.S.Drain.Job.may_say in
+    let note = c.get_as-2.new.note in
+    let shapes = ap (λ (h : HandleView). shape_view h.shape) c.self.view_is in
+    let numbers = ap (λ (h : HandleView). h.numbers) c.self.view_is in
+    let cell = c.in_default-get_as.ensures.cell ∙ c.in_default.ensures.cell ∙ ap (λ (v : SeenView). v.cell) c.seen.view_is ∙ c.requires in
+    let after : SeenView = record { cell = note.cell; known = option_map (λ p. record { shape = p.shape; numbers = numbers_view p.numbers; answer = p.answer }) note.known } in
+    let none = ap (λ o. Ok o) c.in_default-2.is in
+    (subst (λ seen. Waited may feed drain c.args.self.now seen after (Ok None)) c.seen.view_is
+    (unknown may feed drain (λ p. record { shape = p.shape; numbers = numbers_view p.numbers; answer = p.answer }) c.args.self.now c.seen.inside.note.cell note.cell c.seen.inside.note.known note.known (Ok None) c.in_default.ensures.value.0 cell
+    (subst (λ (X : Type 0). X) (λ i. IsAnswer may feed drain (shapes i) (numbers i) (Ok None)) (c.in_ok-published.ensures.waits none))
+    (λ is. subst (λ n. OneRuns may feed drain n) numbers (c.in_ok-published.ensures.runs none)) tt))

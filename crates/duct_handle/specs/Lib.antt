@@ -1,0 +1,3 @@
+pub mod AnswerView
+pub mod HandleView
+pub mod Waited

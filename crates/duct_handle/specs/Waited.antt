@@ -1,0 +1,51 @@
+-- What a wait answers, and what its token knows then.
+use Rattle.std.specs.Prelude.{ℕ, ◌≡◌, ◌⊎◌, IfSome, IsSomeAnd, Ok, Err, Some, None}
+use Rattle.duct_system.specs.Child.{Answer}
+use Rattle.duct_system.specs.declared.error.Error.{Error}
+use Rattle.duct_system.specs.declared.error.Error.TheVariants as error
+use Rattle.duct_system.specs.declared.system.Said.{Said}
+use Rattle.duct_status.specs.ShapeView.{shape_view}
+use Rattle.duct_running.specs.Answered.{IsAnswer}
+use Rattle.duct_running.specs.Polled.{Gives, Polled}
+use Rattle.duct_running.specs.Stored.{Bytes}
+use Rattle.duct_running.specs.Told.{OneRuns}
+use Rattle.duct_handle.specs.AnswerView.{answer_view}
+use Rattle.duct_handle.specs.HandleView.{HandleView, PublishedView, SeenView}
+
+-- what a token knows is of this handle, and gives this answer
+pub record IsOf (handle : HandleView) (polled : Polled) (known : PublishedView) : Type 0 where
+  pub shape : shape_view known.shape ≡ shape_view handle.shape
+  pub numbers : known.numbers ≡ handle.numbers
+  pub gives : IsSomeAnd known.answer (λ ending. Gives (answer_view ending) polled)
+
+-- the error is not that of a checked failure
+abbrev pub IsNoEnding : Error → Type 0
+IsNoEnding (error.Checked text) = ⊥
+IsNoEnding other = Unit {0}
+
+-- where the answer is an output or a checked failure, the token knows it
+abbrev pub KnowsIfEnded : HandleView → SeenView → Polled → Type 0
+KnowsIfEnded handle seen (Ok None) = Unit {0}
+KnowsIfEnded handle seen (Ok (Some output)) = IsSomeAnd seen.known (IsOf handle (Ok (Some output)))
+KnowsIfEnded handle seen (Err (error.Checked text)) =
+    IsSomeAnd seen.known (IsOf handle (Err (error.Checked text)))
+KnowsIfEnded handle seen (Err other) = Unit {0}
+
+-- a token that knows an answer of this handle gives it again, or there was no memory for one more owner
+abbrev pub GivesAgain : HandleView → PublishedView → Polled → Type 0
+GivesAgain handle known polled =
+    shape_view known.shape ≡ shape_view handle.shape → known.numbers ≡ handle.numbers
+    → IfSome known.answer
+    (λ ending. Gives (answer_view ending) polled ⊎ (polled ≡ Err error.Memory))
+
+-- the answer is one of the handle's shape and numbers; while it is none, one of its numbers may say that it runs; the token knows
+-- an ending that was answered, and gives it again
+pub record Waited (answer : ℕ → Answer → Type 0) (feed : ℕ → Said (Unit {0}) → Type 0)
+    (drain : ℕ → Said Bytes → Type 0) (handle : HandleView) (before after : SeenView)
+    (polled : Polled) : Type 0 where
+  pub cell : after.cell ≡ handle.cell
+  pub told : IsAnswer answer feed drain (shape_view handle.shape) handle.numbers polled
+  pub pending : polled ≡ Ok None → OneRuns answer feed drain handle.numbers
+  pub knows : KnowsIfEnded handle after polled
+  pub kept : IfSome before.known (λ known. after.known ≡ Some known)
+  pub again : IfSome before.known (λ known. GivesAgain handle known polled)

@@ -1,0 +1,144 @@
+//! The handle: a lock round what runs, and beside it the shape, the numbers, the ids and the answer.
+ghost use Rattle.std.specs.Prelude.{◌≡◌, Ok, Some, None};
+ghost use Rattle.duct_status.specs.ShapeView.{shape_view};
+ghost use Rattle.duct_running.specs.Answered.{IsAnswer};
+ghost use Rattle.duct_running.specs.NumbersView.{numbers_view};
+ghost use Rattle.duct_handle.specs.Waited.{GivesAgain, KnowsIfEnded, Waited};
+
+use crate::look::{Locked, differs, look, same};
+use crate::published::{Answer, Published};
+use duct_base::error::Error;
+use duct_base::status::Shape;
+use duct_base::system::{Child, Job, Output, System};
+use duct_running::numbers::Numbers;
+use once_cell::race::{Note, OnceBox};
+use std::marker::Model;
+use std::sync::{Arc, Mutex, Wait};
+
+/// What runs, for threads that share it by reference. Its answer is published once. It is to be spent: by `into_output` or
+/// `give_up`.
+pub struct Handle<S: System> {
+    shape: Shape,
+    numbers: Numbers,
+    ids: Vec<u32>,
+    lock: Mutex<Locked<S>>,
+    cell: OnceBox<Published<S>>,
+}
+
+impl<S: System> Model for Handle<S> {
+    ghost use Rattle.std.specs.Coded.{codes};
+    ghost use Rattle.duct_status.specs.contracts.status.Shape as shapes;
+    ghost use Rattle.duct_running.specs.NumbersView.{numbers_view};
+    ghost use Rattle.duct_handle.specs.HandleView.{HandleView};
+    ghost use Rattle.once_cell.specs.Once.{cell_name};
+
+    ghost Value = { HandleView };
+
+    ghost coded = { Prim.hlevel (codes, shapes.the_row.coded) };
+
+    ghost view = { λ h. record {
+      shape = h.shape;
+      numbers = numbers_view h.numbers;
+      cell = cell_name h.cell;
+    } };
+}
+
+/// What a caller knows of the answer of one handle, by which it is given again without a lock. Two tokens of a handle that know
+/// an answer know the same one.
+#[derive(Drop)]
+pub struct Seen<S: System> {
+    note: Note<Published<S>>,
+}
+
+impl<S: System> Model for Seen<S> {
+    ghost use Rattle.std.specs.Coded.{codes};
+    ghost use Rattle.std.specs.Option.{option_map};
+    ghost use Rattle.duct_status.specs.contracts.status.Shape as shape;
+    ghost use Rattle.duct_running.specs.NumbersView.{numbers_view};
+    ghost use Rattle.duct_handle.specs.contracts.published.Answer as answer;
+    ghost use Rattle.duct_handle.specs.HandleView.{SeenView};
+
+    ghost Value = { SeenView };
+
+    ghost coded = { Prim.hlevel (codes, shape.the_row.coded, answer.the_row.coded) };
+
+    ghost view = { λ s. record {
+      cell = s.note.cell;
+      known = option_map (λ p. record {
+        shape = p.shape;
+        numbers = numbers_view p.numbers;
+        answer = p.answer;
+      }) s.note.known;
+    } };
+}
+
+impl<S: System> Handle<S> {
+    /// A token that knows nothing yet.
+    pub fn seen(&self) -> Seen<S>
+        ensures cell { result.cell ≡ self.now.cell }
+        ensures unknown { result.known ≡ None }
+    {
+        Seen {
+            note: self.cell.note(),
+        }
+    }
+
+    /// Polls, where the token does not know the answer yet, and answers how the expression ended; nothing while it runs.
+    ///
+    /// A checked failure is `Error::Checked`, a fault of a command or a worker `Error::System`. `Error::Memory` comes only for
+    /// want of memory, and the next wait tries again.
+    pub fn try_wait_as(
+        &self,
+        rt: &impl Wait,
+        seen: &mut Seen<S>,
+    ) -> Result<Option<Arc<Output>>, Error>
+        requires { seen.old.cell ≡ self.now.cell }
+        ensures { Waited S.Child.may_answer S.Feed.may_say S.Drain.may_say self.now
+            seen.old seen.new result }
+    {
+        if let Some(published) = self.cell.get_as(&mut seen.note) {
+            return self.share(published);
+        }
+        let mut guard = self.lock.lock(rt);
+        if let Some(published) = self.cell.get_as(&mut seen.note) {
+            return self.share(published);
+        }
+        let Some(published) = look(&mut *guard, &self.shape, &self.numbers)? else {
+            return Ok(None);
+        };
+        let _ = self.cell.set_as(published, &mut seen.note);
+        match self.cell.get_as(&mut seen.note) {
+            Some(published) => self.share(published),
+            None => unreachable!(),
+        }
+    }
+
+    // Answers what was published, by one more owner.
+    fn share(&self, published: &Published<S>) -> Result<Option<Arc<Output>>, Error>
+        ensures told { IsAnswer S.Child.may_answer S.Feed.may_say S.Drain.may_say
+            (shape_view self.now.shape) self.now.numbers result }
+        ensures pending { result ≡ Ok None → ⊥ }
+        ensures knows { KnowsIfEnded self.now (record {
+          cell = self.now.cell;
+          known = Some (record {
+            shape = published.now.shape;
+            numbers = numbers_view published.now.numbers;
+            answer = published.now.answer;
+          });
+        }) result }
+        ensures again { GivesAgain self.now (record {
+          shape = published.now.shape;
+          numbers = numbers_view published.now.numbers;
+          answer = published.now.answer;
+        }) result }
+    {
+        if !same(published, &self.shape, &self.numbers) {
+            return Err(differs());
+        }
+        match &published.answer {
+            Some(Answer::Output(output)) => Ok(Some(Arc::try_clone(output)?)),
+            Some(Answer::Failed(text)) => Err(Error::Checked(Arc::try_clone(text)?)),
+            None => Err(differs()),
+        }
+    }
+}

@@ -1,0 +1,6 @@
+//! A handle of what runs, which threads share: waits, orders, and an answer that is published once.
+#![tactic(auto)]
+
+pub mod handle;
+mod look;
+pub mod published;

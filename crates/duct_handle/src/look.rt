@@ -1,0 +1,95 @@
+//! What stands under a handle's lock, and one look at it.
+ghost use Rattle.std.specs.Prelude.{◌≡◌, ◌↔◌, IfOk, IfErr, IfSome, IsTrue, Ok, Err, None};
+ghost use Rattle.duct_status.specs.ShapeView.{shape_view};
+ghost use Rattle.duct_running.specs.Answered.{IsAnswer, WasConcluded};
+ghost use Rattle.duct_running.specs.NumbersView.{numbers_view};
+ghost use Rattle.duct_running.specs.Told.{OneRuns};
+ghost use Rattle.duct_handle.specs.AnswerView.{answer_view};
+ghost use Rattle.duct_handle.specs.Waited.{IsNoEnding};
+
+use crate::published::{Answer, Published};
+use duct_base::error::Error;
+use duct_base::status::Shape;
+use duct_base::system::{Child, Fault, Job, Kind, System};
+use duct_running::numbers::Numbers;
+use duct_running::running::Running;
+
+/// What runs, and what is published once it ended.
+pub(crate) struct Locked<S: System> {
+    pub(crate) running: Running<S>,
+    pub(crate) spare: Option<Box<Published<S>>>,
+}
+
+// The answer that shape and numbers differ, which no start brings about.
+pub(crate) fn differs() -> Error
+    ensures { result ≡ Error.System (record { kind = Kind.Other }) }
+{
+    Error::System(Fault::new(Kind::Other))
+}
+
+// Polls what runs, which has this shape and these numbers.
+fn ended<S: System>(
+    running: &mut Running<S>,
+    shape: &Shape,
+    numbers: &Numbers,
+) -> Result<Option<Answer>, Error>
+    ensures answer { IfOk result (λ o. IfSome o (λ a. WasConcluded S.Child.may_answer S.Feed.may_say
+        S.Drain.may_say (shape_view shape.now) (numbers_view numbers.now) (answer_view a))) }
+    ensures runs { result ≡ Ok None → OneRuns S.Child.may_answer S.Feed.may_say
+        S.Drain.may_say (numbers_view numbers.now) }
+    ensures waits { result ≡ Ok None → IsAnswer S.Child.may_answer S.Feed.may_say
+        S.Drain.may_say (shape_view shape.now) (numbers_view numbers.now) (Ok None) }
+    ensures fault { IfErr result IsNoEnding }
+    ensures err { IfErr result (λ e. IsAnswer S.Child.may_answer S.Feed.may_say S.Drain.may_say
+        (shape_view shape.now) (numbers_view numbers.now) (Err e)) }
+{
+    let polled = running.poll();
+    running.are_told();
+    if !running.is_of(shape, numbers) {
+        return Err(differs());
+    }
+    match polled {
+        Ok(None) => Ok(None),
+        Ok(Some(output)) => Ok(Some(Answer::Output(output))),
+        Err(Error::Checked(text)) => Ok(Some(Answer::Failed(text))),
+        Err(error) => Err(error),
+    }
+}
+
+// Publishes how what runs ended, once it has: the spare with its answer. Until then nothing.
+pub(crate) fn look<S: System>(
+    locked: &mut Locked<S>,
+    shape: &Shape,
+    numbers: &Numbers,
+) -> Result<Option<Box<Published<S>>>, Error>
+    ensures runs { result ≡ Ok None → OneRuns S.Child.may_answer S.Feed.may_say
+        S.Drain.may_say (numbers_view numbers.now) }
+    ensures waits { result ≡ Ok None → IsAnswer S.Child.may_answer S.Feed.may_say
+        S.Drain.may_say (shape_view shape.now) (numbers_view numbers.now) (Ok None) }
+    ensures fault { IfErr result IsNoEnding }
+    ensures err { IfErr result (λ e. IsAnswer S.Child.may_answer S.Feed.may_say S.Drain.may_say
+        (shape_view shape.now) (numbers_view numbers.now) (Err e)) }
+{
+    let Some(answer) = ended(&mut locked.running, shape, numbers)? else {
+        return Ok(None);
+    };
+    let Some(mut published) = locked.spare.take() else {
+        return Err(differs());
+    };
+    if !same(&published, shape, numbers) {
+        return Err(differs());
+    }
+    published.answer = Some(answer);
+    Ok(Some(published))
+}
+
+// Whether this is of such a shape and such numbers.
+pub(crate) fn same<S: System>(published: &Published<S>, shape: &Shape, numbers: &Numbers) -> bool
+    ensures { IsTrue result ↔ ((shape_view published.now.shape ≡ shape_view shape.now)
+        × (numbers_view published.now.numbers ≡ numbers_view numbers.now)) }
+{
+    if !published.shape.is_same(shape) {
+        return false;
+    }
+    published.numbers.is_same(numbers)
+}
