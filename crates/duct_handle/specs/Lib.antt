@@ -1,3 +1,4 @@
 pub mod AnswerView
 pub mod HandleView
+pub mod Obeyed
 pub mod Waited

@@ -1,8 +1,12 @@
 -- What a wait answers, and what its token knows then.
 use Rattle.std.specs.Prelude.{ℕ, ◌≡◌, ◌⊎◌, IfSome, IsSomeAnd, Ok, Err, Some, None}
+use Rattle.std.specs.declared.alloc.Global.{Global}
+use Rattle.std.specs.declared.result.Result.{Result}
+use Rattle.std.specs.declared.sync.Arc.{Arc}
 use Rattle.duct_system.specs.Child.{Answer}
 use Rattle.duct_system.specs.declared.error.Error.{Error}
 use Rattle.duct_system.specs.declared.error.Error.TheVariants as error
+use Rattle.duct_system.specs.declared.system.Output.{Output}
 use Rattle.duct_system.specs.declared.system.Said.{Said}
 use Rattle.duct_status.specs.ShapeView.{shape_view}
 use Rattle.duct_running.specs.Answered.{IsAnswer}
@@ -37,6 +41,11 @@ GivesAgain handle known polled =
     shape_view known.shape ≡ shape_view handle.shape → known.numbers ≡ handle.numbers
     → IfSome known.answer
     (λ ending. Gives (answer_view ending) polled ⊎ (polled ≡ Err error.Memory))
+
+-- the answer of a wait that answers nothing before the end, as that of a poll
+abbrev pub at_end : Result (Arc Output Global) Error → Polled
+at_end (Ok output) = Ok (Some output)
+at_end (Err e) = Err e
 
 -- the answer is one of the handle's shape and numbers; while it is none, one of its numbers may say that it runs; the token knows
 -- an ending that was answered, and gives it again

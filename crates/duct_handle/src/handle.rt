@@ -3,6 +3,7 @@ ghost use Rattle.std.specs.Prelude.{◌≡◌, Ok, Some, None};
 ghost use Rattle.duct_status.specs.ShapeView.{shape_view};
 ghost use Rattle.duct_running.specs.Answered.{IsAnswer};
 ghost use Rattle.duct_running.specs.NumbersView.{numbers_view};
+ghost use Rattle.duct_running.specs.Told.{OneRuns};
 ghost use Rattle.duct_handle.specs.Waited.{GivesAgain, KnowsIfEnded, Waited};
 
 use crate::look::{Locked, differs, look, same};
@@ -18,11 +19,11 @@ use std::sync::{Arc, Mutex, Wait};
 /// What runs, for threads that share it by reference. Its answer is published once. It is to be spent: by `into_output` or
 /// `give_up`.
 pub struct Handle<S: System> {
-    shape: Shape,
-    numbers: Numbers,
-    ids: Vec<u32>,
-    lock: Mutex<Locked<S>>,
-    cell: OnceBox<Published<S>>,
+    pub(crate) shape: Shape,
+    pub(crate) numbers: Numbers,
+    pub(crate) ids: Vec<u32>,
+    pub(crate) lock: Mutex<Locked<S>>,
+    pub(crate) cell: OnceBox<Published<S>>,
 }
 
 impl<S: System> Model for Handle<S> {
@@ -96,6 +97,32 @@ impl<S: System> Handle<S> {
         ensures { Waited S.Child.may_answer S.Feed.may_say S.Drain.may_say self.now
             seen.old seen.new result }
     {
+        let mut busy = false;
+        self.poll_as(rt, seen, &mut busy)
+    }
+
+    /// Polls and answers as `try_wait_as` does, with a token of its own.
+    pub fn try_wait(&self, rt: &impl Wait) -> Result<Option<Arc<Output>>, Error>
+        ensures told { IsAnswer S.Child.may_answer S.Feed.may_say S.Drain.may_say
+            (shape_view self.now.shape) self.now.numbers result }
+        ensures pending { result ≡ Ok None → OneRuns S.Child.may_answer S.Feed.may_say
+            S.Drain.may_say self.now.numbers }
+    {
+        let mut seen = self.seen();
+        self.try_wait_as(rt, &mut seen)
+    }
+
+    // The same, and says whether a command said `Running` then.
+    pub(crate) fn poll_as(
+        &self,
+        rt: &impl Wait,
+        seen: &mut Seen<S>,
+        busy: &mut bool,
+    ) -> Result<Option<Arc<Output>>, Error>
+        requires { seen.old.cell ≡ self.now.cell }
+        ensures { Waited S.Child.may_answer S.Feed.may_say S.Drain.may_say self.now
+            seen.old seen.new result }
+    {
         if let Some(published) = self.cell.get_as(&mut seen.note) {
             return self.share(published);
         }
@@ -103,7 +130,9 @@ impl<S: System> Handle<S> {
         if let Some(published) = self.cell.get_as(&mut seen.note) {
             return self.share(published);
         }
-        let Some(published) = look(&mut *guard, &self.shape, &self.numbers)? else {
+        let looked = look(&mut *guard, &self.shape, &self.numbers);
+        *busy = guard.running.is_busy();
+        let Some(published) = looked? else {
             return Ok(None);
         };
         let _ = self.cell.set_as(published, &mut seen.note);

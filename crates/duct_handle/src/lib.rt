@@ -3,4 +3,7 @@
 
 pub mod handle;
 mod look;
+mod orders;
+mod pause;
 pub mod published;
+mod wait;

@@ -9,7 +9,7 @@ use Rattle.duct_running.specs.Told.{OneRuns}
 use Rattle.duct_handle.specs.HandleView.{HandleView, SeenView}
 use Rattle.duct_handle.specs.Waited.{Waited}
 use Rattle.duct_handle.proofs.Sharing.{refused, shared, unknown}
-use Rattle.duct_handle.proofs.handle.Handle.try_wait_as.Goals as goal
+use Rattle.duct_handle.proofs.handle.Handle.poll_as.Goals as goal
 
 pub returns-in-Some : goal.returns-in-Some
 returns-in-Some g c =

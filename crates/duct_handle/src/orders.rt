@@ -1,0 +1,67 @@
+//! The orders of a handle to its commands, and their ids.
+ghost use Rattle.std.specs.Prelude.{◌≡◌, Ok, OnOk};
+ghost use Rattle.duct_system.specs.declared.system.Order.TheVariants.{Kill, Signal};
+ghost use Rattle.duct_running.specs.NumbersView.{numbers_view};
+ghost use Rattle.duct_handle.specs.Obeyed.{AllObeyed};
+
+use crate::handle::Handle;
+use crate::look::differs;
+use duct_base::error::Error;
+use duct_base::status::Shape;
+use duct_base::system::{Child, Order, System};
+use duct_running::numbers::Numbers;
+use duct_running::running::Running;
+use std::sync::Wait;
+
+// Gives the order to what runs, which has this shape and these numbers.
+fn ordered<S: System>(
+    running: &mut Running<S>,
+    shape: &Shape,
+    numbers: &Numbers,
+    order: Order,
+) -> Result<(), Error>
+    ensures { OnOk result (∥ AllObeyed S.Child.may_answer S.Child.may_obey order
+        (numbers_view numbers.now).children ∥₁) }
+{
+    running.are_told();
+    if !running.is_of(shape, numbers) {
+        return Err(differs());
+    }
+    match order {
+        Order::Kill => running.kill(),
+        Order::Signal(signal) => running.signal(signal),
+    }
+}
+
+impl<S: System> Handle<S> {
+    /// Kills each command that is not known as ended, also behind one that refused, and answers the leftmost fault. It never waits
+    /// for a wait of another thread.
+    pub fn kill(&self, rt: &impl Wait) -> Result<(), Error>
+        ensures { OnOk result (∥ AllObeyed S.Child.may_answer S.Child.may_obey Kill
+            self.now.numbers.children ∥₁) }
+    {
+        self.order(rt, Order::Kill)
+    }
+
+    /// Sends each command that is not known as ended a signal, as `kill` kills them.
+    pub fn signal(&self, rt: &impl Wait, signal: i32) -> Result<(), Error>
+        ensures { OnOk result (∥ AllObeyed S.Child.may_answer S.Child.may_obey (Signal signal)
+            self.now.numbers.children ∥₁) }
+    {
+        self.order(rt, Order::Signal(signal))
+    }
+
+    // Gives an order under the lock.
+    fn order(&self, rt: &impl Wait, order: Order) -> Result<(), Error>
+        ensures { OnOk result (∥ AllObeyed S.Child.may_answer S.Child.may_obey order
+            self.now.numbers.children ∥₁) }
+    {
+        let mut guard = self.lock.lock(rt);
+        ordered(&mut guard.running, &self.shape, &self.numbers, order)
+    }
+
+    /// The ids by which the machine knows the children, one a command, from left to right. It takes no lock and no memory.
+    pub fn pids(&self) -> &[u32] {
+        &self.ids
+    }
+}

@@ -1,0 +1,95 @@
+//! The waits of a handle. A wait polls again and again, with pauses in between, and holds the lock for no more than a poll.
+ghost use Rattle.std.specs.Prelude.{◌≡◌, Ok, None};
+ghost use Rattle.duct_status.specs.ShapeView.{shape_view};
+ghost use Rattle.duct_running.specs.Answered.{IsAnswer};
+ghost use Rattle.duct_running.specs.Told.{OneRuns};
+ghost use Rattle.duct_handle.specs.Waited.{Waited, at_end};
+
+use crate::handle::{Handle, Seen};
+use crate::pause::Pause;
+use duct_base::error::Error;
+use duct_base::system::{Child, Clock, Job, Output, System};
+use std::sync::{Arc, Wait};
+use std::time::Duration;
+
+impl<S: System> Handle<S> {
+    /// Waits until the expression has ended, and answers how. A fault is answered at the first poll that finds one while no
+    /// command says that it runs.
+    pub fn wait_as(&self, rt: &impl Wait, seen: &mut Seen<S>) -> Result<Arc<Output>, Error>
+        requires { seen.old.cell ≡ self.now.cell }
+        ensures { Waited S.Child.may_answer S.Feed.may_say S.Drain.may_say self.now
+            seen.old seen.new (at_end result) }
+    {
+        let mut pause = Pause::new();
+        for _ in rt.forever() {
+            let mut busy = false;
+            match self.poll_as(rt, seen, &mut busy) {
+                Ok(Some(output)) => return Ok(output),
+                Ok(None) => (),
+                Err(Error::System(_)) if busy => (),
+                Err(error) => return Err(error),
+            }
+            pause.rest(rt);
+        }
+        unreachable!()
+    }
+
+    /// Waits as `wait_as` does, with a token of its own.
+    pub fn wait(&self, rt: &impl Wait) -> Result<Arc<Output>, Error>
+        ensures { IsAnswer S.Child.may_answer S.Feed.may_say S.Drain.may_say
+            (shape_view self.now.shape) self.now.numbers (at_end result) }
+    {
+        let mut seen = self.seen();
+        self.wait_as(rt, &mut seen)
+    }
+
+    /// Waits as `wait_as` does, but not beyond this moment of the clock, which is asked after each poll. At the moment or later it
+    /// answers what that poll answered.
+    pub fn wait_deadline_as<C: Clock>(
+        &self,
+        rt: &impl Wait,
+        clock: &C,
+        moment: Duration,
+        seen: &mut Seen<S>,
+    ) -> Result<Option<Arc<Output>>, Error>
+        requires { seen.old.cell ≡ self.now.cell }
+        ensures { Waited S.Child.may_answer S.Feed.may_say S.Drain.may_say self.now
+            seen.old seen.new result }
+    {
+        let mut pause = Pause::new();
+        for _ in rt.forever() {
+            let mut busy = false;
+            let polled = self.poll_as(rt, seen, &mut busy);
+            if !waits_on(&polled, busy) || moment <= clock.now() {
+                return polled;
+            }
+            pause.rest(rt);
+        }
+        unreachable!()
+    }
+
+    /// Waits as `wait_deadline_as` does, with a token of its own.
+    pub fn wait_deadline<C: Clock>(
+        &self,
+        rt: &impl Wait,
+        clock: &C,
+        moment: Duration,
+    ) -> Result<Option<Arc<Output>>, Error>
+        ensures told { IsAnswer S.Child.may_answer S.Feed.may_say S.Drain.may_say
+            (shape_view self.now.shape) self.now.numbers result }
+        ensures pending { result ≡ Ok None → OneRuns S.Child.may_answer S.Feed.may_say
+            S.Drain.may_say self.now.numbers }
+    {
+        let mut seen = self.seen();
+        self.wait_deadline_as(rt, clock, moment, &mut seen)
+    }
+}
+
+// Whether a wait goes on after this: where nothing ended, and at a fault while a command says that it runs.
+fn waits_on(polled: &Result<Option<Arc<Output>>, Error>, busy: bool) -> bool {
+    match polled {
+        Ok(None) => true,
+        Err(Error::System(_)) => busy,
+        Ok(Some(_)) | Err(_) => false,
+    }
+}
