@@ -6,4 +6,5 @@ mod look;
 mod orders;
 mod pause;
 pub mod published;
+pub mod room;
 mod wait;

@@ -1,9 +1,10 @@
 -- The numbers of the children and of the workers of a start.
-use Rattle.std.specs.Prelude.{ℕ, List, map}
+use Rattle.std.specs.Prelude.{ℕ, ◌≡◌, ◌≤◌, List, [], map, vec_capacity}
 use Rattle.std.specs.Option.{option_map}
 use Rattle.std.specs.declared.option.Option.{Option}
 use Rattle.duct_system.specs.Child.{ChildView}
 use Rattle.duct_system.specs.Job.{JobView}
+use Rattle.duct_status.specs.ShapeView.{ShapeView, command_count, input_count}
 use Rattle.duct_start.specs.Running.{RunningView}
 use Rattle.duct_running.specs.declared.numbers.Numbers.{Numbers}
 
@@ -33,3 +34,10 @@ numbers_view numbers = record {
   output = numbers.output;
   error = numbers.error;
 }
+
+-- there are none, with room for those of the children and input workers of this shape
+pub record HaveRoom (shape : ShapeView) (numbers : Numbers) : Type 0 where
+  pub no_children : numbers.children.items ≡ []
+  pub no_feeds : numbers.feeds.items ≡ []
+  pub children_fit : command_count shape ≤ vec_capacity numbers.children
+  pub feeds_fit : input_count shape ≤ vec_capacity numbers.feeds

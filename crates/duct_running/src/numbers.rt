@@ -1,8 +1,8 @@
 //! The numbers of the children and the workers of a start, and how they are compared with those of what runs.
 ghost use Rattle.std.specs.Prelude.{◌≡◌, ◌↔◌, ◌≤◌, [], length, map, vec_capacity, IfOk, IsOkUnless, IsTrue};
 ghost use Rattle.std.specs.Option.{option_map};
-ghost use Rattle.duct_running.specs.NumbersView.{numbers_in, numbers_view};
-ghost use Rattle.duct_status.specs.ShapeView.{command_count, input_count, shape_view};
+ghost use Rattle.duct_running.specs.NumbersView.{HaveRoom, numbers_in, numbers_view};
+ghost use Rattle.duct_status.specs.ShapeView.{shape_view};
 
 use crate::running::Running;
 use duct_base::error::Error;
@@ -89,12 +89,7 @@ fn have_numbers<N: Numbered>(items: &[N], numbers: &[u64]) -> bool
 impl<S: System> Running<S> {
     /// Notes the numbers of the children and the workers in what has none so far, and room for them.
     pub fn note_numbers(&self, numbers: &mut Numbers)
-        requires children { numbers.old.children.items ≡ [] }
-        requires feeds { numbers.old.feeds.items ≡ [] }
-        requires children_room { command_count (shape_view self.now.shape)
-            ≤ vec_capacity numbers.old.children }
-        requires feeds_room { input_count (shape_view self.now.shape)
-            ≤ vec_capacity numbers.old.feeds }
+        requires { HaveRoom (shape_view self.now.shape) numbers.old }
         ensures { numbers_view numbers.new
             ≡ numbers_in S.Child.child_view S.Feed.job_view S.Drain.job_view self.now }
     {

@@ -136,7 +136,8 @@ pub fn running_of<S: System>(
 impl<S: System> Running<S> {
     /// The ids by which the machine knows the children, one a command, from left to right. It takes no memory.
     pub fn pids(&self) -> &[u32]
-        ensures { result.now ≡ map (λ c. c.process) (map S.Child.child_view self.now.children) }
+        ensures count { length result.now ≡ command_count (shape_view self.now.shape) }
+        ensures ids { result.now ≡ map (λ c. c.process) (map S.Child.child_view self.now.children) }
     {
         &self.ids
     }

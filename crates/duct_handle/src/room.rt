@@ -1,0 +1,132 @@
+//! How a handle is made of what runs, and how it is given up.
+ghost use Rattle.std.specs.Prelude.{◌≡◌, ◌≤◌, ◌<◌, ◌+◌, ◌^◌, List, [], length, vec_capacity, IfOk, IsOkUnless, None};
+ghost use Rattle.duct_base.specs.Pool.{Takes};
+ghost use Rattle.duct_status.specs.ShapeView.{command_count, input_count, shape_view};
+ghost use Rattle.duct_running.specs.NumbersView.{HaveRoom, numbers_in};
+
+use crate::handle::Handle;
+use crate::look::Locked;
+use crate::published::Published;
+use duct_base::error::Error;
+use duct_base::pool::Pool;
+use duct_base::status::Shape;
+use duct_base::system::{Child, Job, System};
+use duct_running::numbers::Numbers;
+use duct_running::running::Running;
+use once_cell::race::OnceBox;
+use std::alloc::Global;
+use std::marker::PhantomData;
+use std::sync::Mutex;
+
+/// What a handle keeps beside its lock, and its answer, made before a start asks anything: the shape of its tree twice, with
+/// room for the numbers and the ids of its children and workers.
+#[derive(Drop)]
+pub struct HandleRoom<S: System> {
+    shape: Shape,
+    numbers: Numbers,
+    ids: Vec<u32>,
+    spare: Box<Published<S>>,
+}
+
+/// Room for a handle of a tree with so many commands and inputs. Refused, by `Error::Memory`, only for want of memory.
+pub fn handle_room<S: System>(
+    alloc: Global,
+    shape: Shape,
+    again: Shape,
+    commands: usize,
+    inputs: usize,
+) -> Result<HandleRoom<S>, Error>
+    requires commands { commands ≡ command_count (shape_view shape) }
+    requires inputs { inputs ≡ input_count (shape_view shape) }
+    ensures shape { IfOk result (λ room. room.shape ≡ shape) }
+    ensures empty { IfOk result (λ room. room.ids.items ≡ []) }
+    ensures ids { IfOk result (λ room. command_count (shape_view shape) ≤ vec_capacity room.ids) }
+    ensures numbers { IfOk result (λ room. HaveRoom (shape_view shape) room.numbers) }
+    ensures spare { IfOk result (λ room. HaveRoom (shape_view shape) room.spare.value.numbers) }
+    ensures silent { IfOk result (λ room. room.spare.value.answer ≡ None) }
+    ensures memory { IsOkUnless result Error.Memory }
+{
+    let published = Published {
+        shape: again,
+        numbers: Numbers::with_room(alloc, commands, inputs)?,
+        answer: None,
+        of: PhantomData,
+    };
+    let spare = Box::new(alloc, published)?;
+    let numbers = Numbers::with_room(alloc, commands, inputs)?;
+    let ids = Vec::with_capacity(alloc, commands)?;
+    Ok(HandleRoom {
+        shape,
+        numbers,
+        ids,
+        spare,
+    })
+}
+
+// Copies these ids, for which there is room.
+fn copy_ids(ids: &mut Vec<u32>, from: &[u32])
+    requires empty { ids.old.items ≡ [] }
+    requires room { length from.now ≤ vec_capacity ids.old }
+    ensures { ids.new.items ≡ from.now }
+{
+    for id in from {
+        ids.push_reserved(*id);
+    }
+}
+
+/// A handle of what runs. It takes no memory.
+pub fn handle_of<S: System>(
+    alloc: Global,
+    running: Running<S>,
+    room: HandleRoom<S>,
+) -> Handle<S>
+    requires shape { shape_view room.shape ≡ shape_view running.shape }
+    requires empty { room.ids.items ≡ [] }
+    requires ids { command_count (shape_view running.shape) ≤ vec_capacity room.ids }
+    requires numbers { HaveRoom (shape_view running.shape) room.numbers }
+    requires spare { HaveRoom (shape_view running.shape) room.spare.value.numbers }
+    requires silent { room.spare.value.answer ≡ None }
+    ensures shape { shape_view result.shape ≡ shape_view running.shape }
+    ensures numbers { result.numbers
+        ≡ numbers_in S.Child.child_view S.Feed.job_view S.Drain.job_view running }
+{
+    let HandleRoom {
+        shape,
+        mut numbers,
+        mut ids,
+        mut spare,
+    } = room;
+    copy_ids(&mut ids, running.pids());
+    running.note_numbers(&mut numbers);
+    running.note_numbers(&mut spare.numbers);
+    Handle {
+        shape,
+        numbers,
+        ids,
+        lock: Mutex::new(Locked {
+            running,
+            spare: Some(spare),
+        }),
+        cell: OnceBox::new(alloc),
+    }
+}
+
+impl<S: System> Handle<S> {
+    /// Gives the children that stand in the lock to a pool, as `Running::give_up` does. No other thread holds the handle then.
+    pub fn give_up(self, pool: &mut Pool<S::Child>)
+        ensures { (children : List S.Child) × (pool.old.given + length children < 2 ^ 63
+            → Takes S.Child.may_answer S.Child.child_view children pool.old pool.new) }
+    {
+        let Handle {
+            shape,
+            numbers,
+            ids,
+            lock,
+            cell,
+        } = self;
+        drop((shape, numbers, ids, cell));
+        let Locked { running, spare } = lock.into_inner();
+        drop(spare);
+        running.give_up(pool);
+    }
+}
