@@ -49,10 +49,13 @@ impl<S: System> Model for Handle<S> {
 #[derive(Drop)]
 pub struct Seen<S: System> {
     note: Note<Published<S>>,
+    // Whether the note knows what is published.
+    pub(crate) knows: bool,
 }
 
 impl<S: System> Model for Seen<S> {
     ghost use Rattle.std.specs.Coded.{codes};
+    ghost use Rattle.std.specs.Prelude.{◌≡◌, is_some};
     ghost use Rattle.std.specs.Option.{option_map};
     ghost use Rattle.duct_status.specs.contracts.status.Shape as shape;
     ghost use Rattle.duct_running.specs.NumbersView.{numbers_view};
@@ -62,6 +65,8 @@ impl<S: System> Model for Seen<S> {
     ghost Value = { SeenView };
 
     ghost coded = { Prim.hlevel (codes, shape.the_row.coded, answer.the_row.coded) };
+
+    ghost invariant = { λ s. s.knows ≡ is_some s.note.known };
 
     ghost view = { λ s. record {
       cell = s.note.cell;
@@ -81,6 +86,7 @@ impl<S: System> Handle<S> {
     {
         Seen {
             note: self.cell.note(),
+            knows: false,
         }
     }
 
@@ -124,10 +130,12 @@ impl<S: System> Handle<S> {
             seen.old seen.new result }
     {
         if let Some(published) = self.cell.get_as(&mut seen.note) {
+            seen.knows = true;
             return self.share(published);
         }
         let mut guard = self.lock.lock(rt);
         if let Some(published) = self.cell.get_as(&mut seen.note) {
+            seen.knows = true;
             return self.share(published);
         }
         let looked = look(&mut *guard, &self.shape, &self.numbers);
@@ -136,6 +144,7 @@ impl<S: System> Handle<S> {
             return Ok(None);
         };
         let _ = self.cell.set_as(published, &mut seen.note);
+        seen.knows = true;
         match self.cell.get_as(&mut seen.note) {
             Some(published) => self.share(published),
             None => unreachable!(),

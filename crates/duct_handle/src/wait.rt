@@ -1,8 +1,9 @@
 //! The waits of a handle. A wait polls again and again, with pauses in between, and holds the lock for no more than a poll.
-ghost use Rattle.std.specs.Prelude.{◌≡◌, Ok, None};
+ghost use Rattle.std.specs.Prelude.{◌≡◌, ◌⊎◌, is_some, true, Ok, Err, None};
 ghost use Rattle.duct_status.specs.ShapeView.{shape_view};
 ghost use Rattle.duct_running.specs.Answered.{IsAnswer};
 ghost use Rattle.duct_running.specs.Told.{OneRuns};
+ghost use Rattle.duct_handle.specs.Deadline.{IsLate, IsTimely};
 ghost use Rattle.duct_handle.specs.Waited.{Waited, at_end};
 
 use crate::handle::{Handle, Seen};
@@ -82,6 +83,52 @@ impl<S: System> Handle<S> {
     {
         let mut seen = self.seen();
         self.wait_deadline_as(rt, clock, moment, &mut seen)
+    }
+
+    /// Waits as `wait_deadline_as` does, until this long after the moment that the clock shows first. `Error::Deadline` where their
+    /// sum is no `Duration`; then nothing was polled. A token that knows the answer gives it without asking the clock.
+    pub fn wait_timeout_as<C: Clock>(
+        &self,
+        rt: &impl Wait,
+        clock: &C,
+        timeout: Duration,
+        seen: &mut Seen<S>,
+    ) -> Result<Option<Arc<Output>>, Error>
+        requires { seen.old.cell ≡ self.now.cell }
+        ensures late { result ≡ Err Error.Deadline
+            → (seen.old.known ≡ None) × IsLate (C.may_show clock.now) timeout }
+        ensures timely { (result ≡ Err Error.Deadline)
+            ⊎ (is_some seen.old.known ≡ true) ⊎ IsTimely (C.may_show clock.now) timeout }
+        ensures waited { (result ≡ Err Error.Deadline)
+            ⊎ Waited S.Child.may_answer S.Feed.may_say S.Drain.may_say self.now
+            seen.old seen.new result }
+    {
+        if seen.knows {
+            return self.try_wait_as(rt, seen);
+        }
+        match clock.now().checked_add(timeout) {
+            Some(moment) => self.wait_deadline_as(rt, clock, moment, seen),
+            None => Err(Error::Deadline),
+        }
+    }
+
+    /// Waits as `wait_timeout_as` does, with a token of its own.
+    pub fn wait_timeout<C: Clock>(
+        &self,
+        rt: &impl Wait,
+        clock: &C,
+        timeout: Duration,
+    ) -> Result<Option<Arc<Output>>, Error>
+        ensures late { result ≡ Err Error.Deadline → IsLate (C.may_show clock.now) timeout }
+        ensures timely { (result ≡ Err Error.Deadline) ⊎ IsTimely (C.may_show clock.now) timeout }
+        ensures told { (result ≡ Err Error.Deadline)
+            ⊎ IsAnswer S.Child.may_answer S.Feed.may_say S.Drain.may_say
+            (shape_view self.now.shape) self.now.numbers result }
+        ensures pending { result ≡ Ok None → OneRuns S.Child.may_answer S.Feed.may_say
+            S.Drain.may_say self.now.numbers }
+    {
+        let mut seen = self.seen();
+        self.wait_timeout_as(rt, clock, timeout, &mut seen)
     }
 }
 
