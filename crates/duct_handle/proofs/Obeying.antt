@@ -2,7 +2,7 @@
 use Rattle.std.specs.Prelude.{ℕ, List, [], ◌∷◌, All, IfSome, MatchOption, OnOk, map, Ok, Err, Some, None}
 use Rattle.std.specs.declared.option.Option.{Option}
 use Rattle.std.specs.declared.result.Result.{Result}
-use Rattle.std.proofs.Common.{◌≡◌, ◌⊎◌, refl, ap, sym, ◌∙◌, subst, inl, inr}
+use Rattle.std.proofs.Common.{◌≡◌, ◌⊎◌, refl, subst, inl, inr}
 use Rattle.std.proofs.lemmas.List.Elements.{All-cons, All-head, All-nil, All-tail}
 use mathlib.Core.Logic.{∥∥₁_map}
 use Rattle.duct_system.specs.Child.{Answer, ChildView, Obeyed, OrdersChild}
@@ -10,7 +10,7 @@ use Rattle.duct_system.specs.declared.error.Error.{Error}
 use Rattle.duct_system.specs.declared.system.ExitStatus.{ExitStatus}
 use Rattle.duct_system.specs.declared.system.Kind.TheVariants.{OutOfMemory}
 use Rattle.duct_system.specs.declared.system.Order.{Order}
-use Rattle.duct_running.specs.Ordered.{AllOrdered, Answers, IsOrdered, OrderedIfDue, leftmost}
+use Rattle.duct_running.specs.Ordered.{AllOrdered, Answers, IsOrdered, leftmost}
 use Rattle.duct_running.specs.Told.{IsTold}
 use Rattle.duct_handle.specs.Obeyed.{AllObeyed}
 

@@ -1,5 +1,5 @@
 //! The handle: a lock round what runs, and beside it the shape, the numbers, the ids and the answer.
-ghost use Rattle.std.specs.Prelude.{◌≡◌, Ok, Some, None};
+ghost use Rattle.std.specs.Prelude.{◌≡◌, IfSome, Ok, Some, None};
 ghost use Rattle.duct_status.specs.ShapeView.{shape_view};
 ghost use Rattle.duct_running.specs.Answered.{IsAnswer};
 ghost use Rattle.duct_running.specs.NumbersView.{numbers_view};
@@ -13,12 +13,14 @@ use duct_base::status::Shape;
 use duct_base::system::{Child, Job, Output, System};
 use duct_running::numbers::Numbers;
 use once_cell::race::{Note, OnceBox};
+use std::alloc::Global;
 use std::marker::Model;
 use std::sync::{Arc, Mutex, Wait};
 
 /// What runs, for threads that share it by reference. Its answer is published once. It is to be spent: by `into_output` or
 /// `give_up`.
 pub struct Handle<S: System> {
+    pub(crate) alloc: Global,
     pub(crate) shape: Shape,
     pub(crate) numbers: Numbers,
     pub(crate) ids: Vec<u32>,
@@ -76,6 +78,19 @@ impl<S: System> Model for Seen<S> {
         answer = p.answer;
       }) s.note.known;
     } };
+}
+
+impl<S: System> Seen<S> {
+    /// Two tokens of one handle that know what was published know the same, in whatever threads they were.
+    pub fn agree(&mut self, other: Seen<S>)
+        requires { other.cell ≡ self.old.cell }
+        ensures same { self.new ≡ self.old }
+        ensures agree { IfSome other.known
+            (λ known. IfSome self.old.known (λ mine. mine ≡ known)) }
+    {
+        let Seen { note, knows: _ } = other;
+        self.note.compare(note);
+    }
 }
 
 impl<S: System> Handle<S> {

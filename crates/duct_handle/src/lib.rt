@@ -4,6 +4,7 @@
 pub mod handle;
 mod look;
 mod orders;
+mod output;
 mod pause;
 pub mod published;
 pub mod room;

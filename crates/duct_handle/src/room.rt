@@ -75,11 +75,7 @@ fn copy_ids(ids: &mut Vec<u32>, from: &[u32])
 }
 
 /// A handle of what runs. It takes no memory.
-pub fn handle_of<S: System>(
-    alloc: Global,
-    running: Running<S>,
-    room: HandleRoom<S>,
-) -> Handle<S>
+pub fn handle_of<S: System>(alloc: Global, running: Running<S>, room: HandleRoom<S>) -> Handle<S>
     requires shape { shape_view room.shape ≡ shape_view running.shape }
     requires empty { room.ids.items ≡ [] }
     requires ids { command_count (shape_view running.shape) ≤ vec_capacity room.ids }
@@ -100,6 +96,7 @@ pub fn handle_of<S: System>(
     running.note_numbers(&mut numbers);
     running.note_numbers(&mut spare.numbers);
     Handle {
+        alloc,
         shape,
         numbers,
         ids,
@@ -111,22 +108,28 @@ pub fn handle_of<S: System>(
     }
 }
 
+// What stands in the lock of a handle.
+pub(crate) fn released<S: System>(handle: Handle<S>) -> Running<S> {
+    let Handle {
+        alloc: _,
+        shape,
+        numbers,
+        ids,
+        lock,
+        cell,
+    } = handle;
+    drop((shape, numbers, ids, cell));
+    let Locked { running, spare } = lock.into_inner();
+    drop(spare);
+    running
+}
+
 impl<S: System> Handle<S> {
     /// Gives the children that stand in the lock to a pool, as `Running::give_up` does. No other thread holds the handle then.
     pub fn give_up(self, pool: &mut Pool<S::Child>)
         ensures { (children : List S.Child) × (pool.old.given + length children < 2 ^ 63
             → Takes S.Child.may_answer S.Child.child_view children pool.old pool.new) }
     {
-        let Handle {
-            shape,
-            numbers,
-            ids,
-            lock,
-            cell,
-        } = self;
-        drop((shape, numbers, ids, cell));
-        let Locked { running, spare } = lock.into_inner();
-        drop(spare);
-        running.give_up(pool);
+        released(self).give_up(pool);
     }
 }

@@ -1,4 +1,4 @@
-use Rattle.std.proofs.Common.{OnOk, ap, subst}
+use Rattle.std.proofs.Common.{OnOk, subst}
 use Rattle.duct_handle.specs.HandleView.{HandleView}
 use Rattle.duct_handle.specs.Obeyed.{AllObeyed}
 use Rattle.duct_handle.proofs.handle.Handle.order.Goals as goal

@@ -1,0 +1,82 @@
+//! The output itself, where no thread shares the handle any more.
+ghost use Rattle.std.specs.Prelude.{◌≡◌, ◌<◌, ◌+◌, ◌^◌, List, length, OnErr, OnOk, IfOk, IfErr, IsOkUnless, Err};
+ghost use Rattle.std.specs.Arc.{arc_value};
+ghost use Rattle.duct_base.specs.Pool.{Takes};
+ghost use Rattle.duct_status.specs.ShapeView.{shape_view};
+ghost use Rattle.duct_running.specs.Answered.{IsAnswer, WasConcluded};
+ghost use Rattle.duct_status.specs.ReplyView.{answered};
+
+use crate::handle::Handle;
+use crate::room::released;
+use duct_base::error::Error;
+use duct_base::pool::Pool;
+use duct_base::system::{Child, Job, Output, System};
+use duct_run::ending::give_all;
+use std::alloc::{AllocError, Global};
+use std::sync::{Arc, Wait};
+
+// A copy of an output.
+fn copy(alloc: Global, output: &Output) -> Result<Output, AllocError>
+    ensures status { IfOk result (λ copy. copy.status ≡ output.now.status) }
+    ensures stdout { IfOk result (λ copy. copy.stdout.items ≡ output.now.stdout.items) }
+    ensures stderr { IfOk result (λ copy. copy.stderr.items ≡ output.now.stderr.items) }
+{
+    Ok(Output {
+        status: output.status,
+        stdout: output.stdout.iter().copied().collect(alloc)?,
+        stderr: output.stderr.iter().copied().collect(alloc)?,
+    })
+}
+
+// The output itself, copied where another still shares it.
+fn own(alloc: Global, output: Arc<Output>) -> Result<Output, Error>
+    ensures status { IfOk result (λ own. own.status ≡ (arc_value output).status) }
+    ensures stdout { IfOk result (λ own. own.stdout.items ≡ (arc_value output).stdout.items) }
+    ensures stderr { IfOk result (λ own. own.stderr.items ≡ (arc_value output).stderr.items) }
+    ensures memory { IsOkUnless result Error.Memory }
+{
+    match Arc::try_unwrap(output) {
+        Ok(output) => Ok(output),
+        Err(shared) => Ok(copy(alloc, &shared)?),
+    }
+}
+
+impl<S: System> Handle<S> {
+    /// Waits until the expression has ended, and answers the output itself, copied only where another still shares it. The pool
+    /// stays as it was. Where it fails, the children are given to the pool, as `give_up` gives them; with a checked failure the
+    /// captured bytes are lost.
+    pub fn into_output(self, rt: &impl Wait, pool: &mut Pool<S::Child>) -> Result<Output, Error>
+        ensures output { IfOk result (λ output. WasConcluded S.Child.may_answer S.Feed.may_say
+            S.Drain.may_say (shape_view self.shape) self.numbers
+            (answered output.status output.stdout.items output.stderr.items)) }
+        ensures err { IfErr result (λ e. IsAnswer S.Child.may_answer S.Feed.may_say S.Drain.may_say
+            (shape_view self.shape) self.numbers (Err e)) }
+        ensures kept { OnOk result (pool.new ≡ pool.old) }
+        ensures given { OnErr result
+            ((children : List S.Child) × (pool.old.given + length children < 2 ^ 63
+            → Takes S.Child.may_answer S.Child.child_view children pool.old pool.new)) }
+    {
+        let waited = self.wait(rt);
+        let alloc = self.alloc;
+        let running = released(self);
+        let output = match waited {
+            Ok(output) => output,
+            Err(error) => {
+                running.give_up(pool);
+                return Err(error);
+            }
+        };
+        let (children, feeds, drains) = running.into_parts();
+        drop((feeds, drains));
+        match own(alloc, output) {
+            Ok(output) => {
+                drop(children);
+                Ok(output)
+            }
+            Err(error) => {
+                give_all(pool, children);
+                Err(error)
+            }
+        }
+    }
+}
