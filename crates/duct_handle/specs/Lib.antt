@@ -2,4 +2,5 @@ pub mod AnswerView
 pub mod Deadline
 pub mod HandleView
 pub mod Obeyed
+pub mod Started
 pub mod Waited

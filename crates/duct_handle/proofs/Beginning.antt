@@ -1,0 +1,48 @@
+-- The numbers of what runs after a start are those in the journal.
+use Rattle.std.specs.Prelude.{ℕ, Bool, List, [], ◌∷◌, ◌++◌, is_some, map, Some, None}
+use Rattle.std.specs.Option.{option_map, option_to_list}
+use Rattle.std.specs.declared.option.Option.{Option}
+use Rattle.std.proofs.Common.{◌≡◌, refl, ap, sym, ◌∙◌}
+use Rattle.duct_system.specs.Child.{ChildView}
+use Rattle.duct_system.specs.EntryView.{EntryView}
+use Rattle.duct_system.specs.Job.{JobView, unpolled_job}
+use Rattle.duct_system.specs.Started.{children_in, feeds_in, drains_in}
+use Rattle.duct_status.specs.ShapeView.{shape_view}
+use Rattle.duct_start.specs.Running.{IsRunning, RunningView}
+use Rattle.duct_start.specs.TreeView.{TreeView}
+use Rattle.duct_running.specs.NumbersView.{numbers_in}
+use Rattle.duct_handle.specs.HandleView.{HandleView}
+use Rattle.duct_handle.specs.Started.{IsHandle}
+
+twice : {X Y Z : Type 0} (f : X → Y) (g : Y → Z) (xs : List X) → map g (map f xs) ≡ map (λ x. g (f x)) xs
+twice f g [] = refl
+twice f g (x ∷ xs) = ap (λ zs. g (f x) ∷ zs) (twice f g xs)
+
+numbers_back : {W : Type 0} (numbers : List ℕ) → map (λ (j : JobView W). j.number) (map (λ number. unpolled_job number) numbers) ≡ numbers
+numbers_back [] = refl
+numbers_back {W} (n ∷ numbers) = ap (λ ns. n ∷ ns) (numbers_back {W} numbers)
+
+listed : {X Y Z : Type 0} (f : X → Y) (g : Y → Z) (one other : Option X) →
+    option_to_list (option_map g (option_map f one)) ++ option_to_list (option_map g (option_map f other)) ≡ map g (map f (option_to_list one ++ option_to_list other))
+listed f g None None = refl
+listed f g None (Some y) = refl
+listed f g (Some x) None = refl
+listed f g (Some x) (Some y) = refl
+
+there : {X Y Z : Type 0} (f : X → Y) (g : Y → Z) (o : Option X) → is_some (option_map g (option_map f o)) ≡ is_some o
+there f g None = refl
+there f g (Some x) = refl
+
+-- a handle of what runs keeps them
+pub is_handle : {E H C F D V W : Type 0} (child : C → ChildView) (feed : F → JobView V) (drain : D → JobView W) (tree : TreeView E H) (output error : Bool) (added : List EntryView)
+    (running : RunningView C F D) (handle : HandleView) → IsRunning child feed drain tree output error added running → shape_view handle.shape ≡ shape_view running.shape
+    → handle.numbers ≡ numbers_in child feed drain running → IsHandle tree output error added handle
+is_handle child feed drain tree output error added running handle runs shape numbers = record {
+  shape_is = shape ∙ runs.shape_is;
+  children_are = ap (λ n. n.children) numbers ∙ twice child (λ c. c.number) running.children ∙ runs.children_are;
+  feeds_are = ap (λ n. n.feeds) numbers ∙ ap (λ js. map (λ j. j.number) js) runs.feeds_are ∙ numbers_back (feeds_in added);
+  drains_are = (λ i. option_to_list (numbers i).output ++ option_to_list (numbers i).error)
+      ∙ listed drain (λ j. j.number) running.output running.error ∙ ap (λ js. map (λ j. j.number) js) runs.drains_are ∙ numbers_back (drains_in added);
+  output_is = ap (λ n. is_some n.output) numbers ∙ there drain (λ j. j.number) running.output ∙ runs.output_is;
+  error_is = ap (λ n. is_some n.error) numbers ∙ there drain (λ j. j.number) running.error ∙ runs.error_is;
+}

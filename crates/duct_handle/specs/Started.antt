@@ -1,0 +1,21 @@
+-- What a handle keeps of the journal of its start.
+use Rattle.std.specs.Prelude.{Bool, List, ◌++◌, ◌≡◌, is_some}
+use Rattle.std.specs.Option.{option_to_list}
+use Rattle.duct_system.specs.EntryView.{EntryView}
+use Rattle.duct_system.specs.Started.{children_in, feeds_in, drains_in}
+use Rattle.duct_status.specs.ShapeView.{shape_view}
+use Rattle.duct_start.specs.ShapeOfTree.{shape_of_tree}
+use Rattle.duct_start.specs.TreeView.{TreeView}
+use Rattle.duct_handle.specs.HandleView.{HandleView}
+
+-- the shape of this tree, and the numbers of the children and the workers that were added to the journal, each in its place; these
+-- truth values say whether stdout and stderr have a capture worker
+pub record IsHandle {E H : Type 0} (tree : TreeView E H) (output error : Bool)
+    (added : List EntryView) (handle : HandleView) : Type 0 where
+  pub shape_is : shape_view handle.shape ≡ shape_of_tree tree
+  pub children_are : handle.numbers.children ≡ children_in added
+  pub feeds_are : handle.numbers.feeds ≡ feeds_in added
+  pub drains_are : option_to_list handle.numbers.output ++ option_to_list handle.numbers.error
+      ≡ drains_in added
+  pub output_is : is_some handle.numbers.output ≡ output
+  pub error_is : is_some handle.numbers.error ≡ error
