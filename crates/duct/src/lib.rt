@@ -33,6 +33,7 @@ pub use duct_base::system::{
 // What runs, how it ended, and why a call was refused.
 pub use duct_base::error::Error;
 pub use duct_base::system::{ExitStatus, Output};
+pub use duct_handle::handle::{Handle, Seen};
 pub use duct_running::running::Running;
 
 // What a worker does, and workers on threads of their own.

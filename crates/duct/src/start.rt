@@ -1,5 +1,5 @@
 //! The start of an expression: what is asked of the system, and what is kept of it.
-ghost use Rattle.std.specs.Prelude.{◌≡◌, ◌+◌, ◌<◌, ◌≤◌, ◌^◌, [], false, length, is_some, vec_capacity, IfOk, IfErr, OnOk, OnErr, IsOkUnless};
+ghost use Rattle.std.specs.Prelude.{◌≡◌, ◌+◌, ◌<◌, ◌≤◌, ◌^◌, [], false, length, is_some, vec_capacity, IfOk, IfErr, OnOk, OnErr, IsOkUnless, None};
 ghost use Rattle.duct_system.specs.Started.{children_in};
 ghost use Rattle.duct_system.specs.Trace.{segment};
 ghost use Rattle.duct_system.specs.declared.system.Side.TheVariants as side;
@@ -15,6 +15,8 @@ ghost use Rattle.duct_start.specs.ShapeOfTree.{shape_of_tree};
 ghost use Rattle.duct_start.specs.Start.{StartSucceeds, StartRefused};
 ghost use Rattle.duct_run.specs.ActionView.{action_view, actions_view};
 ghost use Rattle.duct_run.specs.HeldView.{AreNew, IsEmpty};
+ghost use Rattle.duct_running.specs.NumbersView.{HaveRoom};
+ghost use Rattle.duct_handle.specs.Started.{IsHandle};
 ghost use Rattle.duct_tree.specs.NodeView.{node_view};
 ghost use Rattle.duct.specs.TreeView.{tree_view};
 
@@ -24,6 +26,8 @@ use duct_base::pool::{Place, Pool};
 use duct_base::spec::Hook;
 use duct_base::status::{Core, Drains, Shape};
 use duct_base::system::{Side, System};
+use duct_handle::handle::Handle;
+use duct_handle::room::{HandleRoom, handle_of, handle_room};
 use duct_run::action::Action;
 use duct_run::held::{Held, nothing_held};
 use duct_run::start::{start, start_reader};
@@ -78,6 +82,46 @@ fn commands_of(shape: &Shape) -> Result<usize, Error>
         }
         Shape::Input(inner) | Shape::Unchecked(inner) => commands_of(inner),
     }
+}
+
+// How many inputs a shape has. Refused, by `Error::Memory`, where they can't be counted.
+fn inputs_of(shape: &Shape) -> Result<usize, Error>
+    ensures count { IfOk result (λ count. count ≡ input_count (shape_view shape.now)) }
+    ensures memory { IsOkUnless result Error.Memory }
+{
+    match shape {
+        Shape::Command(_) => Ok(0),
+        Shape::Pipe(left, right) => {
+            let count = inputs_of(left)?;
+            count.checked_add(inputs_of(right)?).ok_or(Error::Memory)
+        }
+        Shape::Input(inner) => inputs_of(inner)?.checked_add(1).ok_or(Error::Memory),
+        Shape::Unchecked(inner) => inputs_of(inner),
+    }
+}
+
+// What a handle of this tree keeps beside its lock.
+fn room_beside<E: Drop, H, S: System>(
+    alloc: Global,
+    root: &Node<E, H>,
+) -> Result<HandleRoom<S>, Error>
+    ensures shape { IfOk result
+        (λ room. shape_view room.shape ≡ shape_of_tree (node_view root.now)) }
+    ensures empty { IfOk result (λ room. room.ids.items ≡ []) }
+    ensures ids { IfOk result (λ room.
+        command_count (shape_of_tree (node_view root.now)) ≤ vec_capacity room.ids) }
+    ensures numbers { IfOk result
+        (λ room. HaveRoom (shape_of_tree (node_view root.now)) room.numbers) }
+    ensures spare { IfOk result
+        (λ room. HaveRoom (shape_of_tree (node_view root.now)) room.spare.value.numbers) }
+    ensures silent { IfOk result (λ room. room.spare.value.answer ≡ None) }
+    ensures memory { IsOkUnless result Error.Memory }
+{
+    let shape = shape_of(alloc, root)?;
+    let again = shape_of(alloc, root)?;
+    let commands = commands_of(&shape)?;
+    let inputs = inputs_of(&shape)?;
+    handle_room(alloc, shape, again, commands, inputs)
 }
 
 // Room for the ids of the commands of this shape, and for two capture workers.
@@ -245,5 +289,38 @@ impl<E: Drop, H: Hook> Expression<E, H> {
         let (core, room, held) = prepare(alloc, self.root(), &list, drains)?;
         let (kept, reader) = start_reader(sys, pool, &list.scopes, &list.actions, held)?;
         Ok((running(core, kept, room), reader))
+    }
+
+    /// Starts the expression as `launch` does, and answers a handle of what runs, which threads can share. What the handle needs
+    /// is made before the first request.
+    ///
+    /// Refused as `launch` is, and what a refusal leaves is the same.
+    pub fn start<S: System<End = E>>(
+        &self,
+        sys: &mut S,
+        pool: &mut Pool<S::Child>,
+    ) -> Result<Handle<S>, Error>
+        ensures ok { OnOk result (let tree = tree_view self.now in
+            StartSucceeds H.allows E.number_of tree (plan_of tree) (S.journal_view sys.old)
+            (S.journal_view sys.new)) }
+        ensures handle { IfOk result (let tree = tree_view self.now in
+            IsHandle tree (is_some (plan_of tree).out) (is_some (plan_of tree).err)
+            (segment (S.journal_view sys.old).entries (S.journal_view sys.new).entries)) }
+        ensures swept { OnOk result (Leaves S.Child.may_answer []
+            (pool_view S.Child.child_view pool.old) (pool_view S.Child.child_view pool.new)) }
+        ensures err { IfErr result (let tree = tree_view self.now in
+            StartRefused H.allows H.refuses E.number_of tree (plan_of tree) (S.journal_view sys.old)
+            (S.journal_view sys.new)) }
+
+        // The bound is that of the lists of the standard library.
+        ensures pool_given { OnErr result
+            (let added = segment (S.journal_view sys.old).entries (S.journal_view sys.new).entries in
+            pool.old.given + length (children_in added) < 2 ^ 63
+            → LeavesStarted S.Child.may_answer S.Child.child_view added pool.old pool.new) }
+    {
+        let alloc = self.allocator();
+        let room = room_beside(alloc, self.root())?;
+        let running = self.launch(sys, pool)?;
+        Ok(handle_of(alloc, running, room))
     }
 }

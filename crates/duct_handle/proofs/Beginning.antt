@@ -2,11 +2,11 @@
 use Rattle.std.specs.Prelude.{ℕ, Bool, List, [], ◌∷◌, ◌++◌, is_some, map, Some, None}
 use Rattle.std.specs.Option.{option_map, option_to_list}
 use Rattle.std.specs.declared.option.Option.{Option}
-use Rattle.std.proofs.Common.{◌≡◌, refl, ap, sym, ◌∙◌}
+use Rattle.std.proofs.Common.{◌≡◌, refl, ap, ◌∙◌}
 use Rattle.duct_system.specs.Child.{ChildView}
 use Rattle.duct_system.specs.EntryView.{EntryView}
 use Rattle.duct_system.specs.Job.{JobView, unpolled_job}
-use Rattle.duct_system.specs.Started.{children_in, feeds_in, drains_in}
+use Rattle.duct_system.specs.Started.{feeds_in, drains_in}
 use Rattle.duct_status.specs.ShapeView.{shape_view}
 use Rattle.duct_start.specs.Running.{IsRunning, RunningView}
 use Rattle.duct_start.specs.TreeView.{TreeView}
@@ -18,9 +18,9 @@ twice : {X Y Z : Type 0} (f : X → Y) (g : Y → Z) (xs : List X) → map g (ma
 twice f g [] = refl
 twice f g (x ∷ xs) = ap (λ zs. g (f x) ∷ zs) (twice f g xs)
 
-numbers_back : {W : Type 0} (numbers : List ℕ) → map (λ (j : JobView W). j.number) (map (λ number. unpolled_job number) numbers) ≡ numbers
-numbers_back [] = refl
-numbers_back {W} (n ∷ numbers) = ap (λ ns. n ∷ ns) (numbers_back {W} numbers)
+numbers_back : (W : Type 0) (numbers : List ℕ) → map (λ (j : JobView W). j.number) (map (λ number. unpolled_job number) numbers) ≡ numbers
+numbers_back W [] = refl
+numbers_back W (n ∷ numbers) = ap (λ ns. n ∷ ns) (numbers_back W numbers)
 
 listed : {X Y Z : Type 0} (f : X → Y) (g : Y → Z) (one other : Option X) →
     option_to_list (option_map g (option_map f one)) ++ option_to_list (option_map g (option_map f other)) ≡ map g (map f (option_to_list one ++ option_to_list other))
@@ -40,9 +40,9 @@ pub is_handle : {E H C F D V W : Type 0} (child : C → ChildView) (feed : F →
 is_handle child feed drain tree output error added running handle runs shape numbers = record {
   shape_is = shape ∙ runs.shape_is;
   children_are = ap (λ n. n.children) numbers ∙ twice child (λ c. c.number) running.children ∙ runs.children_are;
-  feeds_are = ap (λ n. n.feeds) numbers ∙ ap (λ js. map (λ j. j.number) js) runs.feeds_are ∙ numbers_back (feeds_in added);
+  feeds_are = ap (λ n. n.feeds) numbers ∙ ap (λ js. map (λ j. j.number) js) runs.feeds_are ∙ numbers_back _ (feeds_in added);
   drains_are = (λ i. option_to_list (numbers i).output ++ option_to_list (numbers i).error)
-      ∙ listed drain (λ j. j.number) running.output running.error ∙ ap (λ js. map (λ j. j.number) js) runs.drains_are ∙ numbers_back (drains_in added);
+      ∙ listed drain (λ j. j.number) running.output running.error ∙ ap (λ js. map (λ j. j.number) js) runs.drains_are ∙ numbers_back _ (drains_in added);
   output_is = ap (λ n. is_some n.output) numbers ∙ there drain (λ j. j.number) running.output ∙ runs.output_is;
   error_is = ap (λ n. is_some n.error) numbers ∙ there drain (λ j. j.number) running.error ∙ runs.error_is;
 }

@@ -22,10 +22,10 @@ use std::sync::Mutex;
 /// room for the numbers and the ids of its children and workers.
 #[derive(Drop)]
 pub struct HandleRoom<S: System> {
-    shape: Shape,
-    numbers: Numbers,
-    ids: Vec<u32>,
-    spare: Box<Published<S>>,
+    pub shape: Shape,
+    pub numbers: Numbers,
+    pub ids: Vec<u32>,
+    pub spare: Box<Published<S>>,
 }
 
 /// Room for a handle of a tree with so many commands and inputs. Refused, by `Error::Memory`, only for want of memory.
