@@ -242,11 +242,8 @@ fn is_right_refusal(
 fn is_still_after(start: &Start, error: &Error) -> bool {
     match error {
         Error::Hook(_) | Error::HookEnd(_) => is_still(&start.bench.calls, start.calls),
-        Error::System(_)
-        | Error::Checked(_)
-        | Error::NotUtf8
-        | Error::Deadline
-        | Error::Memory => true,
+        Error::System(_) | Error::Checked(_) | Error::NotUtf8 | Error::Deadline | Error::Memory =>
+            true,
     }
 }
 
