@@ -50,12 +50,15 @@ fn a_refused_request_of_each_sort(rt: HostRuntime) -> Result<(), Fail> {
         trace: Environment, Pipe, Pipe, Pipe, Spawn a -> reader-3 writer-2 inherit refused=Other
         pool: len 0, given 0, reaped 0, lost 0
         refuse: Feed 1 Other
+        trace: Environment, Pipe, Pipe, Pipe, Spawn a -> reader-3 writer-2 inherit, Feed writer-3 [120, 121, 122] refused=Other
         answers: system: Other
         pool: len 1, given 1, reaped 0, lost 0
         refuse: Spawn 2 Other
+        trace: Environment, Pipe, Pipe, Pipe, Spawn a -> reader-3 writer-2 inherit, Feed writer-3 [120, 121, 122], Spawn b -> reader-2 writer-1 inherit refused=Other
         answers: system: Other
         pool: len 1, given 1, reaped 0, lost 0
         refuse: Drain 1 Other
+        trace: Environment, Pipe, Pipe, Pipe, Spawn a -> reader-3 writer-2 inherit, Feed writer-3 [120, 121, 122], Spawn b -> reader-2 writer-1 inherit, Drain reader-1 refused=Other
         answers: system: Other
         pool: len 2, given 2, reaped 0, lost 0
         children: code 0; Other
@@ -142,6 +145,11 @@ fn a_hook_that_refuses(rt: HostRuntime) -> Result<(), Fail> {
         expression: a before_spawn=in>9+refuse:Other
         trace: Environment
         answers: hook: Other
+
+        expression: a before_spawn=in>0+refuse:Other,1
+        trace: Environment
+        answers: hook: Other
+        lent:
         ",
     )
 }

@@ -11,6 +11,7 @@ use duct_plan::plan::{plan, plan_of_reader};
 use duct_script::calls::{Call, CallLog};
 use duct_script::child::ScriptChild;
 use duct_script::job::{ScriptDrain, ScriptFeed};
+use duct_script::requests::Sort;
 use duct_script::system::Script;
 use std::alloc::{AllocError, Global};
 use std::test::Fail;
@@ -213,6 +214,10 @@ fn is_right_refusal(
     let Err(error) = &start.answer else {
         return Err(Fail::from("a front of the plan was answered"));
     };
+    right(
+        is_still_after(start, error),
+        "something was asked behind the hook that refused",
+    )?;
     let entries = start.bench.sys.journal();
     right(
         answers_last_fault(entries, error),
@@ -231,6 +236,29 @@ fn is_right_refusal(
         start.bench.pool.given() == given,
         "the pool was not given each child",
     )
+}
+
+/// Whether only ends were closed and children polled behind the last hook that was called, where a hook refused the start.
+fn is_still_after(start: &Start, error: &Error) -> bool {
+    match error {
+        Error::Hook(_) | Error::HookEnd(_) => is_still(&start.bench.calls, start.calls),
+        Error::System(_) | Error::Checked(_) | Error::NotUtf8 | Error::Deadline | Error::Memory =>
+            true,
+    }
+}
+
+/// Whether it was so in this part of the log, where that has a hook.
+fn is_still(log: &CallLog, part: (u64, u64)) -> bool {
+    let mut hooked = false;
+    let mut still = true;
+    for place in part.0..part.1 {
+        match log.get(place as usize) {
+            Some(Call::Hook(_)) => (hooked, still) = (true, true),
+            Some(Call::Request(Sort::Close) | Call::Poll(_)) | None => (),
+            Some(Call::Request(_) | Call::Order(_)) => still = !hooked,
+        }
+    }
+    still
 }
 
 /// The children of a start that were asked, in order.

@@ -6,6 +6,8 @@ mod bench;
 #[cfg(test)]
 mod ids;
 #[cfg(test)]
+mod order;
+#[cfg(test)]
 mod polls;
 #[cfg(test)]
 mod pools;

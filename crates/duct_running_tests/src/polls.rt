@@ -18,6 +18,7 @@ fn statuses(rt: HostRuntime) -> Result<(), Fail> {
         a unchecked b pipe c unchecked pipe | code 1;code 0;code 2 | | | 1 -> Code(2) out= err=. | 1 1 1 | |
         a b pipe | code 0;code 0 | | | 1 -> Code(0) out= err=. | 1 1 | |
         a b pipe | signal 6;code 0 | | | 1 -> command [\"a\"] exited with code <signal 6>. | 1 1 | |
+        a b c pipe pipe | running,running,code 0;code 1;running,code 0 | | | 4 -> nothing. nothing. command [\"b\"] exited with code 1. command [\"b\"] exited with code 1. | 3 1 2 | |
         ",
     )
 }
@@ -32,6 +33,7 @@ fn faults(rt: HostRuntime) -> Result<(), Fail> {
         a b pipe | running,code 0;Other,code 0 | | | 2 -> system: Other. Code(0) out= err=. | 2 2 | |
         a b pipe | Other;NotFound | | | 1 -> system: Other. | 1 1 | |
         a b pipe | running;NotFound | | | 1 -> system: NotFound. | 1 1 | |
+        a b pipe | running,Other;NotFound | | | 2 -> system: NotFound. system: Other. | 2 2 | |
         a stdin_bytes=p | running,code 0 | Other | | 3 -> system: Other. system: Other. system: Other. | 2 | 1 |
         a stdin_bytes=p | NotFound,code 0 | Other | | 2 -> system: NotFound. system: Other. | 2 | 1 |
         a stdin_bytes=p b pipe | code 0;NotFound | Other | | 1 -> system: Other. | 1 1 | 1 |

@@ -1,7 +1,6 @@
-//! Both bodies on chosen trees, with a fault at each entry of the trace in turn, and on random trees, with one at a random entry.
+//! Both bodies on chosen trees and on random ones, with a fault at each entry of the trace in turn.
 use crate::bodies::agree;
 use crate::cases::{Case, case_of, case_with};
-use duct_rows::dice::Dice;
 use duct_rows::scenes::Scene;
 use duct_rows::starts::Way;
 use std::alloc::Global;
@@ -60,19 +59,15 @@ fn both_bodies_agree_with_a_fault_at_each_entry(rt: HostRuntime) -> Result<(), F
     agree_on_trees(rt.alloc(), READ, Way::Read)
 }
 
-/// Both bodies agree on the random case of a seed, also with a fault at a random entry.
-fn agree_on_random(alloc: Global, seed: u64) -> Result<(), Fail> {
-    let case = case_of(alloc, seed)?;
-    let requests = agree(alloc, &case, None)?;
-    let place = Dice::new(seed).roll(requests.len() as u64) as usize;
-    drop(agree(alloc, &case, requests.get(place).copied())?);
+/// Both bodies agree on the random cases of these seeds, also with a fault at each entry of the trace in turn.
+fn agree_on_random(alloc: Global, first: u64, count: u64) -> Result<(), Fail> {
+    for seed in first..first.saturating_add(count) {
+        agree_on_each(alloc, &case_of(alloc, seed)?)?;
+    }
     Ok(())
 }
 
 #[test]
 fn both_bodies_agree_on_random_trees(rt: HostRuntime) -> Result<(), Fail> {
-    for seed in 0..200 {
-        agree_on_random(rt.alloc(), seed)?;
-    }
-    Ok(())
+    agree_on_random(rt.alloc(), 0, 200)
 }

@@ -1,5 +1,5 @@
 //! The same start by both bodies: the library's own, which has to go as every start has to, and the plain walk.
-use crate::cases::Case;
+use crate::cases::{Case, noted_tree};
 use duct::{Entry, Error, Fault, Kind, System};
 use duct_plain::checker::{is_balanced, trace};
 use duct_rows::scenes::{Bench, bench_of};
@@ -45,7 +45,9 @@ fn launched(
     case: &Case,
     refused: Option<Request>,
 ) -> Result<(String, Vec<Request>), Fail> {
-    let start = started_tree(alloc, &case.tree, case.way, bench(alloc, case, refused)?)?;
+    let bench = bench(alloc, case, refused)?;
+    let tree = noted_tree(alloc, case, &bench)?;
+    let start = started_tree(alloc, &tree, case.way, bench)?;
     let text = told(alloc, &start.bench, &start.answer)?;
     let requests = requests(alloc, start.bench.sys.journal())?;
     Ok((text, requests))

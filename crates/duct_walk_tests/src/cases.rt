@@ -1,7 +1,7 @@
 //! Random trees, as texts of the tables of rows, and random scenes for them.
 use duct_rows::dice::Dice;
 use duct_rows::expressions::{Tree, written};
-use duct_rows::scenes::Scene;
+use duct_rows::scenes::{Bench, Scene};
 use duct_rows::starts::Way;
 use std::alloc::{AllocError, Global};
 use std::test::Fail;
@@ -103,6 +103,11 @@ pub(crate) fn case_with(
         way,
         scene,
     })
+}
+
+/// The tree of a case, whose hooks note their calls where this bench does.
+pub(crate) fn noted_tree(alloc: Global, case: &Case, bench: &Bench) -> Result<Tree, Fail> {
+    written(alloc, Some(&bench.calls), case.expression.as_str())
 }
 
 fn way(dice: &mut Dice) -> Way {

@@ -1,7 +1,7 @@
 //! Starts by the library go as every start has to, which the tables of rows check: on chosen trees with a fault at each request
 //! in turn, and on random trees, with one at a random request.
 use crate::agree::{LAUNCHED, READ};
-use crate::cases::{Case, case_of, case_with};
+use crate::cases::{Case, case_of, case_with, noted_tree};
 use duct::{Fault, Kind};
 use duct_rows::dice::Dice;
 use duct_rows::scenes::{Scene, bench_of};
@@ -13,7 +13,8 @@ use std::test::Fail;
 fn follows(alloc: Global, case: &Case, refused: u64) -> Result<u64, Fail> {
     let mut bench = bench_of(alloc, case.scene)?;
     bench.sys.refuse(refused, Fault::new(Kind::NotFound))?;
-    let start = started_tree(alloc, &case.tree, case.way, bench)?;
+    let tree = noted_tree(alloc, case, &bench)?;
+    let start = started_tree(alloc, &tree, case.way, bench)?;
     Ok(start.bench.sys.requests())
 }
 

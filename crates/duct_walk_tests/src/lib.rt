@@ -1,5 +1,5 @@
-//! Tests of starts by a second body, the plain walk: over chosen trees with a fault at each entry, and over random ones. Random
-//! trees beside the definitions of a start, too.
+//! Tests of starts by a second body, the plain walk: over chosen trees and random ones, with a fault at each entry. Random trees
+//! beside the definitions of a start, too.
 #![tactic(auto)]
 
 #[cfg(test)]

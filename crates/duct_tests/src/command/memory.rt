@@ -178,16 +178,17 @@ fn started(journal: &[Entry]) -> u64 {
     count
 }
 
-// Whether a refused start left such a pool right: as it was, where nothing was asked, else with each child that was started.
-fn is_left(journal: &[Entry], pool: (usize, u64, u64)) -> bool {
-    if journal.is_empty() {
-        pool == (1, 1, 0)
+// Whether a refused start of a pipe is right: where nothing was asked, for want of its own memory and with the pool as it was, else
+// with each child that was started.
+fn is_right(sys: &Script, error: &Error, pool: (usize, u64, u64)) -> bool {
+    if sys.requests() == 1 {
+        matches!(error, Error::Memory) && pool == (1, 1, 0)
     } else {
-        pool.1 == started(journal).saturating_add(1)
+        is_memory(error) && pool.1 == started(sys.journal()).saturating_add(1)
     }
 }
 
-// Starts a pipe.
+// Starts a pipe over a system that was asked once.
 fn start_pipe(alloc: Global, sys: &mut Script, pool: &mut Pool<ScriptChild>) -> Came {
     match piped(alloc, sys, pool) {
         Ok(running) => {
@@ -199,7 +200,7 @@ fn start_pipe(alloc: Global, sys: &mut Script, pool: &mut Pool<ScriptChild>) -> 
             }
         }
         Err(error) => {
-            if is_memory(&error) && is_left(sys.journal(), counts(pool)) {
+            if is_right(sys, &error, counts(pool)) {
                 Came::Refused
             } else {
                 Came::Wrong
@@ -208,8 +209,15 @@ fn start_pipe(alloc: Global, sys: &mut Script, pool: &mut Pool<ScriptChild>) -> 
     }
 }
 
+// A system that was asked once, so that its journal has room for a second entry and a second environment takes no memory.
+fn asked_once(alloc: Global) -> Result<Script, Error> {
+    let mut sys = Script::new(alloc)?;
+    drop(sys.environment()?);
+    Ok(sys)
+}
+
 pub fn pipes(alloc: Global) -> Came {
-    match (Script::new(alloc), pool(alloc)) {
+    match (asked_once(alloc), pool(alloc)) {
         (Ok(mut sys), Ok(mut pool)) => start_pipe(alloc, &mut sys, &mut pool),
         _ => Came::Refused,
     }

@@ -72,7 +72,7 @@ fn ordered(alloc: Global, children: &str, steps: &str) -> Result<String, Stop> {
     Ok(text)
 }
 
-// Starts a pipe of as many commands as there are children.
+// Starts a pipe of as many commands as there are children, nested to the right.
 fn started(
     alloc: Global,
     pool: &mut Pool<ScriptChild>,
@@ -83,7 +83,7 @@ fn started(
     for (at, child) in pieces(alloc, children)?.iter().enumerate() {
         sys.child(script(alloc, child)?)?;
         if at > 0 {
-            commands = commands.pipe(&command(alloc, "a")?)?;
+            commands = command(alloc, "a")?.pipe(&commands)?;
         }
     }
     Ok(commands.launch(&mut sys, pool)?)
