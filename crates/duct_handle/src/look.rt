@@ -1,5 +1,5 @@
 //! What stands under a handle's lock, and one look at it.
-ghost use Rattle.std.specs.Prelude.{◌≡◌, ◌↔◌, IfOk, IfErr, IfSome, IsTrue, Ok, Err, None};
+ghost use Rattle.std.specs.Prelude.{◌≡◌, ◌↔◌, IfOk, IfErr, IfSome, IsTrue, is_some, true, Ok, Err, None};
 ghost use Rattle.duct_status.specs.ShapeView.{shape_view};
 ghost use Rattle.duct_running.specs.Answered.{IsAnswer, WasConcluded};
 ghost use Rattle.duct_running.specs.NumbersView.{numbers_view};
@@ -62,6 +62,7 @@ pub(crate) fn look<S: System>(
     shape: &Shape,
     numbers: &Numbers,
 ) -> Result<Option<Box<Published<S>>>, Error>
+    ensures ended { IfOk result (λ o. IfSome o (λ b. is_some b.value.answer ≡ true)) }
     ensures runs { result ≡ Ok None → OneRuns S.Child.may_answer S.Feed.may_say
         S.Drain.may_say (numbers_view numbers.now) }
     ensures waits { result ≡ Ok None → IsAnswer S.Child.may_answer S.Feed.may_say
