@@ -10,9 +10,9 @@ use Rattle.duct_system.specs.Started.{feeds_in, drains_in}
 use Rattle.duct_status.specs.ShapeView.{shape_view}
 use Rattle.duct_start.specs.Running.{IsRunning, RunningView}
 use Rattle.duct_start.specs.TreeView.{TreeView}
-use Rattle.duct_running.specs.NumbersView.{numbers_in}
+use Rattle.duct_running.specs.NumbersView.{NumbersView, numbers_in}
 use Rattle.duct_handle.specs.HandleView.{HandleView}
-use Rattle.duct_handle.specs.Started.{IsHandle}
+use Rattle.duct_handle.specs.Started.{AreNumbers, IsHandle}
 
 twice : {X Y Z : Type 0} (f : X → Y) (g : Y → Z) (xs : List X) → map g (map f xs) ≡ map (λ x. g (f x)) xs
 twice f g [] = refl
@@ -33,16 +33,25 @@ there : {X Y Z : Type 0} (f : X → Y) (g : Y → Z) (o : Option X) → is_some 
 there f g None = refl
 there f g (Some x) = refl
 
+-- the numbers of what runs are those
+pub are_numbers : {E H C F D V W : Type 0} (child : C → ChildView) (feed : F → JobView V) (drain : D → JobView W) (tree : TreeView E H) (output error : Bool)
+    (added : List EntryView) (running : RunningView C F D) (numbers : NumbersView) → IsRunning child feed drain tree output error added running
+    → numbers ≡ numbers_in child feed drain running → AreNumbers output error added numbers
+are_numbers child feed drain tree output error added running numbers runs same = record {
+  children_are = ap (λ n. n.children) same ∙ twice child (λ c. c.number) running.children ∙ runs.children_are;
+  feeds_are = ap (λ n. n.feeds) same ∙ ap (λ js. map (λ j. j.number) js) runs.feeds_are ∙ numbers_back _ (feeds_in added);
+  drains_are = (λ i. option_to_list (same i).output ++ option_to_list (same i).error)
+      ∙ listed drain (λ j. j.number) running.output running.error ∙ ap (λ js. map (λ j. j.number) js) runs.drains_are ∙ numbers_back _ (drains_in added);
+  output_is = ap (λ n. is_some n.output) same ∙ there drain (λ j. j.number) running.output ∙ runs.output_is;
+  error_is = ap (λ n. is_some n.error) same ∙ there drain (λ j. j.number) running.error ∙ runs.error_is;
+}
+
 -- a handle of what runs keeps them
-pub is_handle : {E H C F D V W : Type 0} (child : C → ChildView) (feed : F → JobView V) (drain : D → JobView W) (tree : TreeView E H) (output error : Bool) (added : List EntryView)
-    (running : RunningView C F D) (handle : HandleView) → IsRunning child feed drain tree output error added running → shape_view handle.shape ≡ shape_view running.shape
+pub is_handle : {E H C F D V W : Type 0} (child : C → ChildView) (feed : F → JobView V) (drain : D → JobView W) (tree : TreeView E H) (output error : Bool)
+    (added : List EntryView) (running : RunningView C F D) (handle : HandleView) → IsRunning child feed drain tree output error added running
+    → shape_view handle.shape ≡ shape_view running.shape
     → handle.numbers ≡ numbers_in child feed drain running → IsHandle tree output error added handle
 is_handle child feed drain tree output error added running handle runs shape numbers = record {
   shape_is = shape ∙ runs.shape_is;
-  children_are = ap (λ n. n.children) numbers ∙ twice child (λ c. c.number) running.children ∙ runs.children_are;
-  feeds_are = ap (λ n. n.feeds) numbers ∙ ap (λ js. map (λ j. j.number) js) runs.feeds_are ∙ numbers_back _ (feeds_in added);
-  drains_are = (λ i. option_to_list (numbers i).output ++ option_to_list (numbers i).error)
-      ∙ listed drain (λ j. j.number) running.output running.error ∙ ap (λ js. map (λ j. j.number) js) runs.drains_are ∙ numbers_back _ (drains_in added);
-  output_is = ap (λ n. is_some n.output) numbers ∙ there drain (λ j. j.number) running.output ∙ runs.output_is;
-  error_is = ap (λ n. is_some n.error) numbers ∙ there drain (λ j. j.number) running.error ∙ runs.error_is;
+  numbers_are = are_numbers child feed drain tree output error added running handle.numbers runs numbers;
 }

@@ -1,3 +1,4 @@
 pub mod Beginning
+pub mod Finishing
 pub mod Obeying
 pub mod Sharing

@@ -1,6 +1,7 @@
 //! A handle of what runs, which threads share: waits, orders, and an answer that is published once.
 #![tactic(auto)]
 
+pub mod finish;
 pub mod handle;
 mod look;
 mod orders;
@@ -8,4 +9,5 @@ mod output;
 mod pause;
 pub mod published;
 pub mod room;
+pub mod unix;
 mod wait;

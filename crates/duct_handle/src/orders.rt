@@ -1,6 +1,6 @@
 //! The orders of a handle to its commands, and their ids.
 ghost use Rattle.std.specs.Prelude.{◌≡◌, Ok, OnOk};
-ghost use Rattle.duct_system.specs.declared.system.Order.TheVariants.{Kill, Signal};
+ghost use Rattle.duct_system.specs.declared.system.Order.TheVariants.{Kill};
 ghost use Rattle.duct_running.specs.NumbersView.{numbers_view};
 ghost use Rattle.duct_handle.specs.Obeyed.{AllObeyed};
 
@@ -43,16 +43,8 @@ impl<S: System> Handle<S> {
         self.order(rt, Order::Kill)
     }
 
-    /// Sends each command that is not known as ended a signal, as `kill` kills them.
-    pub fn signal(&self, rt: &impl Wait, signal: i32) -> Result<(), Error>
-        ensures { OnOk result (∥ AllObeyed S.Child.may_answer S.Child.may_obey (Signal signal)
-            self.now.numbers.children ∥₁) }
-    {
-        self.order(rt, Order::Signal(signal))
-    }
-
     // Gives an order under the lock.
-    fn order(&self, rt: &impl Wait, order: Order) -> Result<(), Error>
+    pub(crate) fn order(&self, rt: &impl Wait, order: Order) -> Result<(), Error>
         ensures { OnOk result (∥ AllObeyed S.Child.may_answer S.Child.may_obey order
             self.now.numbers.children ∥₁) }
     {

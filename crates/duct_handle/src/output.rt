@@ -1,9 +1,10 @@
 //! The output itself, where no thread shares the handle any more.
-ghost use Rattle.std.specs.Prelude.{◌≡◌, ◌<◌, ◌+◌, ◌^◌, List, length, OnErr, OnOk, IfOk, IfErr, IsOkUnless, Err};
+ghost use Rattle.std.specs.Prelude.{◌≡◌, ◌⊎◌, ◌<◌, ◌+◌, ◌^◌, List, length, OnErr, OnOk, IfOk, IfErr, IsOkAnd, IsOkUnless, Err};
 ghost use Rattle.std.specs.Arc.{arc_value};
 ghost use Rattle.duct_base.specs.Pool.{Takes};
 ghost use Rattle.duct_status.specs.ShapeView.{shape_view};
 ghost use Rattle.duct_running.specs.Answered.{IsAnswer, WasConcluded};
+ghost use Rattle.duct_running.specs.Polled.{IsOutput};
 ghost use Rattle.duct_status.specs.ReplyView.{answered};
 
 use crate::handle::Handle;
@@ -12,6 +13,7 @@ use duct_base::error::Error;
 use duct_base::pool::Pool;
 use duct_base::system::{Child, Job, Output, System};
 use duct_run::ending::give_all;
+use duct_running::running::Running;
 use std::alloc::{AllocError, Global};
 use std::sync::{Arc, Wait};
 
@@ -41,6 +43,42 @@ fn own(alloc: Global, output: Arc<Output>) -> Result<Output, Error>
     }
 }
 
+/// What is answered after a wait: the output itself, copied only where another still shares it; the pool then stays as it was.
+/// Where the wait failed, or the copy for want of memory, the children are given to the pool.
+pub(crate) fn settled<S: System>(
+    alloc: Global,
+    running: Running<S>,
+    waited: Result<Arc<Output>, Error>,
+    pool: &mut Pool<S::Child>,
+) -> Result<Output, Error>
+    ensures ok { IfOk result (λ own. IsOkAnd waited (λ output. IsOutput (arc_value output).status
+        (arc_value output).stdout.items (arc_value output).stderr.items own)) }
+    ensures err { IfErr result (λ e. (waited ≡ Err e) ⊎ (e ≡ Error.Memory)) }
+    ensures kept { OnOk result (pool.new ≡ pool.old) }
+    ensures given { OnErr result (pool.old.given + length running.children < 2 ^ 63
+        → Takes S.Child.may_answer S.Child.child_view running.children pool.old pool.new) }
+{
+    let output = match waited {
+        Ok(output) => output,
+        Err(error) => {
+            running.give_up(pool);
+            return Err(error);
+        }
+    };
+    let (children, feeds, drains) = running.into_parts();
+    drop((feeds, drains));
+    match own(alloc, output) {
+        Ok(output) => {
+            drop(children);
+            Ok(output)
+        }
+        Err(error) => {
+            give_all(pool, children);
+            Err(error)
+        }
+    }
+}
+
 impl<S: System> Handle<S> {
     /// Waits until the expression has ended, and answers the output itself, copied only where another still shares it. The pool
     /// stays as it was. Where it fails, the children are given to the pool, as `give_up` gives them; with a checked failure the
@@ -58,25 +96,6 @@ impl<S: System> Handle<S> {
     {
         let waited = self.wait(rt);
         let alloc = self.alloc;
-        let running = released(self);
-        let output = match waited {
-            Ok(output) => output,
-            Err(error) => {
-                running.give_up(pool);
-                return Err(error);
-            }
-        };
-        let (children, feeds, drains) = running.into_parts();
-        drop((feeds, drains));
-        match own(alloc, output) {
-            Ok(output) => {
-                drop(children);
-                Ok(output)
-            }
-            Err(error) => {
-                give_all(pool, children);
-                Err(error)
-            }
-        }
+        settled(alloc, released(self), waited, pool)
     }
 }

@@ -95,6 +95,7 @@ impl<S: System> Handle<S> {
         seen: &mut Seen<S>,
     ) -> Result<Option<Arc<Output>>, Error>
         requires { seen.old.cell ≡ self.now.cell }
+        ensures cell { seen.new.cell ≡ self.now.cell }
         ensures late { result ≡ Err Error.Deadline
             → (seen.old.known ≡ None) × IsLate (C.may_show clock.now) timeout }
         ensures timely { (result ≡ Err Error.Deadline)

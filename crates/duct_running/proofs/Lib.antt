@@ -1,5 +1,6 @@
 pub mod InTurn
 pub mod Jobs
+pub mod Kept
 pub mod Numbered
 pub mod Orders
 pub mod Pending

@@ -37,11 +37,17 @@ abbrev pub WasConcluded : (ℕ → Answer → Type 0) → (ℕ → Said (Unit {0
 WasConcluded answer feed drain shape numbers reply =
     ∥ Concluded answer feed drain shape numbers reply ∥₁
 
--- the answer is given by what was concluded; or there was no memory; or shape and numbers differ, which no start brings about
-abbrev pub IsAnswer : (ℕ → Answer → Type 0) → (ℕ → Said (Unit {0}) → Type 0)
+-- the answer is given by what was concluded, or there was no memory
+abbrev pub IsEnding : (ℕ → Answer → Type 0) → (ℕ → Said (Unit {0}) → Type 0)
     → (ℕ → Said Bytes → Type 0) → ShapeView → NumbersView → Polled → Type 0
-IsAnswer answer feed drain shape numbers polled =
+IsEnding answer feed drain shape numbers polled =
     ((reply : ReplyView) × WasConcluded answer feed drain shape numbers reply
     × Gives reply polled)
     ⊎ (polled ≡ Err error.Memory)
+
+-- the same, or shape and numbers differ, which no start brings about
+abbrev pub IsAnswer : (ℕ → Answer → Type 0) → (ℕ → Said (Unit {0}) → Type 0)
+    → (ℕ → Said Bytes → Type 0) → ShapeView → NumbersView → Polled → Type 0
+IsAnswer answer feed drain shape numbers polled =
+    IsEnding answer feed drain shape numbers polled
     ⊎ (polled ≡ Err (error.System (record { kind = Other })))

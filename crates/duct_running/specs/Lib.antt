@@ -3,5 +3,6 @@ pub mod Holds
 pub mod NumbersView
 pub mod Ordered
 pub mod Polled
+pub mod Stays
 pub mod Stored
 pub mod Told

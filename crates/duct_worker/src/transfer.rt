@@ -137,11 +137,11 @@ fn read_behind<R: Read>(reader: &mut R, buffer: &mut [u8], at: usize) -> io::Res
     ensures err { OnErr result (Keeps (R.remaining reader.old) (R.remaining reader.new)) }
     ensures end { IfOk result (λ read. read ≡ 0 → IsAtEnd (R.remaining reader.new)) }
 {
-    read_again(reader, &mut buffer[at..])
+    read_retried(reader, &mut buffer[at..])
 }
 
-/// One read, tried again as long as it is interrupted.
-fn read_again<R: Read>(reader: &mut R, buffer: &mut [u8]) -> io::Result<usize>
+/// One read, tried again as long as it is interrupted. Any other error is the answer, and nothing was read then.
+pub fn read_retried<R: Read>(reader: &mut R, buffer: &mut [u8]) -> io::Result<usize>
     ensures bound { ReadsAtMost result buffer.new }
     ensures ok { IfOk result (λ read. Consumes (R.remaining reader.old) (R.remaining reader.new)
         (take read buffer.new)) }

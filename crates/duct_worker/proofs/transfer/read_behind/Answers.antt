@@ -8,6 +8,6 @@ returns-clause-front g c = take_put _ _ c.args.buffer.now _ (omega (arith, c.req
 
 pub returns-clause-ok : goal.returns-clause-ok
 returns-clause-ok g c =
-    read_in_place _ _ c.read_again.result _ c.read_again.new.buffer _ c.args.at
+    read_in_place _ _ c.read_retried.result _ c.read_retried.new.buffer _ c.args.at
     (length-take-le _ c.args.buffer.now (omega (arith, c.requires)))
-    c.read_again.ensures.bound c.read_again.ensures.ok
+    c.read_retried.ensures.bound c.read_retried.ensures.ok

@@ -11,19 +11,19 @@ returns-in_ok-try_clone-in-Some-Output-clause-told g c =
     let same = c.if-not-same.ensures.0 refl in
     let numbers : numbers_view c.args.published.now.numbers ≡ c.args.self.now.numbers = same.1 ∙ ap (λ (h : HandleView). h.numbers) c.self.view_is in
     let shape : shape_view c.args.published.now.shape ≡ shape_view c.args.self.now.shape = same.0 ∙ ap (λ (h : HandleView). shape_view h.shape) c.self.view_is in
-    inl (
+    inl (inl (
       answer_view c.in-Some-Output.field-0,
       concluded g.S.Child.Child.may_answer g.S.Feed.Job.may_say g.S.Drain.Job.may_say _ _ _ _ c.args.published.now.answer c.in-Some-Output.field-0 c.in-Some-Output.is numbers shape c.args.published.now.told,
       search rules,
-    )
+    ))
 
 pub returns-in_ok-try_clone-in-Some-Failed-clause-told : goal.returns-in_ok-try_clone-in-Some-Failed-clause-told
 returns-in_ok-try_clone-in-Some-Failed-clause-told g c =
     let same = c.if-not-same.ensures.0 refl in
     let numbers : numbers_view c.args.published.now.numbers ≡ c.args.self.now.numbers = same.1 ∙ ap (λ (h : HandleView). h.numbers) c.self.view_is in
     let shape : shape_view c.args.published.now.shape ≡ shape_view c.args.self.now.shape = same.0 ∙ ap (λ (h : HandleView). shape_view h.shape) c.self.view_is in
-    inl (
+    inl (inl (
       answer_view c.in-Some-Failed.field-0,
       concluded g.S.Child.Child.may_answer g.S.Feed.Job.may_say g.S.Drain.Job.may_say _ _ _ _ c.args.published.now.answer c.in-Some-Failed.field-0 c.in-Some-Failed.is numbers shape c.args.published.now.told,
       search rules,
-    )
+    ))

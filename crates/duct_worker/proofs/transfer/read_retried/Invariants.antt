@@ -1,7 +1,7 @@
 -- Reads that were interrupted gave nothing, and left the buffer as long as it was.
 use Rattle.std.proofs.Common.{◌≡◌, length}
 use Rattle.std.specs.Io.KnownBytes.{Keeps}
-use Rattle.duct_worker.proofs.transfer.read_again.Given as goal
+use Rattle.duct_worker.proofs.transfer.read_retried.Given as goal
 
 abbrev pub invariant-loop : goal.invariant-loop
 invariant-loop g l = (length l.buffer ≡ length l.initial.buffer)

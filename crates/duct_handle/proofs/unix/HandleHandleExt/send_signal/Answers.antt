@@ -1,7 +1,7 @@
 use Rattle.std.proofs.Common.{◌≡◌, OnOk, rules, subst, to_z, of_z, w32}
 use Rattle.duct_system.specs.declared.system.Order.TheVariants.{Signal}
 use Rattle.duct_handle.specs.Obeyed.{AllObeyed}
-use Rattle.duct_handle.proofs.handle.Handle.signal.Goals as goal
+use Rattle.duct_handle.proofs.unix.HandleHandleExt.send_signal.Goals as goal
 
 pub returns : goal.returns
 returns g c =

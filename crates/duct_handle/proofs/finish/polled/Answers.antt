@@ -1,0 +1,10 @@
+use Rattle.duct_running.proofs.Kept.{stays}
+use Rattle.duct_handle.proofs.finish.polled.Goals as goal
+
+pub returns-clause-stays : goal.returns-clause-stays
+returns-clause-stays g c =
+    let polls = c.poll-polled.ensures in
+    stays g.S.Child.Child.child_view g.S.Feed.Job.job_view g.S.Drain.Job.job_view
+    g.S.Child.Child.may_answer g.S.Feed.Job.may_say g.S.Feed.Job.same g.S.Feed.Job.refusable
+    g.S.Drain.Job.may_say g.S.Drain.Job.same g.S.Drain.Job.refusable c.args.running.now c.poll-polled.new.self _ _
+    polls.shape polls.asked polls.asked_feeds polls.asked_output polls.asked_error

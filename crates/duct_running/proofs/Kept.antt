@@ -1,0 +1,96 @@
+-- A poll leaves the shape, the numbers and the orders.
+use Rattle.std.specs.Prelude.{ℕ, List, [], ◌∷◌, map, MatchOption, Some, None}
+use Rattle.std.specs.Option.{option_map}
+use Rattle.std.specs.declared.option.Option.{Option}
+use Rattle.std.proofs.Common.{◌≡◌, refl, ap, ◌∙◌}
+use Rattle.duct_system.specs.Child.{Answer, ChildView, PollsChild, child_after}
+use Rattle.duct_system.specs.Job.{JobView, PollsJob}
+use Rattle.duct_system.specs.declared.system.ExitStatus.{ExitStatus}
+use Rattle.duct_system.specs.declared.system.Said.{Said}
+use Rattle.duct_system.specs.declared.system.Said.TheVariants as said
+use Rattle.duct_system.specs.declared.system.Side.{Side}
+use Rattle.duct_system.specs.declared.system.Side.TheVariants as side
+use Rattle.duct_status.specs.ShapeView.{shape_view}
+use Rattle.duct_start.specs.Running.{RunningView}
+use Rattle.duct_running.specs.NumbersView.{NumbersView}
+use Rattle.duct_running.specs.Polled.{AllAsked, WhileRuns, IsPolled, AllPolled, IsThereAndPolled, PolledWhere}
+use Rattle.duct_running.specs.Stays.{Stays}
+
+module _ {X : Type 0} (part : ChildView → X)
+    (alike : (answer : Answer) (child : ChildView) → part (child_after answer child) ≡ part child)
+    (may : ℕ → Answer → Type 0) where
+  child_kept : (before after : ChildView) (ending : Option ExitStatus)
+      → MatchOption ending ((answer : Answer) × PollsChild may before answer after) (λ status. after ≡ before)
+      → part after ≡ part before
+  child_kept before after None polled = ap part polled.1.after_is ∙ alike polled.0 before
+  child_kept before after (Some status) same = ap part same
+
+  children_kept : (befores afters : List ChildView) → AllAsked may befores afters → map part afters ≡ map part befores
+  children_kept [] [] all = refl
+  children_kept [] (after ∷ afters) all = absurd all
+  children_kept (before ∷ befores) [] all = absurd all
+  children_kept (before ∷ befores) (after ∷ afters) all =
+      λ i. child_kept before after before.ending all.0 i ∷ children_kept befores afters all.1 i
+
+module _ {T : Type 0} (may : ℕ → Said T → Type 0) (same : T → T → Type 0) (refusable : Type 0) where
+  job_kept : (before after : JobView T) → IsPolled may same refusable before after → after.number ≡ before.number
+  job_kept before after polled = ap (λ (j : JobView T). j.number) polled.1.after_is
+
+  feed_kept : (before after : JobView T) (kept : Said T) → WhileRuns kept (IsPolled may same refusable before after) (after ≡ before)
+      → after.number ≡ before.number
+  feed_kept before after said.Running polled = job_kept before after polled
+  feed_kept before after (said.Done value) is = ap (λ (j : JobView T). j.number) is
+  feed_kept before after (said.Fault fault) is = ap (λ (j : JobView T). j.number) is
+
+  feeds_kept : (befores afters : List (JobView T)) → AllPolled may same refusable befores afters
+      → map (λ j. j.number) afters ≡ map (λ j. j.number) befores
+  feeds_kept [] [] all = refl
+  feeds_kept [] (after ∷ afters) all = absurd all
+  feeds_kept (before ∷ befores) [] all = absurd all
+  feeds_kept (before ∷ befores) (after ∷ afters) all =
+      λ i. feed_kept before after before.kept all.0 i ∷ feeds_kept befores afters all.1 i
+
+  drain_kept : (before after : Option (JobView T)) → IsThereAndPolled may same refusable before after
+      → option_map (λ j. j.number) after ≡ option_map (λ j. j.number) before
+  drain_kept None after polled = absurd polled
+  drain_kept (Some before) None polled = absurd polled
+  drain_kept (Some before) (Some after) polled = ap (λ n. Some n) (job_kept before after polled)
+
+  where_kept : (stream : Side) (waited : Option Side) (before after : Option (JobView T))
+      → PolledWhere may same refusable stream waited before after
+      → option_map (λ j. j.number) after ≡ option_map (λ j. j.number) before
+  where_kept stream None before after is = ap (option_map (λ (j : JobView T). j.number)) is
+  where_kept side.Out (Some side.Out) before after polled = drain_kept before after polled
+  where_kept side.Out (Some side.Err) before after is = ap (option_map (λ (j : JobView T). j.number)) is
+  where_kept side.Err (Some side.Out) before after is = ap (option_map (λ (j : JobView T). j.number)) is
+  where_kept side.Err (Some side.Err) before after polled = drain_kept before after polled
+
+module _ {C F D V W : Type 0} (child : C → ChildView) (feed : F → JobView V) (drain : D → JobView W)
+    (may : ℕ → Answer → Type 0) (says : ℕ → Said V → Type 0) (same : V → V → Type 0) (refusable : Type 0)
+    (tells : ℕ → Said W → Type 0) (alike : W → W → Type 0) (dear : Type 0) (before after : RunningView C F D) where
+  -- one poll
+  pub stays : (one other : Option Side) → shape_view after.shape ≡ shape_view before.shape
+      → AllAsked may (map child before.children) (map child after.children)
+      → AllPolled says same refusable (map feed before.feeds) (map feed after.feeds)
+      → PolledWhere tells alike dear side.Out one (option_map drain before.output) (option_map drain after.output)
+      → PolledWhere tells alike dear side.Err other (option_map drain before.error) (option_map drain after.error)
+      → Stays child feed drain before after
+  stays one other shape children feeds output error = record {
+    shape_is = shape;
+    numbers_are = λ i. record {
+      children = children_kept (λ (c : ChildView). c.number) (λ answer child. refl) may _ _ children i;
+      feeds = feeds_kept says same refusable _ _ feeds i;
+      output = where_kept tells alike dear side.Out one _ _ output i;
+      error = where_kept tells alike dear side.Err other _ _ error i;
+    };
+    orders_are = children_kept (λ (c : ChildView). c.orders) (λ answer child. refl) may _ _ children;
+  }
+
+  -- and what stays behind more
+  pub stays_on : (first : RunningView C F D) → Stays child feed drain first before
+      → Stays child feed drain before after → Stays child feed drain first after
+  stays_on first old new = record {
+    shape_is = new.shape_is ∙ old.shape_is;
+    numbers_are = new.numbers_are ∙ old.numbers_are;
+    orders_are = new.orders_are ∙ old.orders_are;
+  }
