@@ -1,0 +1,28 @@
+-- The kind of std's error that an error of the library becomes.
+use Rattle.std.specs.declared.io.ErrorKind.{ErrorKind}
+use Rattle.std.specs.declared.io.ErrorKind.TheVariants as kind
+use Rattle.duct_system.specs.declared.error.Error.{Error}
+use Rattle.duct_system.specs.declared.error.Error.TheVariants as error
+use Rattle.duct_system.specs.declared.system.Kind.{Kind}
+use Rattle.duct_system.specs.declared.system.Kind.TheVariants.{NotFound, PermissionDenied, BrokenPipe, WriteZero, InvalidInput, Unsupported, OutOfMemory, Other}
+
+-- the kind of the same name
+abbrev pub name_of : Kind → ErrorKind
+name_of NotFound = kind.NotFound
+name_of PermissionDenied = kind.PermissionDenied
+name_of BrokenPipe = kind.BrokenPipe
+name_of WriteZero = kind.WriteZero
+name_of InvalidInput = kind.InvalidInput
+name_of Unsupported = kind.Unsupported
+name_of OutOfMemory = kind.OutOfMemory
+name_of Other = kind.Other
+
+-- a fault by its kind, want of memory, and each other error as one of no kind of its own
+abbrev pub kind_read : Error → ErrorKind
+kind_read (error.System fault) = name_of fault.kind
+kind_read error.Memory = kind.OutOfMemory
+kind_read (error.Checked text) = kind.Other
+kind_read error.NotUtf8 = kind.Other
+kind_read (error.Hook fault) = kind.Other
+kind_read (error.HookEnd place) = kind.Other
+kind_read error.Deadline = kind.Other

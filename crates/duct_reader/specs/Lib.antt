@@ -1,0 +1,4 @@
+pub mod ErrorKinds
+pub mod Reads
+pub mod ReadsText
+pub mod Trimmed

@@ -1,0 +1,36 @@
+-- What a read of a handle's pipe answers, and what its token knows then.
+use Rattle.std.specs.Prelude.{ℕ, ◌≡◌, ◌<◌, ◌⊎◌, IsSomeAnd, Ok, Err, Some}
+use Rattle.std.specs.declared.alloc.Global.{Global}
+use Rattle.std.specs.declared.result.Result.{Result}
+use Rattle.std.specs.declared.sync.Arc.{Arc}
+use Rattle.duct_system.specs.Child.{Answer}
+use Rattle.duct_system.specs.declared.error.Error.{Error}
+use Rattle.duct_system.specs.declared.error.Error.TheVariants as error
+use Rattle.duct_system.specs.declared.system.Fault.{Fault}
+use Rattle.duct_system.specs.declared.system.Output.{Output}
+use Rattle.duct_system.specs.declared.system.Said.{Said}
+use Rattle.duct_running.specs.Stored.{Bytes}
+use Rattle.duct_handle.specs.HandleView.{HandleView, SeenView}
+use Rattle.duct_handle.specs.Waited.{IsOf, Waited, at_end}
+
+-- what a read answers that waited: no byte, or why the wait failed
+abbrev pub at_close : Result (Arc Output Global) Error → Result ℕ Error
+at_close (Ok output) = Ok 0
+at_close (Err e) = Err e
+
+-- the token knows an output of this handle
+abbrev pub KnowsOutput : HandleView → SeenView → Type 0
+KnowsOutput handle seen =
+    (output : Arc Output Global) × IsSomeAnd seen.known (IsOf handle (Ok (Some output)))
+
+-- a read into so much room: the pipe gave some bytes, or there was no room; or the pipe answered a fault; or it gave nothing, and
+-- the read waited for what runs
+abbrev pub ReadsAs : (ℕ → Answer → Type 0) → (ℕ → Said (Unit {0}) → Type 0)
+    → (ℕ → Said Bytes → Type 0) → HandleView → ℕ → SeenView → SeenView
+    → Result ℕ Error → Type 0
+ReadsAs answer feed drain handle room before after result =
+    ((count : ℕ) × (result ≡ Ok count) × ((0 < count) ⊎ (room ≡ 0)) × (after ≡ before))
+    ⊎ ((fault : Fault) × (result ≡ Err (error.System fault)) × (after ≡ before))
+    ⊎ ((waited : Result (Arc Output Global) Error) × (0 < room)
+    × Waited answer feed drain handle before after (at_end waited)
+    × (result ≡ at_close waited))

@@ -1,0 +1,55 @@
+//! std's reads of a reader handle. Each waits for what runs once the pipe gave nothing, as `ReaderHandle::read_as` does.
+ghost use Rattle.std.specs.Io.{ReadsAtMost};
+
+use crate::error::io_error;
+use crate::reader::ReaderHandle;
+use duct_base::system::System;
+use std::io;
+use std::io::{ErrorKind, Read};
+use std::sync::Wait;
+
+// One read, by a token of its own.
+fn read_once<S: System, R: Wait>(
+    reader: &ReaderHandle<S, R>,
+    buf: &mut [u8],
+) -> io::Result<usize>
+    ensures bound { ReadsAtMost result buf.new }
+{
+    let mut seen = reader.seen();
+    match reader.read_as(buf, &mut seen) {
+        Ok(read) => Ok(read),
+        Err(error) => Err(io_error(error)),
+    }
+}
+
+// Reads until the buffer is full. `UnexpectedEof` where the expression ended well before.
+fn read_full<S: System, R: Wait>(reader: &ReaderHandle<S, R>, buf: &mut [u8]) -> io::Result<()> {
+    let mut at = 0;
+    while at < buf.len() {
+        match read_once(reader, &mut buf[at..])? {
+            0 => return Err(io::Error::from(ErrorKind::UnexpectedEof)),
+            read => at += read,
+        }
+    }
+    Ok(())
+}
+
+impl<S: System, R: Wait> Read for &ReaderHandle<S, R> {
+    fn read(&mut self, buf: &mut [u8]) -> io::Result<usize> {
+        read_once(self, buf)
+    }
+
+    fn read_exact(&mut self, buf: &mut [u8]) -> io::Result<()> {
+        read_full(self, buf)
+    }
+}
+
+impl<S: System, R: Wait> Read for ReaderHandle<S, R> {
+    fn read(&mut self, buf: &mut [u8]) -> io::Result<usize> {
+        read_once(self, buf)
+    }
+
+    fn read_exact(&mut self, buf: &mut [u8]) -> io::Result<()> {
+        read_full(self, buf)
+    }
+}

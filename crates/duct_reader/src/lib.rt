@@ -1,0 +1,8 @@
+//! A handle with the pipe that its expression writes to: reads that end as the expression does, and the text of all that is read.
+#![tactic(auto)]
+
+mod error;
+mod io;
+pub mod read;
+pub mod reader;
+mod text;
