@@ -1,3 +1,4 @@
+pub mod Ended
 pub mod LastValues
 pub mod Pairs
 pub mod TreeView

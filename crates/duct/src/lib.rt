@@ -10,6 +10,7 @@
 #![tactic(auto)]
 
 mod expression;
+mod run;
 mod start;
 
 // An expression: a command, a pipe, or a modifier round an expression.
@@ -34,7 +35,13 @@ pub use duct_base::system::{
 pub use duct_base::error::Error;
 pub use duct_base::system::{ExitStatus, Output};
 pub use duct_handle::handle::{Handle, Seen};
+pub use duct_reader::reader::ReaderHandle;
 pub use duct_running::running::Running;
+
+/// What Unix adds: signals to the commands of a handle.
+pub mod unix {
+    pub use duct_handle::unix::HandleExt;
+}
 
 // What a worker does, and workers on threads of their own.
 pub use duct_worker::shared::Shared;

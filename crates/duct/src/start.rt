@@ -101,7 +101,7 @@ fn inputs_of(shape: &Shape) -> Result<usize, Error>
 }
 
 // What a handle of this tree keeps beside its lock.
-fn room_beside<E: Drop, H, S: System>(
+pub(crate) fn room_beside<E: Drop, H, S: System>(
     alloc: Global,
     root: &Node<E, H>,
 ) -> Result<HandleRoom<S>, Error>

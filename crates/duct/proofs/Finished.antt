@@ -1,0 +1,97 @@
+-- What a start that was waited for answers, and what it leaves of the pool.
+use Rattle.std.proofs.Common.{◌≡◌, ℕ, ◌+◌, ◌^◌, ◌<◌, Bool, List, [], ◌∷◌, length, refl, ap, sym, ◌∙◌, arith}
+use Rattle.std.proofs.lemmas.List.{length-map}
+use Rattle.std.proofs.lemmas.List.Elements.{All-cons, All-nil, All-head, All-tail}
+use Rattle.std.specs.List.{All}
+use Rattle.std.specs.Prelude.{map, IfOk, IfErr, Ok, Err}
+use Rattle.std.specs.declared.result.Result.{Result}
+use Rattle.duct_base.specs.Pool.{PoolView, Takes}
+use Rattle.duct_system.specs.Child.{Answer, ChildView, IsUnasked}
+use Rattle.duct_system.specs.EntryView.{EntryView}
+use Rattle.duct_system.specs.Job.{JobView}
+use Rattle.duct_system.specs.Started.{children_in}
+use Rattle.duct_start.specs.Left.{Leaves, LeavesStarted, pool_view}
+use Rattle.duct_start.specs.Running.{IsRunning, RunningView}
+use Rattle.duct_start.specs.TreeView.{TreeView}
+use Rattle.duct_start.proofs.Leaving.{leaves_on, leaves_taken}
+use Rattle.duct_running.specs.NumbersView.{numbers_in}
+use Rattle.duct_running.specs.Stays.{Stays}
+use Rattle.duct_handle.specs.Started.{AreNumbers}
+use Rattle.duct_handle.proofs.Beginning.{are_numbers}
+use Rattle.duct.specs.Ended.{Fits, LeavesGiven}
+
+abbrev IsUnordered : ChildView → Type 0
+IsUnordered child = child.orders ≡ []
+
+all_unordered : (children : List ChildView) → All IsUnasked children → All IsUnordered children
+all_unordered [] all = All-nil IsUnordered
+all_unordered (child ∷ children) all =
+    All-cons IsUnordered child children (All-head IsUnasked child children all).unordered (all_unordered children (All-tail IsUnasked child children all))
+
+-- a child that was not asked has no order
+pub given_started : {C : Type 0} (may : ℕ → Answer → Type 0) (view : C → ChildView) (added : List EntryView) (before after : PoolView C)
+    → LeavesStarted may view added before after → LeavesGiven may view added before after
+given_started may view added before after leaves = (leaves.0, leaves.1, all_unordered leaves.0 leaves.2, leaves.3)
+
+module _ {C : Type 0} (view : C → ChildView) where
+  numbers_seen : (children : List C) → map (λ c. c.number) (map view children) ≡ map (λ c. (view c).number) children
+  numbers_seen [] = refl
+  numbers_seen (child ∷ children) = ap (λ (l : List ℕ). (view child).number ∷ l) (numbers_seen children)
+
+  -- children that kept their orders
+  still_unordered : (children waited : List C) → map (λ c. c.orders) (map view waited) ≡ map (λ c. c.orders) (map view children)
+      → All (λ c. IsUnasked (view c)) children → All IsUnordered (map view waited)
+  still_unordered [] [] same all = All-nil IsUnordered
+  still_unordered [] (w ∷ waited) same all = absurd (cc)
+  still_unordered (child ∷ children) [] same all = absurd (cc)
+  still_unordered (child ∷ children) (w ∷ waited) same all =
+      let none : (view child).orders ≡ [] = (All-head (λ c. IsUnasked (view c)) child children all).unordered in
+      let kept : (view w).orders ≡ (view child).orders = cc in
+      let rest : map (λ c. c.orders) (map view waited) ≡ map (λ c. c.orders) (map view children) = cc in
+      All-cons IsUnordered (view w) (map view waited) (kept ∙ none)
+      (still_unordered children waited rest (All-tail (λ c. IsUnasked (view c)) child children all))
+
+module _ {E H C F D V W : Type 0} (child : C → ChildView) (feed : F → JobView V) (drain : D → JobView W) (tree : TreeView E H)
+    (output error : Bool) (added : List EntryView) (running : RunningView C F D) (runs : IsRunning child feed drain tree output error added running) where
+  -- the numbers of what was started
+  pub started_numbers : AreNumbers output error added (numbers_in child feed drain running)
+  started_numbers = are_numbers child feed drain tree output error added running (numbers_in child feed drain running) runs refl
+
+  -- over some sweeps the pool stayed, and then it was given what was waited for
+  pub given_after : (may : ℕ → Answer → Type 0) (waited : RunningView C F D) (before mid after : PoolView C)
+      → Leaves may [] (pool_view child before) (pool_view child mid)
+      → Stays child feed drain running waited
+      → (mid.given + length waited.children < 2 ^ 63 → Takes may child waited.children mid after)
+      → Fits added before → LeavesGiven may child added before after
+  given_after may waited before mid after swept stays takes fits =
+      let numbers : map (λ c. c.number) (map child waited.children) ≡ children_in added =
+          ap (λ n. n.children) stays.numbers_are ∙ numbers_seen child running.children ∙ runs.children_are in
+      let many : length waited.children ≡ length (children_in added) =
+          sym (length-map waited.children child) ∙ sym (length-map (map child waited.children) (λ c. c.number)) ∙ ap (λ (l : List ℕ). length l) numbers in
+      let low : mid.given + length waited.children < 2 ^ 63 = omega (arith, fits, many, swept.given_is) in
+      (
+        map child waited.children,
+        numbers,
+        still_unordered child running.children waited.children stays.orders_are runs.unasked,
+        leaves_on may (map child waited.children) (pool_view child before) (pool_view child mid) (pool_view child after) swept (leaves_taken may child waited.children mid after (takes low)),
+      )
+
+-- what holds of an answer is kept by what follows from it
+pub if_ok_with : {T F : Type 0} (r : Result T F) {P Q : T → Type 0} → ((value : T) → P value → Q value) → IfOk r P → IfOk r Q
+if_ok_with (Ok value) step holds = step value holds
+if_ok_with (Err error) step holds = tt
+
+pub if_err_with : {T F : Type 0} (r : Result T F) {P Q : F → Type 0} → ((error : F) → P error → Q error) → IfErr r P → IfErr r Q
+if_err_with (Ok value) step holds = tt
+if_err_with (Err error) step holds = step error holds
+
+-- and what holds of whatever was answered is of an answer what follows from it, and so of a refusal
+pub told_ok : {T F : Type 0} (r : Result T F) (P : Result T F → Type 0) {Q : T → Type 0}
+    → ((value : T) → P (Ok value) → Q value) → P r → IfOk r Q
+told_ok (Ok value) P step holds = step value holds
+told_ok (Err error) P step holds = tt
+
+pub told_err : {T F : Type 0} (r : Result T F) (P : Result T F → Type 0) {Q : F → Type 0}
+    → ((error : F) → P (Err error) → Q error) → P r → IfErr r Q
+told_err (Ok value) P step holds = tt
+told_err (Err error) P step holds = step error holds

@@ -1,0 +1,57 @@
+-- What is answered of a start that was waited for, by what its journal names.
+use Rattle.std.specs.Prelude.{ℕ, ◌+◌, ◌<◌, ◌^◌, ◌≡◌, Bool, List, [], All, length, map, Err, false}
+use Rattle.std.specs.declared.alloc.Global.{Global}
+use Rattle.std.specs.declared.option.Option.{Option}
+use Rattle.std.specs.declared.result.Result.{Result}
+use Rattle.std.specs.declared.string.String.{String}
+use Rattle.duct_base.specs.Pool.{PoolView}
+use Rattle.duct_system.specs.Child.{Answer, ChildView}
+use Rattle.duct_system.specs.EntryView.{EntryView}
+use Rattle.duct_system.specs.Started.{children_in}
+use Rattle.duct_system.specs.declared.error.Error.{Error}
+use Rattle.duct_system.specs.declared.system.Said.{Said}
+use Rattle.duct_status.specs.ReplyView.{ReplyView}
+use Rattle.duct_start.specs.Left.{Leaves, pool_view}
+use Rattle.duct_start.specs.Ran.{MadeReader}
+use Rattle.duct_start.specs.ShapeOfTree.{shape_of_tree}
+use Rattle.duct_start.specs.TreeView.{TreeView}
+use Rattle.duct_running.specs.Answered.{IsEnding, WasConcluded}
+use Rattle.duct_running.specs.NumbersView.{NumbersView}
+use Rattle.duct_running.specs.Stored.{Bytes}
+use Rattle.duct_handle.specs.Started.{AreNumbers}
+use Rattle.duct_reader.specs.ReadsText.{ReadsText}
+
+module _ {E H : Type 0} (answer : ℕ → Answer → Type 0) (feed : ℕ → Said (Unit {0}) → Type 0)
+    (drain : ℕ → Said Bytes → Type 0) (tree : TreeView E H) where
+  -- this was concluded of what was told of the numbers of the entries' children and workers; these truth values say whether stdout
+  -- and stderr have a capture worker
+  abbrev pub Ended : Bool → Bool → List EntryView → ReplyView → Type 0
+  Ended output error added reply =
+      (numbers : NumbersView) × AreNumbers output error added numbers
+      × WasConcluded answer feed drain (shape_of_tree tree) numbers reply
+
+  -- so was this error, or there was no memory
+  abbrev pub EndedBy : Bool → Bool → List EntryView → Error → Type 0
+  EndedBy output error added e =
+      (numbers : NumbersView) × AreNumbers output error added numbers
+      × IsEnding answer feed drain (shape_of_tree tree) numbers (Err e)
+
+  -- what is answered of all that the entries' reader gave
+  abbrev pub WasRead : {R : Type 0} → (ℕ → R → Type 0) → (R → Option (List ℕ)) → Bool
+      → List EntryView → Result (String Global) Error → Type 0
+  WasRead {R} may remaining error added result =
+      (numbers : NumbersView) × AreNumbers false error added numbers
+      × (reader : R) × MadeReader may added reader
+      × ReadsText answer feed drain (shape_of_tree tree) numbers (remaining reader) result
+
+-- a pool that was given each child that the entries name, in order; none of them had got an order
+abbrev pub LeavesGiven : {C : Type 0} → (ℕ → Answer → Type 0) → (C → ChildView) → List EntryView
+    → PoolView C → PoolView C → Type 0
+LeavesGiven may view added before after =
+    (given : List ChildView) × (map (λ child. child.number) given ≡ children_in added)
+    × All (λ child. child.orders ≡ []) given
+    × Leaves may given (pool_view view before) (pool_view view after)
+
+-- the pool's count fits, as the lists of the standard library do
+abbrev pub Fits : {C : Type 0} → List EntryView → PoolView C → Type 0
+Fits added pool = pool.given + length (children_in added) < 2 ^ 63

@@ -1,0 +1,140 @@
+//! Starts that are waited for: the output of an expression, the text that it prints, or a reader of it.
+ghost use Rattle.std.specs.Prelude.{◌≡◌, ◌⊎◌, [], false, is_some, IfOk, IfErr, OnOk, OnErr, Ok, Err};
+ghost use Rattle.duct_system.specs.Trace.{segment};
+ghost use Rattle.duct_status.specs.ReplyView.{answered};
+ghost use Rattle.duct_start.specs.Left.{Leaves, LeavesStarted, pool_view};
+ghost use Rattle.duct_start.specs.Plan.{plan_of, plan_of_reader};
+ghost use Rattle.duct_start.specs.Start.{StartSucceeds, StartRefused};
+ghost use Rattle.duct_handle.specs.Started.{IsHandle};
+ghost use Rattle.duct.specs.Ended.{Ended, EndedBy, Fits, LeavesGiven, WasRead};
+ghost use Rattle.duct.specs.TreeView.{tree_view};
+
+use crate::expression::Expression;
+use crate::start::room_beside;
+use duct_base::error::Error;
+use duct_base::pool::Pool;
+use duct_base::spec::Hook;
+use duct_base::system::{Child, Job, Output, System};
+use duct_handle::finish::finish;
+use duct_handle::room::handle_of;
+use duct_reader::read::read_text;
+use duct_reader::reader::{ReaderHandle, reader_handle_of};
+use std::io::Read;
+use std::sync::Wait;
+
+impl<E: Drop, H: Hook> Expression<E, H> {
+    /// Starts the expression as `launch_reader` does, and answers a handle that reads what it writes to stdout. What the handle needs
+    /// is made before the first request.
+    ///
+    /// Refused as `launch_reader` is, and what a refusal leaves is the same.
+    pub fn reader<S: System<End = E>, R: Drop>(
+        &self,
+        rt: R,
+        sys: &mut S,
+        pool: &mut Pool<S::Child>,
+    ) -> Result<ReaderHandle<S, R>, Error>
+        ensures ok { OnOk result (let tree = tree_view self.now in
+            StartSucceeds H.allows E.number_of tree (plan_of_reader tree) (S.journal_view sys.old)
+            (S.journal_view sys.new)) }
+        ensures handle { IfOk result (let tree = tree_view self.now in
+            IsHandle tree false (is_some (plan_of_reader tree).err)
+            (segment (S.journal_view sys.old).entries (S.journal_view sys.new).entries)) }
+        ensures swept { OnOk result (Leaves S.Child.may_answer []
+            (pool_view S.Child.child_view pool.old) (pool_view S.Child.child_view pool.new)) }
+        ensures err { IfErr result (let tree = tree_view self.now in
+            StartRefused H.allows H.refuses E.number_of tree (plan_of_reader tree)
+            (S.journal_view sys.old) (S.journal_view sys.new)) }
+        ensures pool_given { OnErr result
+            (let added = segment (S.journal_view sys.old).entries (S.journal_view sys.new).entries in
+            Fits added pool.old
+            → LeavesStarted S.Child.may_answer S.Child.child_view added pool.old pool.new) }
+    {
+        let alloc = self.allocator();
+        let room = room_beside(alloc, self.root())?;
+        let (running, reader) = self.launch_reader(sys, pool)?;
+        Ok(reader_handle_of(rt, handle_of(alloc, running, room), reader))
+    }
+
+    /// Starts the expression as `launch` does, waits until it has ended as a handle waits, and answers its output.
+    ///
+    /// Refused as `launch` is; and, once it was started, by `Error::Checked` where it failed and is not unchecked, by `Error::System`
+    /// with a fault of a command or a worker, and by `Error::Memory`. Then its children are given to the pool, as
+    /// `Running::give_up` gives them, and every end that the start got is closed, or a worker's that ends by itself.
+    pub fn run<S: System<End = E>>(
+        &self,
+        rt: &impl Wait,
+        sys: &mut S,
+        pool: &mut Pool<S::Child>,
+    ) -> Result<Output, Error>
+        ensures ok { OnOk result (let tree = tree_view self.now in
+            StartSucceeds H.allows E.number_of tree (plan_of tree) (S.journal_view sys.old)
+            (S.journal_view sys.new)) }
+        ensures output { IfOk result (λ output. let tree = tree_view self.now in
+            Ended S.Child.may_answer S.Feed.may_say S.Drain.may_say tree
+            (is_some (plan_of tree).out) (is_some (plan_of tree).err)
+            (segment (S.journal_view sys.old).entries (S.journal_view sys.new).entries)
+            (answered output.status output.stdout.items output.stderr.items)) }
+        ensures swept { OnOk result (Leaves S.Child.may_answer []
+            (pool_view S.Child.child_view pool.old) (pool_view S.Child.child_view pool.new)) }
+
+        // Refused before the end of its start, or started and ended.
+        ensures err { IfErr result (λ e. let tree = tree_view self.now in
+            let old = S.journal_view sys.old in
+            let new = S.journal_view sys.new in
+            let added = segment old.entries new.entries in
+            (StartRefused H.allows H.refuses E.number_of tree (plan_of tree) old new e
+            × (Fits added pool.old
+            → LeavesStarted S.Child.may_answer S.Child.child_view added pool.old pool.new))
+            ⊎ (StartSucceeds H.allows E.number_of tree (plan_of tree) old new
+            × EndedBy S.Child.may_answer S.Feed.may_say S.Drain.may_say tree
+            (is_some (plan_of tree).out) (is_some (plan_of tree).err) added e)) }
+        ensures pool_given { OnErr result
+            (let added = segment (S.journal_view sys.old).entries (S.journal_view sys.new).entries in
+            Fits added pool.old
+            → LeavesGiven S.Child.may_answer S.Child.child_view added pool.old pool.new) }
+    {
+        let running = self.launch(sys, pool)?;
+        finish(self.allocator(), rt, running, pool)
+    }
+
+    /// Starts the expression as `launch_reader` does, reads what it writes to stdout to the end, waits as `run` does, and answers the
+    /// text without its longest tail of newlines and carriage returns. Its bytes are held once: what was read becomes the text.
+    ///
+    /// Refused as `run` is; by `Error::System` with a fault of the reader, of kind `OutOfMemory` where there is no room for more bytes;
+    /// and by `Error::NotUtf8`, where it ended well. What a refusal leaves is what that of `run` leaves.
+    pub fn read<S: System<End = E>>(
+        &self,
+        rt: &impl Wait,
+        sys: &mut S,
+        pool: &mut Pool<S::Child>,
+    ) -> Result<String, Error>
+        ensures ok { OnOk result (let tree = tree_view self.now in
+            StartSucceeds H.allows E.number_of tree (plan_of_reader tree) (S.journal_view sys.old)
+            (S.journal_view sys.new)) }
+        ensures text { IfOk result (λ text. let tree = tree_view self.now in
+            WasRead S.Child.may_answer S.Feed.may_say S.Drain.may_say tree S.may_read
+            S.Reader.remaining (is_some (plan_of_reader tree).err)
+            (segment (S.journal_view sys.old).entries (S.journal_view sys.new).entries) (Ok text)) }
+        ensures swept { OnOk result (Leaves S.Child.may_answer []
+            (pool_view S.Child.child_view pool.old) (pool_view S.Child.child_view pool.new)) }
+
+        // Refused before the end of its start, or started and read.
+        ensures err { IfErr result (λ e. let tree = tree_view self.now in
+            let old = S.journal_view sys.old in
+            let new = S.journal_view sys.new in
+            let added = segment old.entries new.entries in
+            (StartRefused H.allows H.refuses E.number_of tree (plan_of_reader tree) old new e
+            × (Fits added pool.old
+            → LeavesStarted S.Child.may_answer S.Child.child_view added pool.old pool.new))
+            ⊎ (StartSucceeds H.allows E.number_of tree (plan_of_reader tree) old new
+            × WasRead S.Child.may_answer S.Feed.may_say S.Drain.may_say tree S.may_read
+            S.Reader.remaining (is_some (plan_of_reader tree).err) added (Err e))) }
+        ensures pool_given { OnErr result
+            (let added = segment (S.journal_view sys.old).entries (S.journal_view sys.new).entries in
+            Fits added pool.old
+            → LeavesGiven S.Child.may_answer S.Child.child_view added pool.old pool.new) }
+    {
+        let (running, reader) = self.launch_reader(sys, pool)?;
+        read_text(self.allocator(), rt, running, reader, pool)
+    }
+}
