@@ -16,3 +16,4 @@ pub mod texts;
 pub mod told;
 mod traces;
 pub mod words;
+pub mod workers;

@@ -41,6 +41,12 @@ fn owned_pair(alloc: Global, name: &str, value: &str) -> Result<(String, String)
     Ok((name, String::from_str(alloc, value)?))
 }
 
+/// The text before the first bar, and the text after it.
+pub fn part(row: &str) -> (&str, &str) {
+    let (part, rest) = row.split_once('|').unwrap_or((row, ""));
+    (part.trim(), rest.trim())
+}
+
 /// The text before the first space, and the text after it.
 pub fn first_word(text: &str) -> (&str, &str) {
     text.split_once(' ').unwrap_or((text, ""))

@@ -4,16 +4,15 @@
 //! `a stdin_bytes=p | running,code 0 | done | | 2 -> nothing. Code(0) out= err=. | 2 | 1 |`
 //!
 //! At the end of each stands how often each child, each input worker and each capture worker was asked.
-use duct::{Error, Output, Place, Pool, Running, Said};
+use duct::{Place, Pool, Running};
 use duct_rows::expressions::written;
 use duct_rows::scenes::set_children;
-use duct_rows::words::{fault, first_word};
-use duct_script::answers::Answers;
+use duct_rows::words::part;
+use duct_rows::workers::{push_polled, set_drains, set_feeds};
 use duct_script::child::ScriptChild;
-use duct_script::job::{DrainScript, FeedScript, ScriptDrain, ScriptFeed};
+use duct_script::job::{ScriptDrain, ScriptFeed};
 use duct_script::system::Script;
 use std::alloc::{AllocError, Global};
-use std::sync::Arc;
 use std::test::Fail;
 
 /// Tries each line of a table.
@@ -44,12 +43,6 @@ fn row_text(alloc: Global, row: &str) -> Result<String, Fail> {
     Ok(polled(alloc, running, polls)?)
 }
 
-// The text before the first bar, and the text after it.
-fn part(row: &str) -> (&str, &str) {
-    let (part, rest) = row.split_once('|').unwrap_or((row, ""));
-    (part.trim(), rest.trim())
-}
-
 /// Starts the expression of a text.
 pub fn started(alloc: Global, sys: &mut Script, expression: &str) -> Result<Running<Script>, Fail> {
     let tree = written(alloc, None, expression)?;
@@ -58,61 +51,6 @@ pub fn started(alloc: Global, sys: &mut Script, expression: &str) -> Result<Runn
         Ok(running) => Ok(running),
         Err(error) => Err(Fail::new(format_args!("{error}"))),
     }
-}
-
-fn set_feeds(alloc: Global, sys: &mut Script, feeds: &str) -> Result<(), Fail> {
-    if !feeds.is_empty() {
-        for said in feeds.split(';') {
-            sys.feed(feed(alloc, said)?)?;
-        }
-    }
-    Ok(())
-}
-
-fn feed(alloc: Global, said: &str) -> Result<FeedScript, Fail> {
-    let mut script = Vec::new(alloc);
-    for word in said.split(',') {
-        script.push(feed_word(word.trim())?)?;
-    }
-    Ok(Answers::of(script))
-}
-
-fn feed_word(word: &str) -> Result<Said<()>, Fail> {
-    match word {
-        "running" => Ok(Said::Running),
-        "done" => Ok(Said::Done(())),
-        kind => Ok(Said::Fault(fault(kind)?)),
-    }
-}
-
-fn set_drains(alloc: Global, sys: &mut Script, drains: &str) -> Result<(), Fail> {
-    if !drains.is_empty() {
-        for said in drains.split(';') {
-            sys.drain(drain(alloc, said)?)?;
-        }
-    }
-    Ok(())
-}
-
-fn drain(alloc: Global, said: &str) -> Result<DrainScript, Fail> {
-    let mut script = DrainScript::new(alloc);
-    for word in said.split(',') {
-        script.push_back(drain_word(alloc, word.trim())?)?;
-    }
-    Ok(script)
-}
-
-fn drain_word(alloc: Global, word: &str) -> Result<Said<Arc<Vec<u8>>>, Fail> {
-    match first_word(word) {
-        ("running", _) => Ok(Said::Running),
-        ("done", bytes) => Ok(Said::Done(shared(alloc, bytes)?)),
-        (kind, _) => Ok(Said::Fault(fault(kind)?)),
-    }
-}
-
-fn shared(alloc: Global, bytes: &str) -> Result<Arc<Vec<u8>>, AllocError> {
-    let bytes = bytes.as_bytes().iter().copied().collect(alloc)?;
-    Ok(Arc::new(alloc, bytes)?)
 }
 
 // What so many polls answer, and how often everybody was asked.
@@ -134,24 +72,6 @@ fn polls_text(
         push_polled(&mut text, &running.poll())?;
     }
     Ok(text)
-}
-
-// What a poll answered: nothing, a status with what was captured, or the text of an error.
-fn push_polled(
-    text: &mut String,
-    polled: &Result<Option<Arc<Output>>, Error>,
-) -> Result<(), AllocError> {
-    match polled {
-        Ok(None) => text.push_str("nothing. "),
-        Ok(Some(output)) => push_output(text, output),
-        Err(error) => write!(text, "{error}. "),
-    }
-}
-
-fn push_output(text: &mut String, output: &Output) -> Result<(), AllocError> {
-    let out = str::from_utf8(output.stdout.as_slice()).unwrap_or("?");
-    let err = str::from_utf8(output.stderr.as_slice()).unwrap_or("?");
-    write!(text, "{:?} out={out} err={err}. ", output.status)
 }
 
 fn push_asked(

@@ -1,0 +1,111 @@
+//! Want of memory: whatever single request of the process is refused, each test of `memory_` either finds what comes of ample memory,
+//! or that the call was refused for want of memory and gave its child to the pool.
+use duct::{Entry, Error, ExitStatus, Kind, Pool, Said, System, cmd};
+use duct_rows::expressions::Tree;
+use duct_script::child::{PollAnswer, ScriptChild};
+use duct_script::job::DrainScript;
+use duct_script::reader::ReaderScript;
+use duct_script::system::Script;
+use std::alloc::Global;
+use std::sync::{Arc, Wait};
+
+/// What came of a call.
+#[derive(Clone, Copy, Debug, PartialEq, Eq)]
+enum Came {
+    /// As with ample memory.
+    Whole,
+    /// Memory was refused, by its name, and nothing was lost.
+    Refused,
+    Wrong,
+}
+
+// What came of a call, where there was memory for what it needs.
+fn came_of(made: Result<Came, Error>) -> Came {
+    match made {
+        Ok(came) => came,
+        Err(_) => Came::Refused,
+    }
+}
+
+// A system in which one command runs and ends, a capture worker has `xy`, and a reader `xy` and a newline.
+fn system(alloc: Global) -> Result<Script, Error> {
+    let mut sys = Script::new(alloc)?;
+    sys.polls(&[PollAnswer::Running, PollAnswer::Ended(ExitStatus::Code(0))])?;
+    sys.drain(drain(alloc)?)?;
+    let mut reader = ReaderScript::empty(alloc);
+    reader.bytes = Vec::from_slice(alloc, b"xy\n")?;
+    sys.bytes(reader)?;
+    Ok(sys)
+}
+
+fn drain(alloc: Global) -> Result<DrainScript, Error> {
+    let bytes = Arc::new(alloc, Vec::from_slice(alloc, b"xy")?)?;
+    let mut drain = DrainScript::new(alloc);
+    drain.push_back(Said::Done(bytes))?;
+    Ok(drain)
+}
+
+// Whether each child that was started was given to the pool.
+fn gave_up(sys: &Script, pool: &Pool<ScriptChild>) -> bool {
+    let mut started = 0_u64;
+    for entry in sys.journal() {
+        if let Entry::Spawn(_, _, Ok(_)) = entry {
+            started = started.saturating_add(1);
+        }
+    }
+    pool.given() == started
+}
+
+// What came of a call that was refused.
+fn came_of_refusal(error: &Error, sys: &Script, pool: &Pool<ScriptChild>) -> Came {
+    let memory = match error {
+        Error::Memory => true,
+        Error::System(fault) => fault.kind == Kind::OutOfMemory,
+        _ => false,
+    };
+    if memory && gave_up(sys, pool) {
+        return Came::Refused;
+    }
+    Came::Wrong
+}
+
+fn run_in(rt: &impl Wait, alloc: Global) -> Result<Came, Error> {
+    let mut sys = system(alloc)?;
+    let mut pool = Pool::new(alloc);
+    let tree: Tree = cmd!(in alloc; "a")?.stdout_capture()?;
+    Ok(match tree.run(rt, &mut sys, &mut pool) {
+        Ok(output) if output.stdout.as_slice() == b"xy".as_slice() => Came::Whole,
+        Ok(_) => Came::Wrong,
+        Err(error) => came_of_refusal(&error, &sys, &pool),
+    })
+}
+
+fn read_in(rt: &impl Wait, alloc: Global) -> Result<Came, Error> {
+    let mut sys = system(alloc)?;
+    let mut pool = Pool::new(alloc);
+    let tree: Tree = cmd!(in alloc; "a")?.stderr_capture()?;
+    Ok(match tree.read(rt, &mut sys, &mut pool) {
+        Ok(text) if text.as_str() == "xy" => Came::Whole,
+        Ok(_) => Came::Wrong,
+        Err(error) => came_of_refusal(&error, &sys, &pool),
+    })
+}
+
+/// A run.
+#[test]
+fn memory_of_a_run(rt: HostRuntime) {
+    assert_ne!(rt; came_of(run_in(&rt, rt.alloc())), Came::Wrong);
+}
+
+/// A read.
+#[test]
+fn memory_of_a_read(rt: HostRuntime) {
+    assert_ne!(rt; came_of(read_in(&rt, rt.alloc())), Came::Wrong);
+}
+
+/// With ample memory both answer.
+#[test]
+fn all_memory_is_there(rt: HostRuntime) {
+    let both = (came_of(run_in(&rt, rt.alloc())), came_of(read_in(&rt, rt.alloc())));
+    assert_eq!(rt; both, (Came::Whole, Came::Whole));
+}
