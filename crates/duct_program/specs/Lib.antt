@@ -1,0 +1,5 @@
+pub mod Command
+pub mod CommandView
+pub mod Options
+pub mod OptionsView
+pub mod Parsed
