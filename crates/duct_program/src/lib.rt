@@ -2,5 +2,7 @@
 #![tactic(auto)]
 
 mod command;
+pub mod line;
 mod options;
+mod pieces;
 pub mod usage;
