@@ -1,8 +1,7 @@
--- What the program's arguments say, and the expression that they mean.
-use Rattle.std.specs.Prelude.{ℕ, List, [], ◌∷◌, Bool, true, false, Some, None, Ok, Err}
+-- The expression that the program's arguments mean.
+use Rattle.std.specs.Prelude.{ℕ, List, [], ◌∷◌, true, false, Some, None, Ok, Err}
 use Rattle.std.specs.declared.option.Option.{Option}
 use Rattle.std.specs.declared.result.Result.{Result}
-use Rattle.duct_system.specs.declared.spec.Stream.{Stream}
 use Rattle.duct_system.specs.declared.spec.Stream.TheVariants as streams
 use Rattle.duct_start.specs.TreeView.{ModifierView, TreeView, around, command, pipe, stdin_bytes, stdin_path, stdout_path, stderr_path, unchecked}
 use Rattle.duct_program.specs.declared.usage.Usage.{Usage}
@@ -11,12 +10,6 @@ use Rattle.duct_program.specs.Command.{CommandView, RedirectionView, parts_of}
 use Rattle.duct_program.specs.Options.{OptionsView, no_options, options_from}
 use Rattle.duct_program.specs.Parsed.{◌>>=◌}
 use Rattle.duct_program.specs.Pieces.{pieces}
-
--- the options, and the commands from the left to the right
-pub record LineView : Type 0 where
-  pub options : OptionsView
-  pub first : CommandView
-  pub others : List CommandView
 
 -- a command that has words
 abbrev pub worded : CommandView → Result CommandView Usage
@@ -31,16 +24,6 @@ abbrev pub commands_of : List (List (List ℕ)) → Result (List CommandView) Us
 commands_of [] = Ok []
 commands_of (piece ∷ others) =
     command_of piece >>= λ said. commands_of others >>= λ commands. Ok (said ∷ commands)
-
--- the line of options and commands; there is always a first command
-abbrev pub line_with : OptionsView → List CommandView → Result LineView Usage
-line_with options [] = Err EmptyCommand
-line_with options (first ∷ others) = Ok (record { options = options; first = first; others = others })
-
--- what arguments say, or the first fault that is found in them from left to right
-abbrev pub line_of : List (List ℕ) → Result LineView Usage
-line_of args =
-    options_from false no_options args >>= λ front. commands_of (pieces front.1) >>= λ commands. line_with front.0 commands
 
 module _ {E H : Type 0} where
   -- what a redirection asks of the command
@@ -75,14 +58,6 @@ module _ {E H : Type 0} where
   with_options options tree =
       elim options.unchecked [ true ↦ around unchecked (with_input options.stdin tree) | false ↦ with_input options.stdin tree ]
 
-  -- the expression that a line means
-  abbrev pub tree_of : LineView → TreeView E H
-  tree_of line = with_options line.options (piped (command_tree line.first) line.others)
-
-  -- the expression that arguments mean
-  abbrev pub meant : List (List ℕ) → Result (TreeView E H) Usage
-  meant args = line_of args >>= λ line. Ok (tree_of line)
-
   -- the pipe that pieces mean
   abbrev pub pipeline_of : List (List (List ℕ)) → Result (TreeView E H) Usage
   pipeline_of [] = Err EmptyCommand
@@ -92,3 +67,8 @@ module _ {E H : Type 0} where
   -- the command that one piece means
   abbrev pub piece_tree : List (List ℕ) → Result (TreeView E H) Usage
   piece_tree piece = command_of piece >>= λ said. Ok (command_tree said)
+
+  -- the expression that arguments mean, or the first fault that is found in them from left to right
+  abbrev pub meant : List (List ℕ) → Result (TreeView E H) Usage
+  meant args =
+      options_from false no_options args >>= λ front. pipeline_of (pieces front.1) >>= λ tree. Ok (with_options front.0 tree)

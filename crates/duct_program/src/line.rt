@@ -59,6 +59,7 @@ fn redirected_command<E: Drop>(alloc: Global, piece: &[String]) -> Result<Expres
 }
 
 // Redirections round a command, the first one outermost.
+#[tactic(auto, using(crate::proofs::Pipes::last_stands_inside))]
 fn redirected_by<E: Drop>(
     command: Expression<E>,
     redirections: Vec<Redirection<'_>>,

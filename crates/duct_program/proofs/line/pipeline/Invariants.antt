@@ -1,5 +1,5 @@
 -- The pipe so far, with the commands of the rest piped behind it, is the pipe of all.
-use Rattle.std.proofs.Common.{◌≡◌, ℕ, List, map, string_bytes}
+use Rattle.std.proofs.Common.{◌≡◌, map, string_bytes}
 use Rattle.std.specs.Option.{option_map}
 use Rattle.duct.specs.TreeView.{tree_view}
 use Rattle.duct_program.specs.Line.{pipeline_of}
