@@ -5,3 +5,5 @@ pub mod Options
 pub mod OptionsView
 pub mod Parsed
 pub mod Pieces
+pub mod Status
+pub mod Unasked

@@ -2,7 +2,9 @@
 #![tactic(auto)]
 
 mod command;
+pub mod failure;
 pub mod line;
 mod options;
+pub mod perform;
 mod pieces;
 pub mod usage;
