@@ -30,7 +30,14 @@ fn main(rt: HostRuntime) -> ExitCode {
     let status = match arguments(&rt) {
         Ok(words) => {
             let mut host = Host::new(&rt, rt.alloc());
-            perform(&rt, rt.alloc(), &mut host, words.as_slice(), &mut out, &mut err)
+            perform(
+                &rt,
+                rt.alloc(),
+                &mut host,
+                words.as_slice(),
+                &mut out,
+                &mut err,
+            )
         }
         Err(error) => {
             let (status, text) = unread(&error);
