@@ -6,9 +6,13 @@ mod bench;
 #[cfg(test)]
 mod calls;
 #[cfg(test)]
+mod memory;
+#[cfg(test)]
 mod orders;
 #[cfg(test)]
 mod pools;
+#[cfg(test)]
+mod threads;
 #[cfg(test)]
 mod tokens;
 #[cfg(test)]
