@@ -61,6 +61,13 @@ fn started(
     tree.start(sys, pool)
 }
 
+fn is_memory(error: &Error) -> bool {
+    match error {
+        Error::Memory => true,
+        _ => false,
+    }
+}
+
 fn is_xy(output: &Output) -> bool {
     output.status == ExitStatus::Code(0) && output.stdout.as_slice() == b"xy".as_slice()
 }
@@ -137,8 +144,7 @@ fn output_in(rt: &impl Wait, alloc: Global) -> Result<Came, Error> {
     drop(shared);
     Ok(match own {
         Ok(output) => whole_if(is_xy(&output) && counts(&pool) == (0, 0, 0, 0)),
-        Err(Error::Memory) => refused_if(counts(&pool) == (0, 1, 1, 0)),
-        Err(_) => Came::Wrong,
+        Err(error) => refused_if(is_memory(&error) && counts(&pool) == (0, 1, 1, 0)),
     })
 }
 
