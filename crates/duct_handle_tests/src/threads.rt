@@ -195,7 +195,10 @@ fn known_greetings(
     let timed = gives_greeting(wait_as(rt, handle, &clock, seen, most));
     let reached = Waiting::Deadline(Duration::ZERO);
     let late = gives_greeting(wait_as(rt, handle, &clock, seen, reached));
-    [tried, waited, timed, late].iter().filter(|greets| **greets).count()
+    [tried, waited, timed, late]
+        .iter()
+        .filter(|greets| **greets)
+        .count()
 }
 
 fn kill_behind(rt: &impl Wait, handle: &Handle<Script>, gate: &Gate) -> bool {
