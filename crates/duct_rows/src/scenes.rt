@@ -1,7 +1,7 @@
 //! What a row says of the system and of the pool before a start: the parent's variables, canonical names, requests that are
 //! refused, what children answer to polls, and the children that the pool keeps.
-use crate::words::{fault, first_word, pairs};
-use duct::{ExitStatus, Pool};
+use crate::words::{fault, first_word, pairs, pieces};
+use duct::{ExitStatus, Fault, Pool};
 use duct_base::pool::{place_new, pool_take, seat_new};
 use duct_script::answers::Answers;
 use duct_script::calls::CallLog;
@@ -132,15 +132,24 @@ fn sort(name: &str) -> Option<Sort> {
     }
 }
 
-/// Sets what the children answer, in the order of their spawns: `running, code 0; Other`.
+/// Sets what the children answer, in the order of their spawns: `running, code 0; Other`. Behind a slash stands what one answers to
+/// its orders: `running / done, Other`.
 pub fn set_children(alloc: Global, sys: &mut Script, children: &str) -> Result<(), Fail> {
     if !children.is_empty() {
-        for answers in children.split(';') {
-            let answers = poll_answers(alloc, answers)?;
-            sys.polls(answers.as_slice())?;
+        for child in children.split(';') {
+            sys.child(child_script(alloc, child)?)?;
         }
     }
     Ok(())
+}
+
+fn child_script(alloc: Global, child: &str) -> Result<ChildScript, Fail> {
+    let (polls, orders) = child.split_once('/').unwrap_or((child, ""));
+    let mut script = ChildScript::running(alloc);
+    script.polls = Answers::of(poll_answers(alloc, polls)?);
+    script.kills = Answers::of(order_answers(alloc, orders)?);
+    script.signals = Answers::of(order_answers(alloc, orders)?);
+    Ok(script)
 }
 
 /// Lets the pool keep children that answer this, numbered from 1. Each is asked once as it is given.
@@ -156,8 +165,7 @@ fn keep_children(alloc: Global, bench: &mut Bench, children: &str) -> Result<(),
 }
 
 fn keep_child(alloc: Global, bench: &mut Bench, number: u64, answers: &str) -> Result<(), Fail> {
-    let mut script = ChildScript::running(alloc);
-    script.polls = Answers::of(poll_answers(alloc, answers)?);
+    let script = child_script(alloc, answers)?;
     let calls = Arc::try_clone(&bench.calls)?;
     let seat = seat_new(alloc)?;
     let child = ScriptChild::new(alloc, number, script, Some(calls));
@@ -181,5 +189,21 @@ fn poll_answer(answer: &str) -> Result<PollAnswer, Fail> {
         ("code", code) => Ok(PollAnswer::Ended(ExitStatus::Code(code.parse()?))),
         ("signal", signal) => Ok(PollAnswer::Ended(ExitStatus::Signal(signal.parse()?))),
         (kind, _) => Ok(PollAnswer::Fault(fault(kind)?)),
+    }
+}
+
+/// The answers to orders that commas part: `done`, or the kind of a fault. There is none in an empty text.
+fn order_answers(alloc: Global, answers: &str) -> Result<Vec<Result<(), Fault>>, Fail> {
+    let mut made = Vec::new(alloc);
+    for answer in pieces(alloc, answers)? {
+        made.push(order_answer(answer.trim())?)?;
+    }
+    Ok(made)
+}
+
+fn order_answer(answer: &str) -> Result<Result<(), Fault>, Fail> {
+    match answer {
+        "done" => Ok(Ok(())),
+        kind => Ok(Err(fault(kind)?)),
     }
 }

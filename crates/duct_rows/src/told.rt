@@ -1,5 +1,5 @@
 //! What came of a start over the scripted system, in words.
-use crate::scenes::FIRST;
+use crate::scenes::{Bench, FIRST};
 use crate::starts::{Runs, Start, most_held};
 use crate::streams::push_origin;
 use duct::{CommandSpec, Entry, Error, Pool, Stdio, System};
@@ -171,11 +171,16 @@ pub fn most_text(alloc: Global, entries: &[Entry], number: &str) -> Result<Strin
 
 /// What was called during a start, in order. A child of the start stands by its program, one of the pool's by its number.
 pub fn calls_text(alloc: Global, start: &Start) -> Result<String, AllocError> {
+    noted_text(alloc, &start.bench, start.calls)
+}
+
+/// The same of the calls that stand in the log from one place to before another.
+pub fn noted_text(alloc: Global, bench: &Bench, places: (u64, u64)) -> Result<String, AllocError> {
     let mut text = String::new(alloc);
-    let (from, to) = start.calls;
+    let (from, to) = places;
     for place in from..to {
-        if let Some(call) = start.bench.calls.get(place as usize) {
-            push_call(&mut text, start.bench.sys.journal(), call)?;
+        if let Some(call) = bench.calls.get(place as usize) {
+            push_call(&mut text, bench.sys.journal(), call)?;
         }
     }
     Ok(text)
@@ -211,7 +216,7 @@ fn push_child(
 }
 
 /// The program of the child of this number.
-fn program(entries: &[Entry], child: u64) -> Option<&str> {
+pub fn program(entries: &[Entry], child: u64) -> Option<&str> {
     for entry in entries {
         if let Entry::Spawn(spec, _, Ok(number)) = entry {
             if *number == child {

@@ -1,0 +1,24 @@
+//! What a handle leaves to the pool.
+use super::bench::rows;
+use std::test::Fail;
+
+/// `give_up` asks each child once: who runs is kept, who ended counts as reaped, a fault as lost.
+#[test]
+fn given_up(rt: HostRuntime) -> Result<(), Fail> {
+    let table = "
+        a b pipe | code 0; running,Other | | | | give -> |  | 0 | 1 2 1 0
+        a b pipe | code 0; running,Other | | | | sweep -> |  | 0 | 0 2 1 1
+        a b pipe c pipe | running,code 0; running,running,code 0; running,Other | | | | give -> |  | 0 | 3 3 0 0";
+    rows(&rt, rt.alloc(), table)
+}
+
+/// `into_output` leaves the pool as it is where it answers an output. Where it is refused, the children are given up.
+#[test]
+fn into_outputs(rt: HostRuntime) -> Result<(), Fail> {
+    let table = "
+        a | code 1 | | | | into -> command [\"a\"] exited with code 1. | poll a, poll a | 0 | 0 1 1 0
+        a | Other | | | | into -> system: Other. | poll a, poll a | 0 | 0 1 0 1
+        a unchecked | running,code 1 | | | | into -> Code(1) out= err=. | poll a, poll a | 0 | 0 0 0 0
+        a b pipe stdout_capture | code 0; running,code 0 | | running,done x | | into -> Code(0) out=x err=. | poll a, poll b, poll b | 0 | 0 0 0 0";
+    rows(&rt, rt.alloc(), table)
+}
