@@ -2,6 +2,8 @@
 #![tactic(auto)]
 
 #[cfg(test)]
+mod answers;
+#[cfg(test)]
 mod asks;
 #[cfg(test)]
 mod calls;
@@ -16,10 +18,14 @@ mod held;
 #[cfg(test)]
 mod leftovers;
 #[cfg(test)]
+mod shared;
+#[cfg(test)]
 mod starts;
 #[cfg(test)]
 mod support;
 #[cfg(test)]
 mod trees;
+#[cfg(test)]
+mod vectors;
 #[cfg(test)]
 mod workers;
