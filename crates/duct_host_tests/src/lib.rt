@@ -14,6 +14,8 @@ mod descriptors;
 #[cfg(test)]
 mod faults;
 #[cfg(test)]
+mod handles;
+#[cfg(test)]
 mod held;
 #[cfg(test)]
 mod leftovers;

@@ -69,6 +69,7 @@ fn reader_call<R: Real + Wait>(
 ) -> Result<(), Fail> {
     match first_word(call) {
         ("ids", _) => has_ids(rt, handle.pids()),
+        ("ended", _) => all_ended(rt, handle.pids()),
         ("kill", _) => tell_done(said, handle.kill()),
         ("try", _) => tell_polled(said, &handle.try_wait()),
         ("read", length) => read_once(rt.alloc(), handle, length.parse()?, said),

@@ -6,8 +6,8 @@
 //!   `.connect out 2` is a hook that lets stdout go to the end 2 beside it, and `.connect out` names an end that is not there.
 //!   `.add word` is one that adds a word. `.captured` gives stdout to a pipe that the test reads. `.stdin_bytes text` has a text as
 //!   input, and `.stdin_many 9 42` nine bytes 42.
-//! - `adopt_pipe text` adopts both ends of a pipe with this text in it, `adopt_file f` a file that is there, and `adopt_new f` a new one: their numbers begin
-//!   with 1. `drop 2` drops one.
+//! - `adopt_pipe text` adopts both ends of a pipe with this text in it, `adopt_file f` a file that is there, and `adopt_new f` a new
+//!   one: their numbers begin with 1. `drop 2` drops one.
 //! - `launch` starts the last expression, drops it, reads the pipe of `.captured` to its end, and polls until there is an answer. It
 //!   says the answer with what was captured, and what was read. `run` and `read` say what these calls answer, and `repeat 9 text` runs
 //!   the expression so many times, each of which has to say this text.
@@ -303,7 +303,10 @@ impl<R: Real + Wait> Stage<R> {
     }
 
     fn reader(&mut self, calls: &str) -> Result<(), Fail> {
-        match self.last()?.reader(&self.rt, &mut self.host, &mut self.pool) {
+        match self
+            .last()?
+            .reader(&self.rt, &mut self.host, &mut self.pool)
+        {
             Ok(handle) => {
                 let told = reader_calls(&self.rt, &handle, calls, &mut self.said);
                 handle.give_up(&mut self.pool);
