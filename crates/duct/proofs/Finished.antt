@@ -65,11 +65,10 @@ module _ {E H C F D V W : Type 0} (child : C → ChildView) (feed : F → JobVie
       → Fits added before → LeavesGiven may child added before after
   given_after may waited before mid after swept stays takes fits =
       let numbers : map (λ c. c.number) (map child waited.children) ≡ children_in added =
-          ap (λ n. n.children) stays.numbers_are ∙ numbers_seen child running.children ∙ runs.children_are in
+      ap (λ n. n.children) stays.numbers_are ∙ numbers_seen child running.children ∙ runs.children_are in
       let many : length waited.children ≡ length (children_in added) =
-          sym (length-map waited.children child) ∙ sym (length-map (map child waited.children) (λ c. c.number)) ∙ ap (λ (l : List ℕ). length l) numbers in
-      let low : mid.given + length waited.children < 2 ^ 63 = omega (arith, fits, many, swept.given_is) in
-      (
+      sym (length-map waited.children child) ∙ sym (length-map (map child waited.children) (λ c. c.number)) ∙ ap (λ (l : List ℕ). length l) numbers in
+      let low : mid.given + length waited.children < 2 ^ 63 = omega (arith, fits, many, swept.given_is) in (
         map child waited.children,
         numbers,
         still_unordered child running.children waited.children stays.orders_are runs.unasked,

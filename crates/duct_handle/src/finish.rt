@@ -33,10 +33,7 @@ fn polled<S: System>(running: &mut Running<S>) -> Result<Option<Arc<Output>>, Er
 
 /// Waits until the expression has ended, and answers how, as `Handle::wait` does: a fault at the first poll that finds one while
 /// no command says that it runs. Each child keeps the orders that it was given: it gets none.
-pub fn wait_for<S: System>(
-    rt: &impl Wait,
-    running: &mut Running<S>,
-) -> Result<Arc<Output>, Error>
+pub fn wait_for<S: System>(rt: &impl Wait, running: &mut Running<S>) -> Result<Arc<Output>, Error>
     ensures stays { Stays S.Child.child_view S.Feed.job_view S.Drain.job_view
         running.old running.new }
     ensures ending { IsEnding S.Child.may_answer S.Feed.may_say S.Drain.may_say

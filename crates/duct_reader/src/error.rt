@@ -31,10 +31,7 @@ pub(crate) fn io_error(error: Error) -> io::Error
     io::Error::from(match error {
         Error::System(fault) => name_of(fault.kind),
         Error::Memory => ErrorKind::OutOfMemory,
-        Error::Checked(_)
-        | Error::NotUtf8
-        | Error::Hook(_)
-        | Error::HookEnd(_)
-        | Error::Deadline => ErrorKind::Other,
+        Error::Checked(_) | Error::NotUtf8 | Error::Hook(_) | Error::HookEnd(_) | Error::Deadline =>
+            ErrorKind::Other,
     })
 }

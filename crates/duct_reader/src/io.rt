@@ -9,10 +9,7 @@ use std::io::{ErrorKind, Read};
 use std::sync::Wait;
 
 // One read, by a token of its own.
-fn read_once<S: System, R: Wait>(
-    reader: &ReaderHandle<S, R>,
-    buf: &mut [u8],
-) -> io::Result<usize>
+fn read_once<S: System, R: Wait>(reader: &ReaderHandle<S, R>, buf: &mut [u8]) -> io::Result<usize>
     ensures bound { ReadsAtMost result buf.new }
 {
     let mut seen = reader.seen();

@@ -168,7 +168,10 @@ fn push_read<R: Wait>(
 }
 
 /// A read by a new token.
-pub fn read_once<R: Wait>(handle: &ReaderHandle<Script, R>, buffer: &mut [u8]) -> Result<usize, Error> {
+pub fn read_once<R: Wait>(
+    handle: &ReaderHandle<Script, R>,
+    buffer: &mut [u8],
+) -> Result<usize, Error> {
     let mut seen = handle.seen();
     handle.read_as(buffer, &mut seen)
 }

@@ -73,7 +73,11 @@ fn read_beside<R: Threads + Wait + Sync>(
 ) -> Result<(), AllocError> {
     let mut buffer = [0; 4];
     gate.shut();
-    let (read, told) = thread::join(rt, || read_once(handle, &mut buffer), || ask_beside(handle, gate));
+    let (read, told) = thread::join(
+        rt,
+        || read_once(handle, &mut buffer),
+        || ask_beside(handle, gate),
+    );
     write!(text, "{} {}. ", told.stood, told.ids)?;
     push_polled(text, &told.polled)?;
     write!(text, "{} {:?}", told.killed.is_ok(), read.ok())
@@ -116,7 +120,9 @@ fn count_all<R: Wait>(handle: &ReaderHandle<Script, R>) -> usize {
 
 fn read_by_two<R: Threads + Wait + Sync>(rt: &R, alloc: Global) -> Result<usize, Fail> {
     let gate = Gate::new(alloc)?;
-    let ended = Scene::plain().with("children", "code 0").unwrap_or(Scene::plain());
+    let ended = Scene::plain()
+        .with("children", "code 0")
+        .unwrap_or(Scene::plain());
     let mut bench = bench_of(alloc, ended)?;
     let handle = at_a_gate(rt, alloc, &mut bench, &gate, 1000)?;
     let (one, other) = thread::join(rt, || count_all(&handle), || count_all(&handle));

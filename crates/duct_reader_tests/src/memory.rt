@@ -106,6 +106,9 @@ fn memory_of_a_read(rt: HostRuntime) {
 /// With ample memory both answer.
 #[test]
 fn all_memory_is_there(rt: HostRuntime) {
-    let both = (came_of(run_in(&rt, rt.alloc())), came_of(read_in(&rt, rt.alloc())));
+    let both = (
+        came_of(run_in(&rt, rt.alloc())),
+        came_of(read_in(&rt, rt.alloc())),
+    );
     assert_eq!(rt; both, (Came::Whole, Came::Whole));
 }

@@ -81,8 +81,12 @@ pub fn set_reader(alloc: Global, sys: &mut Script, pieces: &str) -> Result<(), F
 
 fn add_piece(script: &mut ReaderScript, piece: &str) -> Result<(), AllocError> {
     match piece {
-        "Interrupted" => script.steps.push_back(ReadStep::Fault(ErrorKind::Interrupted))?,
-        "NotFound" => script.steps.push_back(ReadStep::Fault(ErrorKind::NotFound))?,
+        "Interrupted" => script
+            .steps
+            .push_back(ReadStep::Fault(ErrorKind::Interrupted))?,
+        "NotFound" => script
+            .steps
+            .push_back(ReadStep::Fault(ErrorKind::NotFound))?,
         "Other" => script.steps.push_back(ReadStep::Fault(ErrorKind::Other))?,
         bytes => add_bytes(script, bytes)?,
     }

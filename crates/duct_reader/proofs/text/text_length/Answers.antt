@@ -20,8 +20,7 @@ loop-last-preserved c =
     let last = c.in-Some.last.now in
     let rest = c.in-Some.rest.now in
     let is = c.in-Some.ensures.cases.0 in
-    let ends : is_line_end last ≡ true = sym c.is_line_end.ensures ∙ c.if-not-is_line_end.false in
-    (
+    let ends : is_line_end last ≡ true = sym c.is_line_end.ensures ∙ c.if-not-is_line_end.false in (
       last ∷ tail,
       split ∙ ap (λ (bytes : List ℕ). bytes ++ tail) is ∙ one_more rest tail last,
       sym (trimmed_end rest last ends) ∙ ap (λ (bytes : List ℕ). trimmed bytes) (sym is) ∙ same,

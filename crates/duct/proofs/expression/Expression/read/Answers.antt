@@ -26,7 +26,7 @@ pub returns-in_err-running-clause-pool_given : goal.returns-in_err-running-claus
 returns-in_err-running-clause-pool_given g c =
     let added = segment (g.S.System.journal_view c.args.sys.now).entries (g.S.System.journal_view c.launch_reader.new.sys).entries in
     on_err c.from_residual.result (λ fits.
-      given_started g.S.Child.Child.may_answer g.S.Child.Child.child_view added c.args.pool.now c.launch_reader.new.pool (c.in_err-running.ensures.pool_given fits))
+    given_started g.S.Child.Child.may_answer g.S.Child.Child.child_view added c.args.pool.now c.launch_reader.new.pool (c.in_err-running.ensures.pool_given fits))
 
 pub returns-clause-text : goal.returns-clause-text
 returns-clause-text g c =
@@ -40,7 +40,7 @@ returns-clause-text g c =
     let runs = c.in_ok-running.ensures.running in
     let numbers = numbers_in child feed drain running in
     let Reads : ShapeView → Result (String Global) Error → Type 0 =
-        λ shape result. ReadsText g.S.Child.Child.may_answer g.S.Feed.Job.may_say g.S.Drain.Job.may_say shape numbers (g.S.Reader.Read.remaining reader) result in
+    λ shape result. ReadsText g.S.Child.Child.may_answer g.S.Feed.Job.may_say g.S.Drain.Job.may_say shape numbers (g.S.Reader.Read.remaining reader) result in
     told_ok c.read_text.result (λ result. Reads (shape_view running.shape) result) (λ text reads. (
       numbers,
       started_numbers child feed drain tree false (is_some (plan_of_reader tree).err) added running runs,
@@ -61,14 +61,17 @@ returns-clause-err g c =
     let runs = c.in_ok-running.ensures.running in
     let numbers = numbers_in child feed drain running in
     let Reads : ShapeView → Result (String Global) Error → Type 0 =
-        λ shape result. ReadsText g.S.Child.Child.may_answer g.S.Feed.Job.may_say g.S.Drain.Job.may_say shape numbers (g.S.Reader.Read.remaining reader) result in
-    told_err c.read_text.result (λ result. Reads (shape_view running.shape) result) (λ e reads. inr (c.in_ok-running.ensures.ok, (
-      numbers,
-      started_numbers child feed drain tree false (is_some (plan_of_reader tree).err) added running runs,
-      reader,
-      c.in_ok-running.ensures.reader,
-      subst (λ (s : ShapeView). Reads s (Err e)) runs.shape_is reads,
-    ))) c.read_text.ensures.text
+    λ shape result. ReadsText g.S.Child.Child.may_answer g.S.Feed.Job.may_say g.S.Drain.Job.may_say shape numbers (g.S.Reader.Read.remaining reader) result in
+    told_err c.read_text.result (λ result. Reads (shape_view running.shape) result) (λ e reads. inr (
+      c.in_ok-running.ensures.ok,
+      (
+        numbers,
+        started_numbers child feed drain tree false (is_some (plan_of_reader tree).err) added running runs,
+        reader,
+        c.in_ok-running.ensures.reader,
+        subst (λ (s : ShapeView). Reads s (Err e)) runs.shape_is reads,
+      ),
+    )) c.read_text.ensures.text
 
 pub returns-clause-pool_given : goal.returns-clause-pool_given
 returns-clause-pool_given g c =
@@ -80,6 +83,6 @@ returns-clause-pool_given g c =
     let running = c.in_ok-running.running in
     let runs = c.in_ok-running.ensures.running in
     on_err_with c.read_text.result (λ given fits.
-      given_after child feed drain tree false (is_some (plan_of_reader tree).err) added running runs
-      g.S.Child.Child.may_answer given.0 c.args.pool.now c.launch_reader.new.pool c.read_text.new.pool c.in_ok-running.ensures.swept given.1 given.2 fits)
+    given_after child feed drain tree false (is_some (plan_of_reader tree).err) added running runs
+    g.S.Child.Child.may_answer given.0 c.args.pool.now c.launch_reader.new.pool c.read_text.new.pool c.in_ok-running.ensures.swept given.1 given.2 fits)
     c.read_text.ensures.given

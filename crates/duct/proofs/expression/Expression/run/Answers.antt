@@ -23,7 +23,7 @@ pub returns-in_err-running-clause-pool_given : goal.returns-in_err-running-claus
 returns-in_err-running-clause-pool_given g c =
     let added = segment (g.S.System.journal_view c.args.sys.now).entries (g.S.System.journal_view c.launch.new.sys).entries in
     on_err c.from_residual.result (λ fits.
-      given_started g.S.Child.Child.may_answer g.S.Child.Child.child_view added c.args.pool.now c.launch.new.pool (c.in_err-running.ensures.pool_given fits))
+    given_started g.S.Child.Child.may_answer g.S.Child.Child.child_view added c.args.pool.now c.launch.new.pool (c.in_err-running.ensures.pool_given fits))
 
 pub returns-clause-output : goal.returns-clause-output
 returns-clause-output g c =
@@ -39,7 +39,7 @@ returns-clause-output g c =
       numbers,
       started_numbers child feed drain tree (is_some (plan_of tree).out) (is_some (plan_of tree).err) added running runs,
       subst (λ (s : ShapeView). WasConcluded g.S.Child.Child.may_answer g.S.Feed.Job.may_say g.S.Drain.Job.may_say s numbers
-      (answered output.status output.stdout.items output.stderr.items)) runs.shape_is concluded,
+          (answered output.status output.stdout.items output.stderr.items)) runs.shape_is concluded,
     )) c.finish.ensures.output
 
 pub returns-clause-err : goal.returns-clause-err
@@ -52,11 +52,14 @@ returns-clause-err g c =
     let running = c.in_ok-running.running in
     let runs = c.in_ok-running.ensures.running in
     let numbers = numbers_in child feed drain running in
-    if_err_with c.finish.result (λ e ending. inr (c.in_ok-running.ensures.ok, (
-      numbers,
-      started_numbers child feed drain tree (is_some (plan_of tree).out) (is_some (plan_of tree).err) added running runs,
-      subst (λ (s : ShapeView). IsEnding g.S.Child.Child.may_answer g.S.Feed.Job.may_say g.S.Drain.Job.may_say s numbers (Err e)) runs.shape_is ending,
-    ))) c.finish.ensures.err
+    if_err_with c.finish.result (λ e ending. inr (
+      c.in_ok-running.ensures.ok,
+      (
+        numbers,
+        started_numbers child feed drain tree (is_some (plan_of tree).out) (is_some (plan_of tree).err) added running runs,
+        subst (λ (s : ShapeView). IsEnding g.S.Child.Child.may_answer g.S.Feed.Job.may_say g.S.Drain.Job.may_say s numbers (Err e)) runs.shape_is ending,
+      ),
+    )) c.finish.ensures.err
 
 pub returns-clause-pool_given : goal.returns-clause-pool_given
 returns-clause-pool_given g c =
@@ -68,6 +71,6 @@ returns-clause-pool_given g c =
     let running = c.in_ok-running.running in
     let runs = c.in_ok-running.ensures.running in
     on_err_with c.finish.result (λ given fits.
-      given_after child feed drain tree (is_some (plan_of tree).out) (is_some (plan_of tree).err) added running runs
-      g.S.Child.Child.may_answer given.0 c.args.pool.now c.launch.new.pool c.finish.new.pool c.in_ok-running.ensures.swept given.1 given.2 fits)
+    given_after child feed drain tree (is_some (plan_of tree).out) (is_some (plan_of tree).err) added running runs
+    g.S.Child.Child.may_answer given.0 c.args.pool.now c.launch.new.pool c.finish.new.pool c.in_ok-running.ensures.swept given.1 given.2 fits)
     c.finish.ensures.given
