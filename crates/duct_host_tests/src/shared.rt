@@ -51,7 +51,7 @@ fn handle_call<R: Real + Wait>(
 /// Calls a reader handle.
 pub fn reader_calls<R: Real + Wait>(
     rt: &R,
-    handle: &ReaderHandle<Host<R>, &R>,
+    handle: &ReaderHandle<Host<R>, R>,
     calls: &str,
     said: &mut String,
 ) -> Result<(), Fail> {
@@ -63,7 +63,7 @@ pub fn reader_calls<R: Real + Wait>(
 
 fn reader_call<R: Real + Wait>(
     rt: &R,
-    handle: &ReaderHandle<Host<R>, &R>,
+    handle: &ReaderHandle<Host<R>, R>,
     call: &str,
     said: &mut String,
 ) -> Result<(), Fail> {
@@ -81,7 +81,7 @@ fn reader_call<R: Real + Wait>(
 /// Says how many bytes one read gives.
 fn read_once<R: Real + Wait>(
     alloc: Global,
-    handle: &ReaderHandle<Host<R>, &R>,
+    handle: &ReaderHandle<Host<R>, R>,
     length: usize,
     said: &mut String,
 ) -> Result<(), Fail> {
@@ -96,7 +96,7 @@ fn read_once<R: Real + Wait>(
 /// Says all bytes that there are.
 fn read_all<R: Real + Wait>(
     alloc: Global,
-    mut handle: &ReaderHandle<Host<R>, &R>,
+    mut handle: &ReaderHandle<Host<R>, R>,
     said: &mut String,
 ) -> Result<(), Fail> {
     let mut bytes = Vec::new(alloc);

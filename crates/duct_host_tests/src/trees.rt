@@ -303,10 +303,9 @@ impl<R: Real + Wait> Stage<R> {
     }
 
     fn reader(&mut self, calls: &str) -> Result<(), Fail> {
-        match self
-            .last()?
-            .reader(&self.rt, &mut self.host, &mut self.pool)
-        {
+        let tree = self.last()?;
+        let own = self.rt.clone()?;
+        match tree.reader(own, &mut self.host, &mut self.pool) {
             Ok(handle) => {
                 let told = reader_calls(&self.rt, &handle, calls, &mut self.said);
                 handle.give_up(&mut self.pool);
