@@ -51,25 +51,18 @@ impl Hook for Change {
     ghost refuses = { λ _ _ _. Unit {0} };
 
     fn change(&self, spec: &mut CommandSpec) -> Result<(), Fault> {
+        let port = Port::Place(0);
         match self {
-            Change::Connect(stream) => {
-                connect(spec, *stream);
-                Ok(())
+            Change::Connect(Stream::In) => spec.stdin(port),
+            Change::Connect(Stream::Out) => spec.stdout(port),
+            Change::Connect(Stream::Err) => spec.stderr(port),
+            Change::Add(word) => {
+                if spec.arg(word.as_str()).is_err() {
+                    return Err(Fault::new(Kind::OutOfMemory));
+                }
             }
-            Change::Add(word) => match spec.arg(word.as_str()) {
-                Ok(()) => Ok(()),
-                Err(_) => Err(Fault::new(Kind::OutOfMemory)),
-            },
         }
-    }
-}
-
-fn connect(spec: &mut CommandSpec, stream: Stream) {
-    let port = Port::Place(0);
-    match stream {
-        Stream::In => spec.stdin(port),
-        Stream::Out => spec.stdout(port),
-        Stream::Err => spec.stderr(port),
+        Ok(())
     }
 }
 
