@@ -160,7 +160,7 @@ fn push_read<R: Wait>(
 ) -> Result<(), AllocError> {
     match call {
         "read" => push_count(text, read_once(handle, buffer)),
-        "std" => push_std(text, (&mut &*handle).read(buffer)),
+        "std" => push_std(text, shared(handle, buffer)),
         "own" => push_std(text, handle.read(buffer)),
         "exact" => push_std(text, exact(handle, buffer)),
         _ => text.push_str("no such call. "),
@@ -174,6 +174,11 @@ pub fn read_once<R: Wait>(
 ) -> Result<usize, Error> {
     let mut seen = handle.seen();
     handle.read_as(buffer, &mut seen)
+}
+
+// A read through a handle that others may share.
+fn shared<R: Wait>(mut handle: &ReaderHandle<Script, R>, buffer: &mut [u8]) -> io::Result<usize> {
+    handle.read(buffer)
 }
 
 // A read of the whole buffer, and its length.

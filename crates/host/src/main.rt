@@ -1,11 +1,8 @@
-//! The program `host`: starts the command that its arguments name, and ends as the command does.
+//! The program `host`: reads the expression of its arguments over the real machine, prints its text, and ends with its status.
 #![tactic(auto)]
 
-mod pause;
-mod perform;
-
 use duct_host::host::Host;
-use perform::perform;
+use duct_program::perform::perform;
 use std::io::{ErrorKind, Write};
 use std::process::ExitCode;
 use std::{env, io};
@@ -33,7 +30,14 @@ fn main(rt: HostRuntime) -> ExitCode {
     let status = match arguments(&rt) {
         Ok(words) => {
             let mut host = Host::new(&rt, rt.alloc());
-            perform(&rt, &mut host, words.as_slice(), &mut out, &mut err)
+            perform(
+                &rt,
+                rt.alloc(),
+                &mut host,
+                words.as_slice(),
+                &mut out,
+                &mut err,
+            )
         }
         Err(error) => {
             let (status, text) = unread(&error);

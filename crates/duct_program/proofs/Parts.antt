@@ -1,0 +1,11 @@
+-- The arguments of a command, read one after the other.
+use Rattle.std.proofs.Common.{ℕ, List, ◌++◌, Ok}
+use Rattle.std.specs.declared.result.Result.{Result}
+use Rattle.duct_program.specs.Command.{CommandView, RedirectionView}
+use Rattle.duct_program.specs.Parsed.{◌>>=◌}
+use Rattle.duct_program.specs.declared.usage.Usage.{Usage}
+
+-- what was read before, and behind it what is still read
+abbrev pub behind : List (List ℕ) → List RedirectionView → Result CommandView Usage → Result CommandView Usage
+behind words redirections read =
+    read >>= λ command. Ok (record { words = words ++ command.words; redirections = redirections ++ command.redirections })

@@ -1,0 +1,27 @@
+-- Commands piped one after the other, and redirections round a command.
+use Rattle.std.proofs.Common.{◌≡◌, ℕ, List, [], ◌∷◌, ◌++◌, ap, length, map, Ok, refl}
+use Rattle.std.specs.declared.option.Option.{Option}
+use Rattle.std.specs.declared.result.Result.{Result}
+use Rattle.duct_start.specs.TreeView.{TreeView, around}
+use Rattle.duct_program.specs.CommandView.{redirection_view}
+use Rattle.duct_program.specs.Line.{commands_of, piped, redirected_tree, redirects}
+use Rattle.duct_program.specs.Parsed.{◌>>=◌}
+use Rattle.duct_program.specs.Pieces.{further}
+use Rattle.duct_program.specs.declared.command.Redirection.{Redirection}
+use Rattle.duct_program.specs.declared.usage.Usage.{Usage}
+
+-- the commands of pieces, piped behind a tree
+abbrev pub piped_behind : {E H : Type 0} → TreeView E H → List (List (List ℕ)) → Result (TreeView E H) Usage
+piped_behind left others = commands_of others >>= λ commands. Ok (piped left commands)
+
+-- how many pieces are left
+abbrev pub pieces_len : Option (List (List ℕ)) → ℕ
+pieces_len rest = length (further rest)
+
+-- the last redirection stands innermost
+pub last_stands_inside : {E H : Type 0} (front : List Redirection) (last : Redirection) (tree : TreeView E H)
+    → redirected_tree (map redirection_view (front ++ last ∷ [])) tree
+    ≡ redirected_tree (map redirection_view front) (around (redirects (redirection_view last)) tree)
+last_stands_inside [] last tree = refl
+last_stands_inside {E} {H} (first ∷ front) last tree =
+    ap (λ (inner : TreeView E H). around (redirects (redirection_view first)) inner) (last_stands_inside front last tree)

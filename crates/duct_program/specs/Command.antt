@@ -1,0 +1,46 @@
+-- What the arguments of one command say.
+use Rattle.std.specs.Prelude.{ℕ, List, [], ◌∷◌, Some, None, Ok, Err, if◌then◌else◌, codes}
+use Rattle.std.specs.Str.{bytes_eq}
+use Rattle.std.specs.declared.option.Option.{Option}
+use Rattle.std.specs.declared.result.Result.{Result}
+use Rattle.duct_system.specs.declared.spec.Stream.{Stream}
+use Rattle.duct_system.specs.declared.spec.Stream.TheVariants as streams
+use Rattle.duct_program.specs.declared.usage.Usage.{Usage}
+use Rattle.duct_program.specs.declared.usage.Usage.TheVariants.{MissingPath}
+use Rattle.duct_program.specs.Parsed.{◌>>=◌}
+
+-- a stream that goes from or to the file of this path
+pub record RedirectionView : Type 0 where
+  pub stream : Stream
+  pub path : List ℕ
+
+-- the words, and the redirections in the order in which they were written
+pub record CommandView : Type 0 where
+  pub words : List (List ℕ)
+  pub redirections : List RedirectionView
+
+-- the stream that an argument redirects: none where it is a word
+abbrev pub redirected : List ℕ → Option Stream
+redirected arg =
+    if bytes_eq arg (codes "<") then Some streams.In
+    else if bytes_eq arg (codes ">") then Some streams.Out
+    else if bytes_eq arg (codes "2>") then Some streams.Err
+    else None
+
+abbrev pub with_word : List ℕ → CommandView → CommandView
+with_word word command = record { words = word ∷ command.words; redirections = command.redirections }
+
+abbrev pub with_redirection : Stream → List ℕ → CommandView → CommandView
+with_redirection stream path command =
+    record { words = command.words; redirections = record { stream = stream; path = path } ∷ command.redirections }
+
+-- what the arguments of a command say; the stream is that which the argument before them redirects, if it does
+abbrev pub parts_of : Option Stream → List (List ℕ) → Result CommandView Usage
+parts_of None [] = Ok (record { words = []; redirections = [] })
+parts_of (Some stream) [] = Err MissingPath
+parts_of (Some stream) (path ∷ args) = parts_of None args >>= λ command. Ok (with_redirection stream path command)
+parts_of None (arg ∷ args) =
+    elim (redirected arg) [
+      | Some stream ↦ parts_of (Some stream) args
+      | None ↦ parts_of None args >>= λ command. Ok (with_word arg command)
+    ]

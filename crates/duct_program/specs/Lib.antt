@@ -1,0 +1,9 @@
+pub mod Command
+pub mod CommandView
+pub mod Line
+pub mod Options
+pub mod OptionsView
+pub mod Parsed
+pub mod Pieces
+pub mod Status
+pub mod Unasked

@@ -1,0 +1,27 @@
+-- The options that stand before the first word.
+use Rattle.std.specs.Prelude.{ℕ, List, [], ◌∷◌, Bool, true, false, Some, None, Ok, Err, if◌then◌else◌, codes}
+use Rattle.std.specs.Str.{bytes_eq}
+use Rattle.std.specs.declared.option.Option.{Option}
+use Rattle.std.specs.declared.result.Result.{Result}
+use Rattle.duct_program.specs.declared.usage.Usage.{Usage}
+use Rattle.duct_program.specs.declared.usage.Usage.TheVariants.{MissingText}
+
+-- what the options ask of the whole line: a text for stdin, and that a failure is no error
+pub record OptionsView : Type 0 where
+  pub stdin : Option (List ℕ)
+  pub unchecked : Bool
+
+abbrev pub no_options : OptionsView
+no_options = record { stdin = None; unchecked = false }
+
+-- the options in front of some arguments, read behind these options, and the arguments behind them; the truth value says whether the
+-- argument before was a `--stdin`, whose text comes first
+abbrev pub options_from : Bool → OptionsView → List (List ℕ) → Result (OptionsView × List (List ℕ)) Usage
+options_from true options [] = Err MissingText
+options_from true options (text ∷ args) =
+    options_from false (record { stdin = Some text; unchecked = options.unchecked }) args
+options_from false options [] = Ok (options, [])
+options_from false options (arg ∷ args) =
+    if bytes_eq arg (codes "--stdin") then options_from true options args
+    else if bytes_eq arg (codes "--unchecked") then options_from false (record { stdin = options.stdin; unchecked = true }) args
+    else Ok (options, arg ∷ args)

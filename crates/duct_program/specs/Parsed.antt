@@ -1,0 +1,22 @@
+-- What reading arguments answers.
+use Rattle.std.specs.Prelude.{◌≡◌, Err, Ok}
+use Rattle.std.specs.declared.result.Result.{Result}
+use Rattle.duct_program.specs.declared.usage.Usage.{Usage}
+use Rattle.duct_program.specs.declared.usage.Usage.TheVariants.{EmptyCommand, MissingPath, MissingText, Memory}
+
+infixl 10 ◌>>=◌
+abbrev pub ◌>>=◌ : {A B : Type 0} → Result A Usage → (A → Result B Usage) → Result B Usage
+(Ok value) >>= next = next value
+(Err usage) >>= next = Err usage
+
+-- a refusal is the one that is read, or there was no memory
+abbrev pub Refuses : {B : Type 0} → Usage → Result B Usage → Type 0
+Refuses Memory read = Unit {0}
+Refuses EmptyCommand read = read ≡ Err EmptyCommand
+Refuses MissingText read = read ≡ Err MissingText
+Refuses MissingPath read = read ≡ Err MissingPath
+
+-- an answer, seen by a view, is what is read, or there was no memory
+abbrev pub Gives : {A B : Type 0} → (A → B) → Result A Usage → Result B Usage → Type 0
+Gives view (Ok value) read = read ≡ Ok (view value)
+Gives view (Err usage) read = Refuses usage read

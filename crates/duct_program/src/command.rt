@@ -1,0 +1,63 @@
+//! One command of a line: its words, and where its streams go.
+ghost use Rattle.std.specs.Prelude.{◌≡◌, map, string_bytes};
+ghost use Rattle.duct_program.specs.Command.{parts_of, redirected};
+ghost use Rattle.duct_program.specs.CommandView.{command_view};
+ghost use Rattle.duct_program.specs.Parsed.{Gives};
+ghost use Rattle.std.specs.Prelude.{None};
+
+use crate::usage::Usage;
+use duct_system::spec::Stream;
+use std::alloc::Global;
+
+/// The stream of a command that goes from or to a file.
+#[derive(Clone, Copy)]
+pub(crate) struct Redirection<'a> {
+    pub stream: Stream,
+    pub path: &'a str,
+}
+
+/// What the arguments between two `|` say.
+#[derive(Drop)]
+pub(crate) struct Command<'a> {
+    pub words: Vec<&'a str>,
+    /// In the order in which they were written.
+    pub redirections: Vec<Redirection<'a>>,
+}
+
+/// The stream that an argument redirects: none where it is a word.
+fn redirected(arg: &str) -> Option<Stream>
+    ensures { result ≡ redirected arg.now }
+{
+    match arg {
+        "<" => Some(Stream::In),
+        ">" => Some(Stream::Out),
+        "2>" => Some(Stream::Err),
+        _ => None,
+    }
+}
+
+/// Reads the arguments of one command.
+pub(crate) fn read_command<'a>(alloc: Global, args: &'a [String]) -> Result<Command<'a>, Usage>
+    ensures { Gives command_view result (parts_of None (map string_bytes args.now)) }
+{
+    let mut words = Vec::new(alloc);
+    let mut redirections = Vec::new(alloc);
+    let mut rest = args;
+    while let Some((arg, behind)) = rest.split_first() {
+        rest = behind;
+        if let Some(stream) = redirected(arg.as_str()) {
+            let Some((path, behind)) = rest.split_first() else {
+                return Err(Usage::MissingPath);
+            };
+            let path = path.as_str();
+            redirections.push(Redirection { stream, path })?;
+            rest = behind;
+        } else {
+            words.push(arg.as_str())?;
+        }
+    }
+    Ok(Command {
+        words,
+        redirections,
+    })
+}

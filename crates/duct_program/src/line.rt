@@ -1,0 +1,119 @@
+//! The expression that the program's arguments mean.
+ghost use Rattle.std.specs.Prelude.{◌≡◌, map, Ok, string_bytes, IfOk, IsOkUnless};
+ghost use Rattle.duct_start.specs.TreeView.{around};
+ghost use Rattle.duct.specs.TreeView.{tree_view};
+ghost use Rattle.duct_program.specs.CommandView.{redirection_view};
+ghost use Rattle.duct_program.specs.Line.{meant, piece_tree, pipeline_of, redirected_tree, redirects, with_options};
+ghost use Rattle.duct_program.specs.OptionsView.{options_view};
+ghost use Rattle.duct_program.specs.Parsed.{Gives};
+ghost use Rattle.duct_program.specs.Pieces.{pieces};
+
+use crate::command::{Command, Redirection, read_command};
+use crate::options::{Options, read_options};
+use crate::pieces::first_piece;
+use crate::usage::Usage;
+use duct::{Error, Expression, Stream, cmd};
+use std::alloc::Global;
+
+/// The expression of these arguments: options, and then commands with a `|` between two. The commands are piped from the left.
+/// In a command `<`, `>` and `2>` redirect stdin, stdout and stderr to the path behind them; the first one stands outermost.
+/// `--stdin` gives the whole its text, and `--unchecked` stands round that.
+///
+/// Refused with the first fault from left to right, and for want of memory.
+pub fn line<E: Drop>(alloc: Global, args: &[String]) -> Result<Expression<E>, Usage>
+    ensures { Gives tree_view result (meant (map string_bytes args.now)) }
+{
+    let (options, words) = read_options(args)?;
+    let commands = pipeline(alloc, words)?;
+    with_options(alloc, commands, options)
+}
+
+// Commands piped from the left.
+fn pipeline<E: Drop>(alloc: Global, args: &[String]) -> Result<Expression<E>, Usage>
+    ensures { Gives tree_view result (pipeline_of (pieces (map string_bytes args.now))) }
+{
+    let (piece, mut rest) = first_piece(args);
+    let mut left = redirected_command(alloc, piece)?;
+    while let Some(args) = rest {
+        let (piece, behind) = first_piece(args);
+        let right = redirected_command(alloc, piece)?;
+        left = left.pipe(&right).map_err(out_of_memory)?;
+        rest = behind;
+    }
+    Ok(left)
+}
+
+// The command of one piece, with its redirections round it.
+fn redirected_command<E: Drop>(alloc: Global, piece: &[String]) -> Result<Expression<E>, Usage>
+    ensures { Gives tree_view result (piece_tree (map string_bytes piece.now)) }
+{
+    let Command {
+        words,
+        redirections,
+    } = read_command(alloc, piece)?;
+    let Some((program, arguments)) = words.split_first() else {
+        return Err(Usage::EmptyCommand);
+    };
+    let command = cmd(alloc, *program, arguments).map_err(out_of_memory)?;
+    redirected_by(command, redirections)
+}
+
+// Redirections round a command, the first one outermost.
+#[tactic(auto, using(crate::proofs::Pipes::last_stands_inside))]
+fn redirected_by<E: Drop>(
+    command: Expression<E>,
+    redirections: Vec<Redirection<'_>>,
+) -> Result<Expression<E>, Usage>
+    ensures { Gives tree_view result
+        (Ok (redirected_tree (map redirection_view redirections.entry.items) (tree_view command))) }
+{
+    let mut inner = command;
+    let mut left = redirections;
+    while let Some(redirection) = left.pop() {
+        inner = round(redirection, &inner).map_err(out_of_memory)?;
+    }
+    Ok(inner)
+}
+
+// One redirection round an expression.
+fn round<E: Drop>(
+    redirection: Redirection<'_>,
+    inner: &Expression<E>,
+) -> Result<Expression<E>, Error>
+    ensures tree { IfOk result (λ made. tree_view made
+        ≡ around (redirects (redirection_view redirection.entry)) (tree_view inner.now)) }
+    ensures memory { IsOkUnless result Error.Memory }
+{
+    match redirection.stream {
+        Stream::In => inner.stdin_path(redirection.path),
+        Stream::Out => inner.stdout_path(redirection.path),
+        Stream::Err => inner.stderr_path(redirection.path),
+    }
+}
+
+// What the options ask of a whole line round it.
+fn with_options<E: Drop>(
+    alloc: Global,
+    line: Expression<E>,
+    options: Options<'_>,
+) -> Result<Expression<E>, Usage>
+    ensures { Gives tree_view result
+        (Ok (with_options (options_view options.entry) (tree_view line))) }
+{
+    let mut whole = line;
+    if let Some(text) = options.stdin {
+        let bytes = Vec::from_slice(alloc, text.as_bytes())?;
+        whole = whole.stdin_bytes(bytes).map_err(out_of_memory)?;
+    }
+    if options.unchecked {
+        whole = whole.unchecked().map_err(out_of_memory)?;
+    }
+    Ok(whole)
+}
+
+// What is said of a refusal of a builder, which refuses for want of memory alone.
+fn out_of_memory(_error: Error) -> Usage
+    ensures { result ≡ Usage.Memory }
+{
+    Usage::Memory
+}

@@ -1,0 +1,9 @@
+//! Tests of the program over the scripted system.
+#![tactic(auto)]
+
+#[cfg(test)]
+mod bench;
+#[cfg(test)]
+mod lines;
+#[cfg(test)]
+mod performs;

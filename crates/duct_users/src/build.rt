@@ -1,0 +1,31 @@
+//! A build step with a time limit.
+use duct::{Clock, Error, Expression, Output, Pool, System};
+use std::alloc::Global;
+use std::sync::Wait;
+use std::time::Duration;
+
+/// Runs a step for at most this long. Answers its output, or nothing where it took longer: then its commands were killed, and
+/// their children are left to the pool.
+pub fn build<S: System, C: Clock>(
+    rt: &impl Wait,
+    system: &mut S,
+    pool: &mut Pool<S::Child>,
+    clock: &C,
+    step: &Expression<S::End>,
+    limit: Duration,
+) -> Result<Option<Output>, Error> {
+    let handle = step.start(system, pool)?;
+    match handle.wait_timeout(rt, clock, limit) {
+        Ok(Some(_)) => Ok(Some(handle.into_output(rt, pool)?)),
+        Ok(None) => {
+            let killed = handle.kill(rt);
+            handle.give_up(pool);
+            killed?;
+            Ok(None)
+        }
+        Err(error) => {
+            handle.give_up(pool);
+            Err(error)
+        }
+    }
+}

@@ -1,0 +1,39 @@
+//! A script runner: a line is a command.
+use duct::{Error, Expression, Pool, System, cmd};
+use std::alloc::Global;
+use std::sync::Wait;
+
+/// Reads the command of each line, in order, up to the first that fails. Answers what they printed, a line each.
+pub fn run_script<S: System>(
+    rt: &impl Wait,
+    alloc: Global,
+    system: &mut S,
+    script: &str,
+) -> Result<String, Error> {
+    let mut printed = String::new(alloc);
+    for line in script.lines() {
+        let text = run_line(rt, alloc, system, line)?;
+        printed.push_str(text.as_str())?;
+        printed.push('\n')?;
+    }
+    Ok(printed)
+}
+
+// What the command of one line prints. An empty line prints nothing.
+fn run_line<S: System>(
+    rt: &impl Wait,
+    alloc: Global,
+    system: &mut S,
+    line: &str,
+) -> Result<String, Error> {
+    let mut words = Vec::new(alloc);
+    for word in line.split_whitespace() {
+        words.push(word)?;
+    }
+    let Some((program, arguments)) = words.split_first() else {
+        return Ok(String::new(alloc));
+    };
+    let command: Expression<S::End> = cmd(alloc, *program, arguments)?;
+    let mut pool = Pool::new(alloc);
+    command.read(rt, system, &mut pool)
+}
