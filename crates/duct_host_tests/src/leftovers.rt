@@ -22,7 +22,7 @@ fn refused_in_a_pipeline(rt: HostRuntime) -> Result<(), Fail> {
         pipe
         command /bin/cat
         pipe
-        runs
+        launch
         opened
         children
         pool
@@ -39,7 +39,7 @@ fn refused_in_a_pipeline(rt: HostRuntime) -> Result<(), Fail> {
         command /bin/cat
         .connect out
         pipe
-        runs
+        launch
         opened
         children
         pool
@@ -55,7 +55,7 @@ fn refused_in_a_pipeline(rt: HostRuntime) -> Result<(), Fail> {
         command /bin/cat
         .stdout_path /no-such-folder/file
         pipe
-        runs
+        launch
         opened
         children
         pool
@@ -71,7 +71,7 @@ fn refused_in_a_pipeline(rt: HostRuntime) -> Result<(), Fail> {
         command ./no-such-program
         .dir /
         pipe
-        runs
+        launch
         asked
         opened
         children
@@ -95,7 +95,7 @@ fn refused_at_once(rt: HostRuntime) -> Result<(), Fail> {
         command /bin/cat
         .stdin_path /no-such-file
         .stdout_path {place}out
-        runs
+        launch
         file {place}out
         opened
         children
@@ -105,7 +105,7 @@ fn refused_at_once(rt: HostRuntime) -> Result<(), Fail> {
         command /no-such-program
         command /bin/cat
         pipe
-        runs
+        launch
         opened
         children
         pool
@@ -129,7 +129,7 @@ fn refused_with_workers(rt: HostRuntime) -> Result<(), Fail> {
         pipe
         .stderr_capture
         .stdout_capture
-        runs
+        launch
         opened
         children
         pool

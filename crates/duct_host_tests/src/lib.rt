@@ -2,6 +2,8 @@
 #![tactic(auto)]
 
 #[cfg(test)]
+mod answers;
+#[cfg(test)]
 mod asks;
 #[cfg(test)]
 mod calls;
@@ -12,14 +14,20 @@ mod descriptors;
 #[cfg(test)]
 mod faults;
 #[cfg(test)]
+mod handles;
+#[cfg(test)]
 mod held;
 #[cfg(test)]
 mod leftovers;
+#[cfg(test)]
+mod shared;
 #[cfg(test)]
 mod starts;
 #[cfg(test)]
 mod support;
 #[cfg(test)]
 mod trees;
+#[cfg(test)]
+mod vectors;
 #[cfg(test)]
 mod workers;

@@ -14,7 +14,7 @@ fn files_in_and_out(rt: HostRuntime) -> Result<(), Fail> {
         command /bin/cat
         .stdin_path {place}in
         .stdout_path {place}out
-        runs
+        launch
         file {place}in
         file {place}out
         says Code(0); "hello\n"; "hello\n";
@@ -22,7 +22,7 @@ fn files_in_and_out(rt: HostRuntime) -> Result<(), Fail> {
         command /bin/sh,-c,echo out; echo err >&2
         .stderr_path {place}err
         .stdout_path {place}out
-        runs
+        launch
         file {place}out
         file {place}err
         says Code(0); "out\n"; "err\n";
@@ -33,7 +33,7 @@ fn files_in_and_out(rt: HostRuntime) -> Result<(), Fail> {
         command /bin/cat
         .stdin_file 1
         .stdout_file 2
-        runs
+        launch
         file {place}in
         file {place}out
         opened
@@ -44,7 +44,7 @@ fn files_in_and_out(rt: HostRuntime) -> Result<(), Fail> {
         .stdin_null
         .stdout_null
         .stderr_file 1
-        runs
+        launch
         file {place}err
         says Code(0); "err\n";
         "#,
@@ -62,7 +62,7 @@ fn two_redirections(rt: HostRuntime) -> Result<(), Fail> {
         command /bin/echo,hi
         .stdout_path {place}inner
         .stdout_path {place}outer
-        runs
+        launch
         file {place}inner
         file {place}outer
         says Code(0); "hi\n"; "";
@@ -70,7 +70,7 @@ fn two_redirections(rt: HostRuntime) -> Result<(), Fail> {
         command /bin/sh,-c,echo 1; echo 2 >&2; echo 3; echo 4 >&2
         .stderr_to_stdout
         .stdout_path {place}out
-        runs
+        launch
         file {place}out
         says Code(0); "1\n2\n3\n4\n";
 
@@ -78,7 +78,7 @@ fn two_redirections(rt: HostRuntime) -> Result<(), Fail> {
         command /bin/sh,-c,read word; echo right >&2
         pipe
         .stderr_path {place}err
-        runs
+        launch
         file {place}err
         says Code(0); "left\nright\n";
 
@@ -88,7 +88,7 @@ fn two_redirections(rt: HostRuntime) -> Result<(), Fail> {
         command /bin/cat
         pipe
         .stdout_file 1
-        runs
+        launch
         file {place}out
         says Code(0); "left\ngo\n";
         "#,
@@ -106,7 +106,7 @@ fn streams_to_one_another(rt: HostRuntime) -> Result<(), Fail> {
         .stdout_path {place}inner
         .stderr_to_stdout
         .stdout_path {place}outer
-        runs
+        launch
         file {place}inner
         file {place}outer
         says Code(0); "out\n"; "err\n";
@@ -115,7 +115,7 @@ fn streams_to_one_another(rt: HostRuntime) -> Result<(), Fail> {
         .stderr_path {place}inner
         .stdout_to_stderr
         .stderr_path {place}outer
-        runs
+        launch
         file {place}inner
         file {place}outer
         says Code(0); "err\n"; "out\n";
@@ -124,7 +124,7 @@ fn streams_to_one_another(rt: HostRuntime) -> Result<(), Fail> {
         .stdout_to_stderr
         .stderr_path {place}err
         .captured
-        runs
+        launch
         file {place}err
         says Code(0); ""; "out\nerr\n";
 
@@ -132,7 +132,7 @@ fn streams_to_one_another(rt: HostRuntime) -> Result<(), Fail> {
         .stdout_stderr_swap
         .stderr_path {place}err
         .captured
-        runs
+        launch
         file {place}err
         says Code(0); "err\n"; "out\n";
 
@@ -141,7 +141,7 @@ fn streams_to_one_another(rt: HostRuntime) -> Result<(), Fail> {
         .stdout_stderr_swap
         .stderr_path {place}err
         .captured
-        runs
+        launch
         file {place}inner
         file {place}err
         says Code(0); "err\n"; "out\n"; "";
@@ -152,7 +152,7 @@ fn streams_to_one_another(rt: HostRuntime) -> Result<(), Fail> {
         pipe
         .stderr_path {place}err
         .captured
-        runs
+        launch
         file {place}err
         says Code(0); "err\n"; "out\n";
         "#,
@@ -178,7 +178,7 @@ fn a_pipeline_of_five(rt: HostRuntime) -> Result<(), Fail> {
         command /usr/bin/wc,-c
         pipe
         .captured
-        runs
+        launch
         file {place}in
         opened
         children
@@ -194,7 +194,7 @@ fn a_pipeline_of_five(rt: HostRuntime) -> Result<(), Fail> {
         pipe
         pipe
         .captured
-        runs
+        launch
         opened
         children
         says Code(0); "300000\n"; Some(0); Some(0);
@@ -203,8 +203,8 @@ fn a_pipeline_of_five(rt: HostRuntime) -> Result<(), Fail> {
         command /bin/cat
         pipe
         .captured
-        runs
-        says Code(0); 300000;
+        launch
+        says Code(0); 300000 of 0;
         "#,
     )
 }
@@ -225,7 +225,7 @@ fn failures_in_a_pipeline(rt: HostRuntime) -> Result<(), Fail> {
         pipe
         command /bin/true
         pipe
-        runs
+        launch
         says command ["/bin/sh", "-c", "exit 3"] exited with code 3;
 
         command /bin/sh,-c,exit 1
@@ -238,7 +238,7 @@ fn failures_in_a_pipeline(rt: HostRuntime) -> Result<(), Fail> {
         pipe
         command /bin/true
         pipe
-        runs
+        launch
         says command ["/bin/sh", "-c", "exit 2"] exited with code 2;
 
         command /bin/sh,-c,exit 1
@@ -251,14 +251,14 @@ fn failures_in_a_pipeline(rt: HostRuntime) -> Result<(), Fail> {
         command /bin/true
         pipe
         .unchecked
-        runs
+        launch
         says Code(3);
 
         command /bin/sh,-c,kill -9 $$
         command /bin/true
         pipe
         .unchecked
-        runs
+        launch
         says Signal(9);
         "#,
     )
@@ -278,7 +278,7 @@ fn hooks_that_connect_a_pipe(rt: HostRuntime) -> Result<(), Fail> {
         .connect in 1
         pipe
         .captured
-        runs
+        launch
         opened
         children
         says Code(0); "hi\n"; Some(0); Some(0);
@@ -288,7 +288,7 @@ fn hooks_that_connect_a_pipe(rt: HostRuntime) -> Result<(), Fail> {
         command /bin/sh,-c,read word; echo right $word >&2
         pipe
         .connect err 1
-        runs
+        launch
         file {place}err
         opened
         says Code(0); "left\nright go\n"; Some(0);
@@ -311,7 +311,7 @@ fn a_folder(rt: HostRuntime) -> Result<(), Fail> {
         .dir {place}in
         .dir /no-such-folder
         .captured
-        runs
+        launch
         asked
         remove {place}program
         remove_folder {place}in
@@ -322,7 +322,7 @@ fn a_folder(rt: HostRuntime) -> Result<(), Fail> {
         command /bin/cat,text
         .dir {place}in
         .captured
-        runs
+        launch
         asked
         remove {place}in/text
         remove_folder {place}in
@@ -342,7 +342,7 @@ fn variables(rt: HostRuntime) -> Result<(), Fail> {
         .full_env A=1,B=2
         .env C 3
         .captured
-        runs
+        launch
         says Code(0); "A=1\nB=2\n";
 
         command /usr/bin/env
@@ -351,7 +351,7 @@ fn variables(rt: HostRuntime) -> Result<(), Fail> {
         .env b 4
         .full_env A=1,B=2
         .captured
-        runs
+        launch
         says Code(0); "B=4\nC=3\n";
 
         command /bin/sh,-c,echo ${A-none} ${B-none} ${HOME-none}
@@ -361,7 +361,7 @@ fn variables(rt: HostRuntime) -> Result<(), Fail> {
         .env B far
         .env_remove HOME
         .captured
-        runs
+        launch
         says Code(0); "near none none\n";
 
         command /usr/bin/env
@@ -372,7 +372,7 @@ fn variables(rt: HostRuntime) -> Result<(), Fail> {
         .env A both
         .env B both
         .captured
-        runs
+        launch
         says Code(0); "A=left\nnone both\n";
         "#,
     )

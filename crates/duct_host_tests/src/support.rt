@@ -214,6 +214,16 @@ pub fn open_descriptors<R: Files + Alloc + Clone>(rt: &R) -> io::Result<usize> {
     Ok(count)
 }
 
+/// The ids of the children of this thread in the order of their starts, also of those that ended and that nobody has asked since.
+pub fn children_text<R: Files + AllocGlobal>(rt: &R) -> io::Result<String> {
+    fs::read_to_string(rt, "/proc/thread-self/children")
+}
+
+/// How many children this thread has, with those that ended and that nobody has asked since.
+pub fn children<R: Files + AllocGlobal>(rt: &R) -> io::Result<usize> {
+    Ok(children_text(rt)?.split_whitespace().count())
+}
+
 /// The number of this process.
 pub fn own_id<R: Files + AllocGlobal>(rt: &R) -> Result<u32, Fail> {
     let folder = fs::canonicalize(rt, "/proc/self")?.into_string();

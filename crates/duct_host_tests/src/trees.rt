@@ -4,61 +4,70 @@
 //! - `command /bin/echo,a b` makes a command, whose words commas part, and `pipe` one expression of the last two. A line with a
 //!   dot is a call on the last expression, as `.stdout_path f`, `.env A 1`, `.full_env A=1,B=2` or `.stdin_file 1`.
 //!   `.connect out 2` is a hook that lets stdout go to the end 2 beside it, and `.connect out` names an end that is not there.
-//!   `.captured` gives stdout to a pipe that the test reads. `.stdin_bytes text` has a text as input, and `.stdin_zeros 9` so many
-//!   zeros.
-//! - `adopt_pipe` adopts both ends of a pipe, `adopt_file f` a file that is there, and `adopt_new f` a new one: their numbers begin
-//!   with 1. `drop 2` drops one.
-//! - `runs` starts the last expression, drops it, reads the pipe of `.captured` to its end, and polls until there is an answer. It
-//!   says the answer with what was captured, and what was read.
+//!   `.add word` is one that adds a word. `.captured` gives stdout to a pipe that the test reads. `.stdin_bytes text` has a text as
+//!   input, and `.stdin_many 9 42` nine bytes 42.
+//! - `adopt_pipe text` adopts both ends of a pipe with this text in it, `adopt_file f` a file that is there, and `adopt_new f` a new
+//!   one: their numbers begin with 1. `drop 2` drops one.
+//! - `launch` starts the last expression, drops it, reads the pipe of `.captured` to its end, and polls until there is an answer. It
+//!   says the answer with what was captured, and what was read. `run` and `read` say what these calls answer, and `repeat 9 text` runs
+//!   the expression so many times, each of which has to say this text.
+//! - `start` has calls of its handle behind it, and `reader` calls of its reader handle, which is given up behind the last.
 //! - `asked` says the canonical names that were asked for. `file f` says the text of a file, and removes the file. `opened` and
 //!   `children` say how many descriptors and children there are more than at first.
 //! - `pool` says how many children the pool keeps, was given, found ended and lost; `sweep` sweeps it until it is empty.
 //!
 //! Files are changed, and `{place}` and its like are filled in, as in requests.
 
+use crate::answers::{tell_bytes, tell_polled, tell_refusal, tell_run};
 use crate::asks::{arrange, filled, first_word};
 use crate::held::taken;
-use crate::support::{Real, open_descriptors, own_id, place, same, say};
+use crate::shared::{handle_calls, reader_calls};
+use crate::support::{Real, children, open_descriptors, own_id, place, same, say};
 use duct::{
-    CommandSpec, Entry, Error, Expression, Fault, Hook, Output, Pool, Port, Running, Stream,
+    CommandSpec, Entry, Error, Expression, Fault, Hook, Kind, Output, Pool, Port, Running, Stream,
     System, cmd,
 };
 use duct_host::child::Child;
 use duct_host::end::End;
 use duct_host::host::Host;
 use std::alloc::Global;
-use std::fmt::Write;
 use std::fs::{self, File};
-use std::io::{self, PipeReader};
-use std::sync::Arc;
+use std::io::{self, PipeReader, Write};
+use std::sync::{Arc, Wait};
 use std::test::Fail;
 use std::thread;
 use std::time::Duration;
 
-/// A hook that lets a stream go to the first end beside it.
+/// A hook that lets a stream go to the first end beside it, or adds a word.
 #[derive(Drop)]
-struct Connect {
-    stream: Stream,
+pub enum Change {
+    Connect(Stream),
+    Add(String),
 }
 
-impl Hook for Connect {
+impl Hook for Change {
     ghost allows = { λ _ _ _. Unit {0} };
 
     ghost refuses = { λ _ _ _. Unit {0} };
 
     fn change(&self, spec: &mut CommandSpec) -> Result<(), Fault> {
         let port = Port::Place(0);
-        match self.stream {
-            Stream::In => spec.stdin(port),
-            Stream::Out => spec.stdout(port),
-            Stream::Err => spec.stderr(port),
+        match self {
+            Change::Connect(Stream::In) => spec.stdin(port),
+            Change::Connect(Stream::Out) => spec.stdout(port),
+            Change::Connect(Stream::Err) => spec.stderr(port),
+            Change::Add(word) => {
+                if spec.arg(word.as_str()).is_err() {
+                    return Err(Fault::new(Kind::OutOfMemory));
+                }
+            }
         }
         Ok(())
     }
 }
 
 /// An expression of a row.
-type Tree = Expression<End, Connect>;
+pub type Tree = Expression<End, Change>;
 
 /// A host with a pool, the expressions and the ends that are not used yet, and what was said so far.
 #[derive(Drop)]
@@ -75,7 +84,7 @@ struct Stage<R: Real> {
 }
 
 /// Tries all rows of a table. The files of one test begin with its name.
-pub fn rows<R: Real>(rt: &R, test: &str, table: &str) -> Result<(), Fail> {
+pub fn rows<R: Real + Wait>(rt: &R, test: &str, table: &str) -> Result<(), Fail> {
     let place = place(rt, test)?;
     for row in table.split("\n\n") {
         try_row(rt, place.as_str(), row)?;
@@ -83,7 +92,7 @@ pub fn rows<R: Real>(rt: &R, test: &str, table: &str) -> Result<(), Fail> {
     Ok(())
 }
 
-fn try_row<R: Real>(rt: &R, place: &str, row: &str) -> Result<(), Fail> {
+fn try_row<R: Real + Wait>(rt: &R, place: &str, row: &str) -> Result<(), Fail> {
     new_stage(rt)?.lines(place, row)
 }
 
@@ -106,13 +115,7 @@ fn new_stage<R: Real>(rt: &R) -> Result<Stage<R>, Fail> {
     })
 }
 
-/// How many children this thread has, with those that ended and that nobody has asked since.
-fn children<R: Real>(rt: &R) -> io::Result<usize> {
-    let text = fs::read_to_string(rt, "/proc/thread-self/children")?;
-    Ok(text.split_whitespace().count())
-}
-
-impl<R: Real> Stage<R> {
+impl<R: Real + Wait> Stage<R> {
     fn lines(&mut self, place: &str, row: &str) -> Result<(), Fail> {
         for line in row.trim().lines() {
             self.fill(place, line.trim())?;
@@ -135,8 +138,13 @@ impl<R: Real> Stage<R> {
             "says" => same(self.said.as_str().trim_end(), rest),
             "command" => Ok(self.built.push(command(self.rt.alloc(), rest)?)?),
             "pipe" => self.pipe(),
-            "runs" => self.run(),
-            "adopt_pipe" => self.adopt_pipe(),
+            "launch" => self.launch(),
+            "run" => self.run(),
+            "read" => self.read(),
+            "repeat" => self.repeat(rest),
+            "start" => self.start(rest),
+            "reader" => self.reader(rest),
+            "adopt_pipe" => self.adopt_pipe(rest),
             "adopt_file" | "adopt_new" => self.adopt_file(word, rest),
             "drop" => self.drop_end(rest.parse()?),
             _ => self.look(word, rest),
@@ -178,6 +186,10 @@ impl<R: Real> Stage<R> {
                 with_end(&inner, name, taken(&mut self.ends, rest.parse()?)?)?
             }
             "connect" => self.connected(&inner, rest)?,
+            "add" => inner.before_spawn(
+                Change::Add(String::from_str(self.rt.alloc(), rest)?),
+                Vec::new(self.rt.alloc()),
+            )?,
             _ => with_text(self.rt.alloc(), &inner, name, rest)?,
         };
         Ok(self.built.push(made)?)
@@ -199,11 +211,12 @@ impl<R: Real> Stage<R> {
         if !number.is_empty() {
             ends.push(taken(&mut self.ends, number.parse()?)?)?;
         }
-        Ok(inner.before_spawn(Connect { stream }, ends)?)
+        Ok(inner.before_spawn(Change::Connect(stream), ends)?)
     }
 
-    fn adopt_pipe(&mut self) -> Result<(), Fail> {
-        let (reader, writer) = io::pipe(&self.rt)?;
+    fn adopt_pipe(&mut self, text: &str) -> Result<(), Fail> {
+        let (reader, mut writer) = io::pipe(&self.rt)?;
+        writer.write_all(text.as_bytes())?;
         let read = self.host.adopt_reader(reader)?;
         self.ends.push(read)?;
         let write = self.host.adopt_writer(writer)?;
@@ -224,7 +237,7 @@ impl<R: Real> Stage<R> {
         Ok(())
     }
 
-    fn run(&mut self) -> Result<(), Fail> {
+    fn launch(&mut self) -> Result<(), Fail> {
         let tree = self.last()?;
         let reader = self.captured.take();
         let started = tree.launch(&mut self.host, &mut self.pool);
@@ -233,10 +246,65 @@ impl<R: Real> Stage<R> {
             Ok(running) => {
                 let text = drained(self.rt.alloc(), reader);
                 let answer = finished(&self.rt, running);
-                tell_answer(&mut self.said, answer)?;
-                tell_text(&mut self.said, text?)
+                tell_polled(&mut self.said, &answer)?;
+                tell_drained(&mut self.said, text?)
             }
-            Err(error) => tell_answer(&mut self.said, Err(error)),
+            Err(error) => tell_refusal(&mut self.said, &error),
+        }
+    }
+
+    fn run(&mut self) -> Result<(), Fail> {
+        let tree = self.last()?;
+        let answer = tree.run(&self.rt, &mut self.host, &mut self.pool);
+        tell_run(&mut self.said, &answer)
+    }
+
+    fn read(&mut self) -> Result<(), Fail> {
+        let tree = self.last()?;
+        match tree.read(&self.rt, &mut self.host, &mut self.pool) {
+            Ok(text) => tell_bytes(&mut self.said, text.as_bytes()),
+            Err(error) => tell_refusal(&mut self.said, &error),
+        }
+    }
+
+    fn repeat(&mut self, rest: &str) -> Result<(), Fail> {
+        let tree = self.last()?;
+        let (count, wanted) = first_word(rest);
+        for _ in 0..count.parse::<u64>()? {
+            self.run_once(&tree, wanted)?;
+        }
+        Ok(())
+    }
+
+    /// Runs the expression, which has to say this.
+    fn run_once(&mut self, tree: &Tree, wanted: &str) -> Result<(), Fail> {
+        let mut said = String::new(self.rt.alloc());
+        let answer = tree.run(&self.rt, &mut self.host, &mut self.pool);
+        tell_run(&mut said, &answer)?;
+        same(said.as_str().trim_end(), wanted)
+    }
+
+    fn start(&mut self, calls: &str) -> Result<(), Fail> {
+        match self.last()?.start(&mut self.host, &mut self.pool) {
+            Ok(handle) => {
+                let told = handle_calls(&self.rt, &handle, calls, &mut self.said);
+                handle.give_up(&mut self.pool);
+                told
+            }
+            Err(error) => tell_refusal(&mut self.said, &error),
+        }
+    }
+
+    fn reader(&mut self, calls: &str) -> Result<(), Fail> {
+        let tree = self.last()?;
+        let own = self.rt.clone()?;
+        match tree.reader(own, &mut self.host, &mut self.pool) {
+            Ok(handle) => {
+                let told = reader_calls(&self.rt, &handle, calls, &mut self.said);
+                handle.give_up(&mut self.pool);
+                told
+            }
+            Err(error) => tell_refusal(&mut self.said, &error),
         }
     }
 
@@ -308,7 +376,7 @@ fn with_end(inner: &Tree, call: &str, end: End) -> Result<Tree, Error> {
 fn with_text(alloc: Global, inner: &Tree, call: &str, text: &str) -> Result<Tree, Fail> {
     let made = match call {
         "stdin_bytes" => inner.stdin_bytes(Vec::from_slice(alloc, text.as_bytes())?),
-        "stdin_zeros" => inner.stdin_bytes(vec![in alloc; 0; text.parse()?]?),
+        "stdin_many" => inner.stdin_bytes(many(alloc, text)?),
         "stdin_path" => inner.stdin_path(text),
         "stdout_path" => inner.stdout_path(text),
         "stderr_path" => inner.stderr_path(text),
@@ -322,6 +390,12 @@ fn with_text(alloc: Global, inner: &Tree, call: &str, text: &str) -> Result<Tree
         _ => return bare(inner, call),
     };
     Ok(made?)
+}
+
+/// So many bytes of this value: `9 42`.
+fn many(alloc: Global, text: &str) -> Result<Vec<u8>, Fail> {
+    let (count, byte) = first_word(text);
+    Ok(vec![in alloc; byte.parse()?; count.parse()?]?)
 }
 
 /// The variables `A=1,B=2` alone.
@@ -374,33 +448,10 @@ fn drained(alloc: Global, reader: Option<PipeReader>) -> io::Result<Option<Strin
     }
 }
 
-/// Says how an expression ended, or why it did not.
-fn tell_answer(said: &mut String, answer: Result<Option<Arc<Output>>, Error>) -> Result<(), Fail> {
-    match answer {
-        Ok(Some(output)) => {
-            say(said, &output.status)?;
-            tell_captured(said, "out", output.stdout.as_slice())?;
-            tell_captured(said, "err", output.stderr.as_slice())
-        }
-        Ok(None) => Err(Fail::new("the commands go on")),
-        Err(error) => Ok(write!(said, "{error}; ")?),
-    }
-}
-
-/// Says what was captured, if it is anything: a text, and of a long one how long it is.
-fn tell_captured(said: &mut String, stream: &str, bytes: &[u8]) -> Result<(), Fail> {
-    match str::from_utf8(bytes) {
-        Ok("") => Ok(()),
-        Ok(text) if text.len() <= 200 => Ok(write!(said, "{stream} {text:?}; ")?),
-        _ => Ok(write!(said, "{stream} {}; ", bytes.len())?),
-    }
-}
-
-/// Says a text, and of a long one how long it is.
-fn tell_text(said: &mut String, text: Option<String>) -> Result<(), Fail> {
+/// Says what was read, if there was a pipe.
+fn tell_drained(said: &mut String, text: Option<String>) -> Result<(), Fail> {
     match text {
-        Some(text) if text.len() > 200 => say(said, &text.len()),
-        Some(text) => say(said, &text),
+        Some(text) => tell_bytes(said, text.as_bytes()),
         None => Ok(()),
     }
 }

@@ -12,7 +12,7 @@ fn captures(rt: HostRuntime) -> Result<(), Fail> {
         r#"
         command /bin/echo,hi
         .stdout_capture
-        runs
+        launch
         opened
         children
         says Code(0); out "hi\n"; Some(0); Some(0);
@@ -21,20 +21,20 @@ fn captures(rt: HostRuntime) -> Result<(), Fail> {
         .stdout_stderr_swap
         .stdout_capture
         .stderr_capture
-        runs
+        launch
         says Code(0); out "bar\n"; err "foo\n";
 
         command /bin/echo,foo
         .stdout_to_stderr
         .stderr_capture
-        runs
+        launch
         says Code(0); err "foo\n";
 
         command /bin/sh,-c,echo left >&2; echo go
         command /bin/sh,-c,read word; echo right $word >&2
         pipe
         .stderr_capture
-        runs
+        launch
         says Code(0); err "left\nright go\n";
 
         command /bin/sh,-c,exit 1
@@ -42,20 +42,20 @@ fn captures(rt: HostRuntime) -> Result<(), Fail> {
         command /bin/echo,waa
         pipe
         .stdout_capture
-        runs
+        launch
         says Code(1); out "waa\n";
 
         command /bin/sh,-c,echo a; exec >&-; exit 3
         .stdout_capture
-        runs
+        launch
         opened
         says command ["/bin/sh", "-c", "echo a; exec >&-; exit 3"] exited with code 3; Some(0);
 
         command /usr/bin/head,-c,1000000,/dev/zero
         .stdout_capture
-        runs
+        launch
         opened
-        says Code(0); out 1000000; Some(0);
+        says Code(0); out 1000000 of 0; Some(0);
         "#,
     )
 }
@@ -70,7 +70,7 @@ fn inputs(rt: HostRuntime) -> Result<(), Fail> {
         command /bin/cat
         .stdin_bytes hello
         .stdout_capture
-        runs
+        launch
         opened
         children
         says Code(0); out "hello"; Some(0); Some(0);
@@ -79,7 +79,7 @@ fn inputs(rt: HostRuntime) -> Result<(), Fail> {
         .stdin_bytes xxx
         .stdin_bytes zzz
         .stdout_capture
-        runs
+        launch
         opened
         says Code(0); out "yyy"; Some(0);
 
@@ -92,23 +92,23 @@ fn inputs(rt: HostRuntime) -> Result<(), Fail> {
         pipe
         command /bin/cat
         pipe
-        .stdin_zeros 100000
+        .stdin_many 100000 42
         .stdout_capture
-        runs
+        launch
         opened
         children
-        says Code(0); out 100000; Some(0); Some(0);
+        says Code(0); out 100000 of 42; Some(0); Some(0);
 
         command /bin/cat
-        .stdin_zeros 1000000
+        .stdin_many 1000000 42
         .stdout_capture
-        runs
+        launch
         opened
-        says Code(0); out 1000000; Some(0);
+        says Code(0); out 1000000 of 42; Some(0);
 
         command /bin/true
-        .stdin_zeros 1000000
-        runs
+        .stdin_many 1000000 0
+        launch
         opened
         children
         says Code(0); Some(0); Some(0);
@@ -118,7 +118,7 @@ fn inputs(rt: HostRuntime) -> Result<(), Fail> {
         command /bin/sh,-c,cat; cat /dev/null
         pipe
         .captured
-        runs
+        launch
         says Code(0); "left";
         "#,
     )

@@ -173,7 +173,7 @@ fn chosen(
 
 // The reply that is wanted: with the bytes of stdout and of stderr, or the number of the command that failed.
 #[derive(Clone, Copy)]
-enum Wanted<'a> {
+pub(crate) enum Wanted<'a> {
     Noted,
     Unknown,
     Pending,
@@ -183,7 +183,7 @@ enum Wanted<'a> {
 }
 
 // The reply of the plain programs to a Conclude after these events.
-fn concluded<'a>(
+pub(crate) fn concluded<'a>(
     rt: &impl Abort,
     alloc: Global,
     case: &Case,
@@ -229,7 +229,11 @@ fn wanted_to<'a>(
 }
 
 // The message of the failure of the command of this number.
-fn message(alloc: Global, chosen: usize, status: ExitStatus) -> Result<String, AllocError> {
+pub(crate) fn message(
+    alloc: Global,
+    chosen: usize,
+    status: ExitStatus,
+) -> Result<String, AllocError> {
     match status {
         ExitStatus::Code(code) => {
             format!(in alloc; "command [\"c{chosen}\"] exited with code {code}")
@@ -274,14 +278,14 @@ fn count(counts: &mut Counts, reply: &Reply) {
 
 // A tree with a list of events.
 #[derive(Drop)]
-struct Case {
-    shape: Shape,
-    drains: Drains,
-    events: Vec<Event>,
+pub(crate) struct Case {
+    pub(crate) shape: Shape,
+    pub(crate) drains: Drains,
+    pub(crate) events: Vec<Event>,
 }
 
 // A random tree, and the number of its commands.
-fn tree_of(alloc: Global, dice: &mut Dice) -> Result<(u64, Shape), Fail> {
+pub(crate) fn tree_of(alloc: Global, dice: &mut Dice) -> Result<(u64, Shape), Fail> {
     let commands = dice.roll(6).saturating_add(1);
     Ok((commands, tree(alloc, dice, commands)?))
 }
