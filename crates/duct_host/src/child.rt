@@ -80,11 +80,12 @@ fn is_served(signal: i32) -> bool
     SIGNALS.contains(&signal)
 }
 
-/// The command that has a shell send a signal to a process.
+/// The command that has the system's shell send a signal to a process, without the parent's variables.
 fn kill_command(alloc: Global, signal: i32, id: u32) -> Result<Command, AllocError> {
     let line = format!(in alloc; "kill -{signal} {id}")?;
-    let mut shell = Command::new(alloc, "sh")?;
+    let mut shell = Command::new(alloc, "/bin/sh")?;
     shell.arg("-c")?.arg(line.as_str())?;
+    shell.env_clear();
     shell.stdin(Stdio::null());
     shell.stdout(Stdio::null());
     shell.stderr(Stdio::null());

@@ -12,6 +12,7 @@ use crate::fault::{ask, no_memory};
 use crate::parents::Parents;
 use crate::reader::Reader;
 use crate::spawn::{all_wired, count_of_ends, start};
+use crate::standard::Standard;
 use duct_base::journal::Journal;
 use duct_base::spec::CommandSpec;
 use duct_base::system::{Entry, Fault, Kind, Numbered, Side, Stdio, System};
@@ -28,11 +29,14 @@ use std::sync::Arc;
 use std::thread::Threads;
 use std::{io, process};
 
-/// A system over the runtime `R`, with its journal. It owns none of the ends that it gives: who has one closes it.
+/// A system over the runtime `R`, with its journal. It owns none of the ends that it gives: who has one closes it. Where a
+/// standard stream was closed when the host was made, `/dev/null` stands in its place until the host is dropped, and a child
+/// that inherits it gets `/dev/null` too.
 #[derive(Drop)]
 pub struct Host<R> {
     rt: R,
     alloc: Global,
+    standard: Standard,
     journal: Journal,
 }
 
@@ -45,18 +49,22 @@ impl<R> Model for Host<R> {
     ghost view = { λ h. h.journal };
 }
 
-impl<R> Host<R> {
+impl<R: Files<File = File>> Host<R> {
     /// A host with an empty journal, which keeps the runtime and takes its memory from this allocator.
     pub fn new(rt: R, alloc: Global) -> Host<R>
         ensures { result ≡ record { entries = []; added = 0; next = 1; room = 0 } }
     {
+        let standard = Standard::fill(&rt);
         Host {
             rt,
             alloc,
+            standard,
             journal: Journal::new(alloc),
         }
     }
+}
 
+impl<R> Host<R> {
     /// The allocator that the host takes its memory from.
     pub fn allocator(&self) -> Global {
         self.alloc
@@ -370,7 +378,7 @@ impl<R: Processes + Files<File = File> + Env + Parents + Threads + Clone + Drop>
     {
         let ends = count_of_ends(&io);
         self.prepare_spawn(ends)?;
-        let (kept, streams) = all_wired(io);
+        let (kept, streams) = all_wired(io, self.standard.closed());
         match self.new_child(&spec, streams) {
             Ok(child) => {
                 self.journal

@@ -9,3 +9,4 @@ pub mod host;
 pub mod parents;
 pub mod reader;
 pub mod spawn;
+pub mod standard;

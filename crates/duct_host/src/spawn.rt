@@ -135,25 +135,29 @@ fn set_folder(command: &mut Command, spec: &CommandSpec) -> Result<(), AllocErro
     Ok(())
 }
 
-/// Three streams as the journal has them, and as std takes them.
-pub(crate) fn all_wired(streams: [Stdio<End>; 3]) -> ([Stdio<u64>; 3], [process::Stdio; 3])
+/// Three streams as the journal has them, and as std takes them, where those of the parent's are closed that are said here.
+pub(crate) fn all_wired(
+    streams: [Stdio<End>; 3],
+    closed: [bool; 3],
+) -> ([Stdio<u64>; 3], [process::Stdio; 3])
     ensures { result.0 ≡ map (stream_of (λ e. e)) streams }
 {
     let [input, output, error] = streams;
-    let (input, their_input) = wired(input);
-    let (output, their_output) = wired(output);
-    let (error, their_error) = wired(error);
+    let (input, their_input) = wired(input, closed[0]);
+    let (output, their_output) = wired(output, closed[1]);
+    let (error, their_error) = wired(error, closed[2]);
     (
         [input, output, error],
         [their_input, their_output, their_error],
     )
 }
 
-/// A stream as the journal has it, and as std takes it.
-fn wired(stream: Stdio<End>) -> (Stdio<u64>, process::Stdio)
+/// A stream as the journal has it, and as std takes it. Where the parent's is closed nothing is inherited.
+fn wired(stream: Stdio<End>, closed: bool) -> (Stdio<u64>, process::Stdio)
     ensures { result.0 ≡ stream_of (λ e. e) stream }
 {
     match stream {
+        Stdio::Inherit if closed => (Stdio::Inherit, process::Stdio::null()),
         Stdio::Inherit => (Stdio::Inherit, process::Stdio::inherit()),
         Stdio::Null => (Stdio::Null, process::Stdio::null()),
         Stdio::End(end) => (

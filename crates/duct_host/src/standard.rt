@@ -1,0 +1,43 @@
+//! Standard streams that were closed when the program began.
+use std::fs::{File, OpenOptions};
+use std::os::fd::AsRawFd;
+use std::rt::Files;
+
+/// What stands at the descriptors of stdin, stdout and stderr where they were closed. It gives nothing to read, and what is
+/// written there is gone.
+#[derive(Drop)]
+pub(crate) struct Standard {
+    filled: [Option<File>; 3],
+}
+
+impl Standard {
+    /// Opens `/dev/null` at each descriptor of a standard stream that is closed, so that no end gets it. Where that file can't
+    /// be opened the streams stay as they are.
+    pub(crate) fn fill<R: Files<File = File>>(rt: &R) -> Standard {
+        let mut filled = [None, None, None];
+        for _ in 0..3 {
+            let Ok(file) = OpenOptions::new()
+                .read(true)
+                .write(true)
+                .open(rt, "/dev/null")
+            else {
+                break;
+            };
+            let Ok(place) = usize::try_from(file.as_raw_fd()) else {
+                break;
+            };
+            // The lowest free descriptor is given first, so behind the standard streams none of them is closed any more.
+            let Some(hole) = filled.get_mut(place) else {
+                break;
+            };
+            *hole = Some(file);
+        }
+        Standard { filled }
+    }
+
+    /// Whether each of stdin, stdout and stderr was closed.
+    pub(crate) fn closed(&self) -> [bool; 3] {
+        let [input, output, error] = &self.filled;
+        [input.is_some(), output.is_some(), error.is_some()]
+    }
+}
