@@ -253,25 +253,25 @@ fn readers(rt: HostRuntime) -> Result<(), Fail> {
     )
 }
 
-/// Four MiB go through a capture, and through an input and a read; a hundred thousand bytes through five commands.
+/// Sixty-four MiB go through a capture, and through an input and a read; a hundred thousand bytes through five commands.
 #[test]
 fn many_bytes(rt: HostRuntime) -> Result<(), Fail> {
     rows(
         &rt,
         "many-",
         r#"
-        command head,-c,4194304,/dev/zero
+        command head,-c,67108864,/dev/zero
         .stdout_capture
         run
         opened
-        says Code(0); out 4194304 of 0; Some(0);
+        says Code(0); out 67108864 of 0; Some(0);
 
         command cat
-        .stdin_many 4194304 42
+        .stdin_many 67108864 42
         read
         opened
         children
-        says 4194304 of 42; Some(0); Some(0);
+        says 67108864 of 42; Some(0); Some(0);
 
         command cat
         command cat
