@@ -1,4 +1,4 @@
--- What runs may go to another thread where its children and its workers may, and the numbers always.
+-- What runs may go to another thread where its children and its workers may.
 use denote.Builtin.{u32}
 use denote.Param.Send.{IsSend, sendable, struct_send, view_send, recorded_send}
 use denote.RattleType.{RattleType}
