@@ -5,5 +5,6 @@ pub mod Numbered
 pub mod Orders
 pub mod Pending
 pub mod Polls
+pub mod Threads
 pub mod Told
 pub mod Unasked

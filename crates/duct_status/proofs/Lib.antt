@@ -11,3 +11,4 @@ pub mod Settled
 pub mod Shown
 pub mod Stays
 pub mod Texts
+pub mod Threads
