@@ -10,7 +10,8 @@ use Rattle.duct_system.proofs.Variables.{name_equiv, same_at, variable_in-with, 
 use Rattle.duct.specs.LastValues.{last_values}
 use Rattle.duct_start.specs.Found.{Change, Sets, variable, value_found}
 
-finds_all : (pairs vars said : Vars) → AreOrdered vars → ((name : List ℕ) → variable_in name vars ≡ said_of name said) →
+finds_all : (pairs vars said : Vars) → AreOrdered vars
+    → ((name : List ℕ) → variable_in name vars ≡ said_of name said) →
     (name : List ℕ) → variable_in name (fold (λ vars pair. with_var pair.0 pair.1 vars) vars pairs) ≡ said_of name (said ++ pairs)
 finds_all [] vars said ordered finds name = finds name ∙ ap (said_of name) (sym (append-nil said))
 finds_all (p ∷ ps) vars said ordered finds name =

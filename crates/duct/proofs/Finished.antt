@@ -29,17 +29,20 @@ all_unordered (child ∷ children) all =
     All-cons IsUnordered child children (All-head IsUnasked child children all).unordered (all_unordered children (All-tail IsUnasked child children all))
 
 -- a child that was not asked has no order
-pub given_started : {C : Type 0} (may : ℕ → Answer → Type 0) (view : C → ChildView) (added : List EntryView) (before after : PoolView C)
+pub given_started : {C : Type 0} (may : ℕ → Answer → Type 0) (view : C → ChildView)
+    (added : List EntryView) (before after : PoolView C)
     → LeavesStarted may view added before after → LeavesGiven may view added before after
 given_started may view added before after leaves = (leaves.0, leaves.1, all_unordered leaves.0 leaves.2, leaves.3)
 
 module _ {C : Type 0} (view : C → ChildView) where
-  numbers_seen : (children : List C) → map (λ c. c.number) (map view children) ≡ map (λ c. (view c).number) children
+  numbers_seen : (children : List C) → map (λ c. c.number) (map view children) ≡ map
+      (λ c. (view c).number) children
   numbers_seen [] = refl
   numbers_seen (child ∷ children) = ap (λ (l : List ℕ). (view child).number ∷ l) (numbers_seen children)
 
   -- children that kept their orders
-  still_unordered : (children waited : List C) → map (λ c. c.orders) (map view waited) ≡ map (λ c. c.orders) (map view children)
+  still_unordered : (children waited : List C)
+      → map (λ c. c.orders) (map view waited) ≡ map (λ c. c.orders) (map view children)
       → All (λ c. IsUnasked (view c)) children → All IsUnordered (map view waited)
   still_unordered [] [] same all = All-nil IsUnordered
   still_unordered [] (w ∷ waited) same all = absurd (cc)
@@ -58,7 +61,8 @@ module _ {E H C F D V W : Type 0} (child : C → ChildView) (feed : F → JobVie
   started_numbers = are_numbers child feed drain tree output error added running (numbers_in child feed drain running) runs refl
 
   -- over some sweeps the pool stayed, and then it was given what was waited for
-  pub given_after : (may : ℕ → Answer → Type 0) (waited : RunningView C F D) (before mid after : PoolView C)
+  pub given_after : (may : ℕ → Answer → Type 0) (waited : RunningView C F D)
+      (before mid after : PoolView C)
       → Leaves may [] (pool_view child before) (pool_view child mid)
       → Stays child feed drain running waited
       → (mid.given + length waited.children < 2 ^ 63 → Takes may child waited.children mid after)
@@ -76,11 +80,13 @@ module _ {E H C F D V W : Type 0} (child : C → ChildView) (feed : F → JobVie
       )
 
 -- what holds of an answer is kept by what follows from it
-pub if_ok_with : {T F : Type 0} (r : Result T F) {P Q : T → Type 0} → ((value : T) → P value → Q value) → IfOk r P → IfOk r Q
+pub if_ok_with : {T F : Type 0} (r : Result T F) {P Q : T → Type 0}
+    → ((value : T) → P value → Q value) → IfOk r P → IfOk r Q
 if_ok_with (Ok value) step holds = step value holds
 if_ok_with (Err error) step holds = tt
 
-pub if_err_with : {T F : Type 0} (r : Result T F) {P Q : F → Type 0} → ((error : F) → P error → Q error) → IfErr r P → IfErr r Q
+pub if_err_with : {T F : Type 0} (r : Result T F) {P Q : F → Type 0}
+    → ((error : F) → P error → Q error) → IfErr r P → IfErr r Q
 if_err_with (Ok value) step holds = tt
 if_err_with (Err error) step holds = step error holds
 

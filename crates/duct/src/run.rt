@@ -45,7 +45,8 @@ impl<E: Drop, H: Hook> Expression<E, H> {
             StartRefused H.allows H.refuses E.number_of tree (plan_of_reader tree)
             (S.journal_view sys.old) (S.journal_view sys.new)) }
         ensures pool_given { OnErr result
-            (let added = segment (S.journal_view sys.old).entries (S.journal_view sys.new).entries in
+            (let old = S.journal_view sys.old in
+            let added = segment old.entries (S.journal_view sys.new).entries in
             Fits added pool.old
             → LeavesStarted S.Child.may_answer S.Child.child_view added pool.old pool.new) }
     {
@@ -89,7 +90,8 @@ impl<E: Drop, H: Hook> Expression<E, H> {
             × EndedBy S.Child.may_answer S.Feed.may_say S.Drain.may_say tree
             (is_some (plan_of tree).out) (is_some (plan_of tree).err) added e)) }
         ensures pool_given { OnErr result
-            (let added = segment (S.journal_view sys.old).entries (S.journal_view sys.new).entries in
+            (let old = S.journal_view sys.old in
+            let added = segment old.entries (S.journal_view sys.new).entries in
             Fits added pool.old
             → LeavesGiven S.Child.may_answer S.Child.child_view added pool.old pool.new) }
     {
@@ -130,7 +132,8 @@ impl<E: Drop, H: Hook> Expression<E, H> {
             × WasRead S.Child.may_answer S.Feed.may_say S.Drain.may_say tree S.may_read
             S.Reader.remaining (is_some (plan_of_reader tree).err) added (Err e))) }
         ensures pool_given { OnErr result
-            (let added = segment (S.journal_view sys.old).entries (S.journal_view sys.new).entries in
+            (let old = S.journal_view sys.old in
+            let added = segment old.entries (S.journal_view sys.new).entries in
             Fits added pool.old
             → LeavesGiven S.Child.may_answer S.Child.child_view added pool.old pool.new) }
     {

@@ -235,7 +235,8 @@ impl<E: Drop, H: Hook> Expression<E, H> {
 
         // The bound is that of the lists of the standard library.
         ensures pool_given { OnErr result
-            (let added = segment (S.journal_view sys.old).entries (S.journal_view sys.new).entries in
+            (let old = S.journal_view sys.old in
+            let added = segment old.entries (S.journal_view sys.new).entries in
             pool.old.given + length (children_in added) < 2 ^ 63
             → LeavesStarted S.Child.may_answer S.Child.child_view added pool.old pool.new) }
     {
@@ -276,7 +277,8 @@ impl<E: Drop, H: Hook> Expression<E, H> {
 
         // The bound is that of the lists of the standard library.
         ensures pool_given { OnErr result
-            (let added = segment (S.journal_view sys.old).entries (S.journal_view sys.new).entries in
+            (let old = S.journal_view sys.old in
+            let added = segment old.entries (S.journal_view sys.new).entries in
             pool.old.given + length (children_in added) < 2 ^ 63
             → LeavesStarted S.Child.may_answer S.Child.child_view added pool.old pool.new) }
     {
@@ -314,7 +316,8 @@ impl<E: Drop, H: Hook> Expression<E, H> {
 
         // The bound is that of the lists of the standard library.
         ensures pool_given { OnErr result
-            (let added = segment (S.journal_view sys.old).entries (S.journal_view sys.new).entries in
+            (let old = S.journal_view sys.old in
+            let added = segment old.entries (S.journal_view sys.new).entries in
             pool.old.given + length (children_in added) < 2 ^ 63
             → LeavesStarted S.Child.may_answer S.Child.child_view added pool.old pool.new) }
     {

@@ -26,13 +26,16 @@ sieves-append {A} {B} may keeps (x ∷ xs) others ls more r l r' l' (inr (inr s)
 
 module _ {C : Type 0} (may : ℕ → Answer → Type 0) (view : C → ChildView) (child : C) where
   -- one child that said Running, ended, or answered a fault
-  one_kept : (kept : C) → PollsChild may (view child) (Ok None) (view kept) → AsksAll may view (child ∷ []) (kept ∷ []) 0 0
+  one_kept : (kept : C) → PollsChild may (view child) (Ok None) (view kept)
+      → AsksAll may view (child ∷ []) (kept ∷ []) 0 0
   one_kept kept polls = inl (kept, [], polls, refl, (refl, refl, refl))
 
-  one_reaped : (status : ExitStatus) → may (view child).number (Ok (Some status)) → AsksAll may view (child ∷ []) [] 1 0
+  one_reaped : (status : ExitStatus) → may (view child).number (Ok (Some status))
+      → AsksAll may view (child ∷ []) [] 1 0
   one_reaped status told = inr (inl (status, 0, told, refl, (refl, refl, refl)))
 
-  one_lost : (fault : Fault) → may (view child).number (Err fault) → AsksAll may view (child ∷ []) [] 0 1
+  one_lost : (fault : Fault) → may (view child).number (Err fault)
+      → AsksAll may view (child ∷ []) [] 0 1
   one_lost fault told = inr (inr (fault, 0, told, refl, (refl, refl, refl)))
 
 pub counted_more : (a b c : ℕ) → counted (counted a b) c ≡ counted a (b + c)
@@ -84,7 +87,8 @@ module _ {C : Type 0} (may : ℕ → Answer → Type 0) (view : C → ChildView)
     lost_is = ap (λ (p : PoolView C). p.lost) is;
   }
 
-seated-append : {C : Type 0} (seats : List (Option C)) (child : C) → seated (seats ++ Some child ∷ []) ≡ seated seats ++ child ∷ []
+seated-append : {C : Type 0} (seats : List (Option C)) (child : C)
+    → seated (seats ++ Some child ∷ []) ≡ seated seats ++ child ∷ []
 seated-append [] child = refl
 seated-append {C} (Some other ∷ seats) child = ap (λ (l : List C). other ∷ l) (seated-append seats child)
 seated-append (None ∷ seats) child = seated-append seats child
@@ -98,7 +102,8 @@ module _ {C : Type 0} (may : ℕ → Answer → Type 0) (view : C → ChildView)
   asked_first : take 1 before.children ≡ child ∷ []
   asked_first = ap (λ (l : List C). take 1 l) children_are
 
-  behind : (kept : List C) → after.children ≡ seated rest ++ kept → after.children ≡ drop 1 before.children ++ kept
+  behind : (kept : List C) → after.children ≡ seated rest ++ kept
+      → after.children ≡ drop 1 before.children ++ kept
   behind kept is = is ∙ ap (λ (l : List C). drop 1 l ++ kept) (sym children_are)
 
   pub sweeps_kept : (filled : List (Option C)) (kept : C)
@@ -142,7 +147,8 @@ module _ {C : Type 0} (may : ℕ → Answer → Type 0) (view : C → ChildView)
   }
 
 -- a sweep, from its begin by one child more to its end
-next_of : {C : Type 0} (xs : List C) (i : ℕ) → i < length xs → (x : C) × (drop i xs ≡ x ∷ drop (suc i) xs) × (take (suc i) xs ≡ take i xs ++ x ∷ [])
+next_of : {C : Type 0} (xs : List C) (i : ℕ) → i < length xs
+    → (x : C) × (drop i xs ≡ x ∷ drop (suc i) xs) × (take (suc i) xs ≡ take i xs ++ x ∷ [])
 next_of [] i within = absurd (omega arith)
 next_of (x ∷ xs) zero within = (x, refl, refl)
 next_of {C} (x ∷ xs) (suc i) within =
@@ -164,7 +170,8 @@ sweep_begins may view before = record {
 }
 
 module _ {C : Type 0} (may : ℕ → Answer → Type 0) (view : C → ChildView) (i : ℕ) (before now : PoolView C) (s : Sweeps may view i before now) (within : i < length before.children) where
-  now_is : now.children ≡ (next_of before.children i within).0 ∷ (drop (suc i) before.children ++ s.kept)
+  now_is : now.children ≡ (next_of before.children i within).0 ∷
+      (drop (suc i) before.children ++ s.kept)
   now_is = s.children_are ∙ ap (λ (l : List C). l ++ s.kept) (next_of before.children i within).1
 
   pub some_left : 0 < length now.children
@@ -218,7 +225,8 @@ one_seat seats [] rest full whole long = absurd (omega (arith, long))
 one_seat seats (Some child ∷ []) rest full whole long = (child, refl)
 one_seat {C} seats (None ∷ []) rest full whole long = no_none (seated seats) rest (sym whole ∙ full)
   where
-    no_none : (xs : List C) (rest : List (Option C)) → None ∷ rest ≡ map Some xs → (child : C) × (None ∷ [] ≡ Some child ∷ [])
+    no_none : (xs : List C) (rest : List (Option C)) → None ∷ rest ≡ map Some xs
+        → (child : C) × (None ∷ [] ≡ Some child ∷ [])
     no_none [] rest is = absurd (cc)
     no_none (x ∷ xs) rest is = absurd (cc)
 one_seat seats (o ∷ p ∷ one) rest full whole long = absurd (omega (arith, long))

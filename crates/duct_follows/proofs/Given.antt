@@ -22,11 +22,13 @@ use Rattle.duct_plan.specs.declared.asked.Wired as answer
 use Rattle.duct_script.specs.declared.hook.ScriptHook.{ScriptHook}
 
 -- an answer that stands for a spec with its streams stands for its own
-answered_of : (wired : Wired) (asked : answer.Wired) → IsAnswered wired asked → IsAnswered (wired_of asked) asked
+answered_of : (wired : Wired) (asked : answer.Wired) → IsAnswered wired asked
+    → IsAnswered (wired_of asked) asked
 answered_of wired asked is = record { spec_is = refl; streams_are = wired-streams asked.spec asked.streams (three_streams wired.input wired.output wired.error asked.streams is.streams_are) }
 
 -- and for no other
-answered_is : (wired : Wired) (asked : answer.Wired) → IsAnswered wired asked → wired ≡ wired_of asked
+answered_is : (wired : Wired) (asked : answer.Wired) → IsAnswered wired asked
+    → wired ≡ wired_of asked
 answered_is wired asked is =
     let own = answered_of wired asked is in
     same_wired wired (wired_of asked) (is.spec_is ∙ sym own.spec_is) (is.streams_are ∙ sym own.streams_are)
@@ -51,7 +53,8 @@ module _ {E : Type 0} (entries : List EntryView) (number_of : E → ℕ) (place 
       → wired ≡ wired_of asked
   only_the_answer asked wired there is = same_asked_at entries number_of place found words wired (wired_of asked) is (answer_is_asked asked there)
 
-  given_these : (asked given : answer.Wired) → IsAskedThere entries number_of place found words asked →
+  given_these : (asked given : answer.Wired)
+      → IsAskedThere entries number_of place found words asked →
       Chain allows (lent number_of found.hooks) (wired_of asked) (wired_of given) → IsAnswered (wired_of given) given →
       (spec : SpecView) (streams : List (Stdio Origin)) → IsGivenHere spec streams ↔ AreThese given spec streams
   given_these asked given there chain own spec streams =
@@ -64,7 +67,8 @@ module _ {E : Type 0} (entries : List EntryView) (number_of : E → ℕ) (place 
       (wired_of asked, wired_of given, answer_is_asked asked there, chain, these.spec_is, these.streams_are ∙ sym own.streams_are) in
       (to, back)
 
-  given_none : (asked : answer.Wired) (error : Error) → IsAskedThere entries number_of place found words asked →
+  given_none : (asked : answer.Wired) (error : Error)
+      → IsAskedThere entries number_of place found words asked →
       ChainStops allows refuses (lent number_of found.hooks) (wired_of asked) error → ¬ (FoundNoMemory error) →
       (spec : SpecView) (streams : List (Stdio Origin)) → IsGivenHere spec streams ↔ ⊥
   given_none asked error there stops decided spec streams =

@@ -9,7 +9,8 @@ use Rattle.duct_system.specs.Trace.{is_close, fault_of}
 use Rattle.duct_start.specs.Causes.{asked_in, last_fault}
 
 -- the last of a list is the one that was added
-last-push : (entries : List EntryView) (entry : EntryView) → slice_get (entries ++ entry ∷ []) (length (entries ++ entry ∷ []) - 1) ≡ Some entry
+last-push : (entries : List EntryView) (entry : EntryView)
+    → slice_get (entries ++ entry ∷ []) (length (entries ++ entry ∷ []) - 1) ≡ Some entry
 last-push entries entry =
     let place : length (entries ++ entry ∷ []) - 1 ≡ length entries = omega (arith, length-append entries (entry ∷ [])) in
     rw place (slice_get_read (entries ++ entry ∷ []) (length (entries ++ entry ∷ [])) (length entries) entry refl

@@ -40,7 +40,8 @@ same_stop_is Memory other same = absurd same
 
 module _ {H : Type 0} (allows : Allows H) (refuses : Refuses H) (makes_one : MakesOne allows) (makes_none : MakesNone allows refuses) (refuses_one : RefusesByOne refuses) where
   -- one hook
-  stops_same : (hook : H) (ends : List Origin) (before : Wired) (one other : Error) → ¬ (FoundNoMemory one) → ¬ (FoundNoMemory other) →
+  stops_same : (hook : H) (ends : List Origin) (before : Wired) (one other : Error)
+      → ¬ (FoundNoMemory one) → ¬ (FoundNoMemory other) →
       Stops allows refuses hook ends before one → Stops allows refuses hook ends before other → IsSameStop one other
   stops_same hook ends before (Hook one) (Hook other) decided also stops again = refuses_one hook before.spec one other stops again decided also
   stops_same hook ends before (Hook one) (HookEnd other) decided also stops again = absurd (makes_none hook before.spec again.0 one stops decided again.1.allowed)

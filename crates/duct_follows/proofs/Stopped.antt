@@ -25,7 +25,8 @@ use Rattle.duct_plan.specs.declared.asked.Wired as answer
 use Rattle.duct_script.specs.declared.hook.ScriptHook.{ScriptHook}
 
 -- where there is a hook it may find no memory
-memory_stops : {E : Type 0} (number_of : E → ℕ) (found : List (ScriptHook × List E)) (before : Wired) (error : Error) → FoundNoMemory error → ¬ (found ≡ []) →
+memory_stops : {E : Type 0} (number_of : E → ℕ) (found : List (ScriptHook × List E))
+    (before : Wired) (error : Error) → FoundNoMemory error → ¬ (found ≡ []) →
     ChainStops allows refuses (lent number_of found) before error
 memory_stops number_of [] before error memory some = absurd (some refl)
 memory_stops number_of (hook ∷ found) before (Hook fault) memory some = inl (inr memory)
@@ -37,7 +38,8 @@ memory_stops number_of (hook ∷ found) before Deadline memory some = absurd mem
 memory_stops number_of (hook ∷ found) before Memory memory some = absurd memory
 
 -- and where something stops the start there is a hook
-stops_some : {E : Type 0} (number_of : E → ℕ) (found : List (ScriptHook × List E)) (before : Wired) (error : Error) →
+stops_some : {E : Type 0} (number_of : E → ℕ) (found : List (ScriptHook × List E)) (before : Wired)
+    (error : Error) →
     ChainStops allows refuses (lent number_of found) before error → ¬ (found ≡ [])
 stops_some number_of [] before error stops = λ none. stops
 stops_some number_of (hook ∷ found) before error stops = λ none. cc
@@ -48,14 +50,17 @@ module _ {E : Type 0} (entries : List EntryView) (number_of : E → ℕ) (place 
   IsStopped error = (before : Wired) × IsAskedAt entries number_of place found words before × ChainStops allows refuses (lent number_of found.hooks) before error
 
   -- they do over what the answer stands for
-  over_the_answer : (error : Error) → IsStopped error → ChainStops allows refuses (lent number_of found.hooks) (wired_of asked) error
+  over_the_answer : (error : Error) → IsStopped error
+      → ChainStops allows refuses (lent number_of found.hooks) (wired_of asked) error
   over_the_answer error is =
       subst (λ (before : Wired). ChainStops allows refuses (lent number_of found.hooks) before error) (only_the_answer entries number_of place found words asked is.0 there is.1) is.2
 
-  of_the_answer : (error : Error) → ChainStops allows refuses (lent number_of found.hooks) (wired_of asked) error → IsStopped error
+  of_the_answer : (error : Error) → ChainStops allows refuses (lent number_of found.hooks)
+      (wired_of asked) error → IsStopped error
   of_the_answer error stops = (wired_of asked, answer_is_asked entries number_of place found words asked there, stops)
 
-  stopped_by_memory : (error : Error) (some_hook told : Bool) → FoundNoMemory error → told ≡ some_hook → IsTrue some_hook ↔ (¬ (found.hooks ≡ [])) → IsTrue told ↔ IsStopped error
+  stopped_by_memory : (error : Error) (some_hook told : Bool) → FoundNoMemory error
+      → told ≡ some_hook → IsTrue some_hook ↔ (¬ (found.hooks ≡ [])) → IsTrue told ↔ IsStopped error
   stopped_by_memory error some_hook told memory is some =
       subst (λ (told : Bool). IsTrue told ↔ IsStopped error) (sym is) (
         λ there_is. of_the_answer error (memory_stops number_of found.hooks (wired_of asked) error memory (some.0 there_is)),

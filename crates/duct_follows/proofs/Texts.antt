@@ -11,7 +11,9 @@ abbrev same_pair : List ℕ × List ℕ → List ℕ × List ℕ → Bool
 same_pair one other = same_text one.0 other.0 && same_text one.1 other.1
 
 -- two pairs, by a test of each part
-parts_decide : (one other : List ℕ × List ℕ) (first second : Bool) → Decides first (one.0 ≡ other.0) → Decides second (one.1 ≡ other.1) → Decides (first && second) (one ≡ other)
+parts_decide : (one other : List ℕ × List ℕ) (first second : Bool)
+    → Decides first (one.0 ≡ other.0) → Decides second (one.1 ≡ other.1)
+    → Decides (first && second) (one ≡ other)
 parts_decide one other true true is also = (λ yes. λ i. (is.0 refl i, also.0 refl i), λ same. refl)
 parts_decide one other true false is also = (λ yes. absurd (false≢true yes), λ same. also.1 (ap (λ pair. pair.1) same))
 parts_decide one other false second is also = (λ yes. absurd (false≢true yes), λ same. is.1 (ap (λ pair. pair.0) same))

@@ -15,18 +15,21 @@ at_head : (first : List ℕ × List ℕ) (rest : Vars) → variable_in first.0 (
 at_head first rest = ap (λ b. cond b (Some first) (variable_in first.0 rest)) (name_equiv.refl first.0)
 
 -- the first name stands nowhere after it
-past_head : (name : List ℕ) (first : List ℕ × List ℕ) (rest : Vars) → AreOrdered (first ∷ rest) → is_same_name name first.0 ≡ true → variable_in name rest ≡ None
+past_head : (name : List ℕ) (first : List ℕ × List ℕ) (rest : Vars) → AreOrdered (first ∷ rest)
+    → is_same_name name first.0 ≡ true → variable_in name rest ≡ None
 past_head name first rest ordered same =
     none_there name name (name_equiv.refl name) rest
     (none_past_head (eq_by_cmp_equiv name_total) name first rest (IsDistinct-from_sorted name_cmp _ ordered) (sym (name_ties name first.0) ∙ same))
 
 -- a name below the first stands nowhere
-below_head : (name : List ℕ) (first : List ℕ × List ℕ) (rest : Vars) → AreOrdered (first ∷ rest) → name_cmp name first.0 ≡ Less → variable_in name (first ∷ rest) ≡ None
+below_head : (name : List ℕ) (first : List ℕ × List ℕ) (rest : Vars) → AreOrdered (first ∷ rest)
+    → name_cmp name first.0 ≡ Less → variable_in name (first ∷ rest) ≡ None
 below_head name first rest ordered below =
     none_there name name (name_equiv.refl name) (first ∷ rest) (none_below_head name_total name first rest ordered below)
 
 -- the first names compare as equal
-heads_tie : (x y : List ℕ × List ℕ) (xs ys : Vars) → AreOrdered (x ∷ xs) → AreOrdered (y ∷ ys) → ((name : List ℕ) → variable_in name (x ∷ xs) ≡ variable_in name (y ∷ ys)) →
+heads_tie : (x y : List ℕ × List ℕ) (xs ys : Vars) → AreOrdered (x ∷ xs) → AreOrdered (y ∷ ys)
+    → ((name : List ℕ) → variable_in name (x ∷ xs) ≡ variable_in name (y ∷ ys)) →
     (order : Ordering) → name_cmp x.0 y.0 ≡ order → is_same_name x.0 y.0 ≡ true
 heads_tie x y xs ys one other found Less is = let absent = below_head x.0 y ys other is in let there = at_head x xs in let same = found x.0 in cc
 heads_tie x y xs ys one other found Equal is = name_ties x.0 y.0 ∙ ap is_eq is
@@ -35,7 +38,8 @@ heads_tie x y xs ys one other found Greater is =
     let absent = below_head y.0 x xs one below in let there = at_head y ys in let same = found y.0 in cc
 
 -- what is found of one name after the first, whether it is the first name or not
-tails_at : (name : List ℕ) (x y : List ℕ × List ℕ) (xs ys : Vars) → AreOrdered (x ∷ xs) → AreOrdered (y ∷ ys) → x ≡ y → variable_in name (x ∷ xs) ≡ variable_in name (y ∷ ys) →
+tails_at : (name : List ℕ) (x y : List ℕ × List ℕ) (xs ys : Vars) → AreOrdered (x ∷ xs)
+    → AreOrdered (y ∷ ys) → x ≡ y → variable_in name (x ∷ xs) ≡ variable_in name (y ∷ ys) →
     (same : Bool) → is_same_name name x.0 ≡ same → variable_in name xs ≡ variable_in name ys
 tails_at name x y xs ys one other first found true is =
     past_head name x xs one is ∙ sym (past_head name y ys other (ap (λ e. is_same_name name e.0) (sym first) ∙ is))

@@ -14,11 +14,13 @@ use Rattle.duct_running.specs.NumbersView.{NumbersView, numbers_in}
 use Rattle.duct_handle.specs.HandleView.{HandleView}
 use Rattle.duct_handle.specs.Started.{AreNumbers, IsHandle}
 
-twice : {X Y Z : Type 0} (f : X → Y) (g : Y → Z) (xs : List X) → map g (map f xs) ≡ map (λ x. g (f x)) xs
+twice : {X Y Z : Type 0} (f : X → Y) (g : Y → Z) (xs : List X)
+    → map g (map f xs) ≡ map (λ x. g (f x)) xs
 twice f g [] = refl
 twice f g (x ∷ xs) = ap (λ zs. g (f x) ∷ zs) (twice f g xs)
 
-numbers_back : (W : Type 0) (numbers : List ℕ) → map (λ (j : JobView W). j.number) (map (λ number. unpolled_job number) numbers) ≡ numbers
+numbers_back : (W : Type 0) (numbers : List ℕ)
+    → map (λ (j : JobView W). j.number) (map (λ number. unpolled_job number) numbers) ≡ numbers
 numbers_back W [] = refl
 numbers_back W (n ∷ numbers) = ap (λ ns. n ∷ ns) (numbers_back W numbers)
 
@@ -29,12 +31,14 @@ listed f g None (Some y) = refl
 listed f g (Some x) None = refl
 listed f g (Some x) (Some y) = refl
 
-there : {X Y Z : Type 0} (f : X → Y) (g : Y → Z) (o : Option X) → is_some (option_map g (option_map f o)) ≡ is_some o
+there : {X Y Z : Type 0} (f : X → Y) (g : Y → Z) (o : Option X)
+    → is_some (option_map g (option_map f o)) ≡ is_some o
 there f g None = refl
 there f g (Some x) = refl
 
 -- the numbers of what runs are those
-pub are_numbers : {E H C F D V W : Type 0} (child : C → ChildView) (feed : F → JobView V) (drain : D → JobView W) (tree : TreeView E H) (output error : Bool)
+pub are_numbers : {E H C F D V W : Type 0} (child : C → ChildView) (feed : F → JobView V)
+    (drain : D → JobView W) (tree : TreeView E H) (output error : Bool)
     (added : List EntryView) (running : RunningView C F D) (numbers : NumbersView) → IsRunning child feed drain tree output error added running
     → numbers ≡ numbers_in child feed drain running → AreNumbers output error added numbers
 are_numbers child feed drain tree output error added running numbers runs same = record {
@@ -47,7 +51,8 @@ are_numbers child feed drain tree output error added running numbers runs same =
 }
 
 -- a handle of what runs keeps them
-pub is_handle : {E H C F D V W : Type 0} (child : C → ChildView) (feed : F → JobView V) (drain : D → JobView W) (tree : TreeView E H) (output error : Bool)
+pub is_handle : {E H C F D V W : Type 0} (child : C → ChildView) (feed : F → JobView V)
+    (drain : D → JobView W) (tree : TreeView E H) (output error : Bool)
     (added : List EntryView) (running : RunningView C F D) (handle : HandleView) → IsRunning child feed drain tree output error added running
     → shape_view handle.shape ≡ shape_view running.shape
     → handle.numbers ≡ numbers_in child feed drain running → IsHandle tree output error added handle

@@ -22,13 +22,15 @@ module _ (answer : ℕ → Answer → Type 0) (obey : ℕ → Order → Obeyed �
   abbrev Obeys : ℕ → Type 0
   Obeys number = ((status : ExitStatus) × answer number (Ok (Some status))) ⊎ obey number order (Ok tt)
 
-  obeyed_by : (before after : ChildView) (ending : Option ExitStatus) → IfSome ending (λ status. answer before.number (Ok (Some status)))
+  obeyed_by : (before after : ChildView) (ending : Option ExitStatus)
+      → IfSome ending (λ status. answer before.number (Ok (Some status)))
       → MatchOption ending (OrdersChild obey order before fine after) (λ status. (fine ≡ Ok tt) × (after ≡ before)) → Obeys before.number
   obeyed_by before after (Some status) told ordered = inl (status, told)
   obeyed_by before after None told (inl given) = inr given.1
   obeyed_by before after None told (inr unasked) = absurd (let e : fine ≡ Err (record { kind = OutOfMemory }) = unasked.1 in cc)
 
-  all_obeyed : (befores : List ChildView) (answers : List Obeyed) (afters : List ChildView) → AllOrdered obey order befores answers afters → leftmost answers ≡ Ok tt
+  all_obeyed : (befores : List ChildView) (answers : List Obeyed) (afters : List ChildView)
+      → AllOrdered obey order befores answers afters → leftmost answers ≡ Ok tt
       → All (IsTold answer) befores → AllObeyed answer obey order (map (λ (c : ChildView). c.number) befores)
   all_obeyed [] [] [] ordered ok told = All-nil Obeys
   all_obeyed [] [] (after ∷ afters) ordered ok told = absurd ordered
@@ -46,12 +48,15 @@ module _ (answer : ℕ → Answer → Type 0) (obey : ℕ → Order → Obeyed �
   ok_leftmost (Err fault) is = absurd (cc)
 
   -- an order that answered Ok
-  order_obeyed : (befores : List ChildView) (afters : List ChildView) → IsOrdered obey order befores (Ok tt) afters → ∥ All (IsTold answer) befores ∥₁
+  order_obeyed : (befores : List ChildView) (afters : List ChildView)
+      → IsOrdered obey order befores (Ok tt) afters → ∥ All (IsTold answer) befores ∥₁
       → ∥ AllObeyed answer obey order (map (λ (c : ChildView). c.number) befores) ∥₁
   order_obeyed befores afters ordered told = ∥∥₁_map told (λ t. all_obeyed befores ordered.0 afters ordered.1 (ok_leftmost (leftmost ordered.0) ordered.2) t)
 
   -- whatever it answered
-  pub order_on_ok : (befores afters : List ChildView) (numbers : List ℕ) (result : Result (Unit {0}) Error) → IsOrdered obey order befores result afters → ∥ All (IsTold answer) befores ∥₁
+  pub order_on_ok : (befores afters : List ChildView) (numbers : List ℕ)
+      (result : Result (Unit {0}) Error) → IsOrdered obey order befores result afters
+      → ∥ All (IsTold answer) befores ∥₁
       → map (λ (c : ChildView). c.number) befores ≡ numbers → OnOk result (∥ AllObeyed answer obey order numbers ∥₁)
   order_on_ok befores afters numbers (Ok done) ordered told are =
       subst (λ (ns : List ℕ). ∥ AllObeyed answer obey order ns ∥₁) are (order_obeyed befores afters ordered told)

@@ -20,7 +20,8 @@ use Rattle.duct_handle.specs.HandleView.{HandleView, PublishedView, SeenView}
 use Rattle.duct_handle.specs.Waited.{GivesAgain, IsNoEnding, KnowsIfEnded, Waited}
 use Rattle.duct_handle.specs.declared.published.Answer.{Answer}
 
-pub concluded : (answer : ℕ → child.Answer → Type 0) (feed : ℕ → Said (Unit {0}) → Type 0) (drain : ℕ → Said Bytes → Type 0) (here there : ShapeView) (mine its : NumbersView)
+pub concluded : (answer : ℕ → child.Answer → Type 0) (feed : ℕ → Said (Unit {0}) → Type 0)
+    (drain : ℕ → Said Bytes → Type 0) (here there : ShapeView) (mine its : NumbersView)
     (found : Option Answer) (ending : Answer) → found ≡ Some ending → its ≡ mine → there ≡ here
     → ∥ IfSome found (λ a. Concluded answer feed drain there its (answer_view a)) ∥₁ → WasConcluded answer feed drain here mine (answer_view ending)
 concluded answer feed drain here there mine its found ending is same alike told =
@@ -42,15 +43,19 @@ module _ (answer : ℕ → child.Answer → Type 0) (feed : ℕ → Said (Unit {
   knows_same cell other known (Err error.Deadline) knows = tt
   knows_same cell other known (Err error.Memory) knows = tt
 
-  again_by : (old : Option X) (x : X) (polled : Polled) → Agrees old x → GivesAgain handle (view x) polled → IfSome (option_map view old) (λ known. GivesAgain handle known polled)
+  again_by : (old : Option X) (x : X) (polled : Polled) → Agrees old x
+      → GivesAgain handle (view x) polled
+      → IfSome (option_map view old) (λ known. GivesAgain handle known polled)
   again_by None x polled agrees again = tt
   again_by (Some y) x polled agrees again = subst (λ z. GivesAgain handle (view z) polled) (sym agrees) again
 
-  kept_by : (old new : Option X) (x : X) → new ≡ Some x → Agrees old x → IfSome (option_map view old) (λ known. option_map view new ≡ Some known)
+  kept_by : (old new : Option X) (x : X) → new ≡ Some x → Agrees old x
+      → IfSome (option_map view old) (λ known. option_map view new ≡ Some known)
   kept_by None new x is agrees = tt
   kept_by (Some y) new x is agrees = ap (λ o. option_map view o) is ∙ ap (λ z. Some (view z)) (sym agrees)
 
-  pub shared : (before cell : ℕ) (old new : Option X) (x : X) (polled : Polled) → new ≡ Some x → Agrees old x → cell ≡ handle.cell
+  pub shared : (before cell : ℕ) (old new : Option X) (x : X) (polled : Polled) → new ≡ Some x
+      → Agrees old x → cell ≡ handle.cell
       → IsAnswer answer feed drain (shape_view handle.shape) handle.numbers polled → (polled ≡ Ok None → ⊥)
       → KnowsIfEnded handle (record { cell = handle.cell; known = Some (view x) }) polled → GivesAgain handle (view x) polled
       → Waited answer feed drain handle (record { cell = before; known = option_map view old }) (record { cell = cell; known = option_map view new }) polled
@@ -64,7 +69,9 @@ module _ (answer : ℕ → child.Answer → Type 0) (feed : ℕ → Said (Unit {
   }
 
   -- a wait that answers what its token does not know
-  pub unknown : (before cell : ℕ) (old new : Option X) (polled : Polled) → old ≡ None → cell ≡ handle.cell → IsAnswer answer feed drain (shape_view handle.shape) handle.numbers polled
+  pub unknown : (before cell : ℕ) (old new : Option X) (polled : Polled) → old ≡ None
+      → cell ≡ handle.cell → IsAnswer answer feed drain
+      (shape_view handle.shape) handle.numbers polled
       → (polled ≡ Ok None → OneRuns answer feed drain handle.numbers) → KnowsIfEnded handle (record { cell = cell; known = option_map view new }) polled
       → Waited answer feed drain handle (record { cell = before; known = option_map view old }) (record { cell = cell; known = option_map view new }) polled
   unknown before cell old new polled none same told pending knows = record {
@@ -86,7 +93,9 @@ module _ (answer : ℕ → child.Answer → Type 0) (feed : ℕ → Said (Unit {
   unended seen error.Memory none = tt
 
   -- a wait that is refused
-  pub refused : (before cell : ℕ) (old new : Option X) (e : Error) → old ≡ None → cell ≡ handle.cell → IsAnswer answer feed drain (shape_view handle.shape) handle.numbers (Err e) → IsNoEnding e
+  pub refused : (before cell : ℕ) (old new : Option X) (e : Error) → old ≡ None
+      → cell ≡ handle.cell → IsAnswer answer feed drain (shape_view handle.shape) handle.numbers
+      (Err e) → IsNoEnding e
       → Waited answer feed drain handle (record { cell = before; known = option_map view old }) (record { cell = cell; known = option_map view new }) (Err e)
   refused before cell old new e none same told fault =
       unknown before cell old new (Err e) none same told (λ is. absurd (cc)) (unended (record { cell = cell; known = option_map view new }) e fault)

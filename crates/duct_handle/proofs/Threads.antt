@@ -60,7 +60,8 @@ module _ (T T1 T2 T3 T4 T5 : RattleType)
         (search (spare_send, sendable) depth 20, tt),
       )
 
-  locked_send : IsSend T2 → IsSend T3 → IsSend T4 → IsSend (Locked.the_row T T1 T2 T3 T4 T5 s e c cn f fn d dn r)
+  locked_send : IsSend T2 → IsSend T3 → IsSend T4
+      → IsSend (Locked.the_row T T1 T2 T3 T4 T5 s e c cn f fn d dn r)
   locked_send child feed drain = recorded_send _ _ _
       (Locked.the_type T T1 T2 T3 T4 T5 s e c cn f fn d dn r).to_one
       (locked_field_send child feed drain)

@@ -5,7 +5,8 @@ use Rattle.duct_system.specs.Ledger.{count_of}
 use Rattle.duct_plain.specs.Balance.{Balances, BalancesAt, AllBalance}
 
 -- one number more in front
-absent_or_balances-cons : (got spent : List ℕ) (number first : ℕ) (rest : List ℕ) (same : Bool) → (first == number) ≡ same →
+absent_or_balances-cons : (got spent : List ℕ) (number first : ℕ) (rest : List ℕ) (same : Bool)
+    → (first == number) ≡ same →
     (count_of number rest ≡ 0) ⊎ (AllBalance got spent rest → BalancesAt got spent number) →
     (count_of number (first ∷ rest) ≡ 0) ⊎ (AllBalance got spent (first ∷ rest) → BalancesAt got spent number)
 absent_or_balances-cons got spent number first rest true is before = inr (λ all. subst (BalancesAt got spent) (eqb-true first number is) all.0)

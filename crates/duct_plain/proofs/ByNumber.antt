@@ -15,7 +15,8 @@ level_in o first words at = level (endings_of o first words) (way_at (endings_of
 abbrev pub TellsIn : Bool → ShapeView → ℕ → List Word → ℕ → ℕ → Type 0
 TellsIn test o first words one other = Tells test (Beats (endings_of o first words) (way_at (endings_of o first words) one) (way_at (endings_of o first words) other))
 
-count_is : (a : ShapeView) (first n : ℕ) (words : List Word) → n ≡ command_count a → n ≡ ending_count (endings_of a first words)
+count_is : (a : ShapeView) (first n : ℕ) (words : List Word) → n ≡ command_count a
+    → n ≡ ending_count (endings_of a first words)
 count_is a first n words is = is ∙ sym (counts a first words)
 
 pub level_in_left : (o a b : ShapeView) (first at n level : ℕ) (words : List Word) → o ≡ pipe a b
@@ -40,7 +41,8 @@ level_in_unchecked o a first at level capped words is same cap =
     let e : min level 1 ≡ min 1 level = omega arith in
     cap ∙ e ∙ ap (λ x. min 1 x) same ∙ ap (λ x. level_in x first words at) (sym is)
 
-tells_as : (o p : ShapeView) (test : Bool) (first one other : ℕ) (words : List Word) → o ≡ p → TellsIn test p first words one other → TellsIn test o first words one other
+tells_as : (o p : ShapeView) (test : Bool) (first one other : ℕ) (words : List Word) → o ≡ p
+    → TellsIn test p first words one other → TellsIn test o first words one other
 tells_as o p test first one other words is told = let P : ShapeView → Type 0 = λ x. TellsIn test x first words one other in subst P (sym is) told
 
 pub tells_in_left : (o a b : ShapeView) (first one other n : ℕ) (test : Bool) (words : List Word)

@@ -13,15 +13,20 @@ use Rattle.duct_status.specs.ShapeView.{ShapeView, command, pipe, input, uncheck
 use Rattle.duct_plain.specs.TreeOrder.{told_in_order}
 use Rattle.duct_status.specs.Outcome.{OutcomeView, command_said, input_said, in_tree_order, first_fault, some_runs, finished, captured, with_bytes, ended, outcome}
 
-got_at : {T : Type 0} (f : ℕ → T) (a n k : ℕ) → k < n → slice_get (map f (range_with_len a n)) k ≡ Some (f (a + k))
+got_at : {T : Type 0} (f : ℕ → T) (a n k : ℕ) → k < n
+    → slice_get (map f (range_with_len a n)) k ≡ Some (f (a + k))
 got_at f a zero k low = absurd (omega arith)
 got_at f a (suc n) zero low = let e : a ≡ a + 0 = omega arith in ap (λ j. Some (f j)) e
 got_at f a (suc n) (suc k) low = let e : a + 1 + k ≡ a + suc k = omega arith in got_at f (a + 1) n k (omega arith) ∙ ap (λ j. Some (f j)) e
 
-got : {T : Type 0} (f : ℕ → T) (n k : ℕ) → k < n → slice_get (map f (range_with_len 0 n)) k ≡ Some (f k)
+got : {T : Type 0} (f : ℕ → T) (n k : ℕ) → k < n
+    → slice_get (map f (range_with_len 0 n)) k ≡ Some (f k)
 got f n k low = got_at f 0 n k low ∙ ap (λ j. Some (f j)) (zero-add k)
 
-order_same : (t : ShapeView) (c i n m : ℕ) (told : List EventView) → c + command_count t ≤ n → i + input_count t ≤ m → in_tree_order t c i (map (λ k. latest_of_command k told) (range_with_len 0 n)) (map (λ k. latest_of_input k told) (range_with_len 0 m)) ≡ told_in_order t c i told
+order_same : (t : ShapeView) (c i n m : ℕ) (told : List EventView) → c + command_count t ≤ n
+    → i + input_count t ≤ m → in_tree_order t c i
+    (map (λ k. latest_of_command k told) (range_with_len 0 n))
+    (map (λ k. latest_of_input k told) (range_with_len 0 m)) ≡ told_in_order t c i told
 order_same (command texts) c i n m told low less = ap (λ o. command_said o ∷ []) (got (λ k. latest_of_command k told) n c (omega arith))
 order_same (pipe l r) c i n m told low less =
     ap (λ xs. xs ++ in_tree_order r (c + command_count l) (i + input_count l) (map (λ k. latest_of_command k told) (range_with_len 0 n)) (map (λ k. latest_of_input k told) (range_with_len 0 m))) (order_same l c i n m told (omega arith) (omega arith))
@@ -31,7 +36,8 @@ order_same (input t) c i n m told low less =
     ∙ ap (λ o. told_in_order t c i told ++ input_said o ∷ []) (got (λ k. latest_of_input k told) m (i + input_count t) (omega arith))
 order_same (unchecked t) c i n m told low less = order_same t c i n m told low less
 
-captured_there : (there : Bool) (heard : Said (List ℕ)) → captured (cond there (Some heard) None) ≡ cond there heard (said.Done [])
+captured_there : (there : Bool) (heard : Said (List ℕ))
+    → captured (cond there (Some heard) None) ≡ cond there heard (said.Done [])
 captured_there true heard = refl
 captured_there false heard = refl
 

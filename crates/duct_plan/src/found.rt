@@ -13,6 +13,7 @@ use std::convert::AsStr;
 
 /// Where a stream of a command goes.
 #[derive_where(Clone, Copy)]
+#[derive_where(Debug; E)]
 pub enum Target<'t, E> {
     /// To this stream of the parent.
     Parents(Stream),
@@ -29,7 +30,7 @@ pub enum Target<'t, E> {
 }
 
 /// What a node asks of the variables.
-#[derive(Clone, Copy)]
+#[derive(Clone, Copy, Debug)]
 pub enum Change<'t> {
     /// This name has this value.
     Sets(&'t str, &'t str),

@@ -26,6 +26,7 @@ pub enum Item<'t, E, H> {
 
 /// The requests of a start in order, and the places of the capture pipes of stdout and of stderr, where they are open.
 #[derive(Drop)]
+#[derive_where(Debug)]
 pub struct Plan<'t, E, H> {
     pub items: Vec<Item<'t, E, H>>,
     pub out: Option<usize>,

@@ -8,7 +8,8 @@ use Rattle.std.proofs.lemmas.List.Sums.{fails_before_first}
 use Rattle.std.specs.List.{onto_first, position, position_or_len, slice_split}
 
 module _ {A B : Type 0} (p : B → Bool) (f : A → B) (d : A) where
-  at_first : (xs : List A) (at : ℕ) → at < length xs → ((k : ℕ) → k < at → p (f (get_or xs k d)) ≡ false)
+  at_first : (xs : List A) (at : ℕ) → at < length xs
+      → ((k : ℕ) → k < at → p (f (get_or xs k d)) ≡ false)
       → p (f (get_or xs at d)) ≡ true
       → slice_split p (map f xs) ≡ map f (take at xs) ∷ slice_split p (map f (drop (suc at) xs))
   at_first [] at within before here = absurd (omega arith)
@@ -37,11 +38,13 @@ module _ {A B : Type 0} (p : B → Bool) (f : A → B) where
       let rest : take (length (x ∷ xs) - (at + 1)) (drop (at + 1) (x ∷ xs)) ≡ drop (suc at) (x ∷ xs) = grind (arith, common_steps) in
       at_first p f x (x ∷ xs) at s.0 s.2 s.1 ∙ ap (λ (ys : List A). map f (take at (x ∷ xs)) ∷ slice_split p (map f ys)) (sym rest)
 
-  past : (ys : List A) → position (λ y. p (f y)) ys ≡ None → length ys ≤ position_or_len (λ y. p (f y)) ys
+  past : (ys : List A) → position (λ y. p (f y)) ys ≡ None
+      → length ys ≤ position_or_len (λ y. p (f y)) ys
   past ys none = none_at_end (position_or_len (λ y. p (f y)) ys) (length ys) none
 
   -- nowhere
-  pub uncut : (xs : List A) → position (λ x. p (f x)) xs ≡ None → slice_split p (map f xs) ≡ map f xs ∷ []
+  pub uncut : (xs : List A) → position (λ x. p (f x)) xs ≡ None
+      → slice_split p (map f xs) ≡ map f xs ∷ []
   uncut [] none = refl
   uncut (x ∷ xs) none =
       nowhere p f x (x ∷ xs) (λ k lt. fails_before_first (λ y. p (f y)) (x ∷ xs) k x (omega (arith, past (x ∷ xs) none)))

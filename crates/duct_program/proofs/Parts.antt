@@ -6,6 +6,7 @@ use Rattle.duct_program.specs.Parsed.{◌>>=◌}
 use Rattle.duct_program.specs.declared.usage.Usage.{Usage}
 
 -- what was read before, and behind it what is still read
-abbrev pub behind : List (List ℕ) → List RedirectionView → Result CommandView Usage → Result CommandView Usage
+abbrev pub behind : List (List ℕ) → List RedirectionView → Result CommandView Usage
+    → Result CommandView Usage
 behind words redirections read =
     read >>= λ command. Ok (record { words = words ++ command.words; redirections = redirections ++ command.redirections })

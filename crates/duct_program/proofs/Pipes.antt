@@ -11,7 +11,8 @@ use Rattle.duct_program.specs.declared.command.Redirection.{Redirection}
 use Rattle.duct_program.specs.declared.usage.Usage.{Usage}
 
 -- the commands of pieces, piped behind a tree
-abbrev pub piped_behind : {E H : Type 0} → TreeView E H → List (List (List ℕ)) → Result (TreeView E H) Usage
+abbrev pub piped_behind : {E H : Type 0} → TreeView E H → List (List (List ℕ))
+    → Result (TreeView E H) Usage
 piped_behind left others = commands_of others >>= λ commands. Ok (piped left commands)
 
 -- how many pieces are left
@@ -19,7 +20,8 @@ abbrev pub pieces_len : Option (List (List ℕ)) → ℕ
 pieces_len rest = length (further rest)
 
 -- the last redirection stands innermost
-pub last_stands_inside : {E H : Type 0} (front : List Redirection) (last : Redirection) (tree : TreeView E H)
+pub last_stands_inside : {E H : Type 0} (front : List Redirection) (last : Redirection)
+    (tree : TreeView E H)
     → redirected_tree (map redirection_view (front ++ last ∷ [])) tree
     ≡ redirected_tree (map redirection_view front) (around (redirects (redirection_view last)) tree)
 last_stands_inside [] last tree = refl

@@ -16,7 +16,8 @@ no_options = record { stdin = None; unchecked = false }
 
 -- the options in front of some arguments, read behind these options, and the arguments behind them; the truth value says whether the
 -- argument before was a `--stdin`, whose text comes first
-abbrev pub options_from : Bool → OptionsView → List (List ℕ) → Result (OptionsView × List (List ℕ)) Usage
+abbrev pub options_from : Bool → OptionsView → List (List ℕ)
+    → Result (OptionsView × List (List ℕ)) Usage
 options_from true options [] = Err MissingText
 options_from true options (text ∷ args) =
     options_from false (record { stdin = Some text; unchecked = options.unchecked }) args

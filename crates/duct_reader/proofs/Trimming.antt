@@ -4,16 +4,19 @@ use Rattle.std.proofs.Common.{◌≡◌, refl, ap, ◌∙◌}
 use Rattle.duct_reader.specs.Trimmed.{before, is_line_end, trimmed}
 
 -- a last line end goes
-pub trimmed_end : (front : List ℕ) (last : ℕ) → is_line_end last ≡ true → trimmed (front ++ last ∷ []) ≡ trimmed front
+pub trimmed_end : (front : List ℕ) (last : ℕ) → is_line_end last ≡ true
+    → trimmed (front ++ last ∷ []) ≡ trimmed front
 trimmed_end [] last ends = ap (λ b. if b then [] else (last ∷ [])) ends
 trimmed_end (byte ∷ front) last ends = ap (before byte) (trimmed_end front last ends)
 
-before_more : (byte : ℕ) (front : List ℕ) (last : ℕ) → before byte (front ++ last ∷ []) ≡ byte ∷ front ++ last ∷ []
+before_more : (byte : ℕ) (front : List ℕ) (last : ℕ)
+    → before byte (front ++ last ∷ []) ≡ byte ∷ front ++ last ∷ []
 before_more byte [] last = refl
 before_more byte (next ∷ front) last = refl
 
 -- where the last byte is none, all is left
-pub trimmed_whole : (front : List ℕ) (last : ℕ) → is_line_end last ≡ false → trimmed (front ++ last ∷ []) ≡ front ++ last ∷ []
+pub trimmed_whole : (front : List ℕ) (last : ℕ) → is_line_end last ≡ false
+    → trimmed (front ++ last ∷ []) ≡ front ++ last ∷ []
 trimmed_whole [] last other = ap (λ b. if b then [] else (last ∷ [])) other
 trimmed_whole (byte ∷ front) last other = ap (before byte) (trimmed_whole front last other) ∙ before_more byte front last
 
@@ -23,6 +26,7 @@ take_front [] tail = refl
 take_front (byte ∷ front) tail = ap (λ bytes. byte ∷ bytes) (take_front front tail)
 
 -- one more byte of the tail
-pub one_more : (front tail : List ℕ) (last : ℕ) → (front ++ last ∷ []) ++ tail ≡ front ++ last ∷ tail
+pub one_more : (front tail : List ℕ) (last : ℕ)
+    → (front ++ last ∷ []) ++ tail ≡ front ++ last ∷ tail
 one_more [] tail last = refl
 one_more (byte ∷ front) tail last = ap (λ bytes. byte ∷ bytes) (one_more front tail last)

@@ -47,30 +47,36 @@ copied_vars {Z} (e ∷ es) (c ∷ copy) same =
     let rest : map (var_view {Z = Z}) copy ≡ map var_view es = copied_vars es copy same.1 in
     (λ i. (same.0.0 i, same.0.1 i) ∷ rest i)
 
-removed_vars : {Z : Type 0} (test : List ℕ → Bool) (es : List (List ℕ × String Z)) → map var_view (remove_entry test es) ≡ remove_entry test (map var_view es)
+removed_vars : {Z : Type 0} (test : List ℕ → Bool) (es : List (List ℕ × String Z))
+    → map var_view (remove_entry test es) ≡ remove_entry test (map var_view es)
 removed_vars test [] = refl
 removed_vars {Z} test (e ∷ es) =
     elim (test e.0) as (λ b. map var_view (cond b es (e ∷ remove_entry test es)) ≡ cond b (map var_view es) (var_view e ∷ remove_entry test (map var_view es)))
     [ true ↦ refl | false ↦ ap (λ r. var_view e ∷ r) (removed_vars test es) ]
 
-none_behind : (k : List ℕ) (vars : Vars) → AllByRecursion (λ y. name_cmp k y ≡ Less) (keys_of vars) → NonePasses (is_at (name_cmp k)) vars
+none_behind : (k : List ℕ) (vars : Vars) → AllByRecursion (λ y. name_cmp k y ≡ Less) (keys_of vars)
+    → NonePasses (is_at (name_cmp k)) vars
 none_behind k [] above = tt
 none_behind k (e ∷ es) above = (ap is_eq above.0, none_behind k es above.1)
 
 module _ (name k : List ℕ) where
-  gone_here : (e : List ℕ × List ℕ) (rest : Option (List ℕ × List ℕ)) (b c : Bool) → b ≡ c → (c ≡ true → rest ≡ None) → rest ≡ cond b None (cond c (Some e) rest)
+  gone_here : (e : List ℕ × List ℕ) (rest : Option (List ℕ × List ℕ)) (b c : Bool) → b ≡ c
+      → (c ≡ true → rest ≡ None) → rest ≡ cond b None (cond c (Some e) rest)
   gone_here e rest true true same none = none refl
   gone_here e rest false false same none = refl
   gone_here e rest true false same none = absurd (cc)
   gone_here e rest false true same none = absurd (cc)
 
-  gone_later : (e : List ℕ × List ℕ) (rest : Option (List ℕ × List ℕ)) (b c : Bool) → (b ≡ true → c ≡ true → ⊥) → cond c (Some e) (cond b None rest) ≡ cond b None (cond c (Some e) rest)
+  gone_later : (e : List ℕ × List ℕ) (rest : Option (List ℕ × List ℕ)) (b c : Bool)
+      → (b ≡ true → c ≡ true → ⊥) → cond c (Some e) (cond b None rest) ≡ cond b None
+      (cond c (Some e) rest)
   gone_later e rest true true apart = absurd (apart refl refl)
   gone_later e rest true false apart = refl
   gone_later e rest false true apart = refl
   gone_later e rest false false apart = refl
 
-  apart : (other : List ℕ) → is_eq (name_cmp k other) ≡ false → is_same_name name k ≡ true → is_same_name name other ≡ true → ⊥
+  apart : (other : List ℕ) → is_eq (name_cmp k other) ≡ false → is_same_name name k ≡ true
+      → is_same_name name other ≡ true → ⊥
   apart other differ one two = let same = sym (same_at name k other one) ∙ two in let tie = name_ties k other ∙ differ in cc
 
   -- a name that was taken away is not found in any spelling, and each other name finds what it found

@@ -22,7 +22,8 @@ use Rattle.duct_run.specs.HeldView.{AreNew, held_view}
 use Rattle.duct_run.specs.declared.held.Held.{Held}
 
 -- jobs that nobody has polled are known by their numbers
-unpolled_all : {J V : Type 0} (job : J → JobView V) (jobs : List J) → All (λ j. job j ≡ unpolled_job (job j).number) jobs →
+unpolled_all : {J V : Type 0} (job : J → JobView V) (jobs : List J)
+    → All (λ j. job j ≡ unpolled_job (job j).number) jobs →
     map job jobs ≡ map (λ number. unpolled_job number) (map (λ j. (job j).number) jobs)
 unpolled_all job [] all = refl
 unpolled_all {J} {V} job (j ∷ jobs) all =

@@ -83,7 +83,8 @@ pub unpolled_same : {V : Type 0} (view : JobView V) (n : ℕ) → view ≡ unpol
     → view ≡ unpolled_job view.number
 unpolled_same {V} view n is = is ∙ ap (λ (v : JobView V). unpolled_job v.number) (sym is)
 
-long_stream : {E F : Type 0} (f : E → F) (stream : Stdio E) → length (end_of (stream_of f stream)) ≡ length (end_of stream)
+long_stream : {E F : Type 0} (f : E → F) (stream : Stdio E)
+    → length (end_of (stream_of f stream)) ≡ length (end_of stream)
 long_stream f Inherit = refl
 long_stream f Null = refl
 long_stream f (End e) = refl

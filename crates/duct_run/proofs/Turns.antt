@@ -120,13 +120,15 @@ module _ {E C F D : Type 0} (one two three : Held E C F D) where
   }
 
 module _ {E H : Type 0} (allows : Allows H) (refuses : Refuses H) (number_of : E → ℕ) where
-  stopped_by_as : (entries : List EntryView) (place : ℕ) (error : Error) (o p : Option (Item E H)) → ((x : Item E H) → o ≡ Some x → p ≡ Some x) →
+  stopped_by_as : (entries : List EntryView) (place : ℕ) (error : Error) (o p : Option (Item E H))
+      → ((x : Item E H) → o ≡ Some x → p ≡ Some x) →
       StoppedBy allows refuses number_of entries place o error → StoppedBy allows refuses number_of entries place p error
   stopped_by_as entries place error None p stays stopped = absurd stopped
   stopped_by_as entries place error (Some x) p stays stopped = subst (λ (q : Option (Item E H)). StoppedBy allows refuses number_of entries place q error) (sym (stays x refl)) stopped
 
   module _ (course : Course) where
-    refused_more : (items more : List (Item E H)) (now : JournalView) (held : Holdings) (error : Error) → Refused allows refuses number_of course items now held error →
+    refused_more : (items more : List (Item E H)) (now : JournalView) (held : Holdings)
+        (error : Error) → Refused allows refuses number_of course items now held error →
         Refused allows refuses number_of course (items ++ more) now held error
     refused_more items more now held error refused =
         let stopped = refused.stopped in

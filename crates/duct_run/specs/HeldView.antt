@@ -61,18 +61,22 @@ pub record AreNew {E C F D V W : Type 0} (child : C → ChildView) (feed : F →
     (drain : D → JobView W) (held : Held E C F D) : Type 0 where
   pub children : All (λ c. IsUnasked (child c)) held.children.items
   pub feeds : All (λ f. feed f ≡ unpolled_job (feed f).number) held.feeds.items
-  pub output_worker : All (λ d. drain d ≡ unpolled_job (drain d).number) (option_to_list held.output_worker)
-  pub error_worker : All (λ d. drain d ≡ unpolled_job (drain d).number) (option_to_list held.error_worker)
+  pub output_worker : All (λ d. drain d ≡ unpolled_job (drain d).number)
+      (option_to_list held.output_worker)
+  pub error_worker : All (λ d. drain d ≡ unpolled_job (drain d).number)
+      (option_to_list held.error_worker)
 
 -- an action goes on by what is held
-abbrev pub GoesOn : {E H C F D V W : Type 0} → Allows H → (E → ℕ) → (C → ChildView) → (F → JobView V)
+abbrev pub GoesOn : {E H C F D V W : Type 0} → Allows H → (E → ℕ) → (C → ChildView)
+    → (F → JobView V)
     → (D → JobView W) → Action E H → JournalView → JournalView → Held E C F D → Held E C F D → Type 0
 GoesOn allows end child feed drain action now then held kept =
     Goes allows end action now then (held_view end child feed drain held)
     (held_view end child feed drain kept)
 
 -- an action stops with an error, which is not a hook's
-abbrev pub QuitsAt : {E H C F D V W : Type 0} → Allows H → (E → ℕ) → (C → ChildView) → (F → JobView V)
+abbrev pub QuitsAt : {E H C F D V W : Type 0} → Allows H → (E → ℕ) → (C → ChildView)
+    → (F → JobView V)
     → (D → JobView W) → Action E H → JournalView → JournalView → Held E C F D → Held E C F D → Error → Type 0
 QuitsAt allows end child feed drain action now then held kept error =
     (IsHooks error → ⊥) × Quits allows end action now then (held_view end child feed drain held)

@@ -13,12 +13,15 @@ ChangedTo changes (suc count) (before ∷ befores) [] = ⊥
 ChangedTo changes (suc count) (before ∷ befores) (after ∷ afters) = changes before after × ChangedTo changes count befores afters
 
 module _ {T : Type 0} (changes : T → T → Type 0) where
-  first_changed : (befores afters : List T) → ChangedAt changes zero befores afters → ChangedTo changes (suc zero) befores afters
+  first_changed : (befores afters : List T) → ChangedAt changes zero befores afters
+      → ChangedTo changes (suc zero) befores afters
   first_changed [] afters changed = absurd changed
   first_changed (before ∷ befores) [] changed = absurd changed
   first_changed (before ∷ befores) (after ∷ afters) changed = (changed.0, changed.1)
 
-  next_changed : (count : ℕ) (befores between afters : List T) → ChangedTo changes count befores between → ChangedAt changes count between afters → ChangedTo changes (suc count) befores afters
+  next_changed : (count : ℕ) (befores between afters : List T)
+      → ChangedTo changes count befores between → ChangedAt changes count between afters
+      → ChangedTo changes (suc count) befores afters
   next_changed zero befores between afters so_far changed = first_changed befores afters (subst (λ (ls : List T). ChangedAt changes zero ls afters) so_far changed)
   next_changed (suc count) [] [] afters so_far changed = absurd changed
   next_changed (suc count) [] (b ∷ between) afters so_far changed = absurd so_far

@@ -18,13 +18,15 @@ use Rattle.duct_running.specs.Polled.{WhileRuns, PolledIfRuns, IsThereAndPolled,
 use Rattle.duct_running.specs.Stored.{Bytes, stored_in, stored_latest}
 
 -- a worker whose word is Running is polled
-polled_while_runs : (kept : Said (Unit {0})) (P Q : Type 0) → is_said_due (Some kept) ≡ true → P → WhileRuns kept P Q
+polled_while_runs : (kept : Said (Unit {0})) (P Q : Type 0) → is_said_due (Some kept) ≡ true → P
+    → WhileRuns kept P Q
 polled_while_runs said.Running P Q due p = p
 polled_while_runs (said.Done value) P Q due p = absurd (cc)
 polled_while_runs (said.Fault fault) P Q due p = absurd (cc)
 
 -- and one that has finished is not
-left_when_over : (kept : Said (Unit {0})) (P Q : Type 0) → is_said_due (Some kept) ≡ false → Q → WhileRuns kept P Q
+left_when_over : (kept : Said (Unit {0})) (P Q : Type 0) → is_said_due (Some kept) ≡ false → Q
+    → WhileRuns kept P Q
 left_when_over said.Running P Q over q = absurd (cc)
 left_when_over (said.Done value) P Q over q = q
 left_when_over (said.Fault fault) P Q over q = q
@@ -36,20 +38,23 @@ module _ {F : Type 0} (view : F → JobView (Unit {0})) (may : ℕ → Said (Uni
   abbrev Polls : F → Said (Unit {0}) → F → Type 0
   Polls before heard after = PollsJob may same refusable (view before) heard (view after)
 
-  not_asked : (feeds : List F) (at : ℕ) → at < length feeds → is_said_due (slice_get (words feeds) at) ≡ false →
+  not_asked : (feeds : List F) (at : ℕ) → at < length feeds
+      → is_said_due (slice_get (words feeds) at) ≡ false →
       ChangedAt (PolledIfRuns may same refusable) at (map view feeds) (map view feeds)
   not_asked [] at low over = absurd (omega arith)
   not_asked (feed ∷ feeds) zero low over = (left_when_over (view feed).kept _ _ over refl, refl)
   not_asked (feed ∷ feeds) (suc at) low over = (refl, not_asked feeds at (omega arith) over)
 
-  asked : (feeds : List F) (at : ℕ) (before after : F) (heard : Said (Unit {0})) → at < length feeds → before ≡ get_or feeds at before →
+  asked : (feeds : List F) (at : ℕ) (before after : F) (heard : Said (Unit {0}))
+      → at < length feeds → before ≡ get_or feeds at before →
       Polls before heard after → is_said_due (slice_get (words feeds) at) ≡ true → ChangedAt (PolledIfRuns may same refusable) at (map view feeds) (map view (set feeds at after))
   asked [] at before after heard low is polls due = absurd (omega arith)
   asked (feed ∷ feeds) zero before after heard low is polls due =
       (polled_while_runs (view feed).kept _ _ due (heard, subst (λ f. Polls f heard after) is polls), refl)
   asked (feed ∷ feeds) (suc at) before after heard low is polls due = (refl, asked feeds at before after heard (omega arith) is polls due)
 
-  words_changed : (feeds : List F) (at : ℕ) (before after : F) (heard : Said (Unit {0})) → at < length feeds → before ≡ get_or feeds at before →
+  words_changed : (feeds : List F) (at : ℕ) (before after : F) (heard : Said (Unit {0}))
+      → at < length feeds → before ≡ get_or feeds at before →
       Polls before heard after → change_at (λ old. kept_after old heard) at (words feeds) ≡ words (set feeds at after)
   words_changed [] at before after heard low is polls = absurd (omega arith)
   words_changed (feed ∷ feeds) zero before after heard low is polls =
@@ -65,7 +70,8 @@ module _ {F : Type 0} (view : F → JobView (Unit {0})) (may : ℕ → Said (Uni
     abbrev stored : List F → Latest
     stored items = stored_latest children (map view items) output error
 
-    due_in : (items : List F) (at : ℕ) (kept : Latest) → kept ≡ stored items → (is_said_due (slice_get (words items) at)) ≡ is_input_due kept at
+    due_in : (items : List F) (at : ℕ) (kept : Latest) → kept ≡ stored items
+        → (is_said_due (slice_get (words items) at)) ≡ is_input_due kept at
     due_in items at kept is = ap (λ (w : Latest). is_input_due w at) (sym is)
 
     pub not_asked_in : (items feeds : List F) (at : ℕ) (kept : Latest) → items ≡ feeds
@@ -92,7 +98,8 @@ module _ {F : Type 0} (view : F → JobView (Unit {0})) (may : ℕ → Said (Uni
         ∙ ap (λ (ws : List (Said (Unit {0}))). record (stored items) { inputs = ws }) (words_changed items at before after heard (within items feeds at same' low) found polls)
 
 -- a capture worker's bytes after one more word
-pub bytes_kept : (kept heard : Said Bytes) → kept_after (bytes_said kept) (bytes_said heard) ≡ bytes_said (kept_after kept heard)
+pub bytes_kept : (kept heard : Said Bytes)
+    → kept_after (bytes_said kept) (bytes_said heard) ≡ bytes_said (kept_after kept heard)
 bytes_kept said.Running heard = refl
 bytes_kept (said.Done value) heard = refl
 bytes_kept (said.Fault fault) heard = refl
@@ -100,7 +107,8 @@ bytes_kept (said.Fault fault) heard = refl
 module _ {D : Type 0} (view : D → JobView Bytes) (may : ℕ → Said Bytes → Type 0) (same : Bytes → Bytes → Type 0) (refusable : Type 0)
     (children : List ChildView) (feeds : List (JobView (Unit {0}))) where
   -- a core that was told what a capture worker said keeps the words that are stored
-  pub output_in_step : (output : Option D) (error : Option (JobView Bytes)) (before after : D) (heard : Said Bytes) (kept later : Latest) →
+  pub output_in_step : (output : Option D) (error : Option (JobView Bytes)) (before after : D)
+      (heard : Said Bytes) (kept later : Latest) →
       kept ≡ stored_latest children feeds (option_map view output) error → output ≡ Some before → PollsJob may same refusable (view before) heard (view after) →
       later ≡ latest_after kept (from_drain side.Out (bytes_said heard)) → later ≡ stored_latest children feeds (option_map view (Some after)) error
   output_in_step output error before after heard kept later is there polls told =
@@ -108,7 +116,8 @@ module _ {D : Type 0} (view : D → JobView Bytes) (may : ℕ → Said Bytes →
       ∙ ap (λ (s : Said (List ℕ)). record (stored_latest children feeds None error) { output = Some s })
       (bytes_kept (view before).kept heard ∙ sym (ap (λ (j : JobView Bytes). bytes_said j.kept) polls.after_is))
 
-  pub error_in_step : (output : Option (JobView Bytes)) (error : Option D) (before after : D) (heard : Said Bytes) (kept later : Latest) →
+  pub error_in_step : (output : Option (JobView Bytes)) (error : Option D) (before after : D)
+      (heard : Said Bytes) (kept later : Latest) →
       kept ≡ stored_latest children feeds output (option_map view error) → error ≡ Some before → PollsJob may same refusable (view before) heard (view after) →
       later ≡ latest_after kept (from_drain side.Err (bytes_said heard)) → later ≡ stored_latest children feeds output (option_map view (Some after))
   error_in_step output error before after heard kept later is there polls told =
@@ -117,18 +126,21 @@ module _ {D : Type 0} (view : D → JobView Bytes) (may : ℕ → Said Bytes →
       (bytes_kept (view before).kept heard ∙ sym (ap (λ (j : JobView Bytes). bytes_said j.kept) polls.after_is))
 
 -- there is room for a capture worker as before
-pub error_fits : {D : Type 0} (output error : Option D) (before after : D) (room : ℕ) → error ≡ Some before → length (option_to_list output ++ option_to_list error) ≤ room →
+pub error_fits : {D : Type 0} (output error : Option D) (before after : D) (room : ℕ)
+    → error ≡ Some before → length (option_to_list output ++ option_to_list error) ≤ room →
     length (option_to_list output ++ option_to_list (Some after)) ≤ room
 error_fits None error before after room there fits = rw there at fits
 error_fits (Some worker) error before after room there fits = rw there at fits
 
 -- the capture worker that the outcome waits for, as a core found, was polled
-polled_where : (may : ℕ → Said Bytes → Type 0) (same : Bytes → Bytes → Type 0) (refusable : Type 0) (before after : Option (JobView Bytes)) (stream : Side) (waited : Option Side) →
+polled_where : (may : ℕ → Said Bytes → Type 0) (same : Bytes → Bytes → Type 0) (refusable : Type 0)
+    (before after : Option (JobView Bytes)) (stream : Side) (waited : Option Side) →
     waited ≡ Some stream → IsThereAndPolled may same refusable before after → PolledWhere may same refusable stream waited before after
 polled_where may same refusable before after side.Out waited is polled = rw is polled
 polled_where may same refusable before after side.Err waited is polled = rw is polled
 
-pub polled_where_found : {C F D : Type 0} (child : C → ChildView) (feed : F → JobView (Unit {0})) (drain : D → JobView Bytes) (may : ℕ → Said Bytes → Type 0) (same : Bytes → Bytes → Type 0)
+pub polled_where_found : {C F D : Type 0} (child : C → ChildView) (feed : F → JobView (Unit {0}))
+    (drain : D → JobView Bytes) (may : ℕ → Said Bytes → Type 0) (same : Bytes → Bytes → Type 0)
     (refusable : Type 0) (stream side : Side) (inside now : RunningView C F D) (known : Latest) (found : Option Side) (before after : Option (JobView Bytes)) →
     inside ≡ now → known ≡ stored_in child feed drain inside → found ≡ awaited (shape_view inside.shape) known → found ≡ Some side → side ≡ stream →
     IsThereAndPolled may same refusable before after →

@@ -25,7 +25,8 @@ module _ {X : Type 0} (part : ChildView → X)
   child_kept before after None polled = ap part polled.1.after_is ∙ alike polled.0 before
   child_kept before after (Some status) same = ap part same
 
-  children_kept : (befores afters : List ChildView) → AllAsked may befores afters → map part afters ≡ map part befores
+  children_kept : (befores afters : List ChildView) → AllAsked may befores afters
+      → map part afters ≡ map part befores
   children_kept [] [] all = refl
   children_kept [] (after ∷ afters) all = absurd all
   children_kept (before ∷ befores) [] all = absurd all
@@ -33,10 +34,12 @@ module _ {X : Type 0} (part : ChildView → X)
       λ i. child_kept before after before.ending all.0 i ∷ children_kept befores afters all.1 i
 
 module _ {T : Type 0} (may : ℕ → Said T → Type 0) (same : T → T → Type 0) (refusable : Type 0) where
-  job_kept : (before after : JobView T) → IsPolled may same refusable before after → after.number ≡ before.number
+  job_kept : (before after : JobView T) → IsPolled may same refusable before after
+      → after.number ≡ before.number
   job_kept before after polled = ap (λ (j : JobView T). j.number) polled.1.after_is
 
-  feed_kept : (before after : JobView T) (kept : Said T) → WhileRuns kept (IsPolled may same refusable before after) (after ≡ before)
+  feed_kept : (before after : JobView T) (kept : Said T)
+      → WhileRuns kept (IsPolled may same refusable before after) (after ≡ before)
       → after.number ≡ before.number
   feed_kept before after said.Running polled = job_kept before after polled
   feed_kept before after (said.Done value) is = ap (λ (j : JobView T). j.number) is
@@ -50,7 +53,8 @@ module _ {T : Type 0} (may : ℕ → Said T → Type 0) (same : T → T → Type
   feeds_kept (before ∷ befores) (after ∷ afters) all =
       λ i. feed_kept before after before.kept all.0 i ∷ feeds_kept befores afters all.1 i
 
-  drain_kept : (before after : Option (JobView T)) → IsThereAndPolled may same refusable before after
+  drain_kept : (before after : Option (JobView T))
+      → IsThereAndPolled may same refusable before after
       → option_map (λ j. j.number) after ≡ option_map (λ j. j.number) before
   drain_kept None after polled = absurd polled
   drain_kept (Some before) None polled = absurd polled

@@ -15,16 +15,20 @@ use Rattle.duct_running.proofs.Polls.{said, words, left_at, changed_at, same_at,
 
 module _ (may : ℕ → Order → Obeyed → Type 0) (order : Order) where
   -- an order changes no word
-  word_kept : (before after : ChildView) (answer : Obeyed) → OrdersChild may order before answer after → said after ≡ said before
+  word_kept : (before after : ChildView) (answer : Obeyed)
+      → OrdersChild may order before answer after → said after ≡ said before
   word_kept before after answer (inl given) = ap (λ (c : ChildView). said c) given.0
   word_kept before after answer (inr unasked) = ap (λ (c : ChildView). said c) unasked.0
 
   -- and no id
-  pub id_kept : (before after : ChildView) (answer : Obeyed) → OrdersChild may order before answer after → after.process ≡ before.process
+  pub id_kept : (before after : ChildView) (answer : Obeyed)
+      → OrdersChild may order before answer after → after.process ≡ before.process
   id_kept before after answer (inl given) = ap (λ (c : ChildView). c.process) given.0
   id_kept before after answer (inr unasked) = ap (λ (c : ChildView). c.process) unasked.0
 
-  ordered_once : (before after : ChildView) (answer : Obeyed) → OrdersChild may order before answer after → before.ending ≡ None → OrderedIfDue may order before answer after
+  ordered_once : (before after : ChildView) (answer : Obeyed)
+      → OrdersChild may order before answer after → before.ending ≡ None
+      → OrderedIfDue may order before answer after
   ordered_once before after answer orders none =
       subst (λ ending. MatchOption ending (OrdersChild may order before answer after) (λ status. (answer ≡ Ok tt) × (after ≡ before))) (sym none) orders
 
@@ -33,7 +37,8 @@ module _ (may : ℕ → Order → Obeyed → Type 0) (order : Order) where
     abbrev stored : List C → Latest
     stored items = stored_latest (map view items) feeds output error
 
-    due_is : (items : List C) (at : ℕ) (kept : Latest) → kept ≡ stored items → is_word_due (slice_get (words view items) at) ≡ is_due kept at
+    due_is : (items : List C) (at : ℕ) (kept : Latest) → kept ≡ stored items
+        → is_word_due (slice_get (words view items) at) ≡ is_due kept at
     due_is items at kept is = ap (λ (w : Latest). is_due w at) (sym is)
 
     -- a child that has ended is as before, and answers Ok
@@ -45,7 +50,8 @@ module _ (may : ℕ → Order → Obeyed → Type 0) (order : Order) where
         (ap (λ cs. is_word_due (slice_get (words view cs) at)) (sym same) ∙ due_is items at kept is ∙ over)
 
     -- another is given the order
-    pub ordered_in : (items children : List C) (at : ℕ) (before after : C) (answer : Obeyed) (kept : Latest) → items ≡ children
+    pub ordered_in : (items children : List C) (at : ℕ) (before after : C) (answer : Obeyed)
+        (kept : Latest) → items ≡ children
         → kept ≡ stored items → at < length children → is_due kept at ≡ true
         → before ≡ get_or items at before → OrdersChild may order (view before) answer (view after)
         → ChangedAt (λ before. OrderedIfDue may order before answer) at (map view children) (map view (set items at after))
@@ -55,7 +61,8 @@ module _ (may : ℕ → Order → Obeyed → Type 0) (order : Order) where
         (λ alive. ordered_once (view before) (view after) answer orders (no_ending (view before).ending (view before).last alive)))
 
     -- the words that are kept stay those that are stored
-    pub words_in_order : (items children : List C) (at : ℕ) (before after : C) (answer : Obeyed) (kept : Latest) → items ≡ children
+    pub words_in_order : (items children : List C) (at : ℕ) (before after : C) (answer : Obeyed)
+        (kept : Latest) → items ≡ children
         → kept ≡ stored items → at < length children
         → before ≡ get_or items at before → OrdersChild may order (view before) answer (view after) → kept ≡ stored (set items at after)
     words_in_order items children at before after answer kept same is low found orders =
@@ -70,7 +77,8 @@ module _ (may : ℕ → Order → Obeyed → Type 0) (order : Order) where
   OrderedTo (before ∷ befores) (answer ∷ answers) (after ∷ afters) = OrderedIfDue may order before answer after × OrderedTo befores answers afters
 
   -- one more was ordered
-  pub one_more_ordered : (befores : List ChildView) (answers : List Obeyed) (between afters : List ChildView) (answer : Obeyed) → OrderedTo befores answers between
+  pub one_more_ordered : (befores : List ChildView) (answers : List Obeyed)
+      (between afters : List ChildView) (answer : Obeyed) → OrderedTo befores answers between
       → ChangedAt (λ before. OrderedIfDue may order before answer) (length answers) between afters → OrderedTo befores (answers ++ answer ∷ []) afters
   one_more_ordered [] [] [] afters answer so_far changed = absurd changed
   one_more_ordered [] [] (b ∷ between) afters answer so_far changed = absurd (cc)
@@ -85,7 +93,8 @@ module _ (may : ℕ → Order → Obeyed → Type 0) (order : Order) where
       (subst (λ (c : ChildView). OrderedIfDue may order before a c) (sym changed.0) so_far.0, one_more_ordered befores answers between afters answer so_far.1 changed.1)
 
   -- all of them were
-  pub all_ordered : (befores : List ChildView) (answers : List Obeyed) (afters : List ChildView) → length befores ≤ length answers
+  pub all_ordered : (befores : List ChildView) (answers : List Obeyed) (afters : List ChildView)
+      → length befores ≤ length answers
       → OrderedTo befores answers afters → AllOrdered may order befores answers afters
   all_ordered [] [] [] few so_far = tt
   all_ordered [] [] (after ∷ afters) few so_far = absurd (cc)
@@ -95,7 +104,8 @@ module _ (may : ℕ → Order → Obeyed → Type 0) (order : Order) where
   all_ordered (before ∷ befores) (answer ∷ answers) (after ∷ afters) few so_far = (so_far.0, all_ordered befores answers afters (omega arith) so_far.1)
 
 -- the leftmost fault stays the leftmost
-pub leftmost_next : (answers : List Obeyed) (answer : Obeyed) → result_and (leftmost answers) answer ≡ leftmost (answers ++ answer ∷ [])
+pub leftmost_next : (answers : List Obeyed) (answer : Obeyed)
+    → result_and (leftmost answers) answer ≡ leftmost (answers ++ answer ∷ [])
 leftmost_next [] (Ok done) = refl
 leftmost_next [] (Err fault) = refl
 leftmost_next (Ok done ∷ answers) answer = leftmost_next answers answer

@@ -24,7 +24,8 @@ use Rattle.duct_running.specs.Stored.{Bytes, stored_latest, stored_word}
 use Rattle.duct_running.specs.Told.{OneRuns, SomeSays}
 
 -- a poll answers nothing yet where the outcome waits
-waits_for : (o : OutcomeView) (t : Endings) (reply : ReplyView) → AnswersOutcome o t reply → Gives reply (Ok None) → o ≡ waits
+waits_for : (o : OutcomeView) (t : Endings) (reply : ReplyView) → AnswersOutcome o t reply
+    → Gives reply (Ok None) → o ≡ waits
 waits_for waits t reply answers gives = refl
 waits_for (faults fault) t noted answers gives = absurd gives
 waits_for (faults fault) t unknown answers gives = absurd gives
@@ -42,12 +43,15 @@ waits_for (finished output error) t (failed text) answers gives = absurd gives
 waits_for (finished output error) t no_memory answers gives = absurd (cc)
 
 -- for something that runs, and else for a capture worker
-waits_where : (fault : Option Fault) (runs : Bool) (next : OutcomeView) → ended fault runs next ≡ waits → (runs ≡ true) ⊎ ((fault ≡ None) × (runs ≡ false) × (next ≡ waits))
+waits_where : (fault : Option Fault) (runs : Bool) (next : OutcomeView)
+    → ended fault runs next ≡ waits → (runs ≡ true) ⊎
+    ((fault ≡ None) × (runs ≡ false) × (next ≡ waits))
 waits_where (Some fault) runs next is = absurd (cc)
 waits_where None true next is = inl refl
 waits_where None false next is = inr (refl, refl, is)
 
-waits_for_bytes : (output error : Said (List ℕ)) → with_bytes output (λ out. with_bytes error (λ err. finished out err)) ≡ waits →
+waits_for_bytes : (output error : Said (List ℕ))
+    → with_bytes output (λ out. with_bytes error (λ err. finished out err)) ≡ waits →
     (output ≡ said.Running) ⊎ ((error ≡ said.Running) × ((bytes : List ℕ) × (output ≡ said.Done bytes)))
 waits_for_bytes said.Running error is = inl refl
 waits_for_bytes (said.Fault fault) error is = absurd (cc)
@@ -55,7 +59,8 @@ waits_for_bytes (said.Done bytes) said.Running is = inr (refl, (bytes, refl))
 waits_for_bytes (said.Done bytes) (said.Fault fault) is = absurd (cc)
 waits_for_bytes (said.Done bytes) (said.Done others) is = absurd (cc)
 
-some_runs-append : (xs ys : List (Said (Unit {0}))) → some_runs (xs ++ ys) ≡ true → (some_runs xs ≡ true) ⊎ (some_runs ys ≡ true)
+some_runs-append : (xs ys : List (Said (Unit {0}))) → some_runs (xs ++ ys) ≡ true
+    → (some_runs xs ≡ true) ⊎ (some_runs ys ≡ true)
 some_runs-append [] ys runs = inr runs
 some_runs-append (said.Running ∷ xs) ys runs = inl refl
 some_runs-append (said.Fault fault ∷ xs) ys runs = some_runs-append xs ys runs
@@ -70,13 +75,15 @@ there [] k low none = omega (arith, low)
 there (x ∷ xs) zero low none = cc
 there (x ∷ xs) (suc k) low none = there xs k (omega (arith, low)) none
 
-command_runs : (found : Option Word) → (found ≡ None → ⊥) → some_runs (command_said found ∷ []) ≡ true → found ≡ Some word.Running
+command_runs : (found : Option Word) → (found ≡ None → ⊥)
+    → some_runs (command_said found ∷ []) ≡ true → found ≡ Some word.Running
 command_runs None is runs = absurd (is refl)
 command_runs (Some (word.Ended status)) is runs = absurd (cc)
 command_runs (Some word.Running) is runs = refl
 command_runs (Some (word.Fault fault)) is runs = absurd (cc)
 
-input_runs : (found : Option (Said (Unit {0}))) → (found ≡ None → ⊥) → some_runs (input_said found ∷ []) ≡ true → found ≡ Some said.Running
+input_runs : (found : Option (Said (Unit {0}))) → (found ≡ None → ⊥)
+    → some_runs (input_said found ∷ []) ≡ true → found ≡ Some said.Running
 input_runs None is runs = absurd (is refl)
 input_runs (Some said.Running) is runs = refl
 input_runs (Some (said.Done value)) is runs = absurd (cc)
@@ -86,7 +93,8 @@ either : {A B C : Type 0} → A ⊎ B → (A → C) → (B → C) → C
 either (inl a) left right = left a
 either (inr b) left right = right b
 
-has_running : (t : ShapeView) (c i : ℕ) (commands : List Word) (inputs : List (Said (Unit {0}))) → c + command_count t ≤ length commands → i + input_count t ≤ length inputs →
+has_running : (t : ShapeView) (c i : ℕ) (commands : List Word) (inputs : List (Said (Unit {0})))
+    → c + command_count t ≤ length commands → i + input_count t ≤ length inputs →
     some_runs (in_tree_order t c i commands inputs) ≡ true → HasRunning commands inputs
 has_running (command texts) c i commands inputs many fed runs =
     inl (c, command_runs (slice_get commands c) (there commands c (omega (arith, many))) runs)
@@ -118,13 +126,15 @@ module _ (may : ℕ → Answer → Type 0) where
   abbrev word_in : ChildView → Word
   word_in child = stored_word child.ending child.last
 
-  running_answer : (answer : Answer) → stored_word (ending_after None answer) (Some answer) ≡ word.Running → answer ≡ Ok None
+  running_answer : (answer : Answer) → stored_word (ending_after None answer) (Some answer)
+      ≡ word.Running → answer ≡ Ok None
   running_answer (Ok (Some status)) is = absurd (cc)
   running_answer (Ok None) is = refl
   running_answer (Err fault) is = absurd (cc)
 
   -- a child whose word is Running after a poll said so
-  child_runs : (before after : ChildView) → AskedIfDue may before after → word_in after ≡ word.Running → may after.number (Ok None)
+  child_runs : (before after : ChildView) → AskedIfDue may before after
+      → word_in after ≡ word.Running → may after.number (Ok None)
   child_runs before after asked runs =
       elim before.ending as (λ e. before.ending ≡ e → MatchOption e ((answer : Answer) × PollsChild may before answer after) (λ status. after ≡ before) → may after.number (Ok None)) [
         | Some status ↦ (λ is same. absurd (let e : word_in after ≡ word.Ended status = ap (λ c. word_in c) same ∙ ap (λ e. stored_word e before.last) is in cc))
@@ -135,7 +145,8 @@ module _ (may : ℕ → Answer → Type 0) where
       ]
       refl asked
 
-  children_run : (befores afters : List ChildView) (k : ℕ) → AllAsked may befores afters → slice_get (map (λ c. word_in c) afters) k ≡ Some word.Running →
+  children_run : (befores afters : List ChildView) (k : ℕ) → AllAsked may befores afters
+      → slice_get (map (λ c. word_in c) afters) k ≡ Some word.Running →
       SomeSays may (Ok None) (map (λ (c : ChildView). c.number) afters)
   children_run [] [] k asked runs = absurd (cc)
   children_run [] (after ∷ afters) k asked runs = absurd asked
@@ -145,24 +156,30 @@ module _ (may : ℕ → Answer → Type 0) where
 
 module _ {T : Type 0} (may : ℕ → Said T → Type 0) (same : T → T → Type 0) (refusable : Type 0) where
   -- a worker that keeps Running after a poll said so
-  running_said : (before heard : Said T) → kept_after before heard ≡ said.Running → (before ≡ said.Running) × (heard ≡ said.Running)
+  running_said : (before heard : Said T) → kept_after before heard ≡ said.Running
+      → (before ≡ said.Running) × (heard ≡ said.Running)
   running_said said.Running heard is = (refl, is)
   running_said (said.Done value) heard is = absurd (cc)
   running_said (said.Fault fault) heard is = absurd (cc)
 
-  job_runs : (before after : JobView T) → IsPolled may same refusable before after → after.kept ≡ said.Running → may after.number said.Running
+  job_runs : (before after : JobView T) → IsPolled may same refusable before after
+      → after.kept ≡ said.Running → may after.number said.Running
   job_runs before after polled runs =
       let polls = polled.1 in
       let kept = running_said before.kept polled.0 (sym (ap (λ (j : JobView T). j.kept) polls.after_is) ∙ runs) in
       subst (λ n. may n said.Running) (sym (ap (λ (j : JobView T). j.number) polls.after_is)) (subst (λ h. may before.number h) kept.1 polls.told)
 
-  feed_runs : (kept : Said T) (before after : JobView T) → before.kept ≡ kept → WhileRuns kept (IsPolled may same refusable before after) (after ≡ before) → after.kept ≡ said.Running →
+  feed_runs : (kept : Said T) (before after : JobView T) → before.kept ≡ kept
+      → WhileRuns kept (IsPolled may same refusable before after) (after ≡ before)
+      → after.kept ≡ said.Running →
       may after.number said.Running
   feed_runs said.Running before after is polled runs = job_runs before after polled runs
   feed_runs (said.Done value) before after is left runs = absurd (let e : said.Running ≡ said.Done value = sym runs ∙ ap (λ (j : JobView T). j.kept) left ∙ is in cc)
   feed_runs (said.Fault fault) before after is left runs = absurd (let e : said.Running ≡ said.Fault fault = sym runs ∙ ap (λ (j : JobView T). j.kept) left ∙ is in cc)
 
-  feeds_run : (befores afters : List (JobView T)) (k : ℕ) → AllPolled may same refusable befores afters → slice_get (map (λ (j : JobView T). j.kept) afters) k ≡ Some said.Running →
+  feeds_run : (befores afters : List (JobView T)) (k : ℕ)
+      → AllPolled may same refusable befores afters
+      → slice_get (map (λ (j : JobView T). j.kept) afters) k ≡ Some said.Running →
       SomeSays may said.Running (map (λ (j : JobView T). j.number) afters)
   feeds_run [] [] k asked runs = absurd (cc)
   feeds_run [] (after ∷ afters) k asked runs = absurd asked
@@ -185,18 +202,24 @@ module _ (may : ℕ → Said Bytes → Type 0) (same : Bytes → Bytes → Type 
   bytes_in worker = option_map (λ (j : JobView Bytes). bytes_said j.kept) worker
 
   -- a capture worker that was polled, or that the outcome did not wait for, and of which it waits now, said so
-  drain_runs : (before after : Option (JobView Bytes)) → IsThereAndPolled may same refusable before after → captured (bytes_in after) ≡ said.Running → SomeSays may said.Running (numbers after)
+  drain_runs : (before after : Option (JobView Bytes))
+      → IsThereAndPolled may same refusable before after → captured (bytes_in after) ≡ said.Running
+      → SomeSays may said.Running (numbers after)
   drain_runs None after polled runs = absurd polled
   drain_runs (Some before) None polled runs = absurd polled
   drain_runs (Some before) (Some after) polled runs = says_here may said.Running after.number [] (job_runs may same refusable before after polled (no_bytes after.kept runs))
 
-  output_runs : (waited : Option Side) (before after : Option (JobView Bytes)) → PolledWhere may same refusable side.Out waited before after → (captured (bytes_in before) ≡ said.Running → waited ≡ Some side.Out) →
+  output_runs : (waited : Option Side) (before after : Option (JobView Bytes))
+      → PolledWhere may same refusable side.Out waited before after
+      → (captured (bytes_in before) ≡ said.Running → waited ≡ Some side.Out) →
       captured (bytes_in after) ≡ said.Running → SomeSays may said.Running (numbers after)
   output_runs (Some side.Out) before after polled wait runs = drain_runs before after polled runs
   output_runs (Some side.Err) before after left wait runs = absurd (let e : Some side.Err ≡ Some side.Out = wait (ap (λ o. captured (bytes_in o)) (sym left) ∙ runs) in cc)
   output_runs None before after left wait runs = absurd (let e : None ≡ Some side.Out = wait (ap (λ o. captured (bytes_in o)) (sym left) ∙ runs) in cc)
 
-  error_runs : (waited : Option Side) (before after : Option (JobView Bytes)) → PolledWhere may same refusable side.Err waited before after → (captured (bytes_in before) ≡ said.Running → waited ≡ Some side.Err) →
+  error_runs : (waited : Option Side) (before after : Option (JobView Bytes))
+      → PolledWhere may same refusable side.Err waited before after
+      → (captured (bytes_in before) ≡ said.Running → waited ≡ Some side.Err) →
       captured (bytes_in after) ≡ said.Running → SomeSays may said.Running (numbers after)
   error_runs (Some side.Err) before after polled wait runs = drain_runs before after polled runs
   error_runs (Some side.Out) before after left wait runs = absurd (let e : Some side.Out ≡ Some side.Err = wait (ap (λ o. captured (bytes_in o)) (sym left) ∙ runs) in cc)

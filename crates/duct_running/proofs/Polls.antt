@@ -16,33 +16,40 @@ abbrev pub said : ChildView → Word
 said child = stored_word child.ending child.last
 
 -- a child whose word is none of an ending has no ending
-pub no_ending : (ending : Option ExitStatus) (last : Option Answer) → is_word_due (Some (stored_word ending last)) ≡ true → ending ≡ None
+pub no_ending : (ending : Option ExitStatus) (last : Option Answer)
+    → is_word_due (Some (stored_word ending last)) ≡ true → ending ≡ None
 no_ending (Some status) last due = absurd (cc)
 no_ending None last due = refl
 
 -- a child whose word is an ending has that ending, and is not asked
-pub left_alone : (ending : Option ExitStatus) (last : Option Answer) (P Q : Type 0) → is_word_due (Some (stored_word ending last)) ≡ false → Q → MatchOption ending P (λ status. Q)
+pub left_alone : (ending : Option ExitStatus) (last : Option Answer) (P Q : Type 0)
+    → is_word_due (Some (stored_word ending last)) ≡ false → Q → MatchOption ending P (λ status. Q)
 left_alone (Some status) last P Q over q = q
 left_alone None (Some (Err fault)) P Q over q = absurd (cc)
 left_alone None (Some (Ok found)) P Q over q = absurd (cc)
 left_alone None None P Q over q = absurd (cc)
 
 -- the word of the first answer after which a child has its ending
-word_heard : (answer : Answer) → stored_word (ending_after None answer) (Some answer) ≡ word_of answer
+word_heard : (answer : Answer) → stored_word (ending_after None answer) (Some answer)
+    ≡ word_of answer
 word_heard (Ok (Some status)) = refl
 word_heard (Ok None) = refl
 word_heard (Err fault) = refl
 
-word_replaced : (last : Option Answer) (heard : Word) → word_after (stored_word None last) heard ≡ heard
+word_replaced : (last : Option Answer) (heard : Word)
+    → word_after (stored_word None last) heard ≡ heard
 word_replaced (Some (Err fault)) heard = refl
 word_replaced (Some (Ok found)) heard = refl
 word_replaced None heard = refl
 
-asked_once : (before after : ChildView) (may : ℕ → Answer → Type 0) (answer : Answer) → PollsChild may before answer after → before.ending ≡ None → AskedIfDue may before after
+asked_once : (before after : ChildView) (may : ℕ → Answer → Type 0) (answer : Answer)
+    → PollsChild may before answer after → before.ending ≡ None → AskedIfDue may before after
 asked_once before after may answer polls none =
     subst (λ ending. MatchOption ending ((answer : Answer) × PollsChild may before answer after) (λ status. after ≡ before)) (sym none) (answer, polls)
 
-word_changed : (before after : ChildView) (may : ℕ → Answer → Type 0) (answer : Answer) → PollsChild may before answer after → before.ending ≡ None → word_after (said before) (word_of answer) ≡ said after
+word_changed : (before after : ChildView) (may : ℕ → Answer → Type 0) (answer : Answer)
+    → PollsChild may before answer after → before.ending ≡ None
+    → word_after (said before) (word_of answer) ≡ said after
 word_changed before after may answer polls none =
     ap (λ e. word_after (stored_word e before.last) (word_of answer)) none ∙ word_replaced before.last (word_of answer) ∙ sym (word_heard answer)
     ∙ sym (ap (λ (c : ChildView). said c) polls.after_is ∙ ap (λ e. stored_word (ending_after e answer) (Some answer)) none)
@@ -51,18 +58,21 @@ module _ {C : Type 0} (view : C → ChildView) where
   abbrev pub words : List C → List Word
   words children = map said (map view children)
 
-  pub within : (items children : List C) (at : ℕ) → items ≡ children → at < length children → at < length items
+  pub within : (items children : List C) (at : ℕ) → items ≡ children → at < length children
+      → at < length items
   within items children at same low = subst (λ (cs : List C). at < length cs) (sym same) low
 
   -- another child in the place of one that is the same in this
-  pub same_at : {X : Type 0} (part : ChildView → X) (children : List C) (at : ℕ) (before after : C) → at < length children → before ≡ get_or children at before →
+  pub same_at : {X : Type 0} (part : ChildView → X) (children : List C) (at : ℕ) (before after : C)
+      → at < length children → before ≡ get_or children at before →
       part (view after) ≡ part (view before) → map part (map view (set children at after)) ≡ map part (map view children)
   same_at part [] at before after low is same = absurd (omega arith)
   same_at part (child ∷ children) zero before after low is same = ap (λ w. w ∷ map part (map view children)) (same ∙ ap (λ c. part (view c)) is)
   same_at part (child ∷ children) (suc at) before after low is same = ap (λ ws. part (view child) ∷ ws) (same_at part children at before after (omega arith) is same)
 
   -- the ids of the children that are held stay, where another comes in the place of one with the same id
-  pub named_in : (items children : List C) (at : ℕ) (before after : C) (ids : List ℕ) → items ≡ children → at < length children → before ≡ get_or items at before →
+  pub named_in : (items children : List C) (at : ℕ) (before after : C) (ids : List ℕ)
+      → items ≡ children → at < length children → before ≡ get_or items at before →
       (view after).process ≡ (view before).process → ids ≡ map (λ c. c.process) (map view items) → ids ≡ map (λ c. c.process) (map view (set items at after))
   named_in items children at before after ids same low is kept named = named ∙ sym (same_at (λ c. c.process) items at before after (within items children at same low) is kept)
 
@@ -75,7 +85,8 @@ module _ {C : Type 0} (view : C → ChildView) where
     left_at left (child ∷ children) (suc at) low over = (refl, left_at left children at (omega arith) over)
 
     -- another is changed
-    pub changed_at : (children : List C) (at : ℕ) (before after : C) → at < length children → before ≡ get_or children at before → is_word_due (slice_get (words children) at) ≡ true →
+    pub changed_at : (children : List C) (at : ℕ) (before after : C) → at < length children
+        → before ≡ get_or children at before → is_word_due (slice_get (words children) at) ≡ true →
         (is_word_due (Some (said (view before))) ≡ true → changes (view before) (view after)) → ChangedAt changes at (map view children) (map view (set children at after))
     changed_at [] at before after low is due change = absurd (omega arith)
     changed_at (child ∷ children) zero before after low is due change =
@@ -83,16 +94,20 @@ module _ {C : Type 0} (view : C → ChildView) where
     changed_at (child ∷ children) (suc at) before after low is due change = (refl, changed_at children at before after (omega arith) is due change)
 
 module _ {C : Type 0} (view : C → ChildView) (may : ℕ → Answer → Type 0) where
-  not_asked : (children : List C) (at : ℕ) → at < length children → is_word_due (slice_get (words view children) at) ≡ false → ChangedAt (AskedIfDue may) at (map view children) (map view children)
+  not_asked : (children : List C) (at : ℕ) → at < length children
+      → is_word_due (slice_get (words view children) at) ≡ false
+      → ChangedAt (AskedIfDue may) at (map view children) (map view children)
   not_asked = left_at view (AskedIfDue may) (λ child over. left_alone child.ending child.last _ _ over refl)
 
-  asked : (children : List C) (at : ℕ) (before after : C) (answer : Answer) → at < length children → before ≡ get_or children at before →
+  asked : (children : List C) (at : ℕ) (before after : C) (answer : Answer) → at < length children
+      → before ≡ get_or children at before →
       PollsChild may (view before) answer (view after) → is_word_due (slice_get (words view children) at) ≡ true → ChangedAt (AskedIfDue may) at (map view children) (map view (set children at after))
   asked children at before after answer low is polls due =
       changed_at view (AskedIfDue may) children at before after low is due
       (λ alive. asked_once (view before) (view after) may answer polls (no_ending (view before).ending (view before).last alive))
 
-  words_changed : (children : List C) (at : ℕ) (before after : C) (answer : Answer) → at < length children → before ≡ get_or children at before →
+  words_changed : (children : List C) (at : ℕ) (before after : C) (answer : Answer)
+      → at < length children → before ≡ get_or children at before →
       PollsChild may (view before) answer (view after) → is_word_due (slice_get (words view children) at) ≡ true →
       change_at (λ old. word_after old (word_of answer)) at (words view children) ≡ words view (set children at after)
   words_changed [] at before after answer low is polls due = absurd (omega arith)
@@ -112,7 +127,8 @@ module _ {C : Type 0} (view : C → ChildView) (may : ℕ → Answer → Type 0)
     not_asked_in items children at kept same is low over =
         not_asked children at low (ap (λ cs. is_word_due (slice_get (words view cs) at)) (sym same) ∙ ap (λ (w : Latest). is_due w at) (sym is) ∙ over)
 
-    due_in : (items : List C) (at : ℕ) (kept : Latest) → kept ≡ stored items → is_due kept at ≡ true → is_word_due (slice_get (words view items) at) ≡ true
+    due_in : (items : List C) (at : ℕ) (kept : Latest) → kept ≡ stored items
+        → is_due kept at ≡ true → is_word_due (slice_get (words view items) at) ≡ true
     due_in items at kept is due = ap (λ (w : Latest). is_due w at) (sym is) ∙ due
 
     pub asked_in : (items children : List C) (at : ℕ) (before after : C) (answer : Answer)

@@ -20,7 +20,8 @@ silent : (child : ChildView) → IsUnasked child → stored_word child.ending ch
 silent child unasked = ap (λ (e : Option ExitStatus). stored_word e child.last) unasked.alive ∙ ap (λ (l : Option Answer). stored_word None l) unasked.silent
 
 module _ {C F D : Type 0} (child : C → ChildView) (feed : F → JobView (Unit {0})) (drain : D → JobView Bytes) where
-  commands : (children : List C) (from count : ℕ) → length children ≡ count → All (λ c. IsUnasked (child c)) children →
+  commands : (children : List C) (from count : ℕ) → length children ≡ count
+      → All (λ c. IsUnasked (child c)) children →
       map (λ k. word.Running) (range_with_len from count) ≡ map (λ c. stored_word c.ending c.last) (map child children)
   commands [] from zero many unasked = refl
   commands [] from (suc count) many unasked = absurd (cc)
@@ -29,7 +30,8 @@ module _ {C F D : Type 0} (child : C → ChildView) (feed : F → JobView (Unit 
       ap (λ ws. word.Running ∷ ws) (commands children (from + 1) count (omega arith) (All-tail (λ c. IsUnasked (child c)) c children unasked))
       ∙ ap (λ (w : Word). w ∷ map (λ c. stored_word c.ending c.last) (map child children)) (sym (silent (child c) (All-head (λ c. IsUnasked (child c)) c children unasked)))
 
-  inputs : (feeds : List F) (from count : ℕ) → length feeds ≡ count → All (λ f. feed f ≡ unpolled_job (feed f).number) feeds →
+  inputs : (feeds : List F) (from count : ℕ) → length feeds ≡ count
+      → All (λ f. feed f ≡ unpolled_job (feed f).number) feeds →
       map (λ k. said.Running) (range_with_len from count) ≡ map (λ f. f.kept) (map feed feeds)
   inputs [] from zero many unpolled = refl
   inputs [] from (suc count) many unpolled = absurd (cc)
@@ -38,7 +40,8 @@ module _ {C F D : Type 0} (child : C → ChildView) (feed : F → JobView (Unit 
       ap (λ ws. said.Running ∷ ws) (inputs feeds (from + 1) count (omega arith) (All-tail (λ f. feed f ≡ unpolled_job (feed f).number) f feeds unpolled))
       ∙ ap (λ (j : JobView (Unit {0})). j.kept ∷ map (λ f. f.kept) (map feed feeds)) (sym (All-head (λ f. feed f ≡ unpolled_job (feed f).number) f feeds unpolled))
 
-  capture : (worker : Option D) → All (λ d. drain d ≡ unpolled_job (drain d).number) (option_to_list worker) →
+  capture : (worker : Option D) → All (λ d. drain d ≡ unpolled_job (drain d).number)
+      (option_to_list worker) →
       (if is_some worker then Some said.Running else None) ≡ option_map (λ d. bytes_said d.kept) (option_map drain worker)
   capture None unpolled = refl
   capture (Some worker) unpolled = ap (λ (j : JobView Bytes). Some (bytes_said j.kept)) (sym (All-head (λ d. drain d ≡ unpolled_job (drain d).number) worker [] unpolled))

@@ -17,7 +17,8 @@ target_not_given Null is = cc
 target_not_given (Place place) is = cc
 
 -- a stream that goes to a target
-with_port_gives_nothing : (stream : Stream) (to : Target) (spec : SpecView) → GivesNothing spec (with_port stream (port_to to) spec)
+with_port_gives_nothing : (stream : Stream) (to : Target) (spec : SpecView)
+    → GivesNothing spec (with_port stream (port_to to) spec)
 with_port_gives_nothing In to spec In is = absurd (target_not_given to is)
 with_port_gives_nothing In to spec Out is = is
 with_port_gives_nothing In to spec Err is = is
@@ -29,13 +30,15 @@ with_port_gives_nothing Err to spec Out is = is
 with_port_gives_nothing Err to spec Err is = absurd (target_not_given to is)
 
 -- the streams of two specs are the same
-same_ports : (before after : SpecView) → after.input ≡ before.input → after.output ≡ before.output → after.error ≡ before.error → GivesNothing before after
+same_ports : (before after : SpecView) → after.input ≡ before.input → after.output ≡ before.output
+    → after.error ≡ before.error → GivesNothing before after
 same_ports before after input output error In is = cc
 same_ports before after input output error Out is = cc
 same_ports before after input output error Err is = cc
 
 -- one change
-change_gives_nothing : (change : Change) (spec : SpecView) → GivesNothing spec (changed_by change spec)
+change_gives_nothing : (change : Change) (spec : SpecView)
+    → GivesNothing spec (changed_by change spec)
 change_gives_nothing (Word word) spec = same_ports spec (changed_by (Word word) spec) refl refl refl
 change_gives_nothing (Var name value) spec = same_ports spec (changed_by (Var name value) spec) refl refl refl
 change_gives_nothing (NoVar name) spec = same_ports spec (changed_by (NoVar name) spec) refl refl refl

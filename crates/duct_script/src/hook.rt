@@ -23,7 +23,7 @@ pub enum Target {
 }
 
 /// One change of a spec.
-#[derive(Drop)]
+#[derive(Debug, PartialEq, Eq, Drop)]
 pub enum Change {
     /// Adds an argument at the end.
     Word(String),
@@ -40,7 +40,7 @@ pub enum Change {
 }
 
 /// What a hook answers in the end.
-#[derive(Drop)]
+#[derive(Debug, PartialEq, Eq, Drop)]
 pub enum HookAnswer {
     /// It lets the child be started.
     Obey,

@@ -32,7 +32,8 @@ pub some_place : (o : Option ℕ) → is_some o ≡ true → o ≡ Some (unwrap_
 some_place None is = absurd (cc)
 some_place (Some place) is = refl
 
-pair_reads : (L : List EntryView) (o : Option ℕ) (r w : ℕ) → IsPair L o (Some (r, w)) → origin L r ≡ Opened (end_at (trace L) (unwrap_or o 0) 0)
+pair_reads : (L : List EntryView) (o : Option ℕ) (r w : ℕ) → IsPair L o (Some (r, w))
+    → origin L r ≡ Opened (end_at (trace L) (unwrap_or o 0) 0)
 pair_reads L None r w is = absurd is
 pair_reads L (Some place) r w is = is.0
 
@@ -54,13 +55,15 @@ module _ {E H : Type 0} (allows : Allows H) (number_of : E → ℕ) where
       ap (λ (o : Option ℕ). record { stack = st.stack; plan = if is_some o then st.plan else record { items = st.plan.items ++ AskPipe ∷ []; out = Some (length st.plan.items); err = st.plan.err } }) (sym open') in
       subst (λ (s : State E H). Stands allows number_of course s now held) same stands
 
-  shut_out : (course : Course) (st : State E H) (now : JournalView) (held : Holdings) → held.out ≡ None → Stands allows number_of course st now held → st.plan.out ≡ None
+  shut_out : (course : Course) (st : State E H) (now : JournalView) (held : Holdings)
+      → held.out ≡ None → Stands allows number_of course st now held → st.plan.out ≡ None
   shut_out course st now held is stands = none_place st.plan.out (sym stands.shaped.out ∙ ap (λ o. is_some o) is)
 
   abbrev opened_out : State E H → State E H
   opened_out st = record { stack = st.stack; plan = record { items = st.plan.items ++ AskPipe ∷ []; out = Some (length st.plan.items); err = st.plan.err } }
 
-  opens_out : (st : State E H) → st.plan.out ≡ None → opened_out st ≡ advance st (action.capture side.Out)
+  opens_out : (st : State E H) → st.plan.out ≡ None
+      → opened_out st ≡ advance st (action.capture side.Out)
   opens_out st shut = ap (λ (o : Option ℕ). record { stack = st.stack; plan = if is_some o then st.plan else record { items = st.plan.items ++ AskPipe ∷ []; out = Some (length st.plan.items); err = st.plan.err } }) (sym shut)
 
   pub capture_out_goes : (r w : ℕ) (now next : JournalView) (held : Holdings) → held.out ≡ None
@@ -115,7 +118,9 @@ module _ {E H : Type 0} (allows : Allows H) (number_of : E → ℕ) where
   abbrev pub mid_out : State E H → State E H
   mid_out st = record { stack = ReaderAt (unwrap_or st.plan.out 0) ∷ st.stack; plan = record { items = st.plan.items; out = None; err = st.plan.err } }
 
-  pub closes_out : (course : Course) (st : State E H) (r w : ℕ) (now next : JournalView) (held : Holdings) → held.out ≡ Some (r, w) → GivesEnds (Close w) 1 now next → length st.stack ≤ course.bound →
+  pub closes_out : (course : Course) (st : State E H) (r w : ℕ) (now next : JournalView)
+      (held : Holdings) → held.out ≡ Some (r, w) → GivesEnds (Close w) 1 now next
+      → length st.stack ≤ course.bound →
       Stands allows number_of course st now held → Stands allows number_of course (mid_out st) next (without_out (r ∷ []) held)
   closes_out course st r w now next held is gives low stands =
       let kept = without_out (r ∷ []) held in
@@ -132,7 +137,8 @@ module _ {E H : Type 0} (allows : Allows H) (number_of : E → ℕ) where
       let top = ap Some (pair_reads L st.plan.out r w (subst (λ o. IsPair L st.plan.out o) is z.out)) in
       record { stack = cons_eq _ _ _ _ top z.stack; out = tt; err = z.err })
 
-  after_out : (course : Course) (st : State E H) (r w : ℕ) (now : JournalView) (held : Holdings) → held.out ≡ Some (r, w) → (stands : Stands allows number_of course st now held) →
+  after_out : (course : Course) (st : State E H) (r w : ℕ) (now : JournalView) (held : Holdings)
+      → held.out ≡ Some (r, w) → (stands : Stands allows number_of course st now held) →
       record { stack = st.stack; plan = record { items = st.plan.items ++ AskDrain (unwrap_or st.plan.out 0) ∷ []; out = None; err = st.plan.err } } ≡ advance st (action.finish side.Out)
   after_out course st r w now held is stands =
       let open' = some_place st.plan.out (sym stands.shaped.out ∙ ap (λ o. is_some o) is) in
@@ -188,13 +194,15 @@ module _ {E H : Type 0} (allows : Allows H) (number_of : E → ℕ) where
       ap (λ (o : Option ℕ). record { stack = st.stack; plan = if is_some o then st.plan else record { items = st.plan.items ++ AskPipe ∷ []; out = st.plan.out; err = Some (length st.plan.items) } }) (sym open') in
       subst (λ (s : State E H). Stands allows number_of course s now held) same stands
 
-  shut_err : (course : Course) (st : State E H) (now : JournalView) (held : Holdings) → held.err ≡ None → Stands allows number_of course st now held → st.plan.err ≡ None
+  shut_err : (course : Course) (st : State E H) (now : JournalView) (held : Holdings)
+      → held.err ≡ None → Stands allows number_of course st now held → st.plan.err ≡ None
   shut_err course st now held is stands = none_place st.plan.err (sym stands.shaped.err ∙ ap (λ o. is_some o) is)
 
   abbrev opened_err : State E H → State E H
   opened_err st = record { stack = st.stack; plan = record { items = st.plan.items ++ AskPipe ∷ []; out = st.plan.out; err = Some (length st.plan.items) } }
 
-  opens_err : (st : State E H) → st.plan.err ≡ None → opened_err st ≡ advance st (action.capture side.Err)
+  opens_err : (st : State E H) → st.plan.err ≡ None
+      → opened_err st ≡ advance st (action.capture side.Err)
   opens_err st shut = ap (λ (o : Option ℕ). record { stack = st.stack; plan = if is_some o then st.plan else record { items = st.plan.items ++ AskPipe ∷ []; out = st.plan.out; err = Some (length st.plan.items) } }) (sym shut)
 
   pub capture_err_goes : (r w : ℕ) (now next : JournalView) (held : Holdings) → held.err ≡ None
@@ -249,7 +257,9 @@ module _ {E H : Type 0} (allows : Allows H) (number_of : E → ℕ) where
   abbrev mid_err : State E H → State E H
   mid_err st = record { stack = ReaderAt (unwrap_or st.plan.err 0) ∷ st.stack; plan = record { items = st.plan.items; out = st.plan.out; err = None } }
 
-  closes_err : (course : Course) (st : State E H) (r w : ℕ) (now next : JournalView) (held : Holdings) → held.err ≡ Some (r, w) → GivesEnds (Close w) 1 now next → length st.stack ≤ course.bound →
+  closes_err : (course : Course) (st : State E H) (r w : ℕ) (now next : JournalView)
+      (held : Holdings) → held.err ≡ Some (r, w) → GivesEnds (Close w) 1 now next
+      → length st.stack ≤ course.bound →
       Stands allows number_of course st now held → Stands allows number_of course (mid_err st) next (without_err (r ∷ []) held)
   closes_err course st r w now next held is gives low stands =
       let kept = without_err (r ∷ []) held in
@@ -266,7 +276,8 @@ module _ {E H : Type 0} (allows : Allows H) (number_of : E → ℕ) where
       let top = ap Some (pair_reads L st.plan.err r w (subst (λ o. IsPair L st.plan.err o) is z.err)) in
       record { stack = cons_eq _ _ _ _ top z.stack; out = z.out; err = tt })
 
-  after_err : (course : Course) (st : State E H) (r w : ℕ) (now : JournalView) (held : Holdings) → held.err ≡ Some (r, w) → (stands : Stands allows number_of course st now held) →
+  after_err : (course : Course) (st : State E H) (r w : ℕ) (now : JournalView) (held : Holdings)
+      → held.err ≡ Some (r, w) → (stands : Stands allows number_of course st now held) →
       record { stack = st.stack; plan = record { items = st.plan.items ++ AskDrain (unwrap_or st.plan.err 0) ∷ []; out = st.plan.out; err = None } } ≡ advance st (action.finish side.Err)
   after_err course st r w now held is stands =
       let open' = some_place st.plan.err (sym stands.shaped.err ∙ ap (λ o. is_some o) is) in

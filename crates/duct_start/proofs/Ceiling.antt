@@ -8,7 +8,8 @@ use Rattle.duct_start.specs.Start.{AreEarlier, ceiling, least_above, ends_in}
 use Rattle.duct_start.specs.TreeView.{TreeView}
 
 module _ {E : Type 0} (number_of : E → ℕ) where
-  all_wider : (low high : ℕ) (ends : List E) → low ≤ high → All (λ end. number_of end < low) ends → All (λ end. number_of end < high) ends
+  all_wider : (low high : ℕ) (ends : List E) → low ≤ high → All (λ end. number_of end < low) ends
+      → All (λ end. number_of end < high) ends
   all_wider low high [] le all = All-nil (λ end. number_of end < high)
   all_wider low high (end ∷ ends) le all =
       let first : number_of end < high = omega (arith, le, All-head (λ end. number_of end < low) end ends all) in
@@ -20,7 +21,8 @@ module _ {E : Type 0} (number_of : E → ℕ) where
       let most = max (number_of end + 1) (least_above number_of ends) in
       All-cons (λ end. number_of end < most) end ends (omega arith) (all_wider (least_above number_of ends) most ends (omega arith) (all_below ends))
 
-  least_least : (most : ℕ) (ends : List E) → All (λ end. number_of end < most) ends → least_above number_of ends ≤ most
+  least_least : (most : ℕ) (ends : List E) → All (λ end. number_of end < most) ends
+      → least_above number_of ends ≤ most
   least_least most [] all = omega arith
   least_least most (end ∷ ends) all =
       omega (arith, All-head (λ end. number_of end < most) end ends all, least_least most ends (All-tail (λ end. number_of end < most) end ends all))

@@ -36,13 +36,15 @@ module _ {O P : Type 0} (f : O → P) where
   place_as None = refl
   place_as (Some x) = refl
 
-  settled_as : (ends : List O) (p : Port) (stream : Stdio O) → stream_of f (settled ends p stream) ≡ settled (map f ends) p (stream_of f stream)
+  settled_as : (ends : List O) (p : Port) (stream : Stdio O)
+      → stream_of f (settled ends p stream) ≡ settled (map f ends) p (stream_of f stream)
   settled_as ends port.Inherit stream = refl
   settled_as ends port.Null stream = refl
   settled_as ends port.Given stream = refl
   settled_as ends (port.Place place) stream = sym (ap end_of_place (slice_get-map f ends place) ∙ place_as (slice_get ends place))
 
-  settle_as : (ends : List O) (made : SpecView) (before : WiredTo O) → wired_as (settle ends made before) ≡ settle (map f ends) made (wired_as before)
+  settle_as : (ends : List O) (made : SpecView) (before : WiredTo O)
+      → wired_as (settle ends made before) ≡ settle (map f ends) made (wired_as before)
   settle_as ends made before = λ i. record {
     spec = (settle ends made before).spec;
     input = settled_as ends made.input before.input i;
@@ -51,7 +53,9 @@ module _ {O P : Type 0} (f : O → P) where
   }
 
   module _ {H : Type 0} (allows : Allows H) where
-    changes_as : (hook : H) (ends : List O) (before after : WiredTo O) → Changes allows hook ends before after → Changes allows hook (map f ends) (wired_as before) (wired_as after)
+    changes_as : (hook : H) (ends : List O) (before after : WiredTo O)
+        → Changes allows hook ends before after
+        → Changes allows hook (map f ends) (wired_as before) (wired_as after)
     changes_as hook ends before after changes =
         (changes.0, changes.1, ap (λ n. missing n changes.0) (length-map ends f) ∙ changes.2, ap wired_as changes.3 ∙ settle_as ends changes.0 before)
 
@@ -61,7 +65,9 @@ module _ {O P : Type 0} (f : O → P) where
     chain_as [] before after chain = ap wired_as chain
     chain_as (hook ∷ hooks) before after chain = (wired_as chain.0, changes_as hook.0 hook.1 before chain.0 chain.1, chain_as hooks chain.0 after chain.2)
 
-    stops_as : (refuses : Refuses H) (hook : H) (ends : List O) (before : WiredTo O) (e : Error) → Stops allows refuses hook ends before e → Stops allows refuses hook (map f ends) (wired_as before) e
+    stops_as : (refuses : Refuses H) (hook : H) (ends : List O) (before : WiredTo O) (e : Error)
+        → Stops allows refuses hook ends before e
+        → Stops allows refuses hook (map f ends) (wired_as before) e
     stops_as refuses hook ends before (error.Hook fault) stops = stops
     stops_as refuses hook ends before (error.HookEnd place) stops = (stops.0, stops.1, ap (λ n. missing n stops.0) (length-map ends f) ∙ stops.2)
     stops_as refuses hook ends before e stops = absurd stops
@@ -74,7 +80,8 @@ module _ {O P : Type 0} (f : O → P) where
     chain_stops_as refuses (hook ∷ hooks) before e (inr rest) = inr (wired_as rest.0, changes_as hook.0 hook.1 before rest.0 rest.1, chain_stops_as refuses hooks rest.0 e rest.2)
 
 -- the ends beside hooks are lent ones
-lent_ends : {E : Type 0} (entries : List EntryView) (number_of : E → ℕ) (ends : List E) → map (origin_of entries number_of) (map Lends ends) ≡ map (λ end. Lent (number_of end)) ends
+lent_ends : {E : Type 0} (entries : List EntryView) (number_of : E → ℕ) (ends : List E)
+    → map (origin_of entries number_of) (map Lends ends) ≡ map (λ end. Lent (number_of end)) ends
 lent_ends entries number_of [] = refl
 lent_ends entries number_of (end ∷ ends) = ap (λ l. Lent (number_of end) ∷ l) (lent_ends entries number_of ends)
 

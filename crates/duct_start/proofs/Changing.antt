@@ -128,7 +128,8 @@ module _ {H O : Type 0} (allows : Allows H) where
   stops_front refuses (x ∷ hooks) more before error (inl stops) = inl stops
   stops_front refuses (x ∷ hooks) more before error (inr rest) = inr (rest.0, rest.1, stops_front refuses hooks more rest.0 error rest.2)
 
-lends-append : {E H : Type 0} (hooks more : List (H × List E)) → lends (hooks ++ more) ≡ lends hooks ++ lends more
+lends-append : {E H : Type 0} (hooks more : List (H × List E))
+    → lends (hooks ++ more) ≡ lends hooks ++ lends more
 lends-append hooks more = map-append (λ hook. (hook.0, map Lends hook.1)) hooks more
 
 module _ {E H : Type 0} (allows : Allows H) (number_of : E → ℕ) (course : Course) (state : State E H) (held : Holdings) (before : WiredTo (Target E)) (hooks : List (H × List E)) (hook : H)
@@ -239,7 +240,8 @@ module _ {E H : Type 0} (allows : Allows H) (refuses : Refuses H) (number_of : E
       subst (λ l. Staged allows number_of course state held before l now spec s) (sym (append-nil hooks)) staged
 
   module _ (first more : List (H × List E)) (one then : JournalView) (between : SpecView) (t : Three (Stdio ℕ)) where
-    front_below : (base : ℕ) → AreBelow number_of base (first ++ more) → AreBelow number_of base first
+    front_below : (base : ℕ) → AreBelow number_of base (first ++ more)
+        → AreBelow number_of base first
     front_below base all = all_front (λ pair. All (λ end. number_of end < base) pair.1) first more all
 
     back_below : (base : ℕ) → AreBelow number_of base (first ++ more) → AreBelow number_of base more
@@ -259,7 +261,9 @@ module _ {E H : Type 0} (allows : Allows H) (refuses : Refuses H) (number_of : E
     breaks_first error a = λ course state held before hooks low below staged.
         further course state held before hooks one t error (a course state held before hooks low (front_below course.base below) staged)
       where
-        further : (course : Course) (state : State E H) (held : Holdings) (before : WiredTo (Target E)) (hooks : List (H × List E)) (one : JournalView) (t : Three (Stdio ℕ)) (error : Error) →
+        further : (course : Course) (state : State E H) (held : Holdings)
+            (before : WiredTo (Target E)) (hooks : List (H × List E)) (one : JournalView)
+            (t : Three (Stdio ℕ)) (error : Error) →
             Halts allows refuses number_of course state held before (hooks ++ first) one t error → Halts allows refuses number_of course state held before (hooks ++ (first ++ more)) one t error
         further course state held before hooks one t error (inl plain) = inl plain
         further course state held before hooks one t error (inr hooked) = inr (record {

@@ -105,7 +105,8 @@ some_is one other e = cc
 no_fault : (o : Option Fault) (fault : Fault) → o ≡ None → o ≡ Some fault → ⊥
 no_fault o fault none some = cc
 
-clean_asked : (added : List EntryView) (index : ℕ) → IsClean added → option_and_then fault_of (slice_get (asked_in added) index) ≡ None
+clean_asked : (added : List EntryView) (index : ℕ) → IsClean added
+    → option_and_then fault_of (slice_get (asked_in added) index) ≡ None
 clean_asked [] index clean = refl
 clean_asked (Close number ∷ added) index clean = clean_asked added index clean.1
 clean_asked (Environment answer ∷ added) zero clean = clean.0
@@ -131,7 +132,8 @@ clean_asked (Drain end answer ∷ added) (suc index) clean = clean_asked added i
 clean_asked (Reader end ∷ added) zero clean = clean.0
 clean_asked (Reader end ∷ added) (suc index) clean = clean_asked added index clean.1
 
-no_close : (entry : EntryView) (fault : Fault) → fault_of entry ≡ Some fault → is_close entry ≡ false
+no_close : (entry : EntryView) (fault : Fault) → fault_of entry ≡ Some fault
+    → is_close entry ≡ false
 no_close (Close number) fault is = absurd (cc)
 no_close (Environment answer) fault is = refl
 no_close (Pipe answer) fault is = refl
@@ -145,11 +147,13 @@ no_close (Feed end bytes answer) fault is = refl
 no_close (Drain end answer) fault is = refl
 no_close (Reader end) fault is = refl
 
-last_of : (front : List EntryView) (entry : EntryView) → slice_get (front ++ entry ∷ []) (length front) ≡ Some entry
+last_of : (front : List EntryView) (entry : EntryView)
+    → slice_get (front ++ entry ∷ []) (length front) ≡ Some entry
 last_of [] entry = refl
 last_of (x ∷ front) entry = last_of front entry
 
-last_is : (front : List EntryView) (entry : EntryView) (fault : Fault) → fault_of entry ≡ Some fault → last_fault (front ++ entry ∷ []) ≡ Some fault
+last_is : (front : List EntryView) (entry : EntryView) (fault : Fault)
+    → fault_of entry ≡ Some fault → last_fault (front ++ entry ∷ []) ≡ Some fault
 last_is front entry fault is =
     let test = λ (e : EntryView). not (is_close e) in
     let one : asked_in (entry ∷ []) ≡ entry ∷ [] = rw (no_close entry fault is) refl in
@@ -159,7 +163,8 @@ last_is front entry fault is =
     ∙ ap (λ (k : ℕ). option_and_then fault_of (slice_get (asked_in front ++ entry ∷ []) k)) index
     ∙ ap (λ (o : Option EntryView). option_and_then fault_of o) (last_of (asked_in front) entry) ∙ is
 
-ended_answers : (added : List EntryView) (error : Error) → Ended added error → AnswersLastFault added error
+ended_answers : (added : List EntryView) (error : Error) → Ended added error
+    → AnswersLastFault added error
 ended_answers added error (unasked clean un) = λ fault is. absurd (no_fault (last_fault added) fault (clean_asked added (length (asked_in added) - 1) clean) is)
 ended_answers added error (hooked clean hooks) = λ fault is. absurd (no_fault (last_fault added) fault (clean_asked added (length (asked_in added) - 1) clean) is)
 ended_answers added error (refused front entry fault clean is) = λ other last. ap System (some_is fault other (sym (last_is front entry fault is) ∙ last))
@@ -189,13 +194,15 @@ module _ {E H : Type 0} (allows : Allows H) (refuses : Refuses H) (number_of : E
   cause_hooked Deadline is cause = absurd is
   cause_hooked Memory is cause = absurd is
 
-  cause_ended : (added : List EntryView) (error : Error) → Ended added error → last_fault entries ≡ last_fault added
+  cause_ended : (added : List EntryView) (error : Error) → Ended added error
+      → last_fault entries ≡ last_fault added
       → (IsHooks error → StoppedBy allows refuses number_of (trace entries) (length (trace entries)) (slice_get plan.items (length (trace entries))) error) → Caused error
   cause_ended added error (unasked clean un) same cause = cause_unasked error un
   cause_ended added error (hooked clean is) same cause = cause_hooked error is cause
   cause_ended added error (refused front entry fault clean is) same cause = inr (same ∙ last_is front entry fault is)
 
-may_answer : (entries added : List EntryView) (error : Error) → Ended added error → last_fault entries ≡ last_fault added → MayAnswer entries error
+may_answer : (entries added : List EntryView) (error : Error) → Ended added error
+    → last_fault entries ≡ last_fault added → MayAnswer entries error
 may_answer entries added error (unasked clean un) same = by error un
   where
     by : (error : Error) → IsUnasked error → MayAnswer entries error
@@ -247,7 +254,8 @@ module _ {E H : Type 0} (allows : Allows H) (refuses : Refuses H) (number_of : E
     stops = ended_stops first error numbers run.stopped.ended;
   }
 
-  all_caused : AreEarlier number_of course.old tree → HasCause allows refuses number_of plan all error
+  all_caused : AreEarlier number_of course.old tree
+      → HasCause allows refuses number_of plan all error
   all_caused earlier = cause_ended allows refuses number_of plan all first error run.stopped.ended (closed_fault first numbers)
       (λ is.
       subst (λ (l : List (Item E H)). StoppedBy allows refuses number_of (trace all) (length (trace all)) (slice_get l (length (trace all))) error) (sym items_are)

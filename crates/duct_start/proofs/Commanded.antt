@@ -17,7 +17,8 @@ items_of found words = items_if (is_canonical found words) found words
 abbrev pub with_items : {E H : Type 0} → List (Item E H) → Plan E H → Plan E H
 with_items items plan = record { items = plan.items ++ items; out = plan.out; err = plan.err }
 
-commanded_if : {E H : Type 0} (b : Bool) (found : Found E H) (words : List (List ℕ)) (plan : Plan E H) →
+commanded_if : {E H : Type 0} (b : Bool) (found : Found E H) (words : List (List ℕ))
+    (plan : Plan E H) →
     asks (AskSpawn found words) (if b then asks (AskCanonicalize (program_of words)) plan else plan) ≡ with_items (items_if b found words) plan
 commanded_if true found words plan =
     λ i. record { items = append_assoc plan.items (AskCanonicalize (program_of words) ∷ []) (AskSpawn found words ∷ []) i; out = plan.out; err = plan.err }

@@ -54,12 +54,16 @@ module _ {E H : Type 0} (allows : Allows H) (number_of : E → ℕ) (scope : Sco
   names_none now is = λ course state held stands.
       none course state held stands (named scope words state) (sym (named_as false is state)) (is_named scope words) is
     where
-      none : (course : Course) (state : State E H) (held : Holdings) → Stands allows number_of course state now held → (other : State E H) → state ≡ other → (b : Bool) → b ≡ false →
+      none : (course : Course) (state : State E H) (held : Holdings)
+          → Stands allows number_of course state now held → (other : State E H) → state ≡ other
+          → (b : Bool) → b ≡ false →
           (stands : Stands allows number_of course other now held) × (program_in b (trace stands.added) words ≡ program_of words)
       none course state held stands other same true is = absurd (cc)
       none course state held stands other same false is = (subst (λ (s : State E H). Stands allows number_of course s now held) same stands, refl)
 
-  named_answer : (course : Course) (more : State E H) (held : Holdings) (next : JournalView) (text : List ℕ) (stands : Stands allows number_of course more next held) (front : List EntryView) →
+  named_answer : (course : Course) (more : State E H) (held : Holdings) (next : JournalView)
+      (text : List ℕ) (stands : Stands allows number_of course more next held)
+      (front : List EntryView) →
       stands.added ≡ front ++ Canonicalize (program_of words) (Ok text) ∷ [] → (other : State E H) → more ≡ other → (b : Bool) → b ≡ true →
       (s : Stands allows number_of course other next held) × (program_in b (trace s.added) words ≡ text)
   named_answer course more held next text stands front seen other same false is = absurd (cc)
@@ -69,7 +73,9 @@ module _ {E H : Type 0} (allows : Allows H) (number_of : E → ℕ) (scope : Sco
       ap (λ l. program_in true (trace l) words) seen ∙ ap (λ l. program_in true l words) (trace-append front (entry ∷ [])) ∙ last_text (trace front) entry in
       subst (λ (s : State E H). (z : Stands allows number_of course s next held) × (program_in true (trace z.added) words ≡ text)) same (stands, answer)
     where
-      last_text : (xs : List EntryView) (entry : EntryView) → text_in (slice_get (xs ++ entry ∷ []) (length (xs ++ entry ∷ []) - 1)) ≡ text_in (Some entry)
+      last_text : (xs : List EntryView) (entry : EntryView)
+          → text_in (slice_get (xs ++ entry ∷ []) (length (xs ++ entry ∷ []) - 1)) ≡ text_in
+          (Some entry)
       last_text xs entry =
           let place : length (xs ++ entry ∷ []) - 1 ≡ length xs = omega (arith, length-append xs (entry ∷ [])) in
           ap (λ n. text_in (slice_get (xs ++ entry ∷ []) n)) place ∙ ap text_in (get_seam xs entry)
@@ -137,7 +143,9 @@ module _ {E H : Type 0} (allows : Allows H) (number_of : E → ℕ) (scope : Sco
           asked_is : IsAsked course.pairs program (found_by scope ports state.stack) words asked
           asked_is = subst (λ ps. IsAsked ps program (found_by scope ports state.stack) words asked) (sym same) (made state.stack ready.needs.ports_are)
 
-          tops : course.base ≤ course.old.next → (e : List EntryView) × (numbers : List Origin) × (map (λ o. Some o) numbers ≡ map (origin_to e number_of) state.stack)
+          tops : course.base ≤ course.old.next
+              → (e : List EntryView) × (numbers : List Origin) ×
+              (map (λ o. Some o) numbers ≡ map (origin_to e number_of) state.stack)
           tops early =
               let n = (names course state held stands).0 in
               let L = n.added ++ [] in
@@ -155,7 +163,8 @@ module _ {E H : Type 0} (allows : Allows H) (number_of : E → ℕ) (scope : Sco
               let t = taken_by ports state.stack in
               record { spec = asked; input = t.input; output = t.output; error = t.error }
 
-          begun : Staged allows number_of (onwards course front) under kept_low asks_it [] one asked (taken_by ports held.stack)
+          begun : Staged allows number_of (onwards course front) under kept_low asks_it
+              [] one asked (taken_by ports held.stack)
           begun =
               let all = handed_taken ports state.stack ready.full in
               let full : many ports.input + (many ports.output + many ports.error) ≤ length held.stack = omega (arith, ready.full, stands.shaped.stack) in
@@ -174,7 +183,8 @@ module _ {E H : Type 0} (allows : Allows H) (number_of : E → ℕ) (scope : Sco
           from = (names course state held stands).0.starts
 
         -- the child was started
-        pub spawned : (next : JournalView) (spec : SpecView) (t : Three (Stdio ℕ)) (two : JournalView)
+        pub spawned : (next : JournalView) (spec : SpecView) (t : Three (Stdio ℕ))
+            (two : JournalView)
             (number count : ℕ)
             → Alters allows number_of scope.hooks one two asked spec (taken_by ports held.stack) t
             → let entry = Spawn spec (t.input ∷ t.output ∷ t.error ∷ []) (Ok number) in

@@ -37,13 +37,15 @@ use Rattle.duct_start.proofs.Joined.{tree_leads}
 use Rattle.duct_start.proofs.Resolved.{list_resolves}
 
 -- entries that were not refused started what their kinds say
-children_counted : (added : List EntryView) → IsClean added → length (children_in added) ≡ spawns (map entry_kind (trace added))
+children_counted : (added : List EntryView) → IsClean added
+    → length (children_in added) ≡ spawns (map entry_kind (trace added))
 children_counted [] clean = refl
 children_counted (Spawn spec io (Ok number) ∷ added) clean = omega (arith, children_counted added clean.1)
 children_counted (Spawn spec io (std.Err fault) ∷ added) clean = absurd (cc)
 children_counted (entry ∷ added) clean = children_counted added clean.1
 
-feeds_counted : (added : List EntryView) → IsClean added → length (feeds_in added) ≡ feeds (map entry_kind (trace added))
+feeds_counted : (added : List EntryView) → IsClean added
+    → length (feeds_in added) ≡ feeds (map entry_kind (trace added))
 feeds_counted [] clean = refl
 feeds_counted (Feed number bytes (Ok done) ∷ added) clean = omega (arith, feeds_counted added clean.1)
 feeds_counted (Feed number bytes (std.Err fault) ∷ added) clean = absurd (cc)
@@ -91,27 +93,32 @@ record AddsKinds {E H : Type 0} (children workers : ℕ) (items more : List (Ite
   pub feeds : feeds_asked more ≡ feeds_asked items + workers
 
 module _ {E H : Type 0} where
-  adds_on : {a b c d : ℕ} {x y z : List (Item E H)} → AddsKinds a b x y → AddsKinds c d y z → AddsKinds (a + c) (b + d) x z
+  adds_on : {a b c d : ℕ} {x y z : List (Item E H)} → AddsKinds a b x y → AddsKinds c d y z
+      → AddsKinds (a + c) (b + d) x z
   adds_on one other = record { spawns = omega (arith, one.spawns, other.spawns); feeds = omega (arith, one.feeds, other.feeds) }
 
   adds_none : (items : List (Item E H)) → AddsKinds 0 0 items items
   adds_none items = record { spawns = omega arith; feeds = omega arith }
 
-  adds_items : (items more : List (Item E H)) → AddsKinds (spawns_asked more) (feeds_asked more) items (items ++ more)
+  adds_items : (items more : List (Item E H))
+      → AddsKinds (spawns_asked more) (feeds_asked more) items (items ++ more)
   adds_items items more = record {
     spawns = ap (λ l. spawns l) (map-append (λ item. item_kind item) items more) ∙ spawns-append (map (λ item. item_kind item) items) (map (λ item. item_kind item) more);
     feeds = ap (λ l. feeds l) (map-append (λ item. item_kind item) items more) ∙ feeds-append (map (λ item. item_kind item) items) (map (λ item. item_kind item) more);
   }
 
-  adds_if : (o : Option ℕ) (p q : Plan E H) → AddsKinds 0 0 p.items q.items → AddsKinds 0 0 p.items (if is_some o then p else q).items
+  adds_if : (o : Option ℕ) (p q : Plan E H) → AddsKinds 0 0 p.items q.items
+      → AddsKinds 0 0 p.items (if is_some o then p else q).items
   adds_if None p q adds = adds
   adds_if (Some place) p q adds = adds_none p.items
 
-  adds_command : (b : Bool) (found : Found E H) (words : List (List ℕ)) (items : List (Item E H)) → AddsKinds 1 0 items (items ++ items_if b found words)
+  adds_command : (b : Bool) (found : Found E H) (words : List (List ℕ)) (items : List (Item E H))
+      → AddsKinds 1 0 items (items ++ items_if b found words)
   adds_command true found words items = adds_items items (items_if true found words)
   adds_command false found words items = adds_items items (items_if false found words)
 
-  adds_opening : (modifier : ModifierView E H) (plan : Plan E H) → AddsKinds 0 0 plan.items (opened (step modifier).opening plan).items
+  adds_opening : (modifier : ModifierView E H) (plan : Plan E H)
+      → AddsKinds 0 0 plan.items (opened (step modifier).opening plan).items
   adds_opening (stdin_bytes bytes) plan = adds_items plan.items _
   adds_opening (stdin_path path) plan = adds_items plan.items _
   adds_opening (stdout_path path) plan = adds_items plan.items _
@@ -120,20 +127,27 @@ module _ {E H : Type 0} where
   adds_opening stderr_capture plan = adds_if plan.err plan _ (adds_items plan.items _)
   adds_opening modifier plan = adds_none plan.items
 
-  adds_as : {a b c d : ℕ} {x y z : List (Item E H)} → a ≡ c → b ≡ d → z ≡ y → AddsKinds a b x y → AddsKinds c d x z
+  adds_as : {a b c d : ℕ} {x y z : List (Item E H)} → a ≡ c → b ≡ d → z ≡ y → AddsKinds a b x y
+      → AddsKinds c d x z
   adds_as one other is adds = record { spawns = ap (λ l. spawns_asked l) is ∙ omega (arith, adds.spawns, one); feeds = ap (λ l. feeds_asked l) is ∙ omega (arith, adds.feeds, other) }
 
-  closes_none : (modifier : ModifierView E H) (place : ℕ) (shape : ShapeView) → command_count shape + spawns_asked ((step modifier).closing place) ≡ command_count (shape_around modifier shape)
+  closes_none : (modifier : ModifierView E H) (place : ℕ) (shape : ShapeView)
+      → command_count shape + spawns_asked ((step modifier).closing place) ≡ command_count
+      (shape_around modifier shape)
   closes_none (stdin_bytes bytes) place shape = omega arith
   closes_none unchecked place shape = omega arith
   closes_none modifier place shape = omega arith
 
-  closes_feeds : (modifier : ModifierView E H) (place : ℕ) (shape : ShapeView) → input_count shape + feeds_asked ((step modifier).closing place) ≡ input_count (shape_around modifier shape)
+  closes_feeds : (modifier : ModifierView E H) (place : ℕ) (shape : ShapeView)
+      → input_count shape + feeds_asked ((step modifier).closing place) ≡ input_count
+      (shape_around modifier shape)
   closes_feeds (stdin_bytes bytes) place shape = omega arith
   closes_feeds unchecked place shape = omega arith
   closes_feeds modifier place shape = omega arith
 
-  adds_tree : (up : Path E H) (tree : TreeView E H) (plan : Plan E H) → AddsKinds (command_count (shape_of_tree tree)) (input_count (shape_of_tree tree)) plan.items (planned up tree plan).items
+  adds_tree : (up : Path E H) (tree : TreeView E H) (plan : Plan E H)
+      → AddsKinds (command_count (shape_of_tree tree))
+      (input_count (shape_of_tree tree)) plan.items (planned up tree plan).items
   adds_tree up (command words) plan =
       let found = found_on up in
       adds_as refl refl (ap (λ (p : Plan E H). p.items) (commanded_is found words plan)) (adds_command (is_canonical found words) found words plan.items)
@@ -202,18 +216,22 @@ module _ {E H : Type 0} where
       let here = planned_counts (around stdout_capture tree) in
       (omega (arith, all.0, ap (λ l. spawns_asked l) is, out.spawns, err.spawns, here.0), omega (arith, all.1, ap (λ l. feeds_asked l) is, out.feeds, err.feeds, here.1))
 
-  if_of : {X : Type 0} (f : Plan E H → X) (b : Bool) (p q : Plan E H) → f p ≡ f q → f (if b then p else q) ≡ f q
+  if_of : {X : Type 0} (f : Plan E H → X) (b : Bool) (p q : Plan E H) → f p ≡ f q
+      → f (if b then p else q) ≡ f q
   if_of f true p q same = same
   if_of f false p q same = refl
 
-  opens_there : (f : Plan E H → Option ℕ) (o : Option ℕ) (p q : Plan E H) → f p ≡ o → is_some (f q) ≡ true → is_some (f (if is_some o then p else q)) ≡ (is_some o || true)
+  opens_there : (f : Plan E H → Option ℕ) (o : Option ℕ) (p q : Plan E H) → f p ≡ o
+      → is_some (f q) ≡ true → is_some (f (if is_some o then p else q)) ≡ (is_some o || true)
   opens_there f None p q is there = there
   opens_there f (Some place) p q is there = ap (λ o. is_some o) is
 
-  opens_other : (f : Plan E H → Option ℕ) (b : Bool) (p q : Plan E H) → f q ≡ f p → is_some (f (if b then p else q)) ≡ (is_some (f p) || false)
+  opens_other : (f : Plan E H → Option ℕ) (b : Bool) (p q : Plan E H) → f q ≡ f p
+      → is_some (f (if b then p else q)) ≡ (is_some (f p) || false)
   opens_other f b p q same = ap (λ o. is_some o) (if_of f b p q (sym same) ∙ same) ∙ sym (or-false (is_some (f p)))
 
-  opens_spawn : (f : Plan E H → Option ℕ) (found : Found E H) (words : List (List ℕ)) (plan : Plan E H) → ((items : List (Item E H)) → f (with_items items plan) ≡ f plan) →
+  opens_spawn : (f : Plan E H → Option ℕ) (found : Found E H) (words : List (List ℕ))
+      (plan : Plan E H) → ((items : List (Item E H)) → f (with_items items plan) ≡ f plan) →
       is_some (f (commanded found words plan)) ≡ (is_some (f plan) || false)
   opens_spawn f found words plan same = ap (λ p. is_some (f p)) (commanded_is found words plan) ∙ ap (λ o. is_some o) (same (items_of found words)) ∙ sym (or-false (is_some (f plan)))
 
@@ -234,11 +252,13 @@ module _ {E H : Type 0} where
   action_opens side.Out state act none = sym (or-false (is_some state.plan.out))
   action_opens side.Err state act none = sym (or-false (is_some state.plan.err))
 
-  none_first : (act : Action E H) (actions : List (Action E H)) → NoneFinishes (act ∷ actions) → NoneFinishes (act ∷ [])
+  none_first : (act : Action E H) (actions : List (Action E H)) → NoneFinishes (act ∷ actions)
+      → NoneFinishes (act ∷ [])
   none_first (action.finish which) actions none = none
   none_first act actions none = tt
 
-  none_rest : (act : Action E H) (actions : List (Action E H)) → NoneFinishes (act ∷ actions) → NoneFinishes actions
+  none_rest : (act : Action E H) (actions : List (Action E H)) → NoneFinishes (act ∷ actions)
+      → NoneFinishes actions
   none_rest (action.finish which) actions none = absurd none
   none_rest act actions none = none
 
@@ -253,7 +273,8 @@ module _ {E H : Type 0} where
       ∙ ap (λ b. b || captures_in which actions) (action_opens which state act (none_first act actions none))
       ∙ or_assoc (is_some (capture_at which state.plan)) (is_capture which act) (captures_in which actions)
 
-  resolved_same : (which : Side) (scopes : List (Scope E H)) (act : ActionOf E ℕ) → is_capture which (resolved scopes act) ≡ is_capture which act
+  resolved_same : (which : Side) (scopes : List (Scope E H)) (act : ActionOf E ℕ)
+      → is_capture which (resolved scopes act) ≡ is_capture which act
   resolved_same side.Out scopes (action.capture side.Out) = refl
   resolved_same side.Out scopes (action.capture side.Err) = refl
   resolved_same side.Err scopes (action.capture side.Out) = refl
@@ -267,12 +288,14 @@ module _ {E H : Type 0} where
   resolved_captures which scopes [] = refl
   resolved_captures which scopes (act ∷ actions) = λ i. resolved_same which scopes act i || resolved_captures which scopes actions i
 
-  none_append : (xs ys : List (Action E H)) → NoneFinishes xs → NoneFinishes ys → NoneFinishes (xs ++ ys)
+  none_append : (xs ys : List (Action E H)) → NoneFinishes xs → NoneFinishes ys
+      → NoneFinishes (xs ++ ys)
   none_append [] ys none more = more
   none_append (action.finish which ∷ xs) ys none more = absurd none
   none_append (act ∷ xs) ys none more = none_append xs ys none more
 
-  none_flat : (tree : TreeView E H) (s : Scope E H) (w : Three (Wire E)) (n : ℕ) → NoneFinishes (flat s w tree n)
+  none_flat : (tree : TreeView E H) (s : Scope E H) (w : Three (Wire E)) (n : ℕ)
+      → NoneFinishes (flat s w tree n)
   none_flat (command words) s w n =
       let input : List (Action E H) = fetches w.input In in
       let output : List (Action E H) = fetches w.output Out in

@@ -26,7 +26,8 @@ less_is port.Null x stack = refl
 less_is port.Given x stack = refl
 less_is (port.Place place) x stack = refl
 
-long_is : {A : Type 0} (p : Port) (x : A) (stack : List A) → length (put p x stack) ≡ many p + length stack
+long_is : {A : Type 0} (p : Port) (x : A) (stack : List A)
+    → length (put p x stack) ≡ many p + length stack
 long_is port.Inherit x stack = omega arith
 long_is port.Null x stack = omega arith
 long_is port.Given x stack = omega arith
@@ -89,14 +90,16 @@ port_got s (Parents stream) got = absurd got
 port_got s Nothing got = absurd got
 port_got s (Lends end) got = absurd got
 
-three_ports : {E H : Type 0} (ports : Three Port) (found : Found E H) → ports.input ≡ port_to In found.input → ports.output ≡ port_to Out found.output →
+three_ports : {E H : Type 0} (ports : Three Port) (found : Found E H)
+    → ports.input ≡ port_to In found.input → ports.output ≡ port_to Out found.output →
     ports.error ≡ port_to Err found.error → (stream : Stream) → port_in ports stream ≡ port_to stream (target_of found stream)
 three_ports ports found input output error In = input
 three_ports ports found input output error Out = output
 three_ports ports found input output error Err = error
 
 module _ {E H : Type 0} (number_of : E → ℕ) (base : ℕ) where
-  wire_grows : (state next : State E H) (b : Bool) (w : Wire E) (t : Target E) → Grows state next → WireIs number_of base state b w t → WireIs number_of base next b w t
+  wire_grows : (state next : State E H) (b : Bool) (w : Wire E) (t : Target E) → Grows state next
+      → WireIs number_of base state b w t → WireIs number_of base next b w t
   wire_grows state next b w t grows is_in = is_in
   wire_grows state next b w t grows is_out = is_out
   wire_grows state next b w t grows is_err = is_err
@@ -136,7 +139,8 @@ module _ {E H : Type 0} (number_of : E → ℕ) (base : ℕ) where
       goes = λ stack. ap (λ p. given s p (put p t stack)) port_is;
     }
 
-    fetched : (state : State E H) (s : Stream) (b : Bool) (w : Wire E) (t : Target E) → is_stdin s ≡ b → WireIs number_of base state b w t → length state.stack + 1 ≤ bound →
+    fetched : (state : State E H) (s : Stream) (b : Bool) (w : Wire E) (t : Target E)
+        → is_stdin s ≡ b → WireIs number_of base state b w t → length state.stack + 1 ≤ bound →
         IsFetched bound state s w t
     fetched state s b w t which (is_nothing c) low = record { leads = leads_none number_of base bound state; port_is = sym (port_nothing E s); goes = λ stack. refl }
     fetched state s b w t which (is_slot c n x got is) low =

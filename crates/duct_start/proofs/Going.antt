@@ -54,17 +54,21 @@ adds_as entry a b c d now next adds more less = record {
 }
 
 -- the same ends more on both sides
-pushed_shape : {E H : Type 0} (numbers : List ℕ) (targets : List (Target E)) (asked : List (Item E H)) (st : State E H) (held : Holdings) → length numbers ≡ length targets → IsShaped st held →
+pushed_shape : {E H : Type 0} (numbers : List ℕ) (targets : List (Target E))
+    (asked : List (Item E H)) (st : State E H) (held : Holdings) → length numbers ≡ length targets
+    → IsShaped st held →
     IsShaped (record { stack = targets ++ st.stack; plan = record { items = st.plan.items ++ asked; out = st.plan.out; err = st.plan.err } }) (on numbers held)
 pushed_shape numbers targets asked st held same shaped =
     record { stack = omega (arith, same, shaped.stack, length-append numbers held.stack, length-append targets st.stack); out = shaped.out; err = shaped.err }
 
-less_long : {A B : Type 0} (n : A) (rest : List A) (stack : List B) → length (n ∷ rest) ≡ length stack → length rest ≡ length (drop 1 stack)
+less_long : {A B : Type 0} (n : A) (rest : List A) (stack : List B)
+    → length (n ∷ rest) ≡ length stack → length rest ≡ length (drop 1 stack)
 less_long n rest [] is = absurd (omega (arith, is))
 less_long n rest (x ∷ stack) is = omega (arith, is)
 
 -- one end less on both sides
-popped_shape : {E H : Type 0} (n : ℕ) (rest : List ℕ) (then st : State E H) (kept held : Holdings) → held.stack ≡ n ∷ rest → kept.stack ≡ rest → then.stack ≡ drop 1 st.stack →
+popped_shape : {E H : Type 0} (n : ℕ) (rest : List ℕ) (then st : State E H) (kept held : Holdings)
+    → held.stack ≡ n ∷ rest → kept.stack ≡ rest → then.stack ≡ drop 1 st.stack →
     kept.out ≡ held.out → kept.err ≡ held.err → then.plan.out ≡ st.plan.out → then.plan.err ≡ st.plan.err → IsShaped st held → IsShaped then kept
 popped_shape n rest then st kept held is kept_is then_is out err plan_out plan_err shaped = record {
   stack = ap (λ l. length l) kept_is ∙ less_long n rest st.stack (sym (ap (λ l. length l) is) ∙ shaped.stack) ∙ sym (ap (λ l. length l) then_is);
@@ -105,7 +109,8 @@ none_changes entry now next held asks no_end none no_child no_feed no_drain =
     (λ n. omega (arith, ap (λ (l : List ℕ). count_of n l) no_end, ap (λ (l : List ℕ). count_of n l) none)) (omega (arith, g, s))
 
 -- an entry that got one end, which is pushed
-push_changes : (entry : EntryView) (n : ℕ) (now next : JournalView) (held : Holdings) → GetsEnd entry n now next → got_by entry ≡ n ∷ [] → spent_by entry ≡ [] → child_by entry ≡ [] →
+push_changes : (entry : EntryView) (n : ℕ) (now next : JournalView) (held : Holdings)
+    → GetsEnd entry n now next → got_by entry ≡ n ∷ [] → spent_by entry ≡ [] → child_by entry ≡ [] →
     feed_by entry ≡ [] → drain_by entry ≡ [] → Changes entry now next held (on (n ∷ []) held)
 push_changes entry n now next held gets got none no_child no_feed no_drain =
     let g = ap (λ (l : List ℕ). length l) got in
@@ -144,14 +149,17 @@ map-reversed f [] = refl
 map-reversed f (x ∷ xs) =
     reverse-append (f x ∷ []) (map f xs) ∙ ap (λ l. l ++ f x ∷ []) (map-reversed f xs) ∙ sym (ap (λ l. map f l) (reverse-append (x ∷ []) xs) ∙ map-append f (reverse xs) (x ∷ []))
 
-level-map : {A B : Type 0} (f : A → B) (stack : List A) (d : ℕ) → level (map f stack) d ≡ option_map f (level stack d)
+level-map : {A B : Type 0} (f : A → B) (stack : List A) (d : ℕ)
+    → level (map f stack) d ≡ option_map f (level stack d)
 level-map f stack d = ap (λ l. slice_get l d) (map-reversed f stack) ∙ slice_get-map f (reverse stack) d
 
-some_of : {A B : Type 0} (o : Option A) (f : A → B) (d : A) (z : B) → Some z ≡ option_map f o → z ≡ f (unwrap_or o d)
+some_of : {A B : Type 0} (o : Option A) (f : A → B) (d : A) (z : B) → Some z ≡ option_map f o
+    → z ≡ f (unwrap_or o d)
 some_of None f d z is = cc
 some_of (Some x) f d z is = cc
 
-pair_writes : (L : List EntryView) (o : Option ℕ) (r w : ℕ) → IsPair L o (Some (r, w)) → origin L w ≡ Opened (end_at (trace L) (unwrap_or o 0) 1)
+pair_writes : (L : List EntryView) (o : Option ℕ) (r w : ℕ) → IsPair L o (Some (r, w))
+    → origin L w ≡ Opened (end_at (trace L) (unwrap_or o 0) 1)
 pair_writes L None r w is = absurd is
 pair_writes L (Some place) r w is = is.1
 
@@ -161,7 +169,8 @@ pub popped : {A B C : Type 0} (f : A → C) (g : B → C) (n : A) (rest : List A
 popped f g n rest [] is = cc
 popped f g n rest (x ∷ stack) is = cc
 
-fed_top : {E : Type 0} (number_of : E → ℕ) (L : List EntryView) (n : ℕ) (rest : List ℕ) (stack : List (Target E)) → IsWriter stack →
+fed_top : {E : Type 0} (number_of : E → ℕ) (L : List EntryView) (n : ℕ) (rest : List ℕ)
+    (stack : List (Target E)) → IsWriter stack →
     map (λ k. Some (origin L k)) (n ∷ rest) ≡ map (origin_to (trace L) number_of) stack → origin L n ≡ Opened (end_at (trace L) (place_of stack) 1)
 fed_top number_of L n rest (WriterAt place ∷ stack) writer is = cc
 fed_top number_of L n rest stack writer is = absurd writer
@@ -190,7 +199,8 @@ pop_changes entry n rest children feeds drains now next held gives none spent is
 
 module _ {E H : Type 0} (allows : Allows H) (number_of : E → ℕ) where
   -- a request that got one end
-  got_goes : (act : Action E H) (asked : State E H → List (Item E H)) (x : State E H → Target E) (entry : EntryView) (n : ℕ) (now next : JournalView) (held : Holdings) →
+  got_goes : (act : Action E H) (asked : State E H → List (Item E H)) (x : State E H → Target E)
+      (entry : EntryView) (n : ℕ) (now next : JournalView) (held : Holdings) →
       ((st : State E H) → advance st act ≡ record { stack = x st ∷ st.stack; plan = record { items = st.plan.items ++ asked st; out = st.plan.out; err = st.plan.err } }) →
       GetsEnd entry n now next → got_by entry ≡ n ∷ [] → spent_by entry ≡ [] → child_by entry ≡ [] → feed_by entry ≡ [] → drain_by entry ≡ [] → fault_of entry ≡ None →
       ((st : State E H) → map entry_kind (trace (entry ∷ [])) ≡ map item_kind (asked st)) →
@@ -247,7 +257,9 @@ module _ {E H : Type 0} (allows : Allows H) (number_of : E → ℕ) where
       ∙ rw is_itself (origin_lent (number_of end) stands.added (let lt : number_of end < course.old.next = omega (arith, ready.needs, later.early) in stands.books.above (number_of end) lt))))
 
   -- a duplicate of an end that is held
-  dup_goes : (act : Action E H) (x : State E H → Target E) (m n : ℕ) (now next : JournalView) (held : Holdings) → ((st : State E H) → advance st act ≡ action.pushes (x st) st) → 1 ≤ count_of m (ends held) →
+  dup_goes : (act : Action E H) (x : State E H → Target E) (m n : ℕ) (now next : JournalView)
+      (held : Holdings) → ((st : State E H) → advance st act ≡ action.pushes (x st) st)
+      → 1 ≤ count_of m (ends held) →
       ((course : Course) (st : State E H) → IsReady number_of course.base course.bound st act → (L : List EntryView) → Sourced number_of L st held → Some (origin L m) ≡ origin_to (trace L) number_of (x st)) →
       GetsEnd (Duplicate m (Ok n)) n now next → Goes allows number_of act now next held (on (n ∷ []) held)
   dup_goes act x m n now next held is here from gets =
@@ -289,7 +301,8 @@ module _ {E H : Type 0} (allows : Allows H) (number_of : E → ℕ) where
       (λ course st ready L s. ap Some (pair_writes L st.plan.err r w (subst (λ o. IsPair L st.plan.err o) is s.err))) gets
 
   -- a pipe, of which the one end or the other is on top
-  two_goes : (act : Action E H) (a b n m : ℕ) (x y : State E H → Target E) (now next : JournalView) (held : Holdings) →
+  two_goes : (act : Action E H) (a b n m : ℕ) (x y : State E H → Target E) (now next : JournalView)
+      (held : Holdings) →
       ((st : State E H) → advance st act ≡ record { stack = x st ∷ y st ∷ st.stack; plan = record { items = st.plan.items ++ AskPipe ∷ []; out = st.plan.out; err = st.plan.err } }) →
       ((k : ℕ) → count_of k (a ∷ b ∷ []) ≡ count_of k (n ∷ m ∷ [])) →
       ((st : State E H) (L : List EntryView) → (origin L n ≡ Opened (end_at (trace L) (length st.plan.items) 0)) → (origin L m ≡ Opened (end_at (trace L) (length st.plan.items) 1)) →
@@ -328,7 +341,8 @@ module _ {E H : Type 0} (allows : Allows H) (number_of : E → ℕ) where
       (λ k. refl) (λ st L r w. (ap Some r, ap Some w)) gets
 
   -- an entry that changed nothing of what is held, and answers one item
-  asked_goes : (act : Action E H) (item : Item E H) (entry : EntryView) (now next : JournalView) (held : Holdings) → ((st : State E H) → advance st act ≡ action.gets [] item st) →
+  asked_goes : (act : Action E H) (item : Item E H) (entry : EntryView) (now next : JournalView)
+      (held : Holdings) → ((st : State E H) → advance st act ≡ action.gets [] item st) →
       Asks entry now next → got_by entry ≡ [] → spent_by entry ≡ [] → child_by entry ≡ [] → feed_by entry ≡ [] → drain_by entry ≡ [] → fault_of entry ≡ None → map entry_kind (trace (entry ∷ [])) ≡ item_kind item ∷ [] →
       ((place : ℕ) (L : List EntryView) → AnswersFrom allows number_of L place (item ∷ []) (trace (entry ∷ []))) → Goes allows number_of act now next held held
   asked_goes act item entry now next held is asks no_end none no_child no_feed no_drain clean many matches = λ course st ready stands.
@@ -354,7 +368,9 @@ module _ {E H : Type 0} (allows : Allows H) (number_of : E → ℕ) where
       record { stack = popped (λ k. Some (origin L k)) (origin_to (trace L) number_of) n rest st.stack (ap (λ (l : List ℕ). map (λ k. Some (origin L k)) l) (sym is) ∙ s.stack); out = s.out; err = s.err })
 
   module _ (n : ℕ) (rest bytes : List ℕ) (now next : JournalView) (held : Holdings) (is : held.stack ≡ n ∷ rest) where
-    fed : (answer : Result (Unit {0}) Fault) (kept : Holdings) (course : Course) (st : State E H) → IsReady number_of course.base course.bound st (action.feed bytes) → (stands : Stands allows number_of course st now held) →
+    fed : (answer : Result (Unit {0}) Fault) (kept : Holdings) (course : Course) (st : State E H)
+        → IsReady number_of course.base course.bound st (action.feed bytes)
+        → (stands : Stands allows number_of course st now held) →
         (ch : Changes (Feed n bytes answer) now next held kept) → (more : List EntryView) → IsLater course next.next more →
         let L = (stands.added ++ Feed n bytes answer ∷ []) ++ more in origin L n ≡ Opened (end_at (trace L) (place_of st.stack) 1)
     fed answer kept course st ready stands ch more later =

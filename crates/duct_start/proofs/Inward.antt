@@ -9,14 +9,16 @@ use Rattle.duct_start.specs.Plan.{Plan, asks, opened, place_for, closed, planned
 use Rattle.duct_start.specs.Step.{Turn, Decides, Follows, AskPipe, step}
 use Rattle.duct_start.specs.TreeView.{TreeView, command, pipe, around}
 
-turned_same : {E H : Type 0} (turn : Turn E) (up : Path E H) → turned turn (λ outer. goes up outer) ≡ turned turn (target_of (found_on up))
+turned_same : {E H : Type 0} (turn : Turn E) (up : Path E H)
+    → turned turn (λ outer. goes up outer) ≡ turned turn (target_of (found_on up))
 turned_same (Decides target) up = refl
 turned_same (Follows In) up = refl
 turned_same (Follows Out) up = refl
 turned_same (Follows Err) up = refl
 
 -- what is found one node further in
-found_more : {E H : Type 0} (crumb : Crumb E H) (up : Path E H) → found_on (crumb ∷ up) ≡ found_within (step_of crumb) (place_of crumb) (found_on up)
+found_more : {E H : Type 0} (crumb : Crumb E H) (up : Path E H)
+    → found_on (crumb ∷ up) ≡ found_within (step_of crumb) (place_of crumb) (found_on up)
 found_more crumb up =
     let turn = (step_of crumb).turn (place_of crumb) in
     λ i. record {

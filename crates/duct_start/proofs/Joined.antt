@@ -40,21 +40,27 @@ module _ {E H : Type 0} (number_of : E → ℕ) (base bound : ℕ) where
   at_st stack p = record { stack = stack; plan = p }
 
   -- an action that asks nothing of the stack
-  easy : (state : State E H) (x : Action E H) → action.pops x ≡ 0 → action.Needs number_of base bound state x → length (advance state x).stack ≤ bound → IsReady number_of base bound state x
+  easy : (state : State E H) (x : Action E H) → action.pops x ≡ 0
+      → action.Needs number_of base bound state x → length (advance state x).stack ≤ bound
+      → IsReady number_of base bound state x
   easy state x none needs low = record { full = omega (arith, none); needs = needs; low = low }
 
-  close_ready : (x : Target E) (stack : List (Target E)) (p : Plan E H) → length stack ≤ bound → IsReady number_of base bound (at_st (x ∷ stack) p) action.close
+  close_ready : (x : Target E) (stack : List (Target E)) (p : Plan E H) → length stack ≤ bound
+      → IsReady number_of base bound (at_st (x ∷ stack) p) action.close
   close_ready x stack p low = record { full = omega arith; needs = tt; low = low }
 
-  close_leads : (x : Target E) (stack : List (Target E)) (p : Plan E H) → length stack ≤ bound → Leads number_of base bound (at_st (x ∷ stack) p) (action.close ∷ []) (at_st stack p)
+  close_leads : (x : Target E) (stack : List (Target E)) (p : Plan E H) → length stack ≤ bound
+      → Leads number_of base bound (at_st (x ∷ stack) p) (action.close ∷ []) (at_st stack p)
   close_leads x stack p low = leads_cons number_of base bound _ _ action.close [] (close_ready x stack p low) (leads_none number_of base bound _)
 
-  unclosed : (state : State E H) (actions : List (Action E H)) (stack : List (Target E)) (p : Plan E H) → Leads number_of base bound state actions (at_st stack p) →
+  unclosed : (state : State E H) (actions : List (Action E H)) (stack : List (Target E))
+      (p : Plan E H) → Leads number_of base bound state actions (at_st stack p) →
       Leads number_of base bound state actions (at_st stack (closed [] p))
   unclosed state actions stack p leads = subst (λ (q : Plan E H). Leads number_of base bound state actions (at_st stack q)) (sym (closed_none p)) leads
 
   -- a file that stands on the stack while what is inside runs
-  held_leads : (get : Action E H) (item : Item E H) (x : Target E) (inside : List (Action E H)) (stack : List (Target E)) (p q : Plan E H) →
+  held_leads : (get : Action E H) (item : Item E H) (x : Target E) (inside : List (Action E H))
+      (stack : List (Target E)) (p q : Plan E H) →
       action.pops get ≡ 0 → action.Needs number_of base bound (at_st stack p) get → advance (at_st stack p) get ≡ at_st (x ∷ stack) (asks item p) → length stack + 1 ≤ bound →
       Leads number_of base bound (at_st (x ∷ stack) (asks item p)) inside (at_st (x ∷ stack) q) →
       Leads number_of base bound (at_st stack p) (get ∷ (inside ++ action.close ∷ [])) (at_st stack (closed [] q))
@@ -65,7 +71,8 @@ module _ {E H : Type 0} (number_of : E → ℕ) (base bound : ℕ) where
       (subst (λ (s : State E H). Leads number_of base bound s (inside ++ action.close ∷ []) (at_st stack q)) (sym is) all))
 
   -- other wires, inside a node that says nothing of folder, variables and hooks
-  rewired : (state : State E H) (s : Scope E H) (w more : Three (Wire E)) (found inner : Found E H) → Fits number_of base state s w found →
+  rewired : (state : State E H) (s : Scope E H) (w more : Three (Wire E)) (found inner : Found E H)
+      → Fits number_of base state s w found →
       inner.folder ≡ found.folder → inner.changes ≡ found.changes → inner.hooks ≡ found.hooks ++ [] →
       WireIs number_of base state true more.input inner.input → WireIs number_of base state false more.output inner.output → WireIs number_of base state false more.error inner.error →
       Fits number_of base state s more inner
@@ -80,7 +87,8 @@ module _ {E H : Type 0} (number_of : E → ℕ) (base bound : ℕ) where
   }
 
   -- the same wires, inside a node that says something of folder, variables or hooks, and nothing of streams
-  scoped : (node : Step E H) (p : Plan E H) (stack : List (Target E)) (s : Scope E H) (w : Three (Wire E)) (found : Found E H) → Fits number_of base (at_st stack p) s w found →
+  scoped : (node : Step E H) (p : Plan E H) (stack : List (Target E)) (s : Scope E H)
+      (w : Three (Wire E)) (found : Found E H) → Fits number_of base (at_st stack p) s w found →
       node.turn ≡ (λ place stream. Follows stream) → AreBelow number_of base node.hooks → Fits number_of base (at_st stack p) (scope_within node s) w (found_within node (length p.items) found)
   scoped node p stack s w found fits still below = record {
     folder = ap (option_or node.folder) fits.folder;

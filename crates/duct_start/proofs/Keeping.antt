@@ -26,11 +26,13 @@ module _ {E H : Type 0} where
   keeps_canonical true path plan = keeps_same plan _ refl refl
   keeps_canonical false path plan = keeps_same plan _ refl refl
 
-  stays : {X : Type 0} (f : Plan E H → X) (b : Bool) (plan other : Plan E H) → f other ≡ f plan → f (if b then plan else other) ≡ f plan
+  stays : {X : Type 0} (f : Plan E H → X) (b : Bool) (plan other : Plan E H) → f other ≡ f plan
+      → f (if b then plan else other) ≡ f plan
   stays f true plan other same = refl
   stays f false plan other same = same
 
-  still : (f : Plan E H → Option ℕ) (o : Option ℕ) (plan other : Plan E H) (place : ℕ) → f plan ≡ o → o ≡ Some place → f (if is_some o then plan else other) ≡ Some place
+  still : (f : Plan E H → Option ℕ) (o : Option ℕ) (plan other : Plan E H) (place : ℕ) → f plan ≡ o
+      → o ≡ Some place → f (if is_some o then plan else other) ≡ Some place
   still f None plan other place is here = cc
   still f (Some p) plan other place is here = is ∙ here
 
@@ -40,7 +42,8 @@ module _ {E H : Type 0} where
   pub keeps_err : (plan : Plan E H) → Keeps plan (captures_err plan)
   keeps_err plan = record { out = λ p is. stays (λ q. q.out) (is_some plan.err) plan _ refl ∙ is; err = λ p is. still (λ q. q.err) plan.err plan _ p refl is }
 
-  opens : (f : Plan E H → Option ℕ) (o : Option ℕ) (plan other : Plan E H) (place : ℕ) → f plan ≡ o → f other ≡ Some place → f (if is_some o then plan else other) ≡ Some (unwrap_or o place)
+  opens : (f : Plan E H → Option ℕ) (o : Option ℕ) (plan other : Plan E H) (place : ℕ) → f plan ≡ o
+      → f other ≡ Some place → f (if is_some o then plan else other) ≡ Some (unwrap_or o place)
   opens f None plan other place is here = here
   opens f (Some p) plan other place is here = is
 

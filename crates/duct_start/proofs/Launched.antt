@@ -34,7 +34,8 @@ no_pair None is = refl
 no_pair (Some pair) is = absurd (cc)
 
 -- the workers of the capture pipes, where both were open, are asked as the plan says
-pub drained_items : {E H : Type 0} (plan : Plan E H) → (drained plan).items ≡ (drains plan.err (drains plan.out plan)).items
+pub drained_items : {E H : Type 0} (plan : Plan E H)
+    → (drained plan).items ≡ (drains plan.err (drains plan.out plan)).items
 drained_items plan = by plan.out plan.err
   where
     by : (out err : Option ℕ) → (drains err (record { items = (drains out plan).items; out = None; err = plan.err })).items ≡ (drains err (drains out plan)).items
@@ -43,7 +44,8 @@ drained_items plan = by plan.out plan.err
     by (Some place) None = refl
     by (Some place) (Some other) = refl
 
-pub read_items : {E H : Type 0} (plan : Plan E H) → (drained_and_read plan).items ≡ (reads plan.out (drains plan.err plan)).items
+pub read_items : {E H : Type 0} (plan : Plan E H)
+    → (drained_and_read plan).items ≡ (reads plan.out (drains plan.err plan)).items
 read_items plan = by plan.out plan.err
   where
     by : (out err : Option ℕ) → (reads out (record { items = (drains err plan).items; out = plan.out; err = None })).items ≡ (reads out (drains err plan)).items
@@ -58,7 +60,8 @@ pub drained_pipes : {E H : Type 0} (plan : Plan E H)
     × (is_some plan.err ≡ is_some (drains plan.err (drains plan.out plan)).err)
 drained_pipes plan = by plan.out plan.err
   where
-    by : (out err : Option ℕ) → (is_some plan.out ≡ is_some (drains err (drains out plan)).out) × (is_some plan.err ≡ is_some (drains err (drains out plan)).err)
+    by : (out err : Option ℕ) → (is_some plan.out ≡ is_some (drains err (drains out plan)).out) ×
+        (is_some plan.err ≡ is_some (drains err (drains out plan)).err)
     by None None = (refl, refl)
     by None (Some place) = (refl, refl)
     by (Some place) None = (refl, refl)
@@ -105,7 +108,8 @@ module _ {E H : Type 0} (allows : Allows H) (number_of : E → ℕ) (tree : Tree
   refused_launched ending refuses old now held e refused = refused.1 (ceiling number_of tree) (2 * depth tree + 4) goal list_leads
 
   -- where no capture pipe is left open, no end is held
-  nothing_left : (ending : Ending E H) → (ending goal).out ≡ None → (ending goal).err ≡ None → (old now : JournalView) (held : Holdings)
+  nothing_left : (ending : Ending E H) → (ending goal).out ≡ None → (ending goal).err ≡ None
+      → (old now : JournalView) (held : Holdings)
       → Runs allows number_of ending actions old now held → ends held ≡ []
   nothing_left ending no_out no_err old now held runs =
       let stands = stands_launched ending old now held runs in

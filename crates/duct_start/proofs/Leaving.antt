@@ -16,7 +16,8 @@ use Rattle.duct_start.proofs.Whole.{segment-added}
 stays_same : (child : ChildView) → StaysInPool child child
 stays_same child = record { number_is = refl; process_is = refl; orders_are = refl }
 
-stays_on : (one two three : ChildView) → StaysInPool one two → StaysInPool two three → StaysInPool one three
+stays_on : (one two three : ChildView) → StaysInPool one two → StaysInPool two three
+    → StaysInPool one three
 stays_on one two three first second = record {
   number_is = second.number_is ∙ first.number_is;
   process_is = second.process_is ∙ first.process_is;
@@ -27,7 +28,8 @@ module _ (may : ℕ → Answer → Type 0) where
   abbrev MayChild : ChildView → Answer → Type 0
   MayChild child = may child.number
 
-  stays_polled : (before after : ChildView) → PollsChild may before (Ok None) after → StaysInPool before after
+  stays_polled : (before after : ChildView) → PollsChild may before (Ok None) after
+      → StaysInPool before after
   stays_polled before after polls = record {
     number_is = ap (λ (c : ChildView). c.number) polls.after_is;
     process_is = ap (λ (c : ChildView). c.process) polls.after_is;
@@ -40,7 +42,8 @@ module _ (may : ℕ → Answer → Type 0) where
   stays_all (child ∷ children) = inl (child, children, stays_same child, refl, stays_all children)
 
   -- a child that was kept once, and then asked with those that were kept behind it
-  kept_once : (child kept : ChildView) (children rest left : List ChildView) (r l r' l' : ℕ) → StaysInPool child kept →
+  kept_once : (child kept : ChildView) (children rest left : List ChildView) (r l r' l' : ℕ)
+      → StaysInPool child kept →
       ((left : List ChildView) (r' l' : ℕ) → Sieves MayChild StaysInPool rest left r' l' → Sieves MayChild StaysInPool children left (r + r') (l + l')) →
       Sieves MayChild StaysInPool (kept ∷ rest) left r' l' → Sieves MayChild StaysInPool (child ∷ children) left (r + r') (l + l')
   kept_once child kept children rest left r l r' l' stays behind (inl s) =
@@ -51,7 +54,8 @@ module _ (may : ℕ → Answer → Type 0) where
       inr (inr (s.0, l + s.1, subst (λ (n : ℕ). may n (Err s.0)) stays.number_is s.2, omega (arith, s.3), behind left r' s.1 s.4))
 
   -- children that were asked twice
-  sieves_twice : (children mid left : List ChildView) (r l r' l' : ℕ) → Sieves MayChild StaysInPool children mid r l → Sieves MayChild StaysInPool mid left r' l' →
+  sieves_twice : (children mid left : List ChildView) (r l r' l' : ℕ)
+      → Sieves MayChild StaysInPool children mid r l → Sieves MayChild StaysInPool mid left r' l' →
       Sieves MayChild StaysInPool children left (r + r') (l + l')
   sieves_twice [] mid left r l r' l' first second =
       let none : Sieves MayChild StaysInPool [] left r' l' = subst (λ (m : List ChildView). Sieves MayChild StaysInPool m left r' l') first.0 second in
@@ -167,11 +171,13 @@ module _ (may : ℕ → Answer → Type 0) where
         let nothing : segment entries entries ≡ [] = ap (λ (l : List EntryView). segment entries l) (sym (append-nil entries)) ∙ segment-added entries [] in
         ([], sym (ap (λ (l : List EntryView). children_in l) nothing), All-nil IsUnasked, leaves_same (pool_view view pool))
 
-    numbers_seen : (children : List C) → map (λ c. c.number) (map view children) ≡ map (λ c. (view c).number) children
+    numbers_seen : (children : List C) → map (λ c. c.number) (map view children) ≡ map
+        (λ c. (view c).number) children
     numbers_seen [] = refl
     numbers_seen (child ∷ children) = ap (λ (l : List ℕ). (view child).number ∷ l) (numbers_seen children)
 
-    unasked_seen : (children : List C) → All (λ c. IsUnasked (view c)) children → All IsUnasked (map view children)
+    unasked_seen : (children : List C) → All (λ c. IsUnasked (view c)) children
+        → All IsUnasked (map view children)
     unasked_seen [] all = All-nil IsUnasked
     unasked_seen (child ∷ children) all =
         All-cons IsUnasked (view child) (map view children) (All-head (λ c. IsUnasked (view c)) child children all) (unasked_seen children (All-tail (λ c. IsUnasked (view c)) child children all))

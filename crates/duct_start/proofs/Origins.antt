@@ -31,14 +31,16 @@ pub count_spent-append : (n : ℕ) (xs ys : List EntryView)
     → count_of n (spent (xs ++ ys)) ≡ count_of n (spent xs) + count_of n (spent ys)
 count_spent-append n xs ys = ap (λ (l : List ℕ). count_of n l) (spent-append xs ys) ∙ count-append n (spent xs) (spent ys)
 
-count_got-reverse : (n : ℕ) (xs : List EntryView) → count_of n (got (reverse xs)) ≡ count_of n (got xs)
+count_got-reverse : (n : ℕ) (xs : List EntryView)
+    → count_of n (got (reverse xs)) ≡ count_of n (got xs)
 count_got-reverse n [] = refl
 count_got-reverse n (x ∷ xs) =
     let split : count_of n (got (reverse (x ∷ xs))) ≡ count_of n (got (reverse xs ++ x ∷ [])) = ap (λ (l : List EntryView). count_of n (got l)) (reverse-append (x ∷ []) xs) in
     omega (arith, split, count_got-append n (reverse xs) (x ∷ []), count_got-append n (x ∷ []) xs, count_got-reverse n xs)
 
 -- a number that no entry of these got comes from where it came before them
-skip : (n : ℕ) (entries before : List EntryView) → count_of n (got entries) ≡ 0 → origin_before (entries ++ before) n ≡ origin_before before n
+skip : (n : ℕ) (entries before : List EntryView) → count_of n (got entries) ≡ 0
+    → origin_before (entries ++ before) n ≡ origin_before before n
 skip n [] before none = refl
 skip n (Pipe (Ok (reader, writer)) ∷ entries) before none =
     let r : (n == reader) ≡ false = other_than n reader (omega (arith, count-cons n reader (writer ∷ got entries))) in
@@ -78,7 +80,8 @@ pub origin-more : (n : ℕ) (xs : List EntryView) (entry : EntryView)
     → origin (xs ++ entry ∷ []) n ≡ origin_before (entry ∷ reverse xs) n
 origin-more n xs entry = ap (λ (l : List EntryView). origin_before l n) (reverse-append xs (entry ∷ []))
 
-slice_get_seam : (front : List EntryView) (entry : EntryView) (rest : List EntryView) → slice_get (front ++ entry ∷ rest) (length front) ≡ Some entry
+slice_get_seam : (front : List EntryView) (entry : EntryView) (rest : List EntryView)
+    → slice_get (front ++ entry ∷ rest) (length front) ≡ Some entry
 slice_get_seam [] entry rest = refl
 slice_get_seam (x ∷ front) entry rest = slice_get_seam front entry rest
 

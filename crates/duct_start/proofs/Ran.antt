@@ -97,7 +97,8 @@ module _ {E H : Type 0} (allows : Allows H) (number_of : E → ℕ) (actions : L
 
   module _ (refuses : Refuses H) where
     -- more that would have been asked
-    refused_more : (course : Course) (items more : List (Item E H)) (now : JournalView) (held : Holdings) (e : Error) → Refused allows refuses number_of course items now held e →
+    refused_more : (course : Course) (items more : List (Item E H)) (now : JournalView)
+        (held : Holdings) (e : Error) → Refused allows refuses number_of course items now held e →
         Refused allows refuses number_of course (items ++ more) now held e
     unfolding stopped_front
     refused_more course items more now held e refused = record {
@@ -108,7 +109,9 @@ module _ {E H : Type 0} (allows : Allows H) (number_of : E → ℕ) (actions : L
           further entries place (slice_get items place) (slice_get (items ++ more) place) (λ item there. get_front items more place item there) (refused.cause is l later);
     }
       where
-        further : (entries : List EntryView) (place : ℕ) (o other : Option (Item E H)) → ((item : Item E H) → o ≡ Some item → other ≡ Some item) → StoppedBy allows refuses number_of entries place o e →
+        further : (entries : List EntryView) (place : ℕ) (o other : Option (Item E H))
+            → ((item : Item E H) → o ≡ Some item → other ≡ Some item)
+            → StoppedBy allows refuses number_of entries place o e →
             StoppedBy allows refuses number_of entries place other e
         further entries place None other same stopped = absurd stopped
         further entries place (Some item) other same stopped = subst (λ (o : Option (Item E H)). StoppedBy allows refuses number_of entries place o e) (sym (same item refl)) stopped

@@ -20,7 +20,8 @@ use Rattle.duct_start.proofs.Whole.{segment-added}
 
 module _ {E H : Type 0} (allows : Allows H) (number_of : E → ℕ) (r w : ℕ) (now mid next : JournalView) (held : Holdings) (is : held.out ≡ Some (r, w))
     (closed : GivesEnds (Close w) 1 now mid) (made : GivesEnds (Reader r) 1 mid next) where
-  reads_on : (course : Course) (st : State E H) → length st.stack ≤ course.bound → Stands allows number_of course st now held
+  reads_on : (course : Course) (st : State E H) → length st.stack ≤ course.bound
+      → Stands allows number_of course st now held
       → Stands allows number_of course (record { stack = st.stack; plan = read st.plan }) next (without_out [] held)
   reads_on course st low stands =
       let first = closes_out allows number_of course st r w now mid held is closed low stands in

@@ -15,21 +15,25 @@ use Rattle.duct_start.proofs.Stacks.{get_seam, get_front}
 
 module _ {E H : Type 0} where
   -- what is known stays where it is
-  known_stays : (known : List (Scope E H)) (scopes : List (ListedScope E H)) (i : ℕ) (s : Scope E H) → slice_get known i ≡ Some s → slice_get (scopes_from known scopes) i ≡ Some s
+  known_stays : (known : List (Scope E H)) (scopes : List (ListedScope E H)) (i : ℕ)
+      (s : Scope E H) → slice_get known i ≡ Some s → slice_get (scopes_from known scopes) i ≡ Some s
   known_stays known [] i s is = is
   known_stays known (scope ∷ scopes) i s is = known_stays (with_scope known scope) scopes i s (get_front known _ i s is)
 
-  from_append : (known : List (Scope E H)) (xs ys : List (ListedScope E H)) → scopes_from known (xs ++ ys) ≡ scopes_from (scopes_from known xs) ys
+  from_append : (known : List (Scope E H)) (xs ys : List (ListedScope E H))
+      → scopes_from known (xs ++ ys) ≡ scopes_from (scopes_from known xs) ys
   from_append known [] ys = refl
   from_append known (x ∷ xs) ys = from_append (with_scope known x) xs ys
 
-  length_from : (known : List (Scope E H)) (scopes : List (ListedScope E H)) → length (scopes_from known scopes) ≡ length known + length scopes
+  length_from : (known : List (Scope E H)) (scopes : List (ListedScope E H))
+      → length (scopes_from known scopes) ≡ length known + length scopes
   length_from known [] = omega arith
   length_from known (scope ∷ scopes) =
       let x = scope_within (step scope.0) (scope_at known scope.1) in
       omega (arith, length_from (known ++ x ∷ []) scopes, length-append known (x ∷ []))
 
-  fetches_same : (scopes : List (Scope E H)) (w : Wire E) (stream : Stream) → resolved_all scopes (fetches w stream) ≡ fetches w stream
+  fetches_same : (scopes : List (Scope E H)) (w : Wire E) (stream : Stream)
+      → resolved_all scopes (fetches w stream) ≡ fetches w stream
   fetches_same scopes nothing stream = refl
   fetches_same scopes (slot depth) stream = refl
   fetches_same scopes (captured which) stream = refl
@@ -42,11 +46,13 @@ module _ {E H : Type 0} where
   fetches_same scopes (parents Err) Out = refl
   fetches_same scopes (parents Err) Err = refl
 
-  joined_same : (scopes : List (Scope E H)) (xs : List (ActionOf E ℕ)) (same : List (Action E H)) (ys : List (ActionOf E ℕ)) (others : List (Action E H)) →
+  joined_same : (scopes : List (Scope E H)) (xs : List (ActionOf E ℕ)) (same : List (Action E H))
+      (ys : List (ActionOf E ℕ)) (others : List (Action E H)) →
       resolved_all scopes xs ≡ same → resolved_all scopes ys ≡ others → resolved_all scopes (xs ++ ys) ≡ same ++ others
   joined_same scopes xs same ys others one other = map-append (λ a. resolved scopes a) xs ys ∙ (λ j. one j ++ other j)
 
-  command_same : (scopes : List (Scope E H)) (i : ℕ) (s : Scope E H) (w : Three (Wire E)) (words : List (List ℕ)) → slice_get scopes i ≡ Some s →
+  command_same : (scopes : List (Scope E H)) (i : ℕ) (s : Scope E H) (w : Three (Wire E))
+      (words : List (List ℕ)) → slice_get scopes i ≡ Some s →
       resolved_all scopes (commands i w words) ≡ commands s w words
   command_same scopes i s w words here =
       joined_same scopes _ _ _ _ (fetches_same scopes w.input In)
@@ -54,7 +60,8 @@ module _ {E H : Type 0} where
       (joined_same scopes _ _ _ _ (fetches_same scopes w.error Err) (ap (λ o. action.spawn (unwrap_or o rooted) words (ports_at w) ∷ []) here)))
 
   -- whatever scopes come later
-  resolves : (tree : TreeView E H) (known : List (Scope E H)) (i : ℕ) (w : Three (Wire E)) (n next : ℕ) (s : Scope E H) (later : List (ListedScope E H)) → next ≡ length known →
+  resolves : (tree : TreeView E H) (known : List (Scope E H)) (i : ℕ) (w : Three (Wire E))
+      (n next : ℕ) (s : Scope E H) (later : List (ListedScope E H)) → next ≡ length known →
       slice_get known i ≡ Some s →
       resolved_all (scopes_from (scopes_from known (listed i w tree n next).scopes) later) (listed i w tree n next).actions ≡ flat s w tree n
   resolves (command words) known i w n next s later is here = command_same (scopes_from known later) i s w words (known_stays known later i s here)

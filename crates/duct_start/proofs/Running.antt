@@ -28,13 +28,15 @@ take_none : (count : ℕ) → length (got (take count [])) ≡ 0
 take_none zero = refl
 take_none (suc count) = refl
 
-environment_held : (bound : ℕ) (entry : EntryView) → got_by entry ≡ [] → spent_by entry ≡ [] → HeldFew bound (entry ∷ [])
+environment_held : (bound : ℕ) (entry : EntryView) → got_by entry ≡ [] → spent_by entry ≡ []
+    → HeldFew bound (entry ∷ [])
 environment_held bound entry none spent zero = omega arith
 environment_held bound entry none spent (suc count) =
     omega (arith, take_none count, length-append (got_by entry) (got (take count [])), ap (λ (l : List ℕ). length l) none)
 
 module _ (course : Course) (now : JournalView) where
-  begun_books : (entry : EntryView) → Asks entry course.old now → got_by entry ≡ [] → spent_by entry ≡ [] → child_by entry ≡ [] → feed_by entry ≡ [] → drain_by entry ≡ [] →
+  begun_books : (entry : EntryView) → Asks entry course.old now → got_by entry ≡ []
+      → spent_by entry ≡ [] → child_by entry ≡ [] → feed_by entry ≡ [] → drain_by entry ≡ [] →
       Books course.old now (entry ∷ []) empty
   begun_books entry asks none spent no_child no_feed no_drain =
       books_more course.old course.old now [] entry empty empty (none_changes entry course.old now empty asks none spent no_child no_feed no_drain) (record {
@@ -106,15 +108,18 @@ module _ (course : Course) (now : JournalView) where
     }
     stopped_begun items fault (inr nothing) = stopped_unasked (AskEnvironment ∷ items) (System fault) nothing.1 nothing.2
 
-drains_grow : {E H : Type 0} (o : Option ℕ) (p : Plan E H) → (more : List (Item E H)) × ((drains o p).items ≡ p.items ++ more)
+drains_grow : {E H : Type 0} (o : Option ℕ) (p : Plan E H)
+    → (more : List (Item E H)) × ((drains o p).items ≡ p.items ++ more)
 drains_grow None p = ([], sym (append-nil p.items))
 drains_grow (Some place) p = (AskDrain place ∷ [], refl)
 
-if_grow : {E H : Type 0} (o : Option ℕ) (p q : Plan E H) → q.items ≡ p.items ++ AskPipe ∷ [] → (more : List (Item E H)) × ((if is_some o then p else q).items ≡ p.items ++ more)
+if_grow : {E H : Type 0} (o : Option ℕ) (p q : Plan E H) → q.items ≡ p.items ++ AskPipe ∷ []
+    → (more : List (Item E H)) × ((if is_some o then p else q).items ≡ p.items ++ more)
 if_grow None p q is = (AskPipe ∷ [], is)
 if_grow (Some place) p q is = ([], sym (append-nil p.items))
 
-action_grows : {E H : Type 0} (st : State E H) (act : Action E H) → (more : List (Item E H)) × ((advance st act).plan.items ≡ st.plan.items ++ more)
+action_grows : {E H : Type 0} (st : State E H) (act : Action E H)
+    → (more : List (Item E H)) × ((advance st act).plan.items ≡ st.plan.items ++ more)
 action_grows st (action.open_read path) = (_, refl)
 action_grows st (action.create path) = (_, refl)
 action_grows st action.pipe = (_, refl)
@@ -143,7 +148,8 @@ items_grow st (act ∷ actions) =
     (one.0 ++ rest.0, rest.1 ∙ ap (λ (l : List (Item _ _)). l ++ rest.0) one.1 ∙ append_assoc st.plan.items one.0 rest.0)
 
 module _ {E H : Type 0} (allows : Allows H) (number_of : E → ℕ) (course : Course) where
-  can : (st : State E H) (held : Holdings) (act : Action E H) → IsShaped st held → action.Needs number_of course.base course.bound st act → CanDo act held
+  can : (st : State E H) (held : Holdings) (act : Action E H) → IsShaped st held
+      → action.Needs number_of course.base course.bound st act → CanDo act held
   can st held (action.duplicate depth) shaped needs = omega (arith, shaped.stack, needs)
   can st held (action.tap side.Out) shaped needs = shaped.out ∙ needs
   can st held (action.tap side.Err) shaped needs = shaped.err ∙ needs

@@ -7,31 +7,36 @@ use Rattle.duct_start.specs.Flat.{rooted, scope_within}
 use Rattle.duct_start.specs.Listed.{AreOutwards, ListedScope, scope_at, scope_in, scopes_from, with_scope}
 use Rattle.duct_start.specs.Step.{step}
 
-end_of : {A : Type 0} (xs : List A) (x : A) (n : ℕ) → n ≡ length xs → slice_get (xs ++ x ∷ []) n ≡ Some x
+end_of : {A : Type 0} (xs : List A) (x : A) (n : ℕ) → n ≡ length xs
+    → slice_get (xs ++ x ∷ []) n ≡ Some x
 end_of [] x zero is = refl
 end_of [] x (suc n) is = absurd (omega arith)
 end_of (y ∷ xs) x zero is = absurd (omega arith)
 end_of (y ∷ xs) x (suc n) is = end_of xs x n (omega arith)
 
-front_of : {A : Type 0} (xs ys : List A) (n : ℕ) (x : A) → slice_get xs n ≡ Some x → slice_get (xs ++ ys) n ≡ Some x
+front_of : {A : Type 0} (xs ys : List A) (n : ℕ) (x : A) → slice_get xs n ≡ Some x
+    → slice_get (xs ++ ys) n ≡ Some x
 front_of [] ys n x is = cc
 front_of (y ∷ xs) ys zero x is = is
 front_of (y ∷ xs) ys (suc n) x is = front_of xs ys n x is
 
 module _ {E H : Type 0} where
   -- what is known stays where it is
-  known_stays : (known : List (Scope E H)) (scopes : List (ListedScope E H)) (i : ℕ) (s : Scope E H) → slice_get known i ≡ Some s → slice_get (scopes_from known scopes) i ≡ Some s
+  known_stays : (known : List (Scope E H)) (scopes : List (ListedScope E H)) (i : ℕ)
+      (s : Scope E H) → slice_get known i ≡ Some s → slice_get (scopes_from known scopes) i ≡ Some s
   known_stays known [] i s is = is
   known_stays known (scope ∷ scopes) i s is = known_stays (with_scope known scope) scopes i s (front_of known _ i s is)
 
-  scope_stays : (known : List (Scope E H)) (scopes : List (ListedScope E H)) (i : ℕ) → i < length known → scope_at known i ≡ scope_at (scopes_from known scopes) i
+  scope_stays : (known : List (Scope E H)) (scopes : List (ListedScope E H)) (i : ℕ)
+      → i < length known → scope_at known i ≡ scope_at (scopes_from known scopes) i
   scope_stays known scopes i low = elim (slice_get_cases known i).1 [
     | inl found ↦ ap (λ o. unwrap_or o rooted) (found.2) ∙ sym (ap (λ o. unwrap_or o rooted) (known_stays known scopes i found.0 found.2))
     | inr past ↦ absurd (omega (arith, past.0))
   ]
 
   -- the scope of each node stands behind those that are known and those before it
-  stands_behind : (known : List (Scope E H)) (scopes : List (ListedScope E H)) (k n : ℕ) (scope : ListedScope E H) →
+  stands_behind : (known : List (Scope E H)) (scopes : List (ListedScope E H)) (k n : ℕ)
+      (scope : ListedScope E H) →
       slice_get scopes k ≡ Some scope → n ≡ length known + k → scope.1 < n →
       slice_get (scopes_from known scopes) n ≡ Some (scope_within (step scope.0) (scope_at (scopes_from known scopes) scope.1))
   stands_behind known [] k n scope here is outwards = absurd (cc)

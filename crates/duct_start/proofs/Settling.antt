@@ -27,7 +27,8 @@ use Rattle.duct_start.proofs.Counts.{count-append}
 use Rattle.duct_start.proofs.Going.{close_goes, duplicate_quits, lend_goes}
 
 -- two lists that are put together of parts of the same lengths
-pub split_first : {A : Type 0} (xs us ys vs : List A) → length xs ≡ length us → xs ++ ys ≡ us ++ vs → xs ≡ us
+pub split_first : {A : Type 0} (xs us ys vs : List A) → length xs ≡ length us → xs ++ ys ≡ us ++ vs
+    → xs ≡ us
 split_first [] [] ys vs same is = refl
 split_first [] (u ∷ us) ys vs same is = absurd (omega (arith, same))
 split_first (x ∷ xs) [] ys vs same is = absurd (omega (arith, same))
@@ -37,7 +38,8 @@ split_first (x ∷ xs) (u ∷ us) ys vs same is =
     let head : x ≡ u = cc in
     λ i. head i ∷ split_first xs us ys vs rest tail i
 
-pub split_second : {A : Type 0} (xs us ys vs : List A) → length xs ≡ length us → xs ++ ys ≡ us ++ vs → ys ≡ vs
+pub split_second : {A : Type 0} (xs us ys vs : List A) → length xs ≡ length us
+    → xs ++ ys ≡ us ++ vs → ys ≡ vs
 split_second [] [] ys vs same is = is
 split_second [] (u ∷ us) ys vs same is = absurd (omega (arith, same))
 split_second (x ∷ xs) [] ys vs same is = absurd (omega (arith, same))
@@ -47,7 +49,8 @@ split_second (x ∷ xs) (u ∷ us) ys vs same is =
     split_second xs us ys vs rest tail
 
 -- the same parts in another order on both sides
-swapped_map : {A B C : Type 0} (f : A → C) (g : B → C) (a b c : List A) (x y z : List B) → length a ≡ length x → length b ≡ length y →
+swapped_map : {A B C : Type 0} (f : A → C) (g : B → C) (a b c : List A) (x y z : List B)
+    → length a ≡ length x → length b ≡ length y →
     map f (a ++ (b ++ c)) ≡ map g (x ++ (y ++ z)) → map f (b ++ (a ++ c)) ≡ map g (y ++ (x ++ z))
 swapped_map {A} {B} {C} f g a b c x y z one other is =
     let la : length (map f a) ≡ length (map g x) = omega (arith, one, length-map a f, length-map x g) in
@@ -145,7 +148,8 @@ module _ {E H : Type 0} (allows : Allows H) (number_of : E → ℕ) where
       → Settles {E = E} {H = H} allows number_of ends port.Given now now old old
   settles_given ends old now = λ course state held over under above below target alike same lower low stands. (alike, stands)
 
-  lower_at : (base : ℕ) (ends : List E) (place : ℕ) (end : E) → All (λ e. number_of e < base) ends → slice_get ends place ≡ Some end → number_of end < base
+  lower_at : (base : ℕ) (ends : List E) (place : ℕ) (end : E) → All (λ e. number_of e < base) ends
+      → slice_get ends place ≡ Some end → number_of end < base
   lower_at base [] place end all is = cc
   lower_at base (x ∷ ends) zero end all is = let same : x ≡ end = cc in subst (λ e. number_of e < base) same (All-head (λ e. number_of e < base) x ends all)
   lower_at base (x ∷ ends) (suc place) end all is = lower_at base ends place end (All-tail (λ e. number_of e < base) x ends all) is

@@ -43,7 +43,8 @@ use Rattle.duct_start.proofs.Standing.{Changes, as_many, answers_front, few_of, 
 use Rattle.duct_start.proofs.Wires.{origin_of, streams_taken}
 
 -- a front of a list stays where it is
-get_within : {A : Type 0} (xs ys : List A) (n : ℕ) → n < length xs → slice_get (xs ++ ys) n ≡ slice_get xs n
+get_within : {A : Type 0} (xs ys : List A) (n : ℕ) → n < length xs
+    → slice_get (xs ++ ys) n ≡ slice_get xs n
 get_within [] ys n low = absurd (omega (arith, low))
 get_within (x ∷ xs) ys zero low = refl
 get_within (x ∷ xs) ys (suc n) low = get_within xs ys n (omega (arith, low))
@@ -53,10 +54,12 @@ abbrev pub onwards : Course → List EntryView → Course
 onwards course front = record course { front = front }
 
 module _ {E H : Type 0} (allows : Allows H) (number_of : E → ℕ) (course : Course) (front : List EntryView) where
-  later_as : (next : ℕ) (more : List EntryView) → IsLater course next more → IsLater (onwards course front) next more
+  later_as : (next : ℕ) (more : List EntryView) → IsLater course next more
+      → IsLater (onwards course front) next more
   later_as next more later = record { early = later.early; fresh = later.fresh }
 
-  later_back : (next : ℕ) (more : List EntryView) → IsLater (onwards course front) next more → IsLater course next more
+  later_back : (next : ℕ) (more : List EntryView) → IsLater (onwards course front) next more
+      → IsLater course next more
   later_back next more later = record { early = later.early; fresh = later.fresh }
 
   pub stands_onwards : (state : State E H) (now : JournalView) (held : Holdings)
@@ -76,7 +79,8 @@ module _ {E H : Type 0} (allows : Allows H) (number_of : E → ℕ) (course : Co
   }
 
   module _ (from : (later : List EntryView) × (front ≡ course.front ++ later)) where
-    begins_back : (added later : List EntryView) → added ≡ front ++ later → (l : List EntryView) × (added ≡ course.front ++ l)
+    begins_back : (added later : List EntryView) → added ≡ front ++ later
+        → (l : List EntryView) × (added ≡ course.front ++ l)
     begins_back added later is = (from.0 ++ later, is ∙ ap (λ l. l ++ later) from.1 ∙ append_assoc course.front from.0 later)
 
     pub stands_back : (state : State E H) (now : JournalView) (held : Holdings)
@@ -107,7 +111,9 @@ module _ {E H : Type 0} (allows : Allows H) (number_of : E → ℕ) (course : Co
   }
 
 module _ {E : Type 0} (number_of : E → ℕ) where
-  some_any : (e other : List EntryView) (o : Origin) (t : Target E) → Some o ≡ origin_to e number_of t → Some (origin_of other number_of t) ≡ origin_to other number_of t
+  some_any : (e other : List EntryView) (o : Origin) (t : Target E)
+      → Some o ≡ origin_to e number_of t
+      → Some (origin_of other number_of t) ≡ origin_to other number_of t
   some_any e other o (Parents stream.In) is = absurd (cc)
   some_any e other o (Parents stream.Out) is = refl
   some_any e other o (Parents stream.Err) is = refl
@@ -118,7 +124,8 @@ module _ {E : Type 0} (number_of : E → ℕ) where
   some_any e other o (Lends end) is = refl
 
   -- what has an origin by one trace has one by any
-  origins_any : (e other : List EntryView) (numbers : List Origin) (stack : List (Target E)) → map (λ o. Some o) numbers ≡ map (origin_to e number_of) stack →
+  origins_any : (e other : List EntryView) (numbers : List Origin) (stack : List (Target E))
+      → map (λ o. Some o) numbers ≡ map (origin_to e number_of) stack →
       map (λ o. Some o) (map (origin_of other number_of) stack) ≡ map (origin_to other number_of) stack
   origins_any e other numbers [] is = refl
   origins_any e other [] (t ∷ stack) is = absurd (cc)
@@ -128,7 +135,8 @@ module _ {E : Type 0} (number_of : E → ℕ) where
       λ i. some_any e other o t head i ∷ origins_any e other numbers stack tail i
 
   -- a stream comes from where it should
-  alike_origin : (L : List EntryView) (s : Stdio ℕ) (t : Stdio (Target E)) → IsAlike s t → map (λ n. Some (origin L n)) (end_of s) ≡ map (origin_to (trace L) number_of) (end_of t) →
+  alike_origin : (L : List EntryView) (s : Stdio ℕ) (t : Stdio (Target E)) → IsAlike s t
+      → map (λ n. Some (origin L n)) (end_of s) ≡ map (origin_to (trace L) number_of) (end_of t) →
       stream_of (origin L) s ≡ stream_of (origin_of (trace L) number_of) t
   alike_origin L Inherit Inherit alike is = refl
   alike_origin L Inherit Null alike is = absurd alike
@@ -164,7 +172,8 @@ module _ {E : Type 0} (number_of : E → ℕ) where
       let i = parts f g (end_of s.input) (end_of t.input) numbers targets (alike_long s.input t.input alike.input) o.1 in
       (alike_origin L s.input t.input alike.input i.0, alike_origin L s.output t.output alike.output o.0, alike_origin L s.error t.error alike.error e.0, i.1)
     where
-      parts : {A B C : Type 0} (f : A → C) (g : B → C) (xs : List A) (us : List B) (ys : List A) (vs : List B) → length xs ≡ length us → map f (xs ++ ys) ≡ map g (us ++ vs) →
+      parts : {A B C : Type 0} (f : A → C) (g : B → C) (xs : List A) (us : List B) (ys : List A)
+          (vs : List B) → length xs ≡ length us → map f (xs ++ ys) ≡ map g (us ++ vs) →
           (map f xs ≡ map g us) × (map f ys ≡ map g vs)
       parts f g xs us ys vs same is =
           let long : length (map f xs) ≡ length (map g us) = omega (arith, same, length-map xs f, length-map us g) in
@@ -172,7 +181,8 @@ module _ {E : Type 0} (number_of : E → ℕ) where
           (split_first (map f xs) (map g us) (map f ys) (map g vs) long all, split_second (map f xs) (map g us) (map f ys) (map g vs) long all)
 
 -- what the entry of a spawn changes
-spawn_changes : (spec : SpecView) (s : Three (Stdio ℕ)) (answer : Result ℕ Fault) (count : ℕ) (now next : JournalView) (low : Holdings) (children : List ℕ) →
+spawn_changes : (spec : SpecView) (s : Three (Stdio ℕ)) (answer : Result ℕ Fault) (count : ℕ)
+    (now next : JournalView) (low : Holdings) (children : List ℕ) →
     let entry = Spawn spec (s.input ∷ s.output ∷ s.error ∷ []) answer in
     GivesEnds entry count now next → count ≡ length (spent_by entry) → children ≡ low.children ++ child_by entry →
     Changes entry now next (holding (handed s low.stack) low) (record low { children = children })
@@ -193,14 +203,16 @@ spawn_changes spec s answer count now next low children gives many started =
     }
 
 -- the program is that at the place of the spawn
-program_there : (b : Bool) (entries rest : List EntryView) (words : List (List ℕ)) (place : ℕ) → length entries ≡ place → (b ≡ true → 0 < place) →
+program_there : (b : Bool) (entries rest : List EntryView) (words : List (List ℕ)) (place : ℕ)
+    → length entries ≡ place → (b ≡ true → 0 < place) →
     (if b then text_in (slice_get (entries ++ rest) (place - 1)) else program_of words) ≡ program_in b entries words
 program_there false entries rest words place many positive = refl
 program_there true entries rest words place many positive =
     let within : place - 1 < length entries = omega (arith, many, positive refl) in
     ap (λ o. text_in o) (get_within entries rest (place - 1) within) ∙ ap (λ n. text_in (slice_get entries (n - 1))) (sym many)
 
-named_positive : {E H : Type 0} (b : Bool) (p : Plan E H) (item : Item E H) → b ≡ true → 0 < length (if b then asks item p else p).items
+named_positive : {E H : Type 0} (b : Bool) (p : Plan E H) (item : Item E H) → b ≡ true
+    → 0 < length (if b then asks item p else p).items
 named_positive false p item is = absurd (cc)
 named_positive true p item is = omega (arith, length-append p.items (item ∷ []))
 
@@ -209,7 +221,8 @@ none_of [] is = refl
 none_of (x ∷ xs) is = absurd (omega (arith, is))
 
 -- three streams without an end
-none_handed : {A : Type 0} (s : Three (Stdio A)) (rest : List A) → length (ends_of (s.input ∷ s.output ∷ s.error ∷ [])) ≡ 0 → handed s rest ≡ rest
+none_handed : {A : Type 0} (s : Three (Stdio A)) (rest : List A)
+    → length (ends_of (s.input ∷ s.output ∷ s.error ∷ [])) ≡ 0 → handed s rest ≡ rest
 none_handed s rest none =
     let i = end_of s.input in
     let o = end_of s.output in
@@ -243,7 +256,8 @@ pub plain_refused : {E H : Type 0} (allows : Allows H) (refuses : Refuses H) (nu
 plain_refused allows refuses number_of course items now held e plain stopped = record { stopped = stopped; cause = λ is. absurd (plain is) }
 
 -- what stops a chain is a hook's error
-chain_hooks : {H O : Type 0} (allows : Allows H) (refuses : Refuses H) (hooks : List (H × List O)) (before : WiredTo O) (e : Error) → ChainStops allows refuses hooks before e → IsHooks e
+chain_hooks : {H O : Type 0} (allows : Allows H) (refuses : Refuses H) (hooks : List (H × List O))
+    (before : WiredTo O) (e : Error) → ChainStops allows refuses hooks before e → IsHooks e
 chain_hooks allows refuses [] before e stops = absurd stops
 chain_hooks allows refuses (hook ∷ hooks) before (error.Hook fault) stops = tt
 chain_hooks allows refuses (hook ∷ hooks) before (error.HookEnd place) stops = tt
@@ -270,7 +284,8 @@ module _ {E H : Type 0} (allows : Allows H) (number_of : E → ℕ) (course : Co
   abbrev pub low : Holdings
   low = holding (left_by ports held.stack) held
 
-  asked_at : (L rest : List EntryView) → trace L ≡ trace front ++ rest → pairs_in (trace L) ≡ course.pairs → course.base ≤ course.old.next →
+  asked_at : (L rest : List EntryView) → trace L ≡ trace front ++ rest
+      → pairs_in (trace L) ≡ course.pairs → course.base ≤ course.old.next →
       IsAskedAt (trace L) number_of (length (named scope words state).plan.items) found words (wired_as (origin_of (trace L) number_of) before)
   asked_at L rest is pairs early =
       let entries = trace L in
@@ -310,7 +325,9 @@ module _ {E H : Type 0} (allows : Allows H) (number_of : E → ℕ) (course : Co
           × (map (λ n. Some (origin whole n)) low.stack ≡ map (origin_to (trace whole) number_of) below.stack)
       origins = alike_origins number_of whole s (streams_in staged.wired) low.stack below.stack staged.alike sourced.stack
 
-      given_there : IsGiven allows number_of (trace whole) (length below.plan.items) found words spec (map (stream_of (origin whole)) (s.input ∷ s.output ∷ s.error ∷ []))
+      given_there : IsGiven allows number_of (trace whole)
+          (length below.plan.items) found words spec
+          (map (stream_of (origin whole)) (s.input ∷ s.output ∷ s.error ∷ []))
       given_there =
           let rest = staged.stands.starts.0 ++ entry answer ∷ more in
           let split : whole ≡ front ++ rest =
@@ -376,7 +393,8 @@ module _ {E H : Type 0} (allows : Allows H) (number_of : E → ℕ) (course : Co
         (stops_unasked allows number_of (onwards course front) begins_with ends_with.plan.items (AskSpawn found words ∷ []) now next handed_now (System fault) staged.stands refl nothing.1 nothing.2)
 
   -- a hook or a request among the hooks stopped it
-  pub halts_refused : (refuses : Refuses H) (from : (later : List EntryView) × (front ≡ course.front ++ later))
+  pub halts_refused : (refuses : Refuses H)
+      (from : (later : List EntryView) × (front ≡ course.front ++ later))
       (now : JournalView) (s : Three (Stdio ℕ)) (e : Error)
       → Halts allows refuses number_of (onwards course front) below low before scope.hooks now s e
       → Refused allows refuses number_of course

@@ -37,7 +37,8 @@ module _ {E H : Type 0} (number_of : E → ℕ) (base bound : ℕ) where
   ready-append state [] ys first second = second
   ready-append state (x ∷ xs) ys first second = (first.0, ready-append (advance state x) xs ys first.1 second)
 
-  after-append : (state : State E H) (xs ys : List (Action E H)) → after state (xs ++ ys) ≡ after (after state xs) ys
+  after-append : (state : State E H) (xs ys : List (Action E H))
+      → after state (xs ++ ys) ≡ after (after state xs) ys
   after-append state [] ys = refl
   after-append state (x ∷ xs) ys = after-append (advance state x) xs ys
 

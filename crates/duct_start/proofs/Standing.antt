@@ -33,7 +33,8 @@ as_many {E} {H} {allows} {number_of} {course} {state} {now} {held} stands =
 
 module _ {E H : Type 0} (allows : Allows H) (number_of : E → ℕ) where
   -- the entries that some items are answered by, one after the other
-  answers-append : (L : List EntryView) (place : ℕ) (items more : List (Item E H)) (entries rest : List EntryView) → length entries ≡ length items →
+  answers-append : (L : List EntryView) (place : ℕ) (items more : List (Item E H))
+      (entries rest : List EntryView) → length entries ≡ length items →
       AnswersFrom allows number_of L place items entries → AnswersFrom allows number_of L (place + length items) more rest → AnswersFrom allows number_of L place (items ++ more) (entries ++ rest)
   answers-append L place [] more [] rest same first second = subst (λ (k : ℕ). AnswersFrom allows number_of L k more rest) (omega arith) second
   answers-append L place [] more (entry ∷ entries) rest same first second = absurd first
@@ -50,7 +51,8 @@ module _ {E H : Type 0} (allows : Allows H) (number_of : E → ℕ) where
   answers_front L place [] more (entry ∷ entries) first = absurd first
   answers_front L place (item ∷ items) more (entry ∷ entries) first = (first.0, answers_front L (place + 1) items more entries first.1)
 
-clean_more : (xs : List EntryView) (entry : EntryView) → IsClean xs → fault_of entry ≡ None → IsClean (xs ++ entry ∷ [])
+clean_more : (xs : List EntryView) (entry : EntryView) → IsClean xs → fault_of entry ≡ None
+    → IsClean (xs ++ entry ∷ [])
 clean_more [] entry clean one = (one, tt)
 clean_more (x ∷ xs) entry clean one = (clean.0, clean_more xs entry clean.1 one)
 
@@ -88,7 +90,8 @@ books_more old now then added entry held kept ch books =
       drains_are = ch.drains_are ∙ ap (λ (l : List ℕ). l ++ drain_by entry) books.drains_are ∙ sym (flat_map-append drain_by added (entry ∷ []) ∙ ap (λ (l : List ℕ). drains_in added ++ l) (append-nil (drain_by entry)));
     }
 
-take_front : {A : Type 0} (xs ys : List A) (count : ℕ) → count ≤ length xs → take count (xs ++ ys) ≡ take count xs
+take_front : {A : Type 0} (xs ys : List A) (count : ℕ) → count ≤ length xs
+    → take count (xs ++ ys) ≡ take count xs
 take_front [] ys zero low = refl
 take_front [] ys (suc count) low = absurd (omega (arith, low))
 take_front (x ∷ xs) ys zero low = refl
@@ -101,7 +104,8 @@ take_whole (x ∷ xs) zero low = absurd (omega (arith, low))
 take_whole (x ∷ xs) (suc count) low = ap (λ l. x ∷ l) (take_whole xs count (omega (arith, low)))
 
 -- what is held after one entry more
-few_more : (bound : ℕ) (old then : JournalView) (added : List EntryView) (entry : EntryView) (kept : Holdings) → HeldFew bound added → Books old then (added ++ entry ∷ []) kept →
+few_more : (bound : ℕ) (old then : JournalView) (added : List EntryView) (entry : EntryView)
+    (kept : Holdings) → HeldFew bound added → Books old then (added ++ entry ∷ []) kept →
     length (ends kept) ≤ bound + 8 → HeldFew bound (added ++ entry ∷ [])
 few_more bound old then added entry kept few books low = λ count. elim (cases_lt (length added) count) [
   | inl lt ↦
@@ -193,7 +197,8 @@ module _ {E H : Type 0} (allows : Allows H) (number_of : E → ℕ) (course : Co
   }
 
 -- what comes later than a number comes later than a smaller one
-later_still : (course : Course) (next then : ℕ) (more : List EntryView) → next ≤ then → IsLater course then more → IsLater course next more
+later_still : (course : Course) (next then : ℕ) (more : List EntryView) → next ≤ then
+    → IsLater course then more → IsLater course next more
 later_still course next then more le later = record { early = later.early; fresh = λ n lt. let lt' : n < then = omega (arith, le) in later.fresh n lt' }
 
 -- nothing was asked, for want of memory

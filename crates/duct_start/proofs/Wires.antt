@@ -16,7 +16,8 @@ use Rattle.duct_start.specs.Found.{Target, target_of, Parents, Nothing, ReaderAt
 use Rattle.duct_start.specs.Standing.{origin_to}
 
 -- what a port takes and what it leaves is the stack
-taken_less : {A : Type 0} (p : Port) (stack : List A) → many p ≤ length stack → end_of (taken p stack) ++ less p stack ≡ stack
+taken_less : {A : Type 0} (p : Port) (stack : List A) → many p ≤ length stack
+    → end_of (taken p stack) ++ less p stack ≡ stack
 taken_less port.Inherit stack full = refl
 taken_less port.Null stack full = refl
 taken_less port.Given [] full = absurd (omega (arith, full))
@@ -47,7 +48,8 @@ module _ {A : Type 0} (ports : Three Port) (stack : List A) (full : many ports.i
       ap (λ l. end_of (taken ports.error stack) ++ (end_of (taken ports.output (less ports.error stack)) ++ l)) (taken_less ports.input (less ports.output (less ports.error stack)) full_input)
       ∙ ap (λ l. end_of (taken ports.error stack) ++ l) (taken_less ports.output (less ports.error stack) full_output) ∙ taken_less ports.error stack le
 
-alike_taken : {E : Type 0} (p : Port) (numbers : List ℕ) (targets : List (Target E)) → length numbers ≡ length targets → IsAlike (taken p numbers) (taken p targets)
+alike_taken : {E : Type 0} (p : Port) (numbers : List ℕ) (targets : List (Target E))
+    → length numbers ≡ length targets → IsAlike (taken p numbers) (taken p targets)
 alike_taken port.Inherit numbers targets same = tt
 alike_taken port.Null numbers targets same = tt
 alike_taken (port.Place place) numbers targets same = tt
@@ -56,7 +58,8 @@ alike_taken port.Given [] (t ∷ targets) same = absurd (omega (arith, same))
 alike_taken port.Given (n ∷ numbers) [] same = absurd (omega (arith, same))
 alike_taken port.Given (n ∷ numbers) (t ∷ targets) same = tt
 
-less_same : {A B : Type 0} (p : Port) (xs : List A) (ys : List B) → length xs ≡ length ys → length (less p xs) ≡ length (less p ys)
+less_same : {A B : Type 0} (p : Port) (xs : List A) (ys : List B) → length xs ≡ length ys
+    → length (less p xs) ≡ length (less p ys)
 less_same port.Inherit xs ys same = same
 less_same port.Null xs ys same = same
 less_same (port.Place place) xs ys same = same
@@ -83,7 +86,8 @@ module _ {E : Type 0} (entries : List EntryView) (number_of : E → ℕ) where
   origin_of target = unwrap_or (origin_to entries number_of target) (Opened 0)
 
   -- a stream that is given the top goes where the top comes from
-  given_top : (s : Stream) (t : Target E) (o : Origin) → port.Given ≡ port_to s t → Some o ≡ origin_to entries number_of t → End (origin_of t) ≡ stream_to entries number_of s t
+  given_top : (s : Stream) (t : Target E) (o : Origin) → port.Given ≡ port_to s t
+      → Some o ≡ origin_to entries number_of t → End (origin_of t) ≡ stream_to entries number_of s t
   given_top In (Parents In) o is from = absurd (cc)
   given_top In (Parents Out) o is from = refl
   given_top In (Parents Err) o is from = refl
@@ -144,7 +148,9 @@ module _ {E : Type 0} (entries : List EntryView) (number_of : E → ℕ) where
   not_place Err place (Lends e) is = cc
 
   -- a stream by its port goes where it is found to go
-  stream_taken : (s : Stream) (p : Port) (numbers : List Origin) (stack : List (Target E)) → many p ≤ length stack → map (λ o. Some o) numbers ≡ map (origin_to entries number_of) stack →
+  stream_taken : (s : Stream) (p : Port) (numbers : List Origin) (stack : List (Target E))
+      → many p ≤ length stack → map (λ o. Some o) numbers ≡ map
+      (origin_to entries number_of) stack →
       p ≡ port_to s (given s p stack) → stream_of origin_of (taken p stack) ≡ stream_to entries number_of s (given s p stack)
   stream_taken s port.Inherit numbers stack full from is = inherits s
   stream_taken s port.Null numbers stack full from is = nulls s
@@ -171,7 +177,8 @@ module _ {E : Type 0} (entries : List EntryView) (number_of : E → ℕ) where
       let i = stream_taken In ports.input _ (less ports.output (less ports.error stack)) (full_input ports stack full) two (are In) in
       λ j. i j ∷ o j ∷ e j ∷ []
     where
-      less_from : (p : Port) (stack : List (Target E)) → map (λ o. Some o) (map origin_of stack) ≡ map (origin_to entries number_of) stack →
+      less_from : (p : Port) (stack : List (Target E))
+          → map (λ o. Some o) (map origin_of stack) ≡ map (origin_to entries number_of) stack →
           map (λ o. Some o) (map origin_of (less p stack)) ≡ map (origin_to entries number_of) (less p stack)
       less_from port.Inherit stack is = is
       less_from port.Null stack is = is

@@ -38,7 +38,8 @@ module _ {E : Type 0} (count : ℕ) where
   fetched (parents Err) Err = nil
 
   -- one action before others, and a close behind them
-  closed : (act : ActionOf E ℕ) (acts : List (ActionOf E ℕ)) → P act → All P acts → All P (act ∷ (acts ++ action.close ∷ []))
+  closed : (act : ActionOf E ℕ) (acts : List (ActionOf E ℕ)) → P act → All P acts
+      → All P (act ∷ (acts ++ action.close ∷ []))
   closed act acts first inside = cons act (acts ++ action.close ∷ []) first (join acts (action.close ∷ []) inside (cons action.close [] tt nil))
 
 module _ {E H : Type 0} (count : ℕ) where

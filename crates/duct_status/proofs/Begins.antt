@@ -10,7 +10,8 @@ use Rattle.duct_status.specs.declared.status.Word.TheVariants as word
 use Rattle.duct_status.specs.ShapeView.{ShapeView, command_count, input_count}
 use Rattle.duct_status.specs.Latest.{Latest, latest_told}
 
-replicate_more : {T : Type 0} (a b : ℕ) (x : T) → replicate (a + b) x ≡ replicate a x ++ replicate b x
+replicate_more : {T : Type 0} (a b : ℕ) (x : T)
+    → replicate (a + b) x ≡ replicate a x ++ replicate b x
 replicate_more zero b x = ap (λ n. replicate n x) (zero-add b)
 replicate_more (suc a) b x = let e : suc a + b ≡ suc (a + b) = omega arith in rw e (ap (λ xs. x ∷ xs) (replicate_more a b x))
 

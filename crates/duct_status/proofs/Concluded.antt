@@ -12,7 +12,8 @@ use Rattle.duct_status.specs.Latest.{Latest}
 use Rattle.duct_status.proofs.Order.{chosen_wins}
 
 -- with a finished outcome the reply for the chosen command is one for the winner
-for_outcome : (v : OutcomeView) (t : Endings) (r : ReplyView) → is_finished v ≡ true → AnswersFor t (chosen t) (output_of v) (error_of v) r → AnswersOutcome v t r
+for_outcome : (v : OutcomeView) (t : Endings) (r : ReplyView) → is_finished v ≡ true
+    → AnswersFor t (chosen t) (output_of v) (error_of v) r → AnswersOutcome v t r
 for_outcome (finished output error) t r over h = (chosen t, chosen_wins t, h)
 for_outcome waits t r over h = absurd (cc)
 for_outcome (faults fault) t r over h = absurd (cc)

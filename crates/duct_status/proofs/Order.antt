@@ -69,7 +69,8 @@ level_of_ending : (good : Bool) → cond good 0 2 ≡ level_by (not good) true
 level_of_ending true = refl
 level_of_ending false = refl
 
-level_capped : (failed checked : Bool) (n : ℕ) → n ≡ level_by failed checked → min 1 n ≡ level_by failed false
+level_capped : (failed checked : Bool) (n : ℕ) → n ≡ level_by failed checked
+    → min 1 n ≡ level_by failed false
 level_capped false checked n is = omega arith
 level_capped true false n is = omega arith
 level_capped true true n is = omega arith
@@ -83,7 +84,8 @@ level_is (unchecked t) v = level_capped (is_failure t v) (is_checked t v) (level
 abbrev right_taken : Bool → Bool → Bool → Bool → Bool
 right_taken fl cl fr cr = (fr && cr) || (not (fl && cl) && fr)
 
-right_rule : (fl cl fr cr : Bool) → right_taken fl cl fr cr ≡ true → RightBeats (level_by fr cr) (level_by fl cl)
+right_rule : (fl cl fr cr : Bool) → right_taken fl cl fr cr ≡ true
+    → RightBeats (level_by fr cr) (level_by fl cl)
 right_rule false cl true true h = inl (omega arith)
 right_rule true false true true h = inl (omega arith)
 right_rule true true true true h = inr (refl, omega arith)
@@ -94,7 +96,8 @@ right_rule false cl false cr h = cc
 right_rule true false false cr h = cc
 right_rule true true false cr h = cc
 
-left_rule : (fl cl fr cr : Bool) → right_taken fl cl fr cr ≡ false → LeftBeats (level_by fl cl) (level_by fr cr)
+left_rule : (fl cl fr cr : Bool) → right_taken fl cl fr cr ≡ false
+    → LeftBeats (level_by fl cl) (level_by fr cr)
 left_rule fl cl true true h = cc
 left_rule false cl true false h = cc
 left_rule true false true false h = cc
@@ -103,10 +106,12 @@ left_rule false cl false cr h = inr (refl, refl)
 left_rule true false false cr h = inl (omega arith)
 left_rule true true false cr h = inl (omega arith)
 
-right_beats : (l r : Endings) (v : Way l) (w : Way r) → takes_right l r v w ≡ true → RightBeats (level r w) (level l v)
+right_beats : (l r : Endings) (v : Way l) (w : Way r) → takes_right l r v w ≡ true
+    → RightBeats (level r w) (level l v)
 right_beats l r v w h = rw (level_is r w, level_is l v) (right_rule (is_failure l v) (is_checked l v) (is_failure r w) (is_checked r w) h)
 
-left_beats : (l r : Endings) (v : Way l) (w : Way r) → takes_right l r v w ≡ false → LeftBeats (level l v) (level r w)
+left_beats : (l r : Endings) (v : Way l) (w : Way r) → takes_right l r v w ≡ false
+    → LeftBeats (level l v) (level r w)
 left_beats l r v w h = rw (level_is r w, level_is l v) (left_rule (is_failure l v) (is_checked l v) (is_failure r w) (is_checked r w) h)
 
 not_higher : (t : Endings) (v w : Way t) → (v ≡ w) ⊎ Beats t v w → level t w ≤ level t v
@@ -152,7 +157,8 @@ failed_level true true h = omega arith
 failed_level true false h = omega arith
 failed_level false checked h = cc
 
-winner_fails : (t : Endings) (winner way : Way t) → IsWinner t winner → is_failure t way ≡ true → is_failure t winner ≡ true
+winner_fails : (t : Endings) (winner way : Way t) → IsWinner t winner → is_failure t way ≡ true
+    → is_failure t winner ≡ true
 winner_fails t winner way wins failed =
     let low = not_higher t winner way (wins way) in
     let high : 0 < level t way = rw (level_is t way) (failed_level (is_failure t way) (is_checked t way) failed) in

@@ -11,7 +11,8 @@ use Rattle.duct_status.specs.Quoted.{is_printable, escaped, quoted, listed, quot
 printable_bounds : (c : ℕ) → (nat_le 32 c && nat_le c 126) ≡ true → (32 ≤ c) × (c ≤ 126)
 printable_bounds c is = let both = and_parts (nat_le 32 c) (nat_le c 126) is in (leb-true 32 c both.0, leb-true c 126 both.1)
 
-plain_escape : (c : ℕ) → 32 ≤ c → c ≤ 126 → (c ≡ 34 → ⊥) → (c ≡ 92 → ⊥) → debug_escape 34 c ≡ escaped c
+plain_escape : (c : ℕ) → 32 ≤ c → c ≤ 126 → (c ≡ 34 → ⊥) → (c ≡ 92 → ⊥)
+    → debug_escape 34 c ≡ escaped c
 unfolding debug_escape
 plain_escape c low high no_quote no_backslash =
     let e34 = ne_eqb c 34 no_quote in
@@ -55,7 +56,8 @@ ascii-printable (c ∷ text) is =
     let bounds = printable_bounds c both.0 in
     and_from _ _ (lt-ltb c 128 (omega arith)) (ascii-printable text both.1)
 
-escapes-printable : (text : List ℕ) → is_printable text ≡ true → flat_map (debug_escape 34) text ≡ flat_map escaped text
+escapes-printable : (text : List ℕ) → is_printable text ≡ true
+    → flat_map (debug_escape 34) text ≡ flat_map escaped text
 escapes-printable [] is = refl
 escapes-printable (c ∷ text) is =
     let both = and_parts (nat_le 32 c && nat_le c 126) (is_printable text) is in
@@ -74,11 +76,14 @@ abbrev pub after : List (List ℕ) → List ℕ
 after [] = []
 after (piece ∷ pieces) = comma_space ++ (piece ++ after pieces)
 
-listed-after : (piece : List ℕ) (pieces : List (List ℕ)) → piece ++ after pieces ≡ listed (piece ∷ pieces)
+listed-after : (piece : List ℕ) (pieces : List (List ℕ))
+    → piece ++ after pieces ≡ listed (piece ∷ pieces)
 listed-after piece [] = search rules
 listed-after piece (next ∷ pieces) = rw (listed-after next pieces) (sym (append_assoc piece comma_space (listed (next ∷ pieces))))
 
-items-after : {X : Type 0} (f : X → Option (List ℕ)) (g : X → List ℕ) (p : X → Bool) → ((x : X) → p x ≡ true → f x ≡ Some (g x)) → (xs : List X) → list_all p xs ≡ true → debug_items f comma_space xs ≡ Some (after (map g xs))
+items-after : {X : Type 0} (f : X → Option (List ℕ)) (g : X → List ℕ) (p : X → Bool)
+    → ((x : X) → p x ≡ true → f x ≡ Some (g x)) → (xs : List X) → list_all p xs ≡ true
+    → debug_items f comma_space xs ≡ Some (after (map g xs))
 items-after f g p at [] is = refl
 items-after f g p at (x ∷ xs) is =
     let both = and_parts (p x) (list_all p xs) is in

@@ -40,12 +40,17 @@ ran_none t drains words standing replies told first none =
     let Q : List Reply → Type 0 = λ rs. Ran t drains words None [] (map reply_view rs) in
     subst P (sym first) (subst Q (sym none) (record { told = told; responds = refl; repeated = tt; all_stand = tt; is_standing = tt }))
 
-responds_length : (t : ShapeView) (drains : Drains) (before events : List EventView) (replies : List ReplyView) → RespondsToAll t drains before events replies → length events ≡ length replies
+responds_length : (t : ShapeView) (drains : Drains) (before events : List EventView)
+    (replies : List ReplyView) → RespondsToAll t drains before events replies
+    → length events ≡ length replies
 responds_length t drains before [] replies all = sym (ap length all)
 responds_length t drains before (e ∷ es) [] all = absurd all
 responds_length t drains before (e ∷ es) (r ∷ rs) all = ap suc (responds_length t drains (before ++ e ∷ []) es rs all.1)
 
-responds_push : (t : ShapeView) (drains : Drains) (before es : List EventView) (rs : List ReplyView) (e : EventView) (r : ReplyView) → RespondsToAll t drains before es rs → Responds t (latest_told t drains (before ++ es)) e r → RespondsToAll t drains before (es ++ e ∷ []) (rs ++ r ∷ [])
+responds_push : (t : ShapeView) (drains : Drains) (before es : List EventView)
+    (rs : List ReplyView) (e : EventView) (r : ReplyView) → RespondsToAll t drains before es rs
+    → Responds t (latest_told t drains (before ++ es)) e r
+    → RespondsToAll t drains before (es ++ e ∷ []) (rs ++ r ∷ [])
 responds_push t drains before [] [] e r all one = let P : List EventView → Type 0 = λ es. Responds t (latest_told t drains es) e r in (subst P (append-nil before) one, refl)
 responds_push t drains before [] (q ∷ rs) e r all one = absurd (cc)
 responds_push t drains before (d ∷ es) [] e r all one = absurd all
@@ -53,23 +58,30 @@ responds_push t drains before (d ∷ es) (q ∷ rs) e r all one =
     let P : List EventView → Type 0 = λ es. Responds t (latest_told t drains es) e r in
     (all.0, responds_push t drains (before ++ d ∷ []) es rs e r all.1 (subst P (sym (append_assoc before (d ∷ []) es)) one))
 
-by_push : (q : ReplyView) (es : List EventView) (rs : List ReplyView) (e : EventView) (r : ReplyView) → length es ≡ length rs → RepeatedBy q es rs → Repeats (standing_after None q) e r → RepeatedBy q (es ++ e ∷ []) (rs ++ r ∷ [])
+by_push : (q : ReplyView) (es : List EventView) (rs : List ReplyView) (e : EventView)
+    (r : ReplyView) → length es ≡ length rs → RepeatedBy q es rs
+    → Repeats (standing_after None q) e r → RepeatedBy q (es ++ e ∷ []) (rs ++ r ∷ [])
 by_push q [] [] e r same by one = (one, tt)
 by_push q [] (p ∷ rs) e r same by one = absurd (omega arith)
 by_push q (d ∷ es) [] e r same by one = absurd (omega arith)
 by_push q (d ∷ es) (p ∷ rs) e r same by one = (by.0, by_push q es rs e r (omega arith) by.1 one)
 
-nothing_repeats : (standing : Option ReplyView) (e : EventView) (r : ReplyView) → standing ≡ None → Repeats standing e r
+nothing_repeats : (standing : Option ReplyView) (e : EventView) (r : ReplyView) → standing ≡ None
+    → Repeats standing e r
 nothing_repeats standing conclude r is = let P : Option ReplyView → Type 0 = λ s. IfSome s (λ answer. Again answer r) in subst P (sym is) tt
 nothing_repeats standing (from_command k heard) r is = tt
 nothing_repeats standing (from_input k heard) r is = tt
 nothing_repeats standing (from_drain stream heard) r is = tt
 
-one_repeats : (standing : Option ReplyView) (q : ReplyView) (e : EventView) (r : ReplyView) → (standing_after None q ≡ None) ⊎ (standing_after None q ≡ standing) → Repeats standing e r → Repeats (standing_after None q) e r
+one_repeats : (standing : Option ReplyView) (q : ReplyView) (e : EventView) (r : ReplyView)
+    → (standing_after None q ≡ None) ⊎ (standing_after None q ≡ standing) → Repeats standing e r
+    → Repeats (standing_after None q) e r
 one_repeats standing q e r (inl none) one = nothing_repeats (standing_after None q) e r none
 one_repeats standing q e r (inr same) one = let P : Option ReplyView → Type 0 = λ s. Repeats s e r in subst P (sym same) one
 
-repeated_push : (standing : Option ReplyView) (es : List EventView) (rs : List ReplyView) (e : EventView) (r : ReplyView) → length es ≡ length rs → AllStand standing rs → AllRepeated es rs → Repeats standing e r → AllRepeated (es ++ e ∷ []) (rs ++ r ∷ [])
+repeated_push : (standing : Option ReplyView) (es : List EventView) (rs : List ReplyView)
+    (e : EventView) (r : ReplyView) → length es ≡ length rs → AllStand standing rs
+    → AllRepeated es rs → Repeats standing e r → AllRepeated (es ++ e ∷ []) (rs ++ r ∷ [])
 repeated_push standing [] [] e r same stand all one = (tt, tt)
 repeated_push standing [] (p ∷ rs) e r same stand all one = absurd (omega arith)
 repeated_push standing (d ∷ es) [] e r same stand all one = absurd (omega arith)
@@ -77,31 +89,41 @@ repeated_push standing (d ∷ es) (p ∷ rs) e r same stand all one =
     (by_push p es rs e r (omega arith) all.0 (one_repeats standing p e r stand.0 one), repeated_push standing es rs e r (omega arith) stand.1 all.1 one)
 
 -- an answer that stands goes on to stand
-stands_on : (standing : Option ReplyView) (q r : ReplyView) → (standing_after None q ≡ None) ⊎ (standing_after None q ≡ standing) → (standing_after None q ≡ None) ⊎ (standing_after None q ≡ standing_after standing r)
+stands_on : (standing : Option ReplyView) (q r : ReplyView)
+    → (standing_after None q ≡ None) ⊎ (standing_after None q ≡ standing)
+    → (standing_after None q ≡ None) ⊎ (standing_after None q ≡ standing_after standing r)
 stands_on standing q r (inl none) = inl none
 stands_on None q r (inr same) = inl same
 stands_on (Some a) q r (inr same) = inr same
 
-no_answer : (known : Bool) (r : ReplyView) → MatchBool known (r ≡ noted) (r ≡ unknown) → standing_after None r ≡ None
+no_answer : (known : Bool) (r : ReplyView) → MatchBool known (r ≡ noted) (r ≡ unknown)
+    → standing_after None r ≡ None
 no_answer true r is = ap (standing_after None) is
 no_answer false r is = ap (standing_after None) is
 
-again_stands : (a r : ReplyView) → standing_after None a ≡ Some a → Again a r → (standing_after None r ≡ None) ⊎ (standing_after None r ≡ Some a)
+again_stands : (a r : ReplyView) → standing_after None a ≡ Some a → Again a r
+    → (standing_after None r ≡ None) ⊎ (standing_after None r ≡ Some a)
 again_stands a r is (inl same) = inr (ap (standing_after None) same ∙ is)
 again_stands a r is (inr none) = inl (ap (standing_after None) none)
 
-new_stands : (t : ShapeView) (words : Latest) (standing : Option ReplyView) (e : EventView) (r : ReplyView) → IsStanding standing → Responds t words e r → Repeats standing e r → (standing_after None r ≡ None) ⊎ (standing_after None r ≡ standing_after standing r)
+new_stands : (t : ShapeView) (words : Latest) (standing : Option ReplyView) (e : EventView)
+    (r : ReplyView) → IsStanding standing → Responds t words e r → Repeats standing e r
+    → (standing_after None r ≡ None) ⊎ (standing_after None r ≡ standing_after standing r)
 new_stands t words None e r is one again = inr refl
 new_stands t words (Some a) conclude r is one again = again_stands a r is again
 new_stands t words (Some a) (from_command k heard) r is one again = inl (no_answer (is_known t words (from_command k heard)) r one)
 new_stands t words (Some a) (from_input k heard) r is one again = inl (no_answer (is_known t words (from_input k heard)) r one)
 new_stands t words (Some a) (from_drain stream heard) r is one again = inl (no_answer (is_known t words (from_drain stream heard)) r one)
 
-stand_push : (standing : Option ReplyView) (rs : List ReplyView) (r : ReplyView) → AllStand standing rs → (standing_after None r ≡ None) ⊎ (standing_after None r ≡ standing_after standing r) → AllStand (standing_after standing r) (rs ++ r ∷ [])
+stand_push : (standing : Option ReplyView) (rs : List ReplyView) (r : ReplyView)
+    → AllStand standing rs → (standing_after None r ≡ None) ⊎
+    (standing_after None r ≡ standing_after standing r)
+    → AllStand (standing_after standing r) (rs ++ r ∷ [])
 stand_push standing [] r all one = (one, tt)
 stand_push standing (q ∷ rs) r all one = (stands_on standing q r all.0, stand_push standing rs r all.1 one)
 
-standing_next : (standing : Option ReplyView) (r : ReplyView) → IsStanding standing → IsStanding (standing_after standing r)
+standing_next : (standing : Option ReplyView) (r : ReplyView) → IsStanding standing
+    → IsStanding (standing_after standing r)
 standing_next (Some a) r is = is
 standing_next None (answered status out err) is = refl
 standing_next None (failed text) is = refl

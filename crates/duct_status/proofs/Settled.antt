@@ -33,13 +33,15 @@ done_parts (said.Running ∷ xs) ys done = absurd (let h = done.1 in cc)
 done_parts (said.Fault fault ∷ xs) ys done = absurd (let h = done.0 in cc)
 done_parts (said.Done value ∷ xs) ys done = done_parts xs ys done
 
-command_done : (told : Option Word) → AllDone (command_said told ∷ []) → (status : ExitStatus) × (told ≡ Some (word.Ended status))
+command_done : (told : Option Word) → AllDone (command_said told ∷ [])
+    → (status : ExitStatus) × (told ≡ Some (word.Ended status))
 command_done (Some (word.Ended status)) done = (status, refl)
 command_done (Some word.Running) done = absurd (let h = done.1 in cc)
 command_done (Some (word.Fault fault)) done = absurd (let h = done.0 in cc)
 command_done None done = absurd (let h = done.1 in cc)
 
-input_done : (heard : Option (Said (Unit {0}))) → AllDone (input_said heard ∷ []) → heard ≡ Some (said.Done tt)
+input_done : (heard : Option (Said (Unit {0}))) → AllDone (input_said heard ∷ [])
+    → heard ≡ Some (said.Done tt)
 input_done (Some (said.Done value)) done = refl
 input_done (Some said.Running) done = absurd (let h = done.1 in cc)
 input_done (Some (said.Fault fault)) done = absurd (let h = done.0 in cc)
@@ -49,7 +51,9 @@ below_or_not : (a b : ℕ) → (a < b) ⊎ (b ≤ a)
 below_or_not a b = grind arith
 
 -- a command of the tree has ended
-commands_done : (t : ShapeView) (c i : ℕ) (words : List Word) (inputs : List (Said (Unit {0}))) → AllDone (in_tree_order t c i words inputs) → (k : ℕ) → c ≤ k → k < c + command_count t → (status : ExitStatus) × (slice_get words k ≡ Some (word.Ended status))
+commands_done : (t : ShapeView) (c i : ℕ) (words : List Word) (inputs : List (Said (Unit {0})))
+    → AllDone (in_tree_order t c i words inputs) → (k : ℕ) → c ≤ k → k < c + command_count t
+    → (status : ExitStatus) × (slice_get words k ≡ Some (word.Ended status))
 commands_done (command texts) c i words inputs done k low high =
     let P : ℕ → Type 0 = λ n. (status : ExitStatus) × (slice_get words n ≡ Some (word.Ended status)) in
     let e : c ≡ k = omega arith in
@@ -65,7 +69,9 @@ commands_done (input t) c i words inputs done k low high =
 commands_done (unchecked t) c i words inputs done k low high = commands_done t c i words inputs done k low high
 
 -- an input worker of the tree is done
-inputs_done : (t : ShapeView) (c i : ℕ) (words : List Word) (inputs : List (Said (Unit {0}))) → AllDone (in_tree_order t c i words inputs) → (k : ℕ) → i ≤ k → k < i + input_count t → slice_get inputs k ≡ Some (said.Done tt)
+inputs_done : (t : ShapeView) (c i : ℕ) (words : List Word) (inputs : List (Said (Unit {0})))
+    → AllDone (in_tree_order t c i words inputs) → (k : ℕ) → i ≤ k → k < i + input_count t
+    → slice_get inputs k ≡ Some (said.Done tt)
 inputs_done (command texts) c i words inputs done k low high = absurd (omega arith)
 inputs_done (pipe l r) c i words inputs done k low high =
     let parts = done_parts (in_tree_order l c i words inputs) (in_tree_order r (c + command_count l) (i + input_count l) words inputs) done in
@@ -84,23 +90,30 @@ inputs_done (input t) c i words inputs done k low high =
     ]
 inputs_done (unchecked t) c i words inputs done k low high = inputs_done t c i words inputs done k low high
 
-changed_same : {T : Type 0} (change : T → T) (k : ℕ) (xs : List T) (x : T) → slice_get xs k ≡ Some x → change x ≡ x → change_at change k xs ≡ xs
+changed_same : {T : Type 0} (change : T → T) (k : ℕ) (xs : List T) (x : T)
+    → slice_get xs k ≡ Some x → change x ≡ x → change_at change k xs ≡ xs
 changed_same change k [] x is same = refl
 changed_same change zero (y ∷ xs) x is same = let e : y ≡ x = cc in ap (λ z. z ∷ xs) (ap change e ∙ same ∙ sym e)
 changed_same change (suc k) (y ∷ xs) x is same = ap (λ ys. y ∷ ys) (changed_same change k xs x is same)
 
-finished_ended : (fault : Option Fault) (runs : Bool) (next : OutcomeView) → is_finished (ended fault runs next) ≡ true → (fault ≡ None) × (runs ≡ false) × (is_finished next ≡ true)
+finished_ended : (fault : Option Fault) (runs : Bool) (next : OutcomeView)
+    → is_finished (ended fault runs next) ≡ true
+    → (fault ≡ None) × (runs ≡ false) × (is_finished next ≡ true)
 finished_ended (Some fault) runs next over = absurd (cc)
 finished_ended None true next over = absurd (cc)
 finished_ended None false next over = (refl, refl, over)
 
-drain_same : (drain : Option (Said (List ℕ))) (heard : Said (List ℕ)) (next : List ℕ → OutcomeView) → is_finished (with_bytes (captured drain) next) ≡ true → option_map (λ old. kept_after old heard) drain ≡ drain
+drain_same : (drain : Option (Said (List ℕ))) (heard : Said (List ℕ)) (next : List ℕ → OutcomeView)
+    → is_finished (with_bytes (captured drain) next) ≡ true
+    → option_map (λ old. kept_after old heard) drain ≡ drain
 drain_same None heard next over = refl
 drain_same (Some said.Running) heard next over = absurd (cc)
 drain_same (Some (said.Fault fault)) heard next over = absurd (cc)
 drain_same (Some (said.Done bytes)) heard next over = refl
 
-finished_next : (drain : Option (Said (List ℕ))) (next : List ℕ → OutcomeView) → is_finished (with_bytes (captured drain) next) ≡ true → (bytes : List ℕ) × (is_finished (next bytes) ≡ true)
+finished_next : (drain : Option (Said (List ℕ))) (next : List ℕ → OutcomeView)
+    → is_finished (with_bytes (captured drain) next) ≡ true
+    → (bytes : List ℕ) × (is_finished (next bytes) ≡ true)
 finished_next None next over = ([], over)
 finished_next (Some said.Running) next over = absurd (cc)
 finished_next (Some (said.Fault fault)) next over = absurd (cc)
@@ -111,7 +124,9 @@ pub record Fit (t : ShapeView) (words : Latest) : Type 0 where
   pub commands : length words.commands ≡ command_count t
   pub inputs : length words.inputs ≡ input_count t
 
-commands_same : (t : ShapeView) (words : Latest) (k : ℕ) (heard : Word) → Fit t words → AllDone (in_tree_order t 0 0 words.commands words.inputs) → change_at (λ old. word_after old heard) k words.commands ≡ words.commands
+commands_same : (t : ShapeView) (words : Latest) (k : ℕ) (heard : Word) → Fit t words
+    → AllDone (in_tree_order t 0 0 words.commands words.inputs)
+    → change_at (λ old. word_after old heard) k words.commands ≡ words.commands
 commands_same t words k heard fit done =
     let total = fit.commands in
     elim (below_or_not k (length words.commands)) [
@@ -121,7 +136,9 @@ commands_same t words k heard fit done =
       | inr more ↦ changed_past (λ old. word_after old heard) k words.commands more
     ]
 
-inputs_same : (t : ShapeView) (words : Latest) (k : ℕ) (heard : Said (Unit {0})) → Fit t words → AllDone (in_tree_order t 0 0 words.commands words.inputs) → change_at (λ old. kept_after old heard) k words.inputs ≡ words.inputs
+inputs_same : (t : ShapeView) (words : Latest) (k : ℕ) (heard : Said (Unit {0})) → Fit t words
+    → AllDone (in_tree_order t 0 0 words.commands words.inputs)
+    → change_at (λ old. kept_after old heard) k words.inputs ≡ words.inputs
 inputs_same t words k heard fit done =
     let total = fit.inputs in
     elim (below_or_not k (length words.inputs)) [

@@ -3,7 +3,8 @@ use Rattle.std.specs.Prelude.{ℕ, List, [], ◌∷◌, map, Option, Some}
 use Rattle.std.specs.Fmt.{debug_items, debug_list, comma_space, ◌++?◌}
 use Rattle.std.proofs.Common.{◌≡◌, ap, refl}
 
-items_of_map : {X Y : Type 0} (f : Y → Option (List ℕ)) (g : X → Y) (lead : List ℕ) (xs : List X) → debug_items f lead (map g xs) ≡ debug_items (λ x. f (g x)) lead xs
+items_of_map : {X Y : Type 0} (f : Y → Option (List ℕ)) (g : X → Y) (lead : List ℕ) (xs : List X)
+    → debug_items f lead (map g xs) ≡ debug_items (λ x. f (g x)) lead xs
 items_of_map f g lead [] = refl
 items_of_map f g lead (x ∷ xs) = ap (λ v. Some lead ++? f (g x) ++? v) (items_of_map f g comma_space xs)
 

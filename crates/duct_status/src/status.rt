@@ -31,7 +31,7 @@ use std::sync::Arc;
 /// The tree of an expression's commands, each with its words as the expression has them. Commands are numbered from 0,
 /// left to right. Each input has a worker; these are numbered from 0, left before right and an inner one before the
 /// one round it.
-#[derive(Drop)]
+#[derive(Debug, Drop)]
 pub enum Shape {
     Command(Arc<Vec<String>>),
     Pipe(Box<Shape>, Box<Shape>),
@@ -55,7 +55,7 @@ pub enum Word {
 }
 
 /// What the core is told, or asked.
-#[derive(Drop)]
+#[derive(Debug, PartialEq, Eq, Drop)]
 pub enum Event {
     /// The command of this number said this.
     Command(usize, Word),
@@ -68,7 +68,7 @@ pub enum Event {
 }
 
 /// What the core replies.
-#[derive(Drop)]
+#[derive(Debug, PartialEq, Eq, Drop)]
 pub enum Reply {
     /// The word is kept.
     Noted,

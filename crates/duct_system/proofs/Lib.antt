@@ -1,3 +1,4 @@
 pub mod Entries
 pub mod NameOrder
+pub mod Threads
 pub mod Variables

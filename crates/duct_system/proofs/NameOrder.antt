@@ -22,7 +22,8 @@ more Less n m below = omega arith
 more Equal n m same = ap (λ (k : ℕ). suc k) same
 more Greater n m above = omega arith
 
-at_min : (xs ys : List ℕ) → ByLength (left_cmp (min (length xs) (length ys)) xs ys) (length xs) (length ys)
+at_min : (xs ys : List ℕ) → ByLength (left_cmp (min (length xs) (length ys)) xs ys) (length xs)
+    (length ys)
 at_min [] [] = refl
 at_min [] (y ∷ ys) = simp unary_clauses (omega arith)
 at_min (x ∷ xs) [] = simp unary_clauses (omega arith)

@@ -40,17 +40,22 @@ module _ (name : List ℕ) where
   none_there k same (e ∷ es) none =
       ap (λ b. cond b (Some e) (variable_in name es)) (same_at name k e.0 same ∙ name_ties k e.0 ∙ none.0) ∙ none_there k same es none.1
 
-  less_case : (b : Bool) (k v : List ℕ) (rest : Option (List ℕ × List ℕ)) → (b ≡ true → rest ≡ None) → cond b (Some (k, v)) rest ≡ cond b (Some (spelled k rest, v)) rest
+  less_case : (b : Bool) (k v : List ℕ) (rest : Option (List ℕ × List ℕ))
+      → (b ≡ true → rest ≡ None) → cond b (Some (k, v)) rest ≡ cond b
+      (Some (spelled k rest, v)) rest
   less_case true k v rest none = ap (λ r. Some (spelled k r, v)) (sym (none refl))
   less_case false k v rest none = refl
 
-  equal_case : (b c : Bool) (e : List ℕ × List ℕ) (k v : List ℕ) (rest : Option (List ℕ × List ℕ)) → b ≡ c → cond c (Some (e.0, v)) rest ≡ cond b (Some (spelled k (cond c (Some e) rest), v)) (cond c (Some e) rest)
+  equal_case : (b c : Bool) (e : List ℕ × List ℕ) (k v : List ℕ) (rest : Option (List ℕ × List ℕ))
+      → b ≡ c → cond c (Some (e.0, v)) rest ≡ cond b (Some (spelled k (cond c (Some e) rest), v))
+      (cond c (Some e) rest)
   equal_case true true e k v rest is = refl
   equal_case false false e k v rest is = refl
   equal_case true false e k v rest is = absurd (cc)
   equal_case false true e k v rest is = absurd (cc)
 
-  greater_case : (b c : Bool) (e : List ℕ × List ℕ) (k v : List ℕ) (rest : Option (List ℕ × List ℕ)) → (b ≡ true → c ≡ true → ⊥) →
+  greater_case : (b c : Bool) (e : List ℕ × List ℕ) (k v : List ℕ)
+      (rest : Option (List ℕ × List ℕ)) → (b ≡ true → c ≡ true → ⊥) →
       cond c (Some e) (cond b (Some (spelled k rest, v)) rest) ≡ cond b (Some (spelled k (cond c (Some e) rest), v)) (cond c (Some e) rest)
   greater_case true true e k v rest apart = absurd (apart refl refl)
   greater_case true false e k v rest apart = refl
@@ -58,10 +63,12 @@ module _ (name : List ℕ) where
   greater_case false false e k v rest apart = refl
 
   -- a name that is as k cannot be as a name that k is not
-  apart : (k other : List ℕ) (o : Ordering) → name_cmp k other ≡ o → is_eq o ≡ false → is_same_name name k ≡ true → is_same_name name other ≡ true → ⊥
+  apart : (k other : List ℕ) (o : Ordering) → name_cmp k other ≡ o → is_eq o ≡ false
+      → is_same_name name k ≡ true → is_same_name name other ≡ true → ⊥
   apart k other o is differ one two = let same = sym (same_at name k other one) ∙ two in let tie = name_ties k other ∙ ap is_eq is ∙ differ in cc
 
-  with_case : (e : List ℕ × List ℕ) (es : Vars) (k v : List ℕ) (o : Ordering) → name_cmp k e.0 ≡ o → AreOrdered (e ∷ es) →
+  with_case : (e : List ℕ × List ℕ) (es : Vars) (k v : List ℕ) (o : Ordering) → name_cmp k e.0 ≡ o
+      → AreOrdered (e ∷ es) →
       variable_in name (with_var k v es) ≡ cond (is_same_name name k) (Some (spelled k (variable_in name es), v)) (variable_in name es) →
       variable_in name (match_ordering o ((k, v) ∷ e ∷ es) ((e.0, v) ∷ es) (e ∷ with_var k v es)) ≡ cond (is_same_name name k) (Some (spelled k (variable_in name (e ∷ es)), v)) (variable_in name (e ∷ es))
   with_case e es k v Less is ordered rest =
@@ -82,7 +89,8 @@ module _ (name : List ℕ) where
   variable_in-with (e ∷ es) k v ordered =
       with_case e es k v (name_cmp k e.0) refl ordered (variable_in-with es k v (sorted_tail name_cmp e.0 (keys_of es) ordered))
 
-  without_case : (b c d : Bool) (e : List ℕ × List ℕ) (rest : Option (List ℕ × List ℕ)) → (b ≡ true → c ≡ d) →
+  without_case : (b c d : Bool) (e : List ℕ × List ℕ) (rest : Option (List ℕ × List ℕ))
+      → (b ≡ true → c ≡ d) →
       cond (not c) (cond b (Some e) (cond d None rest)) (cond d None rest) ≡ cond d None (cond b (Some e) rest)
   without_case true true true e rest same = refl
   without_case true false false e rest same = refl
@@ -108,15 +116,20 @@ module _ (name : List ℕ) where
       ∙ without_case (is_same_name name e.0) (is_same_name k e.0) (is_same_name name k) e (variable_in name es)
       (λ same. name_equiv.symm k e.0 ∙ sym (same_at name e.0 k same))
     where
-      gone : (b : Bool) → variable_in name (cond b (e ∷ without_var k es) (without_var k es)) ≡ cond b (cond (is_same_name name e.0) (Some e) (variable_in name (without_var k es))) (variable_in name (without_var k es))
+      gone : (b : Bool) → variable_in name (cond b (e ∷ without_var k es) (without_var k es))
+          ≡ cond b (cond (is_same_name name e.0) (Some e) (variable_in name (without_var k es)))
+          (variable_in name (without_var k es))
       gone true = refl
       gone false = refl
 
-  last_value-more : (vars : Vars) (value k v : List ℕ) → last_value name value (vars ++ (k, v) ∷ []) ≡ cond (is_same_name name k) v (last_value name value vars)
+  last_value-more : (vars : Vars) (value k v : List ℕ)
+      → last_value name value (vars ++ (k, v) ∷ []) ≡ cond (is_same_name name k) v
+      (last_value name value vars)
   last_value-more [] value k v = refl
   last_value-more (e ∷ es) value k v = last_value-more es (cond (is_same_name name e.0) e.1 value) k v
 
-  said_case : (b c : Bool) (e : List ℕ × List ℕ) (last k v : List ℕ) (rest : Option (List ℕ × List ℕ)) →
+  said_case : (b c : Bool) (e : List ℕ × List ℕ) (last k v : List ℕ)
+      (rest : Option (List ℕ × List ℕ)) →
       cond c (Some (e.0, cond b v last)) (cond b (Some (spelled k rest, v)) rest) ≡ cond b (Some (spelled k (cond c (Some (e.0, last)) rest), v)) (cond c (Some (e.0, last)) rest)
   said_case true true e last k v rest = refl
   said_case true false e last k v rest = refl
@@ -133,7 +146,8 @@ module _ (name : List ℕ) where
       ∙ said_case (is_same_name name k) (is_same_name name e.0) e (last_value name e.1 es) k v (said_of name es)
 
 -- a name that is below some names is below them with one more
-with_above : (x k v : List ℕ) (es : Vars) → name_cmp x k ≡ Less → AllByRecursion (λ y. name_cmp x y ≡ Less) (keys_of es) →
+with_above : (x k v : List ℕ) (es : Vars) → name_cmp x k ≡ Less
+    → AllByRecursion (λ y. name_cmp x y ≡ Less) (keys_of es) →
     AllByRecursion (λ y. name_cmp x y ≡ Less) (keys_of (with_var k v es))
 with_above x k v [] less all = (less, tt)
 with_above x k v (e ∷ es) less all =
@@ -141,7 +155,9 @@ with_above x k v (e ∷ es) less all =
     [ Less ↦ (less, all) | Equal ↦ all | Greater ↦ (all.0, with_above x k v es less all.1) ]
 
 -- what is below a name is below those above it
-above_all : (x y : List ℕ) (names : List (List ℕ)) → name_cmp x y ≡ Less → AllByRecursion (λ z. name_cmp y z ≡ Less) names → AllByRecursion (λ z. name_cmp x z ≡ Less) names
+above_all : (x y : List ℕ) (names : List (List ℕ)) → name_cmp x y ≡ Less
+    → AllByRecursion (λ z. name_cmp y z ≡ Less) names
+    → AllByRecursion (λ z. name_cmp x z ≡ Less) names
 above_all x y [] less all = tt
 above_all x y (z ∷ names) less all = (name_total.trans x y z less all.0, above_all x y names less all.1)
 
@@ -151,7 +167,8 @@ unfolding IsStrictlySortedBy
 with_ordered [] k v ordered = (tt, tt)
 with_ordered (e ∷ es) k v ordered = by (name_cmp k e.0) refl (with_ordered es k v ordered.1)
   where
-    by : (o : Ordering) → name_cmp k e.0 ≡ o → AreOrdered (with_var k v es) → AreOrdered (match_ordering o ((k, v) ∷ e ∷ es) ((e.0, v) ∷ es) (e ∷ with_var k v es))
+    by : (o : Ordering) → name_cmp k e.0 ≡ o → AreOrdered (with_var k v es)
+        → AreOrdered (match_ordering o ((k, v) ∷ e ∷ es) ((e.0, v) ∷ es) (e ∷ with_var k v es))
     by Less is rest = ((is, above_all k e.0 (keys_of es) is ordered.0), ordered)
     by Equal is rest = ordered
     by Greater is rest = (with_above e.0 k v es (name_total.antisymm e.0 k ∙ ap ordering_reverse is) ordered.0, rest)

@@ -8,7 +8,7 @@ use std::sync::Arc;
 use thiserror::Error;
 
 /// Why a call was refused.
-#[derive(Debug, Drop, Error)]
+#[derive(Debug, PartialEq, Eq, Drop, Error)]
 pub enum Error {
     /// The system, a child, a worker or the reader answered this fault.
     #[error("system: {:?}", .0.kind)]

@@ -106,7 +106,7 @@ impl ExitStatus {
 }
 
 /// How an expression ended, with the bytes that it wrote to what it captured.
-#[derive(Debug, Drop)]
+#[derive(Debug, PartialEq, Eq, Drop)]
 pub struct Output {
     pub status: ExitStatus,
     pub stdout: Vec<u8>,
@@ -115,7 +115,7 @@ pub struct Output {
 
 /// What stands in the journal: a request with its answer. An end and a child stand there by their numbers, and an end
 /// that a request was given is spent, whatever was answered.
-#[derive(Drop)]
+#[derive(Debug, Drop)]
 pub enum Entry {
     /// The variables of the parent's environment, in the order answered.
     Environment(Result<Vec<(String, String)>, Fault>),

@@ -1,8 +1,9 @@
-//! Whether two shapes are the same.
-ghost use Rattle.std.specs.Prelude.{◌≡◌, ◌↔◌, IsTrue, map, string_bytes};
+//! Shapes that are the same: whether two are, and the same once more.
+ghost use Rattle.std.specs.Prelude.{◌≡◌, ◌↔◌, IfOk, IsTrue, map, string_bytes};
 ghost use Rattle.duct_status.specs.ShapeView.{shape_view};
 
 use crate::status::Shape;
+use std::alloc::{AllocError, Global};
 
 impl Shape {
     /// Whether both have the same commands, with the same words, in the same tree.
@@ -23,6 +24,25 @@ impl Shape {
             (Shape::Pipe(_, _), Shape::Command(_) | Shape::Input(_) | Shape::Unchecked(_)) => false,
             (Shape::Input(_), Shape::Command(_) | Shape::Pipe(_, _) | Shape::Unchecked(_)) => false,
             (Shape::Unchecked(_), Shape::Command(_) | Shape::Pipe(_, _) | Shape::Input(_)) => false,
+        }
+    }
+
+    /// The same shape once more, with one more owner of each command's words. Refused for want of memory, and where std
+    /// refuses such an owner.
+    pub fn try_clone(&self, alloc: Global) -> Result<Shape, AllocError>
+        ensures { IfOk result (λ copy. shape_view copy ≡ shape_view self.now) }
+    {
+        match self {
+            Shape::Command(words) => Ok(Shape::Command(words.clone()?)),
+            Shape::Pipe(left, right) => {
+                let left = Box::new(alloc, left.try_clone(alloc)?)?;
+                let right = Box::new(alloc, right.try_clone(alloc)?)?;
+                Ok(Shape::Pipe(left, right))
+            }
+            Shape::Input(inner) => Ok(Shape::Input(Box::new(alloc, inner.try_clone(alloc)?)?)),
+            Shape::Unchecked(inner) => {
+                Ok(Shape::Unchecked(Box::new(alloc, inner.try_clone(alloc)?)?))
+            }
         }
     }
 }
