@@ -6,4 +6,6 @@ mod bench;
 #[cfg(test)]
 mod lines;
 #[cfg(test)]
+mod memory;
+#[cfg(test)]
 mod performs;

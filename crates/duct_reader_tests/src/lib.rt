@@ -6,6 +6,8 @@ mod bench;
 #[cfg(test)]
 mod ends;
 #[cfg(test)]
+mod gates;
+#[cfg(test)]
 mod memory;
 #[cfg(test)]
 mod reads;

@@ -18,9 +18,20 @@ fn follows(alloc: Global, case: &Case, refused: u64) -> Result<u64, Fail> {
     Ok(start.bench.sys.requests())
 }
 
-fn follows_each(alloc: Global, expression: &str, way: Way) -> Result<(), Fail> {
+/// What children answer to the poll of a refused start: that they run, that they have ended, and faults.
+const CHILDREN: &[&str] = &["", "code 0; signal 9; code 1", "Other; running; NotFound"];
+
+fn follows_each(
+    alloc: Global,
+    expression: &str,
+    way: Way,
+    children: &'static str,
+) -> Result<(), Fail> {
     let expression = String::from_str(alloc, expression)?;
-    let case = case_with(alloc, expression, way, Scene::plain())?;
+    let scene = Scene::plain()
+        .with("children", children)
+        .ok_or("no children")?;
+    let case = case_with(alloc, expression, way, scene)?;
     for refused in 0..follows(alloc, &case, 0)? {
         let _ = follows(alloc, &case, refused.saturating_add(1))?;
     }
@@ -29,7 +40,9 @@ fn follows_each(alloc: Global, expression: &str, way: Way) -> Result<(), Fail> {
 
 fn follow_each(alloc: Global, expressions: &[&str], way: Way) -> Result<(), Fail> {
     for expression in expressions {
-        follows_each(alloc, expression, way)?;
+        for children in CHILDREN {
+            follows_each(alloc, expression, way, children)?;
+        }
     }
     Ok(())
 }

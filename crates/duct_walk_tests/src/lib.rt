@@ -10,3 +10,5 @@ mod bodies;
 mod cases;
 #[cfg(test)]
 mod follow;
+#[cfg(test)]
+mod waited;

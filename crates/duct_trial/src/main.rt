@@ -1,0 +1,142 @@
+//! The program `duct_trial`: reads an expression from each line of standard input, starts them over the real machine one after the other,
+//! all in one process, and prints what each came to. The last line says what they left: how many descriptors and how many children
+//! there are more than before the first. `bin/test-program` runs it at the machine's limits, and `bin/soak` with random lines.
+//!
+//! A line has the arguments of the program `host`, with blanks between them, and is read. `= 4` runs one of the trees of `trees`.
+#![tactic(auto)]
+
+mod left;
+#[cfg(test)]
+mod stubborn;
+#[cfg(test)]
+mod threads;
+mod trees;
+
+use crate::left::{Left, count_left};
+use crate::trees::{TREES_WITH_ENDS, Wires, tree};
+use duct::{Error, Expression, Fault, Pool, System};
+use duct_host::child::Child;
+use duct_host::end::End;
+use duct_host::host::Host;
+use duct_program::line::line;
+use std::alloc::{AllocError, Global};
+use std::fs::File;
+use std::io::Read;
+use std::rt::{Clock, Files};
+use std::sync::Wait;
+use std::time::Duration;
+use std::{io, thread};
+
+/// How often the program looks at most whether all that was started has ended, once a millisecond.
+const LOOKS: u32 = 2000;
+
+/// What a line of arguments reads.
+fn line_text<S: System>(
+    rt: &impl Wait,
+    alloc: Global,
+    sys: &mut S,
+    pool: &mut Pool<S::Child>,
+    text: &str,
+) -> Result<String, AllocError> {
+    let mut words = Vec::new(alloc);
+    for word in text.split_whitespace() {
+        words.push(String::from_str(alloc, word)?)?;
+    }
+    let expression: Expression<S::End> = match line(alloc, words.as_slice()) {
+        Ok(expression) => expression,
+        Err(usage) => return format!(in alloc; "{usage}"),
+    };
+    match expression.read(rt, sys, pool) {
+        Ok(text) => format!(in alloc; "{text:?}"),
+        Err(error) => format!(in alloc; "{error}"),
+    }
+}
+
+/// What a tree comes to that is run.
+fn run_text<S: System>(
+    rt: &impl Wait,
+    alloc: Global,
+    sys: &mut S,
+    pool: &mut Pool<S::Child>,
+    tree: &Expression<S::End, Wires>,
+) -> Result<String, AllocError> {
+    match tree.run(rt, sys, pool) {
+        Ok(output) => {
+            let (status, out, err) = (output.status, output.stdout, output.stderr);
+            format!(in alloc; "{status:?} {out:?} {err:?}")
+        }
+        Err(error) => format!(in alloc; "{error}"),
+    }
+}
+
+/// Two ends that read and write nothing.
+fn two_ends<R: Files<File = File>>(
+    rt: &R,
+    host: &mut Host<&R>,
+    alloc: Global,
+) -> Result<Vec<End>, Error> {
+    let mut ends = Vec::new(alloc);
+    for _ in 0..2 {
+        let file = File::open(rt, "/dev/null").map_err(Fault::from)?;
+        ends.push(host.adopt_file(file)?)?;
+    }
+    Ok(ends)
+}
+
+/// The tree of a number, with its ends.
+fn tree_of<R: Files<File = File>>(
+    rt: &R,
+    host: &mut Host<&R>,
+    alloc: Global,
+    number: u32,
+) -> Result<Expression<End, Wires>, Error> {
+    let ends = if number < TREES_WITH_ENDS {
+        Vec::new(alloc)
+    } else {
+        two_ends(rt, host, alloc)?
+    };
+    tree(alloc, number, ends)
+}
+
+/// Waits until as little is left as there was, or so long as it looks, and says how much more is left.
+fn rest<R: Files + AllocGlobal + Clone + Wait + Clock, C: duct::Child>(
+    rt: &R,
+    pool: &mut Pool<C>,
+    before: Left,
+) -> io::Result<Left> {
+    let mut after = count_left(rt)?;
+    for _ in 0..LOOKS {
+        pool.sweep();
+        after = count_left(rt)?;
+        if after == before {
+            break;
+        }
+        thread::sleep(rt, Duration::from_millis(1));
+    }
+    Ok(Left {
+        descriptors: after.descriptors.saturating_sub(before.descriptors),
+        children: after.children.saturating_sub(before.children),
+    })
+}
+
+fn main(rt: HostRuntime) -> io::Result<()> {
+    let alloc = rt.alloc();
+    let mut input = String::new(alloc);
+    rt.stdin().read_to_string(&mut input)?;
+    let before = count_left(&rt)?;
+    let mut host = Host::new(&rt, alloc);
+    let mut pool: Pool<Child<&HostRuntime>> = Pool::new(alloc);
+    for text in input.lines() {
+        let told = match text.strip_prefix("= ") {
+            Some(number) => match tree_of(&rt, &mut host, alloc, number.parse().unwrap_or(0)) {
+                Ok(tree) => run_text(&rt, alloc, &mut host, &mut pool, &tree)?,
+                Err(error) => format!(in alloc; "{error}")?,
+            },
+            None => line_text(&rt, alloc, &mut host, &mut pool, text)?,
+        };
+        println!(rt; "{told}")?;
+        host.clear_journal();
+    }
+    let left = rest(&rt, &mut pool, before)?;
+    println!(rt; "left {} {}", left.descriptors, left.children)
+}

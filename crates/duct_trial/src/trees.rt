@@ -1,0 +1,102 @@
+//! Ten trees with a node of each kind, of commands that end by themselves and print little.
+use duct::{CommandSpec, Error, Expression, Fault, Hook, Port, cmd};
+use std::alloc::Global;
+
+/// A hook that lets stdin and stdout go to the two ends beside it.
+#[derive(Drop)]
+pub struct Wires;
+
+impl Hook for Wires {
+    ghost allows = { λ _ _ _. Unit {0} };
+
+    ghost refuses = { λ _ _ _. Unit {0} };
+
+    fn change(&self, spec: &mut CommandSpec) -> Result<(), Fault> {
+        spec.stdin(Port::Place(0));
+        spec.stdout(Port::Place(1));
+        Ok(())
+    }
+}
+
+/// An expression with this kind of hook.
+pub type Tree<E> = Expression<E, Wires>;
+
+fn shell<E: Drop>(alloc: Global, script: &str) -> Result<Tree<E>, Error> {
+    cmd!(in alloc; "sh", "-c", script)
+}
+
+fn cat<E: Drop>(alloc: Global) -> Result<Tree<E>, Error> {
+    cmd!(in alloc; "cat")
+}
+
+// A command with three files.
+fn with_files<E: Drop>(alloc: Global) -> Result<Tree<E>, Error> {
+    let reads = cat(alloc)?.stdin_path("/dev/null")?;
+    reads.stdout_path("/dev/null")?.stderr_path("/dev/null")
+}
+
+fn pipeline<E: Drop>(alloc: Global) -> Result<Tree<E>, Error> {
+    let back = cat(alloc)?.pipe(&cat(alloc)?)?;
+    cat(alloc)?.stdin_null()?.pipe(&back)
+}
+
+fn with_input<E: Drop>(alloc: Global) -> Result<Tree<E>, Error> {
+    let mut bytes = Vec::new(alloc);
+    bytes.extend_from_slice(b"xyz")?;
+    let reads = cat(alloc)?.stdin_bytes(bytes)?;
+    reads.pipe(&cat(alloc)?)?.stdout_capture()
+}
+
+fn two_captures<E: Drop>(alloc: Global) -> Result<Tree<E>, Error> {
+    let warns = shell(alloc, "echo a >&2")?.stderr_capture()?;
+    warns.pipe(&cat(alloc)?.stderr_capture()?)
+}
+
+fn swapped<E: Drop>(alloc: Global) -> Result<Tree<E>, Error> {
+    let both = shell(alloc, "echo foo; echo bar >&2")?.stdout_stderr_swap()?;
+    both.stdout_capture()?.stderr_capture()
+}
+
+fn crossed<E: Drop>(alloc: Global) -> Result<Tree<E>, Error> {
+    let left = shell(alloc, "exit 0")?.stdout_to_stderr()?;
+    let right = shell(alloc, "exit 3")?.stderr_to_stdout()?;
+    left.pipe(&right)?.unchecked()
+}
+
+fn hooked<E: Drop>(alloc: Global, ends: Vec<E>) -> Result<Tree<E>, Error> {
+    let command: Tree<E> = cmd!(in alloc; "../../../../../../../../../../bin/cat")?;
+    let folder = command.before_spawn(Wires, ends)?.dir("/bin")?;
+    folder.pipe(&cat(alloc)?)
+}
+
+fn lent<E: Drop>(alloc: Global, mut ends: Vec<E>) -> Result<Tree<E>, Error> {
+    let mut right = cat(alloc)?;
+    if let Some(end) = ends.pop() {
+        right = right.stdout_file(end)?;
+    }
+    let mut left = cat(alloc)?;
+    if let Some(end) = ends.pop() {
+        left = left.stdin_file(end)?;
+    }
+    left.pipe(&right)?.env("A", "1")
+}
+
+/// The first tree that takes two ends; those behind it take them too.
+pub const TREES_WITH_ENDS: u32 = 9;
+
+/// The tree of a number from 1 to 10; of any other number a command that does nothing.
+pub fn tree<E: Drop>(alloc: Global, number: u32, ends: Vec<E>) -> Result<Tree<E>, Error> {
+    match number {
+        1 => cat(alloc),
+        2 => with_files(alloc),
+        3 => shell(alloc, "echo hi")?.stdout_null()?.stdout_capture(),
+        4 => pipeline(alloc),
+        5 => with_input(alloc),
+        6 => two_captures(alloc),
+        7 => swapped(alloc),
+        8 => crossed(alloc),
+        9 => hooked(alloc, ends),
+        10 => lent(alloc, ends),
+        _ => shell(alloc, "exit 0"),
+    }
+}
