@@ -31,7 +31,8 @@ module _ (answer : ℕ → Answer → Type 0) (obey : ℕ → Order → Obeyed �
 
   all_obeyed : (befores : List ChildView) (answers : List Obeyed) (afters : List ChildView)
       → AllOrdered obey order befores answers afters → leftmost answers ≡ Ok tt
-      → All (IsTold answer) befores → AllObeyed answer obey order (map (λ (c : ChildView). c.number) befores)
+      → All (IsTold answer) befores
+      → AllObeyed answer obey order (map (λ (c : ChildView). c.number) befores)
   all_obeyed [] [] [] ordered ok told = All-nil Obeys
   all_obeyed [] [] (after ∷ afters) ordered ok told = absurd ordered
   all_obeyed [] (a ∷ answers) afters ordered ok told = absurd ordered

@@ -31,7 +31,8 @@ concluded answer feed drain here there mine its found ending is same alike told 
 
 -- a wait that answers what its token then knows
 module _ (answer : ℕ → child.Answer → Type 0) (feed : ℕ → Said (Unit {0}) → Type 0) (drain : ℕ → Said Bytes → Type 0) {X : Type 0} (view : X → PublishedView) (handle : HandleView) where
-  knows_same : (cell other : ℕ) (known : Option PublishedView) (polled : Polled) → KnowsIfEnded handle (record { cell = cell; known = known }) polled
+  knows_same : (cell other : ℕ) (known : Option PublishedView) (polled : Polled)
+      → KnowsIfEnded handle (record { cell = cell; known = known }) polled
       → KnowsIfEnded handle (record { cell = other; known = known }) polled
   knows_same cell other known (Ok None) knows = tt
   knows_same cell other known (Ok (Some output)) knows = knows
@@ -56,8 +57,10 @@ module _ (answer : ℕ → child.Answer → Type 0) (feed : ℕ → Said (Unit {
 
   pub shared : (before cell : ℕ) (old new : Option X) (x : X) (polled : Polled) → new ≡ Some x
       → Agrees old x → cell ≡ handle.cell
-      → IsAnswer answer feed drain (shape_view handle.shape) handle.numbers polled → (polled ≡ Ok None → ⊥)
-      → KnowsIfEnded handle (record { cell = handle.cell; known = Some (view x) }) polled → GivesAgain handle (view x) polled
+      → IsAnswer answer feed drain (shape_view handle.shape) handle.numbers polled
+      → (polled ≡ Ok None → ⊥)
+      → KnowsIfEnded handle (record { cell = handle.cell; known = Some (view x) }) polled
+      → GivesAgain handle (view x) polled
       → Waited answer feed drain handle (record { cell = before; known = option_map view old }) (record { cell = cell; known = option_map view new }) polled
   shared before cell old new x polled is agrees same told ended knows again = record {
     cell = same;

@@ -27,49 +27,49 @@ use Rattle.duct_handle.specs.contracts.handle.Handle
 use Rattle.duct_handle.specs.contracts.handle.Handle.TheInside
 use Rattle.duct_handle.proofs.published.Answer.TheSendSync as answer
 
-module _ (T T1 T2 T3 T4 T5 : RattleType)
-    (s : System.Ghosts T.Denot T1.Denot T2.Denot T3.Denot T4.Denot T5.Denot)
-    (e : Numbered.Ghosts T1.Denot)
-    (c : Child.Ghosts T2.Denot) (cn : Numbered.Ghosts T2.Denot)
-    (f : Job.Ghosts T3.Denot (Field.unit-field).Value) (fn : Numbered.Ghosts T3.Denot)
-    (d : Job.Ghosts T4.Denot (Arc.Arc (Vec.Vec (Field.u8-field).Value Global.Global) Global.Global))
-    (dn : Numbered.Ghosts T4.Denot)
-    (r : Read.Ghosts T5.Denot) where
-  published_field_send : IsSend (Published.the_field T T1 T2 T3 T4 T5 s e c cn f fn d dn r).row
-  published_field_send = struct_send (shape (Published.the_type T T1 T2 T3 T4 T5 s e c cn f fn d dn r))
+module _ (S E C F D R : RattleType)
+    (s : System.Ghosts S.Denot E.Denot C.Denot F.Denot D.Denot R.Denot)
+    (e : Numbered.Ghosts E.Denot)
+    (c : Child.Ghosts C.Denot) (cn : Numbered.Ghosts C.Denot)
+    (f : Job.Ghosts F.Denot (Field.unit-field).Value) (fn : Numbered.Ghosts F.Denot)
+    (d : Job.Ghosts D.Denot (Arc.Arc (Vec.Vec (Field.u8-field).Value Global.Global) Global.Global))
+    (dn : Numbered.Ghosts D.Denot)
+    (r : Read.Ghosts R.Denot) where
+  published_field_send : IsSend (Published.the_field S E C F D R s e c cn f fn d dn r).row
+  published_field_send = struct_send (shape (Published.the_type S E C F D R s e c cn f fn d dn r))
       (shape_field_send, (numbers.the_field_send, (search (answer.the_send, sendable) depth 20, (search sendable depth 20, tt))))
 
-  published_field_sync : IsSync (Published.the_field T T1 T2 T3 T4 T5 s e c cn f fn d dn r).row
-  published_field_sync = struct_sync (shape (Published.the_type T T1 T2 T3 T4 T5 s e c cn f fn d dn r))
+  published_field_sync : IsSync (Published.the_field S E C F D R s e c cn f fn d dn r).row
+  published_field_sync = struct_sync (shape (Published.the_type S E C F D R s e c cn f fn d dn r))
       (shape_field_sync, (numbers.the_field_sync, (search (answer.the_sync, sendable) depth 20, (search sendable depth 20, tt))))
 
-  published_send : IsSend (Published.the_row T T1 T2 T3 T4 T5 s e c cn f fn d dn r)
-  published_send = recorded_send _ _ _ (Published.the_type T T1 T2 T3 T4 T5 s e c cn f fn d dn r).to_one published_field_send
+  published_send : IsSend (Published.the_row S E C F D R s e c cn f fn d dn r)
+  published_send = recorded_send _ _ _ (Published.the_type S E C F D R s e c cn f fn d dn r).to_one published_field_send
 
-  published_sync : IsSync (Published.the_row T T1 T2 T3 T4 T5 s e c cn f fn d dn r)
-  published_sync = recorded_sync _ _ _ (Published.the_type T T1 T2 T3 T4 T5 s e c cn f fn d dn r).to_one published_field_sync
+  published_sync : IsSync (Published.the_row S E C F D R s e c cn f fn d dn r)
+  published_sync = recorded_sync _ _ _ (Published.the_type S E C F D R s e c cn f fn d dn r).to_one published_field_sync
 
-  spare_send : IsSend (Box.the_row (Published.the_row T T1 T2 T3 T4 T5 s e c cn f fn d dn r) Heap.the_row ghosts)
-  spare_send = Box-send (Published.the_row T T1 T2 T3 T4 T5 s e c cn f fn d dn r) published_send
+  spare_send : IsSend (Box.the_row (Published.the_row S E C F D R s e c cn f fn d dn r) Heap.the_row ghosts)
+  spare_send = Box-send (Published.the_row S E C F D R s e c cn f fn d dn r) published_send
 
-  locked_field_send : IsSend T2 → IsSend T3 → IsSend T4
-      → IsSend (Locked.the_field T T1 T2 T3 T4 T5 s e c cn f fn d dn r).row
+  locked_field_send : IsSend C → IsSend F → IsSend D
+      → IsSend (Locked.the_field S E C F D R s e c cn f fn d dn r).row
   locked_field_send child feed drain = struct_send
-      (shape (Locked.the_type T T1 T2 T3 T4 T5 s e c cn f fn d dn r)) (
-        running_send T T1 T2 T3 T4 T5 s e c cn f fn d dn r child feed drain,
+      (shape (Locked.the_type S E C F D R s e c cn f fn d dn r)) (
+        running_send S E C F D R s e c cn f fn d dn r child feed drain,
         (search (spare_send, sendable) depth 20, tt),
       )
 
-  locked_send : IsSend T2 → IsSend T3 → IsSend T4
-      → IsSend (Locked.the_row T T1 T2 T3 T4 T5 s e c cn f fn d dn r)
+  locked_send : IsSend C → IsSend F → IsSend D
+      → IsSend (Locked.the_row S E C F D R s e c cn f fn d dn r)
   locked_send child feed drain = recorded_send _ _ _
-      (Locked.the_type T T1 T2 T3 T4 T5 s e c cn f fn d dn r).to_one
+      (Locked.the_type S E C F D R s e c cn f fn d dn r).to_one
       (locked_field_send child feed drain)
 
-  fields_sync : IsSend T2 → IsSend T3 → IsSend T4
-      → IsSync (TheInside.the_field T T1 T2 T3 T4 T5 s e c cn f fn d dn r).row
+  fields_sync : IsSend C → IsSend F → IsSend D
+      → IsSync (TheInside.the_field S E C F D R s e c cn f fn d dn r).row
   fields_sync child feed drain = struct_sync
-      (shape (TheInside.the_type T T1 T2 T3 T4 T5 s e c cn f fn d dn r)) (
+      (shape (TheInside.the_type S E C F D R s e c cn f fn d dn r)) (
         search sendable depth 20,
         (
           shape_field_sync,
@@ -78,9 +78,9 @@ module _ (T T1 T2 T3 T4 T5 : RattleType)
             (
               Vec-sync u32 (search sendable),
               (
-                mutex.the_sync (Locked.the_row T T1 T2 T3 T4 T5 s e c cn f fn d dn r) (locked_send child feed drain),
+                mutex.the_sync (Locked.the_row S E C F D R s e c cn f fn d dn r) (locked_send child feed drain),
                 (
-                  box.the_sync (Published.the_row T T1 T2 T3 T4 T5 s e c cn f fn d dn r) published_send published_sync,
+                  box.the_sync (Published.the_row S E C F D R s e c cn f fn d dn r) published_send published_sync,
                   tt,
                 ),
               ),
@@ -89,14 +89,14 @@ module _ (T T1 T2 T3 T4 T5 : RattleType)
         ),
       )
 
-  inside_sync : IsSend T2 → IsSend T3 → IsSend T4
-      → IsSync (TheInside.the_row T T1 T2 T3 T4 T5 s e c cn f fn d dn r)
+  inside_sync : IsSend C → IsSend F → IsSend D
+      → IsSync (TheInside.the_row S E C F D R s e c cn f fn d dn r)
   inside_sync child feed drain = recorded_sync _ _ _
-      (TheInside.the_type T T1 T2 T3 T4 T5 s e c cn f fn d dn r).to_one
+      (TheInside.the_type S E C F D R s e c cn f fn d dn r).to_one
       (fields_sync child feed drain)
 
-  pub handle_sync : IsSend T2 → IsSend T3 → IsSend T4
-      → IsSync (Handle.the_row T T1 T2 T3 T4 T5 s e c cn f fn d dn r)
+  pub handle_sync : IsSend C → IsSend F → IsSend D
+      → IsSync (Handle.the_row S E C F D R s e c cn f fn d dn r)
   handle_sync child feed drain = view_sync
-      (TheInside.the_row T T1 T2 T3 T4 T5 s e c cn f fn d dn r) _ _ _ _
+      (TheInside.the_row S E C F D R s e c cn f fn d dn r) _ _ _ _
       (inside_sync child feed drain)

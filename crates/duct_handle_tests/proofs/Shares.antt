@@ -57,7 +57,8 @@ kills_send ν ℓ ℓ' ℓ'' κ κ' κ'' R runtime =
     gate.the_sync
 
 -- one that holds an allocator beside them
-pub plays_sync : (ν : Sym) (ℓ ℓ' ℓ'' : Lifetime) (κ κ' κ'' : Lft) (R A : RattleType) → IsSync R → IsSync A
+pub plays_sync : (ν : Sym) (ℓ ℓ' ℓ'' : Lifetime) (κ κ' κ'' : Lft) (R A : RattleType) → IsSync R
+    → IsSync A
     → IsSync (TupleAt ν (ShrRef ℓ κ R ∷ ShrRef ℓ' κ' A ∷ ShrRef ℓ'' κ'' script_handle ∷ []))
 plays_sync ν ℓ ℓ' ℓ'' κ κ' κ'' R A runtime allocator =
     three_refs_sync ν ℓ ℓ' ℓ'' κ κ' κ'' R A script_handle runtime allocator script_handle_sync

@@ -25,6 +25,9 @@ fn faults(rt: HostRuntime) -> Result<(), Fail> {
         a b pipe | Other,code 0; running,code 0 | | | | wait, give -> Code(0) out= err=. | poll a, poll b, poll a, poll b | 0 | 0 2 2 0
         a b pipe | Other; running | | | 0 | deadline 0, give -> system: Other. | poll a, poll b | 1 | 1 2 0 1
         a b pipe | Other; running | | | 0,1s | deadline 1s new, give -> system: Other. | poll a, poll b, poll a, poll b | 2 | 1 2 0 1
+        a | NotFound | | | 0 | deadline 0, timeout 0, give -> system: NotFound. system: NotFound. | poll a, poll a | 1 | 0 1 0 1
+        a b pipe | NotFound; running | | | 0 | deadline 0, give -> system: NotFound. | poll a, poll b | 1 | 1 2 0 1
+        a | NotFound | | | | into -> system: NotFound. | poll a, poll a | 0 | 0 1 0 1
         a b pipe | Other; running,running,code 0 | | | 0 | deadline 1s, give -> system: Other. | poll a, poll b, poll a, poll b, poll a, poll b | 2 | 0 2 1 1
         a stdin_bytes=p | running,code 0 | NotFound | | | wait, try, give -> system: NotFound. system: NotFound. | poll a, poll a | 0 | 0 1 1 0
         a stdout_capture | code 0 | | Other | | try, try, wait, give -> system: Other. system: Other. system: Other. | poll a | 0 | 0 1 1 0
@@ -42,7 +45,10 @@ fn deadlines(rt: HostRuntime) -> Result<(), Fail> {
         a | running | | | 4s,4s,5s | deadline 5s, give -> nothing. | poll a, poll a, poll a | 3 | 1 1 0 0
         a | code 0 | | | 9s | deadline 5s, give -> Code(0) out= err=. | poll a | 0 | 0 1 1 0
         a | running | | | 1s,2s,6s | timeout 5s, give -> nothing. | poll a, poll a | 3 | 1 1 0 0
+        a | running | | | 7s,8s,12s | timeout 5s, give -> nothing. | poll a, poll a | 3 | 1 1 0 0
         a | running | | | 1s | timeout 0, give -> nothing. | poll a | 2 | 1 1 0 0
+        a | code 3 | | | 0 | deadline 1s, give -> command [\"a\"] exited with code 3. | poll a | 0 | 0 1 1 0
+        a | code 3 | | | 0 | timeout 1s, give -> command [\"a\"] exited with code 3. | poll a | 1 | 0 1 1 0
         a | running,running,code 0 | | | 0 | timeout 1s, give -> Code(0) out= err=. | poll a, poll a, poll a | 3 | 0 1 1 0
         a b pipe | code 0; code 0 | | | 0 | timeout 1s, give -> Code(0) out= err=. | poll a, poll b | 1 | 0 2 2 0
         a b pipe | code 0; code 0 | | | 0 | try new, give -> Code(0) out= err=. | poll a, poll b | 0 | 0 2 2 0

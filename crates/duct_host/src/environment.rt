@@ -1,30 +1,58 @@
-//! The parent's environment, read entry by entry.
+//! The parent's environment, read at once, or entry by entry where the runtime can't.
 ghost use Rattle.std.specs.Prelude.{◌≡◌, [], ◌∷◌, ◌++◌, map, string_bytes, IfOk, IfSome, OnOk};
 ghost use Rattle.duct_system.specs.SpecView.{pair_text};
 
+use crate::parents::Parents;
 use std::alloc::{AllocError, Global};
 use std::env::FillError;
 use std::rt::Env;
 
 /// The variables in the order in which the environment has them. An entry that is not UTF-8, or that has no name or no
 /// `=`, is left out. Refused only for want of memory.
-pub(crate) fn variables<E: Env>(
-    rt: &E,
+pub(crate) fn variables<R: Parents + Env>(
+    rt: &R,
     alloc: Global,
 ) -> Result<Vec<(String, String)>, AllocError> {
+    match rt.environment(alloc) {
+        Ok(entries) => variables_at_once(entries.as_slice(), alloc),
+        Err(_) => variables_in_turn(rt, alloc),
+    }
+}
+
+/// The variables of entries that have a NUL behind each.
+fn variables_at_once(entries: &[u8], alloc: Global) -> Result<Vec<(String, String)>, AllocError> {
     let mut pairs = Vec::new(alloc);
-    for i in 0..usize::MAX {
-        let Some(bytes) = entry_at(rt, alloc, i)? else {
-            break;
-        };
-        let Ok(entry) = String::from_utf8(bytes) else {
-            continue;
-        };
-        if let Some(pair) = split_entry(alloc, entry.as_str())? {
-            pairs.push(pair)?;
-        }
+    for entry in entries.split(|byte| *byte == 0) {
+        push_variable(&mut pairs, alloc, entry)?;
     }
     Ok(pairs)
+}
+
+/// The variables, asked for one after the other. A runtime may look for each from the first entry on.
+fn variables_in_turn<E: Env>(rt: &E, alloc: Global) -> Result<Vec<(String, String)>, AllocError> {
+    let mut pairs = Vec::new(alloc);
+    for i in 0..usize::MAX {
+        let Some(entry) = entry_at(rt, alloc, i)? else {
+            break;
+        };
+        push_variable(&mut pairs, alloc, entry.as_slice())?;
+    }
+    Ok(pairs)
+}
+
+/// Adds the variable of an entry, if it has one.
+fn push_variable(
+    pairs: &mut Vec<(String, String)>,
+    alloc: Global,
+    entry: &[u8],
+) -> Result<(), AllocError> {
+    let Ok(text) = str::from_utf8(entry) else {
+        return Ok(());
+    };
+    if let Some(pair) = split_entry(alloc, text)? {
+        pairs.push(pair)?;
+    }
+    Ok(())
 }
 
 /// The bytes that are read at first of an entry.

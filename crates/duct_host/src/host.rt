@@ -457,8 +457,8 @@ fn canonical_twice<R: Files>(rt: &R, alloc: Global, path: &str) -> Result<(Strin
 }
 
 /// The variables of the environment, and a copy of them for the journal.
-fn variables_twice<E: Env>(
-    rt: &E,
+fn variables_twice<R: Parents + Env>(
+    rt: &R,
     alloc: Global,
 ) -> Result<(Vec<(String, String)>, Vec<(String, String)>), AllocError>
     ensures { IfOk result (λ both. map pair_text both.1.items ≡ map pair_text both.0.items) }

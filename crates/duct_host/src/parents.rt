@@ -1,14 +1,23 @@
-//! Duplicates of the parent's own output streams.
+//! What a runtime has of the parent itself: duplicates of its output streams, and its environment at once.
+use std::alloc::Global;
+use std::fs::File;
 use std::io;
+use std::io::Read;
 use std::os::fd::{AsFd, OwnedFd};
 
-/// A runtime that can give descriptors of the parent's own stdout and stderr.
+/// A runtime that knows its parent: more descriptors of the parent's own stdout and stderr, and its environment.
 pub trait Parents {
     /// One more descriptor of the parent's stdout.
     fn duplicate_stdout(&self) -> io::Result<OwnedFd>;
 
     /// One more descriptor of the parent's stderr.
     fn duplicate_stderr(&self) -> io::Result<OwnedFd>;
+
+    /// All entries of the parent's environment in their order, with a NUL behind each. A runtime that refuses is asked for
+    /// one entry after the other.
+    fn environment(&self, _alloc: Global) -> io::Result<Vec<u8>> {
+        Err(io::Error::from(io::ErrorKind::Unsupported))
+    }
 }
 
 impl Parents for HostRuntime {
@@ -19,6 +28,13 @@ impl Parents for HostRuntime {
     fn duplicate_stderr(&self) -> io::Result<OwnedFd> {
         self.stderr().as_fd().try_clone_to_owned()
     }
+
+    /// As the kernel keeps it, which is what the process has, since nothing changes it later.
+    fn environment(&self, alloc: Global) -> io::Result<Vec<u8>> {
+        let mut entries = Vec::new(alloc);
+        File::open(self, "/proc/self/environ")?.read_to_end(&mut entries)?;
+        Ok(entries)
+    }
 }
 
 impl<R: Parents> Parents for &R {
@@ -28,5 +44,9 @@ impl<R: Parents> Parents for &R {
 
     fn duplicate_stderr(&self) -> io::Result<OwnedFd> {
         (**self).duplicate_stderr()
+    }
+
+    fn environment(&self, alloc: Global) -> io::Result<Vec<u8>> {
+        (**self).environment(alloc)
     }
 }

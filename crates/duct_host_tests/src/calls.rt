@@ -39,6 +39,23 @@ fn started_with<R: Real>(rt: &R) -> Result<String, Fail> {
     Ok(readable(rt.alloc(), environ.as_slice())?)
 }
 
+/// The bytes of a buffer that any entry of a test's environment fits in.
+const LONGEST: usize = 1 << 20;
+
+/// The entries that the runtime tells one after the other.
+fn told_in_turn<R: Real>(rt: &R) -> Result<String, Fail> {
+    let mut bytes = Vec::new(rt.alloc());
+    bytes.resize(LONGEST, 0u8)?;
+    let mut text = String::new(rt.alloc());
+    for i in 0..usize::MAX {
+        let Ok(length) = rt.var_at(i, bytes.as_mut_slice()) else {
+            break;
+        };
+        push_readable(&mut text, &bytes[..length])?;
+    }
+    Ok(text)
+}
+
 /// Fails unless a host has just answered these variables, and has noted them.
 fn answers<R: Real>(
     host: &Host<R>,
@@ -66,6 +83,7 @@ fn noted<R: Real>(host: &Host<R>) -> Option<&[(String, String)]> {
 #[test]
 fn the_environment_is_the_parents(rt: HostRuntime) -> Result<(), Fail> {
     let expected = started_with(&rt)?;
+    same(told_in_turn(&rt)?.as_str(), expected.as_str())?;
     let mut host = Host::new(rt.clone()?, rt.alloc());
     has_environment(&mut host, expected.as_str())
 }

@@ -27,9 +27,11 @@ redirected arg =
     else if bytes_eq arg (codes "2>") then Some streams.Err
     else None
 
+-- a command with one more word in front
 abbrev pub with_word : List ℕ → CommandView → CommandView
 with_word word command = record { words = word ∷ command.words; redirections = command.redirections }
 
+-- a command with one more redirection in front
 abbrev pub with_redirection : Stream → List ℕ → CommandView → CommandView
 with_redirection stream path command =
     record { words = command.words; redirections = record { stream = stream; path = path } ∷ command.redirections }

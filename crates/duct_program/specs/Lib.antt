@@ -1,3 +1,4 @@
+pub mod Answered
 pub mod Command
 pub mod CommandView
 pub mod Line
@@ -6,4 +7,3 @@ pub mod OptionsView
 pub mod Parsed
 pub mod Pieces
 pub mod Status
-pub mod Unasked

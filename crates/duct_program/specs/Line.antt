@@ -40,6 +40,7 @@ module _ {E H : Type 0} where
   redirected_tree [] tree = tree
   redirected_tree (redirection ∷ others) tree = around (redirects redirection) (redirected_tree others tree)
 
+  -- a command with its redirections round it
   abbrev pub command_tree : CommandView → TreeView E H
   command_tree said = redirected_tree said.redirections (command said.words)
 

@@ -11,6 +11,7 @@ pub record OptionsView : Type 0 where
   pub stdin : Option (List ℕ)
   pub unchecked : Bool
 
+-- no option at all
 abbrev pub no_options : OptionsView
 no_options = record { stdin = None; unchecked = false }
 

@@ -5,6 +5,7 @@ use Rattle.duct_program.specs.declared.usage.Usage.{Usage}
 use Rattle.duct_program.specs.declared.usage.Usage.TheVariants.{EmptyCommand, MissingPath, MissingText, Memory}
 
 infixl 10 ◌>>=◌
+-- what was read goes on to the next step, and a refusal stays
 abbrev pub ◌>>=◌ : {A B : Type 0} → Result A Usage → (A → Result B Usage) → Result B Usage
 (Ok value) >>= next = next value
 (Err usage) >>= next = Err usage

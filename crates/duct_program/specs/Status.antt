@@ -5,6 +5,7 @@ use Rattle.duct_program.specs.declared.failure.Failure.TheVariants as failures
 use Rattle.duct_program.specs.declared.usage.Usage.{Usage}
 use Rattle.duct_program.specs.declared.usage.Usage.TheVariants.{EmptyCommand, MissingPath, MissingText, Memory}
 
+-- the status where the arguments are at fault, and where there was no memory to read them
 abbrev pub usage_status : Usage → ℕ
 usage_status Memory = 1
 usage_status EmptyCommand = 2

@@ -20,7 +20,7 @@ use std::alloc::Global;
 /// `--stdin` gives the whole its text, and `--unchecked` stands round that.
 ///
 /// Refused with the first fault from left to right, and for want of memory.
-pub fn line<E: Drop>(alloc: Global, args: &[String]) -> Result<Expression<E>, Usage>
+pub fn line<E: Drop, H: Drop>(alloc: Global, args: &[String]) -> Result<Expression<E, H>, Usage>
     ensures { Gives tree_view result (meant (map string_bytes args.now)) }
 {
     let (options, words) = read_options(args)?;
@@ -29,7 +29,7 @@ pub fn line<E: Drop>(alloc: Global, args: &[String]) -> Result<Expression<E>, Us
 }
 
 // Commands piped from the left.
-fn pipeline<E: Drop>(alloc: Global, args: &[String]) -> Result<Expression<E>, Usage>
+fn pipeline<E: Drop, H: Drop>(alloc: Global, args: &[String]) -> Result<Expression<E, H>, Usage>
     ensures { Gives tree_view result (pipeline_of (pieces (map string_bytes args.now))) }
 {
     let (piece, mut rest) = first_piece(args);
@@ -44,7 +44,10 @@ fn pipeline<E: Drop>(alloc: Global, args: &[String]) -> Result<Expression<E>, Us
 }
 
 // The command of one piece, with its redirections round it.
-fn redirected_command<E: Drop>(alloc: Global, piece: &[String]) -> Result<Expression<E>, Usage>
+fn redirected_command<E: Drop, H: Drop>(
+    alloc: Global,
+    piece: &[String],
+) -> Result<Expression<E, H>, Usage>
     ensures { Gives tree_view result (piece_tree (map string_bytes piece.now)) }
 {
     let Command {
@@ -60,10 +63,10 @@ fn redirected_command<E: Drop>(alloc: Global, piece: &[String]) -> Result<Expres
 
 // Redirections round a command, the first one outermost.
 #[tactic(auto, using(crate::proofs::Pipes::last_stands_inside))]
-fn redirected_by<E: Drop>(
-    command: Expression<E>,
+fn redirected_by<E: Drop, H: Drop>(
+    command: Expression<E, H>,
     redirections: Vec<Redirection<'_>>,
-) -> Result<Expression<E>, Usage>
+) -> Result<Expression<E, H>, Usage>
     ensures { Gives tree_view result
         (Ok (redirected_tree (map redirection_view redirections.entry.items) (tree_view command))) }
 {
@@ -76,10 +79,10 @@ fn redirected_by<E: Drop>(
 }
 
 // One redirection round an expression.
-fn round<E: Drop>(
+fn round<E: Drop, H: Drop>(
     redirection: Redirection<'_>,
-    inner: &Expression<E>,
-) -> Result<Expression<E>, Error>
+    inner: &Expression<E, H>,
+) -> Result<Expression<E, H>, Error>
     ensures tree { IfOk result (λ made. tree_view made
         ≡ around (redirects (redirection_view redirection.entry)) (tree_view inner.now)) }
     ensures memory { IsOkUnless result Error.Memory }
@@ -92,11 +95,11 @@ fn round<E: Drop>(
 }
 
 // What the options ask of a whole line round it.
-fn with_options<E: Drop>(
+fn with_options<E: Drop, H: Drop>(
     alloc: Global,
-    line: Expression<E>,
+    line: Expression<E, H>,
     options: Options<'_>,
-) -> Result<Expression<E>, Usage>
+) -> Result<Expression<E, H>, Usage>
     ensures { Gives tree_view result
         (Ok (with_options (options_view options.entry) (tree_view line))) }
 {

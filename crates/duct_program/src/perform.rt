@@ -1,28 +1,54 @@
 //! What the program does over any system: it reads the expression of its arguments, and prints the text, or what went wrong.
-ghost use Rattle.std.specs.Prelude.{◌≡◌};
-ghost use Rattle.duct_program.specs.Unasked.{IfUsage};
+ghost use Rattle.std.specs.Prelude.{◌≡◌, ◌⊎◌, Ok, Err, map, string_bytes, is_some, IfOk, IfErr};
+ghost use Rattle.duct_system.specs.Trace.{segment};
+ghost use Rattle.duct_start.specs.Plan.{plan_of_reader};
+ghost use Rattle.duct_start.specs.Start.{StartSucceeds, StartRefused};
+ghost use Rattle.duct.specs.Ended.{WasRead};
+ghost use Rattle.duct_program.specs.Answered.{IfUsage, IfRefused, Means, line_of};
+ghost use Rattle.duct_program.specs.Parsed.{Refuses};
 
 use crate::failure::Failure;
 use crate::line::line;
-use duct::{Expression, Pool, System};
+use duct::{Expression, Hook, HookBox, Pool, System};
 use std::alloc::Global;
 use std::io;
 use std::io::Write;
 use std::sync::Wait;
 
-/// What the expression of these arguments prints to stdout, read as `Expression::read` reads it. Where the arguments are no line
-/// nothing is asked.
-pub fn answer<S: System>(
+/// What the expression of these arguments prints to stdout, read as `Expression::read` reads it. Where the arguments are no line,
+/// or there is no memory to read them, nothing is asked.
+pub fn answer<S: System, H: Hook + Drop>(
     rt: &impl Wait,
     alloc: Global,
     sys: &mut S,
     args: &[String],
 ) -> Result<String, Failure>
-    ensures { IfUsage result (λ _. S.journal_view sys.new ≡ S.journal_view sys.old) }
+    ensures usage { IfUsage result (λ usage.
+        Refuses usage (line_of S.End.number_of H.allows (map string_bytes args.now))
+        × (S.journal_view sys.new ≡ S.journal_view sys.old)) }
+    ensures text { IfOk result (λ text.
+        Means (line_of S.End.number_of H.allows (map string_bytes args.now))
+        (λ tree. let old = S.journal_view sys.old in let new = S.journal_view sys.new in
+        StartSucceeds H.allows S.End.number_of tree (plan_of_reader tree) old new
+        × WasRead S.Child.may_answer S.Feed.may_say S.Drain.may_say tree S.may_read
+        S.Reader.remaining (is_some (plan_of_reader tree).err) (segment old.entries new.entries)
+        (Ok text))) }
+    ensures err { IfErr result (λ failure. IfRefused failure (λ e.
+        Means (line_of S.End.number_of H.allows (map string_bytes args.now))
+        (λ tree. let old = S.journal_view sys.old in let new = S.journal_view sys.new in
+        StartRefused H.allows H.refuses S.End.number_of tree
+        (plan_of_reader tree) old new e
+        ⊎ (StartSucceeds H.allows S.End.number_of tree (plan_of_reader tree) old new
+        × WasRead S.Child.may_answer S.Feed.may_say S.Drain.may_say tree S.may_read
+        S.Reader.remaining (is_some (plan_of_reader tree).err) (segment old.entries new.entries)
+        (Err e))))) }
 {
-    let expression: Expression<S::End> = line(alloc, args).map_err(Failure::Usage)?;
+    let expression: Expression<S::End, H> = line(alloc, args).map_err(Failure::Usage)?;
     let mut pool = Pool::new(alloc);
-    expression.read(rt, sys, &mut pool).map_err(Failure::Error)
+    match expression.read(rt, sys, &mut pool) {
+        Ok(text) => Ok(text),
+        Err(error) => Err(Failure::Error(error)),
+    }
 }
 
 /// Does the program's work, and answers its status. The text that is read goes to `out` with a newline, status 0. What went wrong goes
@@ -36,7 +62,7 @@ pub fn perform<S: System>(
     out: &mut impl Write,
     err: &mut impl Write,
 ) -> u8 {
-    match answer(rt, alloc, sys, args) {
+    match answer::<S, HookBox>(rt, alloc, sys, args) {
         Ok(text) => said(writeln!(out, "{text}"), 0),
         Err(failure) => said(writeln!(err, "host: {failure}"), failure.status()),
     }

@@ -4,14 +4,16 @@
 //! `--stdin q cat < f -> Io(StdinBytes([113]), Io(StdinPath("f"), Cmd(["cat"])))`
 //!
 //! A row of the program has behind them, parted by `;;`, what its children answer, what its reader gives, and which request is
-//! refused; and then its status and what it writes, with `$` for a newline:
+//! refused; and then its status and what it writes, with `$` for a newline, and the trace of what it asked of the system:
 //!
-//! `echo xxx | cat ;; code 0; code 0 ;; xxx$ ;; -> 0 out=xxx$ err=`
-use duct::Expression;
+//! `a x ;; code 0 ;; b$ ;; -> 0 out=b$ err= ;; Environment, Pipe, Spawn a x -> inherit writer-1 inherit, Reader reader-1`
+use duct::{Expression, System};
 use duct_program::line::line;
 use duct_program::perform::perform;
 use duct_rows::scenes::{Scene, bench_of};
+use duct_rows::told::trace_text;
 use duct_rows::workers::set_reader;
+use duct_script::hook::ScriptHook;
 use std::alloc::{AllocError, Global};
 use std::sync::Wait;
 use std::test::Fail;
@@ -55,7 +57,7 @@ pub fn lines(alloc: Global, table: &str) -> Result<(), Fail> {
 // The debug text of the expression of these arguments, or why they have none.
 fn line_text(alloc: Global, args: &str) -> Result<String, Fail> {
     let args = arguments(alloc, args)?;
-    let made: Result<Expression<u64>, _> = line(alloc, args.as_slice());
+    let made: Result<Expression<u64, ScriptHook>, _> = line(alloc, args.as_slice());
     let text = match made {
         Ok(expression) => format!(in alloc; "{expression:?}")?,
         Err(usage) => format!(in alloc; "{usage:?}: {usage}")?,
@@ -69,14 +71,14 @@ pub fn performs(rt: &impl Wait, alloc: Global, table: &str) -> Result<(), Fail> 
         let row = row.trim();
         let (scene, wanted) = row.split_once("-> ").ok_or("no text")?;
         let found = performed(rt, alloc, scene)?;
-        if found.as_str() != wanted {
+        if found.as_str().trim_end() != wanted {
             return Err(Fail::new(format_args!("{row}: {found}")));
         }
     }
     Ok(())
 }
 
-// The status, and what is written.
+// The status, what is written, and what was asked.
 fn performed(rt: &impl Wait, alloc: Global, row: &str) -> Result<String, Fail> {
     let (args, row) = cell(row);
     let (children, row) = cell(row);
@@ -101,6 +103,8 @@ fn performed(rt: &impl Wait, alloc: Global, row: &str) -> Result<String, Fail> {
     push_shown(&mut text, out.as_slice())?;
     text.push_str(" err=")?;
     push_shown(&mut text, err.as_slice())?;
+    let asked = trace_text(alloc, bench.sys.journal())?;
+    write!(text, " ;; {asked}")?;
     Ok(text)
 }
 

@@ -1,10 +1,11 @@
 //! Tables of starts that are waited for or read. A line has an expression; what its children, its input workers, its capture workers
 //! and its reader answer; and what is called, before the answers, how often a child was polled and given an order, and the pool:
 //!
-//! `a | code 1 | | | b | read 4, read 4, kill -> 1. command ["a"] exited with code 1. done. | 1 0 | 0 1 1 0`
+//! `a | code 1 | | | b | read 4, read 4, kill -> 1 b. command ["a"] exited with code 1. done. | 1 0 | 0 1 1 0`
 //!
 //! `run` and `read` start and wait by themselves. The others are calls of one reader handle, which is given up behind the last:
-//! `read` with a number is `read_as` into so many bytes, `std`, `own` and `exact` are those of std.
+//! `read` with a number is `read_as` into so many bytes, `std`, `own` and `exact` are those of std. Behind the count of a read stand
+//! the bytes that it gave.
 use duct::{Error, Output, ReaderHandle};
 use duct_rows::expressions::{Tree, written};
 use duct_rows::scenes::{Bench, Scene, bench_of};
@@ -158,13 +159,17 @@ fn push_read<R: Wait>(
     buffer: &mut [u8],
     call: &str,
 ) -> Result<(), AllocError> {
-    match call {
-        "read" => push_count(text, read_once(handle, buffer)),
-        "std" => push_std(text, shared(handle, buffer)),
-        "own" => push_std(text, handle.read(buffer)),
-        "exact" => push_std(text, exact(handle, buffer)),
-        _ => text.push_str("no such call. "),
+    if call == "read" {
+        let answer = read_once(handle, buffer);
+        return push_own(text, answer, buffer);
     }
+    let answer = match call {
+        "std" => shared(handle, buffer),
+        "own" => handle.read(buffer),
+        "exact" => exact(handle, buffer),
+        _ => return text.push_str("no such call. "),
+    };
+    push_std(text, answer, buffer)
 }
 
 /// A read by a new token.
@@ -187,17 +192,32 @@ fn exact<R: Wait>(mut handle: &ReaderHandle<Script, R>, buffer: &mut [u8]) -> io
     Ok(buffer.len())
 }
 
-fn push_count(text: &mut String, answer: Result<usize, Error>) -> Result<(), AllocError> {
+// What a read answered, which gave its bytes into this buffer.
+fn push_own(
+    text: &mut String,
+    answer: Result<usize, Error>,
+    buffer: &[u8],
+) -> Result<(), AllocError> {
     match answer {
-        Ok(count) => write!(text, "{count}. "),
+        Ok(count) => push_front(text, buffer, count),
         Err(error) => write!(text, "{error}. "),
     }
 }
 
-fn push_std(text: &mut String, answer: io::Result<usize>) -> Result<(), AllocError> {
+// The same of a read of std.
+fn push_std(text: &mut String, answer: io::Result<usize>, buffer: &[u8]) -> Result<(), AllocError> {
     match answer {
-        Ok(count) => write!(text, "{count}. "),
+        Ok(count) => push_front(text, buffer, count),
         Err(error) => write!(text, "{:?}. ", error.kind()),
+    }
+}
+
+// A count, and so many bytes of the front as text, if there are some.
+fn push_front(text: &mut String, buffer: &[u8], count: usize) -> Result<(), AllocError> {
+    let (front, _) = buffer.split_at(count.min(buffer.len()));
+    match str::from_utf8(front).unwrap_or("?") {
+        "" => write!(text, "{count}. "),
+        front => write!(text, "{count} {front}. "),
     }
 }
 

@@ -69,7 +69,8 @@ pub record AreNew {E C F D V W : Type 0} (child : C → ChildView) (feed : F →
 -- an action goes on by what is held
 abbrev pub GoesOn : {E H C F D V W : Type 0} → Allows H → (E → ℕ) → (C → ChildView)
     → (F → JobView V)
-    → (D → JobView W) → Action E H → JournalView → JournalView → Held E C F D → Held E C F D → Type 0
+    → (D → JobView W) → Action E H → JournalView → JournalView → Held E C F D → Held E C F D
+    → Type 0
 GoesOn allows end child feed drain action now then held kept =
     Goes allows end action now then (held_view end child feed drain held)
     (held_view end child feed drain kept)
@@ -77,7 +78,8 @@ GoesOn allows end child feed drain action now then held kept =
 -- an action stops with an error, which is not a hook's
 abbrev pub QuitsAt : {E H C F D V W : Type 0} → Allows H → (E → ℕ) → (C → ChildView)
     → (F → JobView V)
-    → (D → JobView W) → Action E H → JournalView → JournalView → Held E C F D → Held E C F D → Error → Type 0
+    → (D → JobView W) → Action E H → JournalView → JournalView → Held E C F D → Held E C F D → Error
+    → Type 0
 QuitsAt allows end child feed drain action now then held kept error =
     (IsHooks error → ⊥) × Quits allows end action now then (held_view end child feed drain held)
     (held_view end child feed drain kept) error

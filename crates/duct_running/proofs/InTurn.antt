@@ -38,7 +38,8 @@ module _ {T : Type 0} (changes : T → T → Type 0) where
 
   -- all of them were
   pub all_changed : (count : ℕ) (befores afters : List T)
-      → length befores ≤ count → ChangedTo changes count befores afters → AllZip changes befores afters
+      → length befores ≤ count → ChangedTo changes count befores afters
+      → AllZip changes befores afters
   all_changed zero [] afters few changed = subst (λ (ls : List T). AllZip changes [] ls) (sym changed) tt
   all_changed zero (before ∷ befores) afters few changed = absurd (omega arith)
   all_changed (suc count) [] [] few changed = tt

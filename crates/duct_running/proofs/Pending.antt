@@ -232,7 +232,8 @@ module _ (answer : ℕ → Answer → Type 0) (feed : ℕ → Said (Unit {0}) �
   pub one_runs : AllAsked answer children asked → AllPolled feed feed_same feed_refusable feeds fed
       → PolledWhere drain drain_same drain_refusable side.Out (awaited shape (stored_latest asked fed output error)) output read
       → PolledWhere drain drain_same drain_refusable side.Err (awaited shape (stored_latest asked fed read error)) error drained
-      → command_count shape ≤ length asked → input_count shape ≤ length fed → IsOutcome shape (stored_latest asked fed read drained) (Ok None)
+      → command_count shape ≤ length asked → input_count shape ≤ length fed
+      → IsOutcome shape (stored_latest asked fed read drained) (Ok None)
       → OneRuns answer feed drain (record {
         children = map (λ (c : ChildView). c.number) asked;
         feeds = map (λ (j : JobView (Unit {0})). j.number) fed;

@@ -74,7 +74,8 @@ feeds-append (of_feed ∷ xs) ys = omega (arith, feeds-append xs ys)
 feeds-append (of_spawn ∷ xs) ys = feeds-append xs ys
 feeds-append (of_other ∷ xs) ys = feeds-append xs ys
 
-none_fetches : {E : Type 0} (K : Type 0) (wire : Wire E) (stream : Stream) → NoneFinishes (fetches {E = E} {K = K} wire stream)
+none_fetches : {E : Type 0} (K : Type 0) (wire : Wire E) (stream : Stream)
+    → NoneFinishes (fetches {E = E} {K = K} wire stream)
 none_fetches K nothing stream = tt
 none_fetches K (slot depth) stream = tt
 none_fetches K (captured which) stream = tt

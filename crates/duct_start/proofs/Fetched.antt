@@ -60,7 +60,8 @@ module _ {E H : Type 0} where
     keeps = record { out = λ p is. b.keeps.out p (a.keeps.out p is); err = λ p is. b.keeps.err p (a.keeps.err p is) };
   }
 
-  put_grows : (state : State E H) (p : Port) (x : Target E) → Grows state (record { stack = put p x state.stack; plan = state.plan })
+  put_grows : (state : State E H) (p : Port) (x : Target E)
+      → Grows state (record { stack = put p x state.stack; plan = state.plan })
   put_grows state port.Inherit x = grows_plan state.stack state.plan state.plan (keeps_same state.plan state.plan refl refl)
   put_grows state port.Null x = grows_plan state.stack state.plan state.plan (keeps_same state.plan state.plan refl refl)
   put_grows state port.Given x = grows_by state.stack x state.plan state.plan (keeps_same state.plan state.plan refl refl)
@@ -130,7 +131,9 @@ module _ {E H : Type 0} (number_of : E → ℕ) (base : ℕ) where
 
   module _ (bound : ℕ) where
     -- by one action that pushes it
-    by_one : (state : State E H) (s : Stream) (w : Wire E) (t : Target E) (x : Action E H) → fetches {E = E} {K = Scope E H} w s ≡ x ∷ [] → port_at w s ≡ port.Given → port_to s t ≡ port.Given →
+    by_one : (state : State E H) (s : Stream) (w : Wire E) (t : Target E) (x : Action E H)
+        → fetches {E = E} {K = Scope E H} w s ≡ x ∷ [] → port_at w s ≡ port.Given
+        → port_to s t ≡ port.Given →
         action.pops x ≡ 0 → action.Needs number_of base bound state x → advance state x ≡ action.pushes t state → length state.stack + 1 ≤ bound → IsFetched bound state s w t
     by_one state s w t x one port_is goes_is none needs is low = record {
       leads = subst (λ (p : Port). Leads number_of base bound state (fetches w s) (record { stack = put p t state.stack; plan = state.plan })) (sym port_is)

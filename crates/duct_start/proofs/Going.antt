@@ -234,7 +234,8 @@ module _ {E H : Type 0} (allows : Allows H) (number_of : E → ℕ) where
       got_goes (action.create path) (λ st. AskCreate path ∷ []) (λ st. FileAt (length st.plan.items)) (Create path (Ok n)) n now next held (λ st. refl) gets refl refl refl refl refl refl (λ st. refl) (λ st L. (refl, tt))
       (λ course st ready stands more later s. ap Some (opened_here course stands.added more (Create path (Ok n)) n next.next 0 gets.1.below_new later refl (rw is_itself refl) refl (length st.plan.items) (as_many stands)))
 
-  same_plan : (x : Target E) (st : State E H) → action.pushes x st ≡ record { stack = x ∷ st.stack; plan = record { items = st.plan.items ++ []; out = st.plan.out; err = st.plan.err } }
+  same_plan : (x : Target E) (st : State E H)
+      → action.pushes x st ≡ record { stack = x ∷ st.stack; plan = record { items = st.plan.items ++ []; out = st.plan.out; err = st.plan.err } }
   same_plan x st = ap (λ (l : List (Item E H)). record { stack = x ∷ st.stack; plan = record { items = l; out = st.plan.out; err = st.plan.err } }) (sym (append-nil st.plan.items))
 
   pub parent_goes : (which : Side) (n : ℕ) (now next : JournalView) (held : Holdings)

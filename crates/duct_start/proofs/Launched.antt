@@ -38,7 +38,8 @@ pub drained_items : {E H : Type 0} (plan : Plan E H)
     → (drained plan).items ≡ (drains plan.err (drains plan.out plan)).items
 drained_items plan = by plan.out plan.err
   where
-    by : (out err : Option ℕ) → (drains err (record { items = (drains out plan).items; out = None; err = plan.err })).items ≡ (drains err (drains out plan)).items
+    by : (out err : Option ℕ)
+        → (drains err (record { items = (drains out plan).items; out = None; err = plan.err })).items ≡ (drains err (drains out plan)).items
     by None None = refl
     by None (Some place) = refl
     by (Some place) None = refl
@@ -48,7 +49,8 @@ pub read_items : {E H : Type 0} (plan : Plan E H)
     → (drained_and_read plan).items ≡ (reads plan.out (drains plan.err plan)).items
 read_items plan = by plan.out plan.err
   where
-    by : (out err : Option ℕ) → (reads out (record { items = (drains err plan).items; out = plan.out; err = None })).items ≡ (reads out (drains err plan)).items
+    by : (out err : Option ℕ)
+        → (reads out (record { items = (drains err plan).items; out = plan.out; err = None })).items ≡ (reads out (drains err plan)).items
     by None None = refl
     by None (Some place) = refl
     by (Some place) None = refl

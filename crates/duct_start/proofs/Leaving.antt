@@ -113,7 +113,9 @@ module _ (may : ℕ → Answer → Type 0) where
 
   module _ {C : Type 0} (view : C → ChildView) where
     -- children by their views
-    asked_seen : (keeps : ChildView → ChildView → Type 0) → ((before after : ChildView) → PollsChild may before (Ok None) after → keeps before after) →
+    asked_seen : (keeps : ChildView → ChildView → Type 0)
+        → ((before after : ChildView) → PollsChild may before (Ok None) after → keeps before after)
+        →
         (children left : List C) (r l : ℕ) → AsksAll may view children left r l → Sieves MayChild keeps (map view children) (map view left) r l
     asked_seen keeps by [] left r l none = (ap (λ (l : List C). map view l) none.0, none.1, none.2)
     asked_seen keeps by (child ∷ children) left r l (inl s) =

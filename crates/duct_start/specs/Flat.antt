@@ -68,13 +68,15 @@ scope_within node scope = record {
   hooks = scope.hooks ++ node.hooks;
 }
 
--- with another wire of one stream
+-- with another wire of stdin
 abbrev pub inputs : {X : Type 0} → X → Three X → Three X
 inputs x three = record three { input = x }
 
+-- with another wire of stdout
 abbrev pub outputs : {X : Type 0} → X → Three X → Three X
 outputs x three = record three { output = x }
 
+-- with another wire of stderr
 abbrev pub errors : {X : Type 0} → X → Three X → Three X
 errors x three = record three { error = x }
 
@@ -116,10 +118,11 @@ flat s w (around unchecked inner) n = flat s w inner n
 flat s w (around (before_spawn hook ends) inner) n =
     flat (scope_within (step (before_spawn hook ends)) s) w inner n
 
--- nothing stands round the root, and its streams are the parent's
+-- nothing stands round the root
 abbrev pub rooted : {E H : Type 0} → Scope E H
 rooted = record { folder = None; changes = []; hooks = [] }
 
+-- the root's streams are the parent's
 abbrev pub outside : {E : Type 0} → Three (Wire E)
 outside = record { input = parents In; output = parents Out; error = parents Err }
 

@@ -40,17 +40,19 @@ pub record Step (E H : Type 0) : Type 0 where
   pub changes : List Change
   pub hooks : List (H × List E)
 
--- a node that decides or turns one stream, and leaves the others
+-- a node that decides or turns stdin, and leaves the others
 abbrev pub at_stdin : {E : Type 0} → Turn E → Stream → Turn E
 at_stdin turn In = turn
 at_stdin turn Out = Follows Out
 at_stdin turn Err = Follows Err
 
+-- that of stdout alone
 abbrev pub at_stdout : {E : Type 0} → Turn E → Stream → Turn E
 at_stdout turn In = Follows In
 at_stdout turn Out = turn
 at_stdout turn Err = Follows Err
 
+-- that of stderr alone
 abbrev pub at_stderr : {E : Type 0} → Turn E → Stream → Turn E
 at_stderr turn In = Follows In
 at_stderr turn Out = Follows Out

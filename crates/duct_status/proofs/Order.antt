@@ -124,7 +124,9 @@ right_over c a b k h = grind arith
 left_over : (c b a : ℕ) → c ≤ b → LeftBeats a b → LeftBeats a c
 left_over c b a k h = grind arith
 
-wins_at_pipe : (l r : Endings) → IsWinner l (chosen l) → IsWinner r (chosen r) → (b : Bool) → takes_right l r (chosen l) (chosen r) ≡ b → IsWinner (pipe l r) (cond {A = Way (pipe l r)} b (inr (chosen r)) (inl (chosen l)))
+wins_at_pipe : (l r : Endings) → IsWinner l (chosen l) → IsWinner r (chosen r) → (b : Bool)
+    → takes_right l r (chosen l) (chosen r) ≡ b
+    → IsWinner (pipe l r) (cond {A = Way (pipe l r)} b (inr (chosen r)) (inl (chosen l)))
 wins_at_pipe l r hl hr true is (inr w) = elim (hr w) [ inl e ↦ inl (ap inr e) | inr b ↦ inr b ]
 wins_at_pipe l r hl hr false is (inl w) = elim (hl w) [ inl e ↦ inl (ap inl e) | inr b ↦ inr b ]
 wins_at_pipe l r hl hr true is (inl w) =

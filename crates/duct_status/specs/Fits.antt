@@ -37,12 +37,13 @@ is_finished (finished output error) = true
 is_finished waits = false
 is_finished (faults fault) = false
 
--- stdout's bytes of a outcome, and stderr's
+-- stdout's bytes of an outcome
 abbrev pub output_of : OutcomeView → List ℕ
 output_of (finished output error) = output
 output_of waits = []
 output_of (faults fault) = []
 
+-- stderr's bytes of an outcome
 abbrev pub error_of : OutcomeView → List ℕ
 error_of (finished output error) = error
 error_of waits = []

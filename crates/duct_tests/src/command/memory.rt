@@ -1,14 +1,14 @@
 //! Want of memory: whichever one request for memory is refused, a start and a poll answer as with ample memory, or name the
 //! refusal and lose nothing.
-use super::{launched, parts, piped, poll};
+use super::{command, launched, parts, piped, poll};
 use crate::came::Came;
-use duct::{Entry, Error, ExitStatus, Fault, Kind, Output, Pool, Running, System};
+use duct::{Entry, Error, ExitStatus, Expression, Fault, Kind, Output, Pool, Running, System};
 use duct_base::pool::{place_new, pool_take, seat_new};
 use duct_script::answers::Answers;
 use duct_script::child::{ChildScript, PollAnswer, ScriptChild};
-use duct_script::system::Script;
+use duct_script::system::{Script, ScriptEnd};
 use std::alloc::{AllocError, Global};
-use std::sync::Arc;
+use std::sync::{Arc, Wait};
 
 // Sets a variable, and a child that runs at first and then fails.
 fn set(sys: &mut Script) -> Result<(), AllocError> {
@@ -179,12 +179,15 @@ fn started(journal: &[Entry]) -> u64 {
 }
 
 // Whether a refused start of a pipe is right: where nothing was asked, for want of its own memory and with the pool as it was, else
-// with each child that was started.
+// with each child that was started. Its own memory it wants then for what a command is spawned with alone: once the pipe is there,
+// and before the second command is.
 fn is_right(sys: &Script, error: &Error, pool: (usize, u64, u64)) -> bool {
-    if sys.requests() == 1 {
-        matches!(error, Error::Memory) && pool == (1, 1, 0)
-    } else {
-        is_memory(error) && pool.1 == started(sys.journal()).saturating_add(1)
+    let started = started(sys.journal());
+    match (sys.requests(), error) {
+        (1, error) => matches!(error, Error::Memory) && pool == (1, 1, 0),
+        (2, Error::Memory) => false,
+        (_, Error::Memory) => started < 2 && pool.1 == started.saturating_add(1),
+        (_, error) => is_memory(error) && pool.1 == started.saturating_add(1),
     }
 }
 
@@ -226,4 +229,103 @@ pub fn pipes(alloc: Global) -> Came {
 #[test]
 fn memory_of_the_start_of_a_pipe(rt: HostRuntime) {
     assert_ne!(rt; pipes(rt.alloc()), Came::Wrong);
+}
+
+// A command with an input and a file: the file is the last that is asked for before it is spawned.
+fn filed(alloc: Global) -> Result<Expression<ScriptEnd>, Error> {
+    let input = Vec::from_slice(alloc, b"p")?;
+    command(alloc, "a")?.stdout_path("f")?.stdin_bytes(input)
+}
+
+// How many files a journal says were created.
+fn created(journal: &[Entry]) -> u64 {
+    let mut count: u64 = 0;
+    for entry in journal {
+        if let Entry::Create(_, Ok(_)) = entry {
+            count = count.saturating_add(1);
+        }
+    }
+    count
+}
+
+// Whether this is the moment for a start of it to want memory of its own: before it asks anything, and for what the command is spawned
+// with, once the file is there and before the command is.
+fn is_time(sys: &Script) -> bool {
+    sys.requests() == 1 || created(sys.journal()) == 1 && started(sys.journal()) == 0
+}
+
+// What came of a start of it, over a system that was asked once and with an empty pool.
+fn came_of_filed(made: Result<(), Error>, sys: &Script, pool: &Pool<ScriptChild>) -> Came {
+    match made {
+        Ok(()) => Came::Whole,
+        Err(Error::Memory) if !is_time(sys) => Came::Wrong,
+        Err(error) => {
+            if is_memory(&error) && pool.given() == started(sys.journal()) {
+                Came::Refused
+            } else {
+                Came::Wrong
+            }
+        }
+    }
+}
+
+// How a start is called.
+#[derive(Clone, Copy)]
+enum Way {
+    Launch,
+    Handle,
+    Reader,
+}
+
+// Starts the command with the file.
+fn start_filed(
+    rt: &impl Wait,
+    alloc: Global,
+    sys: &mut Script,
+    pool: &mut Pool<ScriptChild>,
+    way: Way,
+) -> Result<(), Error> {
+    let filed = filed(alloc)?;
+    match way {
+        Way::Launch => drop(parts(filed.launch(sys, pool)?)),
+        Way::Handle => filed.start(sys, pool)?.give_up(pool),
+        Way::Reader => filed.reader(rt, sys, pool)?.give_up(pool),
+    }
+    Ok(())
+}
+
+// What came of a start this way.
+fn came_of_way(rt: &impl Wait, alloc: Global, way: Way) -> Came {
+    match asked_once(alloc) {
+        Ok(mut sys) => {
+            let mut pool = Pool::new(alloc);
+            let made = start_filed(rt, alloc, &mut sys, &mut pool, way);
+            came_of_filed(made, &sys, &pool)
+        }
+        Err(_) => Came::Refused,
+    }
+}
+
+#[test]
+fn memory_of_a_launch(rt: HostRuntime) {
+    assert_ne!(rt; came_of_way(&rt, rt.alloc(), Way::Launch), Came::Wrong);
+}
+
+#[test]
+fn memory_of_the_start_of_a_handle(rt: HostRuntime) {
+    assert_ne!(rt; came_of_way(&rt, rt.alloc(), Way::Handle), Came::Wrong);
+}
+
+#[test]
+fn memory_of_the_start_of_a_reader(rt: HostRuntime) {
+    assert_ne!(rt; came_of_way(&rt, rt.alloc(), Way::Reader), Came::Wrong);
+}
+
+/// With ample memory each of the three starts. None of them asks for memory as often as all the others together do.
+#[test]
+fn each_way_starts(rt: HostRuntime) {
+    let ways = [Way::Launch, Way::Handle, Way::Reader];
+    for each in ways {
+        assert_eq!(rt; came_of_way(&rt, rt.alloc(), each), Came::Whole);
+    }
 }

@@ -16,7 +16,8 @@ closed_by_nothing {E} {H} plan = ap (λ items. closed_with items) (append-nil pl
     closed_with : List (Item E H) → Plan E H
     closed_with items = record plan { items = items }
 
-reader_is : {E H : Type 0} (tree : TreeView E H) (place : ℕ) (first after : Plan E H) → place ≡ 1 → first ≡ captures_out begun →
+reader_is : {E H : Type 0} (tree : TreeView E H) (place : ℕ) (first after : Plan E H) → place ≡ 1
+    → first ≡ captures_out begun →
     after ≡ planned (within place stdout_capture ∷ []) tree first → reads after.out (drains after.err after) ≡ plan_of_reader tree
 reader_is {E} {H} tree place first after place_is first_is after_is =
     let same : after ≡ closed [] (planned (within 1 stdout_capture ∷ []) tree (captures_out begun)) =

@@ -6,7 +6,8 @@ use Rattle.duct_run.proofs.ending.give_all.Given as goal
 
 abbrev pub invariant-loop-child : goal.invariant-loop-child
 invariant-loop-child g l = record {
-  takes : l.fn.pool.given + length l.fn.children.items < 2 ^ 63 → Takes g.C.Child.may_answer g.C.Child.child_view l.yielded l.fn.pool l.pool;
+  takes : l.fn.pool.given + length l.fn.children.items < 2 ^ 63
+      → Takes g.C.Child.may_answer g.C.Child.child_view l.yielded l.fn.pool l.pool;
   whole : l.fn.children.items ≡ l.yielded ++ into_iter_items l.child-iterator;
   many : into_iter_len l.child-iterator ≡ length (into_iter_items l.child-iterator);
 }

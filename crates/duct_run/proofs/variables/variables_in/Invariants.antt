@@ -9,7 +9,8 @@ use Rattle.duct_run.proofs.variables.variables_in.Given as goal
 
 abbrev pub invariant-loop-change : goal.invariant-loop-change
 invariant-loop-change g l = record {
-  found : (name : List ℕ) → variable (map pair_text l.pairs) (map change_of l.changes.items ++ Replaces (map var_view l.vars.entries) ∷ []) name
+  found : (name : List ℕ)
+      → variable (map pair_text l.pairs) (map change_of l.changes.items ++ Replaces (map var_view l.vars.entries) ∷ []) name
       ≡ variable (map pair_text l.pairs) (scope_in (scopes_view l.scopes) l.scope).changes name;
   ordered : AreOrdered (map var_view l.vars.entries);
 }

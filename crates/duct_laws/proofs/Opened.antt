@@ -1,0 +1,73 @@
+-- A tree adds to the end of a plan, and what a node asks of its own stays there, whatever an inner node hides of it.
+use Rattle.std.proofs.Common.{◌≡◌, ℕ, List, [], ◌∷◌, ◌++◌, length, refl, ap, sym, ◌∙◌, append_assoc}
+use Rattle.std.specs.Prelude.{Some, None, is_some, if◌then◌else◌}
+use Rattle.std.specs.declared.option.Option.{Option}
+use Rattle.std.proofs.lemmas.List.{append-nil}
+use Rattle.duct_start.specs.Lookup.{found_on}
+use Rattle.duct_start.specs.Path.{Path, left_of, right_of, within}
+use Rattle.duct_start.specs.Plan.{Plan, asks, opened, place_for, planned}
+use Rattle.duct_start.specs.Step.{Item, Opening, OpensNothing, Opens, CapturesOut, CapturesErr, AskPipe, step}
+use Rattle.duct_start.specs.TreeView.{ModifierView, TreeView, command, pipe, around}
+use Rattle.duct_start.proofs.Commanded.{items_of, commanded_is}
+
+-- the second list of items is the first with more at its end
+abbrev GoesOn : {E H : Type 0} → List (Item E H) → List (Item E H) → Type 0
+GoesOn {E} {H} items all = (more : List (Item E H)) × (all ≡ items ++ more)
+
+module _ {E H : Type 0} where
+  goes_on : (one two three : List (Item E H)) → GoesOn one two → GoesOn two three
+      → GoesOn one three
+  goes_on one two three a b =
+      (a.0 ++ b.0, b.1 ∙ ap (λ items. items ++ b.0) a.1 ∙ append_assoc one a.0 b.0)
+
+  same_on : (items : List (Item E H)) → GoesOn items items
+  same_on items = ([], sym (append-nil items))
+
+  captures_on : (place : Option ℕ) (plan other : Plan E H) → GoesOn plan.items other.items
+      → GoesOn plan.items (if is_some place then plan else other).items
+  captures_on None plan other on = on
+  captures_on (Some p) plan other on = same_on plan.items
+
+  opened_on : (opening : Opening E H) (plan : Plan E H)
+      → GoesOn plan.items (opened opening plan).items
+  opened_on OpensNothing plan = same_on plan.items
+  opened_on (Opens item) plan = (item ∷ [], refl)
+  opened_on CapturesOut plan = captures_on plan.out plan _ (AskPipe ∷ [], refl)
+  opened_on CapturesErr plan = captures_on plan.err plan _ (AskPipe ∷ [], refl)
+
+  -- a tree only adds to the end of a plan
+  planned_on : (tree : TreeView E H) (up : Path E H) (plan : Plan E H)
+      → (more : List (Item E H)) × ((planned up tree plan).items ≡ plan.items ++ more)
+  planned_on (command words) up plan =
+      (items_of (found_on up) words, ap (λ (p : Plan E H). p.items) (commanded_is (found_on up) words plan))
+  planned_on (pipe left right) up plan =
+      let place = length plan.items in
+      let begun = asks AskPipe plan in
+      let first = planned (left_of place ∷ up) left begun in
+      goes_on plan.items first.items _
+      (goes_on plan.items begun.items first.items (AskPipe ∷ [], refl) (planned_on left (left_of place ∷ up) begun))
+      (planned_on right (right_of place ∷ up) first)
+  planned_on (around modifier inner) up plan =
+      let opening = (step modifier).opening in
+      let place = place_for opening plan in
+      let begun = opened opening plan in
+      let inside = planned (within place modifier ∷ up) inner begun in
+      goes_on plan.items inside.items _
+      (goes_on plan.items begun.items inside.items (opened_on opening plan) (planned_on inner (within place modifier ∷ up) begun))
+      ((step modifier).closing place, refl)
+
+  -- what a node asks of its own before what it wraps is in the plan, also where an inner node hides it
+  pub outer_opened : (modifier : ModifierView E H) (item : Item E H)
+      → (step modifier).opening ≡ Opens item
+      → (inner : TreeView E H) (up : Path E H) (plan : Plan E H)
+      → (later : List (Item E H))
+      × ((planned up (around modifier inner) plan).items ≡ plan.items ++ item ∷ later)
+  outer_opened modifier item is inner up plan =
+      let opening = (step modifier).opening in
+      let place = place_for opening plan in
+      let inside = planned_on inner (within place modifier ∷ up) (opened opening plan) in
+      let closing = (step modifier).closing place in (
+        inside.0 ++ closing,
+        ap (λ items. items ++ closing) (inside.1 ∙ ap (λ start. (opened start plan).items ++ inside.0) is ∙ append_assoc plan.items (item ∷ []) inside.0)
+            ∙ append_assoc plan.items (item ∷ inside.0) closing,
+      )

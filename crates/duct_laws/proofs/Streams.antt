@@ -1,0 +1,187 @@
+-- Where a stream goes with one redirection round another, and with two swaps.
+use Rattle.std.proofs.Common.{◌≡◌, ℕ, [], ◌∷◌, ◌++◌, refl, ap, subst, ◌∙◌}
+use Rattle.std.specs.Prelude.{Some, None}
+use Rattle.std.specs.Option.{option_or}
+use Rattle.std.specs.declared.option.Option.{Option}
+use Rattle.std.proofs.lemmas.List.{append-nil}
+use Rattle.duct_system.specs.declared.spec.Stream.{Stream}
+use Rattle.duct_system.specs.declared.spec.Stream.TheVariants.{In, Out, Err}
+use Rattle.duct_laws.specs.Redirected.{redirected}
+use Rattle.duct_start.specs.Found.{Target}
+use Rattle.duct_start.specs.Lookup.{turned, goes, folder, changes, hooks, found_on}
+use Rattle.duct_start.specs.Path.{Path, within, place_of, step_of}
+use Rattle.duct_start.specs.Step.{Turn, Decides, Follows, at_stdin, at_stdout, at_stderr, step}
+use Rattle.duct_start.specs.TreeView.{ModifierView, stdin_bytes, stdin_path, stdin_file, stdin_null, stdout_path, stdout_file, stdout_null, stdout_capture, stdout_to_stderr, stderr_path, stderr_file, stderr_null, stderr_capture, stderr_to_stdout, stdout_stderr_swap, dir, env, env_remove, full_env, unchecked, before_spawn}
+
+-- two ways outwards on which the same is found
+record AreAlike {E H : Type 0} (one other : Path E H) : Type 0 where
+  streams : (stream : Stream) → goes one stream ≡ goes other stream
+  folders : folder one ≡ folder other
+  variables : changes one ≡ changes other
+  hooked : hooks one ≡ hooks other
+
+alike_within : {E H : Type 0} (front one other : Path E H) → AreAlike one other
+    → AreAlike (front ++ one) (front ++ other)
+alike_within [] one other alike = alike
+alike_within (crumb ∷ front) one other alike =
+    let rest = alike_within front one other alike in
+    record {
+      streams = λ stream i. turned ((step_of crumb).turn (place_of crumb) stream) (λ outer. rest.streams outer i);
+      folders = λ i. option_or (step_of crumb).folder (rest.folders i);
+      variables = λ i. (step_of crumb).changes ++ rest.variables i;
+      hooked = λ i. rest.hooked i ++ (step_of crumb).hooks;
+    }
+
+found_alike : {E H : Type 0} (one other : Path E H) → AreAlike one other
+    → found_on one ≡ found_on other
+found_alike one other alike = λ i. record {
+  folder = alike.folders i;
+  changes = alike.variables i;
+  input = alike.streams In i;
+  output = alike.streams Out i;
+  error = alike.streams Err i;
+  hooks = alike.hooked i;
+}
+
+-- a turn that does not follow this stream
+abbrev IsApart : {E : Type 0} → Stream → Turn E → Type 0
+IsApart stream (Decides target) = Unit {0}
+IsApart stream (Follows other) = other ≡ stream → ⊥
+
+-- turns of the three streams that leave all but one, which none of them follows
+record TurnsOne {E : Type 0} (stream : Stream) (turns : Stream → Turn E) : Type 0 where
+  others : (other : Stream) → (other ≡ stream → ⊥) → turns other ≡ Follows other
+  apart : (other : Stream) → IsApart stream (turns other)
+
+at_in : {E : Type 0} (turn : Turn E) → IsApart In turn → TurnsOne In (at_stdin turn)
+at_in {E} turn apart = record { others = others; apart = aparts }
+  where
+    others : (other : Stream) → (other ≡ In → ⊥) → at_stdin turn other ≡ Follows other
+    others In differs = absurd (differs refl)
+    others Out differs = refl
+    others Err differs = refl
+
+    aparts : (other : Stream) → IsApart In (at_stdin turn other)
+    aparts In = apart
+    aparts Out = λ is. cc
+    aparts Err = λ is. cc
+
+at_out : {E : Type 0} (turn : Turn E) → IsApart Out turn → TurnsOne Out (at_stdout turn)
+at_out {E} turn apart = record { others = others; apart = aparts }
+  where
+    others : (other : Stream) → (other ≡ Out → ⊥) → at_stdout turn other ≡ Follows other
+    others In differs = refl
+    others Out differs = absurd (differs refl)
+    others Err differs = refl
+
+    aparts : (other : Stream) → IsApart Out (at_stdout turn other)
+    aparts In = λ is. cc
+    aparts Out = apart
+    aparts Err = λ is. cc
+
+at_err : {E : Type 0} (turn : Turn E) → IsApart Err turn → TurnsOne Err (at_stderr turn)
+at_err {E} turn apart = record { others = others; apart = aparts }
+  where
+    others : (other : Stream) → (other ≡ Err → ⊥) → at_stderr turn other ≡ Follows other
+    others In differs = refl
+    others Out differs = refl
+    others Err differs = absurd (differs refl)
+
+    aparts : (other : Stream) → IsApart Err (at_stderr turn other)
+    aparts In = λ is. cc
+    aparts Out = λ is. cc
+    aparts Err = apart
+
+-- a turn that follows another stream passes by the turns of this one
+passes : {E : Type 0} (stream : Stream) (turn : Turn E) → IsApart stream turn
+    → (turns : Stream → Turn E) → TurnsOne stream turns → (further : Stream → Target E)
+    → turned turn (λ other. turned (turns other) further) ≡ turned turn further
+passes stream (Decides target) apart turns one further = refl
+passes stream (Follows other) apart turns one further =
+    ap (λ next. turned next further) (one.others other apart)
+
+-- a node that speaks of this stream alone
+record Speaks {E H : Type 0} (stream : Stream) (modifier : ModifierView E H) (place : ℕ)
+    : Type 0 where
+  turns : TurnsOne stream ((step modifier).turn place)
+  no_folder : (step modifier).folder ≡ None
+  no_changes : (step modifier).changes ≡ []
+  no_hooks : (step modifier).hooks ≡ []
+
+-- a node that redirects this stream speaks of it alone; nothing is said of one that redirects none
+abbrev Says : {E H : Type 0} → Option Stream → ModifierView E H → ℕ → Type 0
+Says None modifier place = Unit {0}
+Says (Some stream) modifier place = Speaks stream modifier place
+
+module _ {E H : Type 0} where
+  speaks : (stream : Stream) (modifier : ModifierView E H) (place : ℕ)
+      → TurnsOne stream ((step modifier).turn place) → (step modifier).folder ≡ None
+      → (step modifier).changes ≡ [] → (step modifier).hooks ≡ [] → Speaks stream modifier place
+  speaks stream modifier place turns a b c =
+      record { turns = turns; no_folder = a; no_changes = b; no_hooks = c }
+
+  says : (modifier : ModifierView E H) (place : ℕ) → Says (redirected modifier) modifier place
+  says (stdin_bytes bytes) place = speaks In (stdin_bytes bytes) place (at_in _ tt) refl refl refl
+  says (stdin_path path) place = speaks In (stdin_path path) place (at_in _ tt) refl refl refl
+  says (stdin_file end) place = speaks In (stdin_file end) place (at_in _ tt) refl refl refl
+  says stdin_null place = speaks In stdin_null place (at_in _ tt) refl refl refl
+  says (stdout_path path) place = speaks Out (stdout_path path) place (at_out _ tt) refl refl refl
+  says (stdout_file end) place = speaks Out (stdout_file end) place (at_out _ tt) refl refl refl
+  says stdout_null place = speaks Out stdout_null place (at_out _ tt) refl refl refl
+  says stdout_capture place = speaks Out stdout_capture place (at_out _ tt) refl refl refl
+  says stdout_to_stderr place =
+      speaks Out stdout_to_stderr place (at_out (Follows Err) (λ is. cc)) refl refl refl
+  says (stderr_path path) place = speaks Err (stderr_path path) place (at_err _ tt) refl refl refl
+  says (stderr_file end) place = speaks Err (stderr_file end) place (at_err _ tt) refl refl refl
+  says stderr_null place = speaks Err stderr_null place (at_err _ tt) refl refl refl
+  says stderr_capture place = speaks Err stderr_capture place (at_err _ tt) refl refl refl
+  says stderr_to_stdout place =
+      speaks Err stderr_to_stdout place (at_err (Follows Out) (λ is. cc)) refl refl refl
+  says stdout_stderr_swap place = tt
+  says (dir path) place = tt
+  says (env name value) place = tt
+  says (env_remove name) place = tt
+  says (full_env vars) place = tt
+  says unchecked place = tt
+  says (before_spawn hook ends) place = tt
+
+  speaks_of : (modifier : ModifierView E H) (place : ℕ) (stream : Stream)
+      → redirected modifier ≡ Some stream → Speaks stream modifier place
+  speaks_of modifier place stream is =
+      subst (λ which. Says which modifier place) is (says modifier place)
+
+  -- two redirections of one stream, one directly round the other: a command finds what it finds with the inner one alone
+  pub redirected_once : (front up : Path E H) (inner outer : ModifierView E H) (p q : ℕ)
+      (stream : Stream) → redirected inner ≡ Some stream → redirected outer ≡ Some stream
+      → found_on (front ++ within p inner ∷ within q outer ∷ up)
+      ≡ found_on (front ++ within p inner ∷ up)
+  redirected_once front up inner outer p q stream one other =
+      let a = speaks_of inner p stream one in
+      let b = speaks_of outer q stream other in
+      found_alike _ _
+      (alike_within front (within p inner ∷ within q outer ∷ up) (within p inner ∷ up) record {
+        streams = λ s. passes stream ((step inner).turn p s) (a.turns.apart s) ((step outer).turn q) b.turns (λ t. goes up t);
+        folders = ap (λ f. option_or (step inner).folder (option_or f (folder up))) b.no_folder;
+        variables = ap (λ c. (step inner).changes ++ (c ++ changes up)) b.no_changes;
+        hooked = ap (λ h. (hooks up ++ h) ++ (step inner).hooks) b.no_hooks ∙ ap (λ h. h ++ (step inner).hooks) (append-nil (hooks up));
+      })
+
+  -- two swaps of stdout and stderr, one directly round the other: a command finds what it finds without them
+  pub swapped_back : (front up : Path E H) (p q : ℕ)
+      → found_on (front ++ within p stdout_stderr_swap ∷ within q stdout_stderr_swap ∷ up)
+      ≡ found_on (front ++ up)
+  swapped_back front up p q =
+      found_alike _ _
+      (alike_within front (within p stdout_stderr_swap ∷ within q stdout_stderr_swap ∷ up) up record {
+        streams = back;
+        folders = refl;
+        variables = refl;
+        hooked = append-nil (hooks up ++ []) ∙ append-nil (hooks up);
+      })
+    where
+      back : (stream : Stream)
+          → goes (within p stdout_stderr_swap ∷ within q stdout_stderr_swap ∷ up) stream
+          ≡ goes up stream
+      back In = refl
+      back Out = refl
+      back Err = refl

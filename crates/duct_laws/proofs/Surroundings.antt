@@ -1,0 +1,121 @@
+-- What a node hides of the folder and of the variables that are set outside of it.
+use Rattle.std.proofs.Common.{◌≡◌, ℕ, List, [], ◌∷◌, ◌++◌, refl, ap, ◌∙◌}
+use Rattle.std.specs.Prelude.{Bool, true, false, cond, Some, None}
+use Rattle.std.specs.Option.{option_or, option_map}
+use Rattle.std.specs.declared.option.Option.{Option}
+use Rattle.duct_system.specs.Name.{is_same_name}
+use Rattle.duct_system.specs.SpecView.{Vars, spelled}
+use Rattle.duct_system.proofs.Variables.{name_equiv, same_at}
+use Rattle.duct_start.specs.Found.{Change, Sets, Removes, Replaces, variable, value_found}
+use Rattle.duct_start.specs.Lookup.{folder, changes}
+use Rattle.duct_start.specs.Path.{Path, within, step_of}
+use Rattle.duct_start.specs.TreeView.{dir, env, full_env}
+
+module _ {E H : Type 0} where
+  -- a folder that is set inside replaces each that is set outside
+  pub inner_folder : (front up other : Path E H) (p : ℕ) (path : List ℕ)
+      → folder (front ++ within p (dir path) ∷ up) ≡ folder (front ++ within p (dir path) ∷ other)
+  inner_folder [] up other p path = refl
+  inner_folder (crumb ∷ front) up other p path =
+      ap (option_or (step_of crumb).folder) (inner_folder front up other p path)
+
+-- nearer changes say the same of a name where the further ones do
+behind : (pairs others : Vars) (name : List ℕ) (near one other : List Change)
+    → variable pairs one name ≡ variable others other name
+    → variable pairs (near ++ one) name ≡ variable others (near ++ other) name
+behind pairs others name [] one other same = same
+behind pairs others name (Sets set value ∷ near) one other same =
+    ap (λ further. cond (is_same_name name set) (Some (spelled set further, value)) further)
+    (behind pairs others name near one other same)
+behind pairs others name (Removes gone ∷ near) one other same =
+    ap (λ further. cond (is_same_name name gone) None further)
+    (behind pairs others name near one other same)
+behind pairs others name (Replaces vars ∷ near) one other same = refl
+
+-- the value of a pair
+abbrev valued : Option (List ℕ × List ℕ) → Option (List ℕ)
+valued found = option_map (λ pair. pair.1) found
+
+-- the value of a name that a change sets, or leaves as it is found further out
+abbrev valued_by : Bool → List ℕ → List ℕ → Option (List ℕ × List ℕ) → Option (List ℕ)
+valued_by b set value found = valued (cond b (Some (spelled set found, value)) found)
+
+set_behind : (b : Bool) (set value : List ℕ) (one other : Option (List ℕ × List ℕ))
+    → valued one ≡ valued other → valued_by b set value one ≡ valued_by b set value other
+set_behind true set value one other same = refl
+set_behind false set value one other same = same
+
+removed_behind : (b : Bool) (one other : Option (List ℕ × List ℕ)) → valued one ≡ valued other
+    → valued (cond b None one) ≡ valued (cond b None other)
+removed_behind true one other same = refl
+removed_behind false one other same = same
+
+-- nearer changes give a name the same value where the further ones do
+value_behind : (pairs : Vars) (name : List ℕ) (near one other : List Change)
+    → value_found pairs one name ≡ value_found pairs other name
+    → value_found pairs (near ++ one) name ≡ value_found pairs (near ++ other) name
+value_behind pairs name [] one other same = same
+value_behind pairs name (Sets set value ∷ near) one other same =
+    set_behind (is_same_name name set) set value (variable pairs (near ++ one) name)
+    (variable pairs (near ++ other) name) (value_behind pairs name near one other same)
+value_behind pairs name (Removes gone ∷ near) one other same =
+    removed_behind (is_same_name name gone) (variable pairs (near ++ one) name)
+    (variable pairs (near ++ other) name) (value_behind pairs name near one other same)
+value_behind pairs name (Replaces vars ∷ near) one other same = refl
+
+module _ {E H : Type 0} where
+  value_round : (pairs : Vars) (name : List ℕ) (front one other : Path E H)
+      → value_found pairs (changes one) name ≡ value_found pairs (changes other) name
+      → value_found pairs (changes (front ++ one)) name
+      ≡ value_found pairs (changes (front ++ other)) name
+  value_round pairs name [] one other same = same
+  value_round pairs name (crumb ∷ front) one other same =
+      value_behind pairs name (step_of crumb).changes (changes (front ++ one))
+      (changes (front ++ other)) (value_round pairs name front one other same)
+
+  -- a variable that is set inside hides one of its name that is set anywhere outside: no name's value changes with the outer one
+  pub inner_variable : (pairs : Vars) (front middle up : Path E H) (p q : ℕ)
+      (inner value outer hidden : List ℕ) → is_same_name inner outer ≡ true → (name : List ℕ)
+      → value_found pairs
+      (changes (front ++ within p (env inner value) ∷ (middle ++ within q (env outer hidden) ∷ up)))
+      name
+      ≡ value_found pairs (changes (front ++ within p (env inner value) ∷ (middle ++ up))) name
+  inner_variable pairs front middle up p q inner value outer hidden same name =
+      value_round pairs name front
+      (within p (env inner value) ∷ (middle ++ within q (env outer hidden) ∷ up))
+      (within p (env inner value) ∷ (middle ++ up))
+      (by (is_same_name name inner) (is_same_name name outer) refl
+      (name_equiv.symm name inner ∙ same_at inner outer name same ∙ name_equiv.symm outer name))
+    where
+      -- what stands behind the inner change, with the outer one and without
+      both : Path E H
+      both = middle ++ within q (env outer hidden) ∷ up
+
+      one : Path E H
+      one = middle ++ up
+
+      far : Option (List ℕ × List ℕ)
+      far = variable pairs (changes up) name
+
+      passed : is_same_name name outer ≡ false
+          → value_found pairs (changes (within q (env outer hidden) ∷ up)) name ≡ valued far
+      passed differs = ap (λ b. valued_by b outer hidden far) differs
+
+      by : (b c : Bool) → is_same_name name outer ≡ c → b ≡ c
+          → valued_by b inner value (variable pairs (changes both) name)
+          ≡ valued_by b inner value (variable pairs (changes one) name)
+      by true c is tied = refl
+      by false false is tied =
+          value_round pairs name middle (within q (env outer hidden) ∷ up) up (passed is)
+      by false true is tied = absurd (cc)
+
+  -- a whole environment that is set inside hides what is asked of variables outside, and the parent's environment
+  pub inner_environment : (pairs others : Vars) (front up other : Path E H) (p : ℕ) (vars : Vars)
+      (name : List ℕ) → variable pairs (changes (front ++ within p (full_env vars) ∷ up)) name
+      ≡ variable others (changes (front ++ within p (full_env vars) ∷ other)) name
+  inner_environment pairs others [] up other p vars name = refl
+  inner_environment pairs others (crumb ∷ front) up other p vars name =
+      behind pairs others name (step_of crumb).changes
+      (changes (front ++ within p (full_env vars) ∷ up))
+      (changes (front ++ within p (full_env vars) ∷ other))
+      (inner_environment pairs others front up other p vars name)
