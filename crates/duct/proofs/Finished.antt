@@ -18,7 +18,7 @@ use Rattle.duct_running.specs.NumbersView.{numbers_in}
 use Rattle.duct_running.specs.Stays.{Stays}
 use Rattle.duct_handle.specs.Started.{AreNumbers}
 use Rattle.duct_handle.proofs.Beginning.{are_numbers}
-use Rattle.duct.specs.Ended.{Fits, LeavesGiven}
+use Rattle.duct.specs.Ended.{PoolHasRoom, LeavesGiven}
 
 abbrev IsUnordered : ChildView → Type 0
 IsUnordered child = child.orders ≡ []
@@ -66,7 +66,7 @@ module _ {E H C F D V W : Type 0} (child : C → ChildView) (feed : F → JobVie
       → Leaves may [] (pool_view child before) (pool_view child mid)
       → Stays child feed drain running waited
       → (mid.given + length waited.children < 2 ^ 63 → Takes may child waited.children mid after)
-      → Fits added before → LeavesGiven may child added before after
+      → PoolHasRoom added before → LeavesGiven may child added before after
   given_after may waited before mid after swept stays takes fits =
       let numbers : map (λ c. c.number) (map child waited.children) ≡ children_in added =
       ap (λ n. n.children) stays.numbers_are ∙ numbers_seen child running.children ∙ runs.children_are in

@@ -1,4 +1,4 @@
-//! An expression: a shared tree of commands, pipes between them, and what is asked of them.
+//! An expression: a shared tree of commands, pipes between them, and modifiers round them.
 ghost use Rattle.std.specs.Prelude.{◌≡◌, ◌∷◌, map, string_bytes, IfOk, IsOkUnless};
 ghost use Rattle.duct_system.specs.SpecView.{texts_of};
 ghost use Rattle.duct_start.specs.TreeView.{command};
@@ -35,7 +35,7 @@ impl<E: Drop, H: Drop> Clone for Expression<E, H> {
     }
 }
 
-/// A command: a program and its arguments. Refused, by `Error::Memory`, only for want of memory.
+/// A command: a program and its arguments. Refused, by `Error::Memory`, only for want of memory; the program is then dropped.
 pub fn cmd<E: Drop, P: IntoExecutablePath, H: Drop>(
     alloc: Global,
     program: P,

@@ -1,10 +1,10 @@
-//! Commands, pipes between them, and what is asked of them: a description of children of the operating system, their start,
-//! and how they ended.
+//! Commands, pipes between them and modifiers round them: a description of children of the operating system, their start, and
+//! how they ended.
 //!
 //! ```
 //! let hello: Expression<End> = cmd!(in alloc; "echo", "hi")?;
 //! let mut running = hello.launch(&mut system, &mut pool)?;
-//! let answer = running.poll(); // `None` while it runs, then how it ended
+//! let answer = running.poll(); // `Ok(None)` while it runs, then how it ended
 //! let (_children, _feeds, _drains) = running.into_parts(); // what runs must be spent
 //! ```
 #![tactic(auto)]

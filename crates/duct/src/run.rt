@@ -1,12 +1,12 @@
 //! Starts that are waited for: the output of an expression, the text that it prints, or a reader of it.
-ghost use Rattle.std.specs.Prelude.{◌≡◌, ◌⊎◌, [], false, is_some, IfOk, IfErr, OnOk, OnErr, Ok, Err};
+ghost use Rattle.std.specs.Prelude.{◌⊎◌, [], false, is_some, IfOk, IfErr, OnOk, OnErr, Ok, Err};
 ghost use Rattle.duct_system.specs.Trace.{segment};
 ghost use Rattle.duct_status.specs.ReplyView.{answered};
 ghost use Rattle.duct_start.specs.Left.{Leaves, LeavesStarted, pool_view};
 ghost use Rattle.duct_start.specs.Plan.{plan_of, plan_of_reader};
 ghost use Rattle.duct_start.specs.Start.{StartSucceeds, StartRefused};
 ghost use Rattle.duct_handle.specs.Started.{IsHandle};
-ghost use Rattle.duct.specs.Ended.{Ended, EndedBy, Fits, LeavesGiven, WasRead};
+ghost use Rattle.duct.specs.Ended.{Ended, EndedBy, PoolHasRoom, LeavesGiven, WasRead};
 ghost use Rattle.duct.specs.TreeView.{tree_view};
 
 use crate::expression::Expression;
@@ -47,7 +47,7 @@ impl<E: Drop, H: Hook> Expression<E, H> {
         ensures pool_given { OnErr result
             (let old = S.journal_view sys.old in
             let added = segment old.entries (S.journal_view sys.new).entries in
-            Fits added pool.old
+            PoolHasRoom added pool.old
             → LeavesStarted S.Child.may_answer S.Child.child_view added pool.old pool.new) }
     {
         let alloc = self.allocator();
@@ -84,7 +84,7 @@ impl<E: Drop, H: Hook> Expression<E, H> {
             let new = S.journal_view sys.new in
             let added = segment old.entries new.entries in
             (StartRefused H.allows H.refuses E.number_of tree (plan_of tree) old new e
-            × (Fits added pool.old
+            × (PoolHasRoom added pool.old
             → LeavesStarted S.Child.may_answer S.Child.child_view added pool.old pool.new))
             ⊎ (StartSucceeds H.allows E.number_of tree (plan_of tree) old new
             × EndedBy S.Child.may_answer S.Feed.may_say S.Drain.may_say tree
@@ -92,7 +92,7 @@ impl<E: Drop, H: Hook> Expression<E, H> {
         ensures pool_given { OnErr result
             (let old = S.journal_view sys.old in
             let added = segment old.entries (S.journal_view sys.new).entries in
-            Fits added pool.old
+            PoolHasRoom added pool.old
             → LeavesGiven S.Child.may_answer S.Child.child_view added pool.old pool.new) }
     {
         let running = self.launch(sys, pool)?;
@@ -126,7 +126,7 @@ impl<E: Drop, H: Hook> Expression<E, H> {
             let new = S.journal_view sys.new in
             let added = segment old.entries new.entries in
             (StartRefused H.allows H.refuses E.number_of tree (plan_of_reader tree) old new e
-            × (Fits added pool.old
+            × (PoolHasRoom added pool.old
             → LeavesStarted S.Child.may_answer S.Child.child_view added pool.old pool.new))
             ⊎ (StartSucceeds H.allows E.number_of tree (plan_of_reader tree) old new
             × WasRead S.Child.may_answer S.Feed.may_say S.Drain.may_say tree S.may_read
@@ -134,7 +134,7 @@ impl<E: Drop, H: Hook> Expression<E, H> {
         ensures pool_given { OnErr result
             (let old = S.journal_view sys.old in
             let added = segment old.entries (S.journal_view sys.new).entries in
-            Fits added pool.old
+            PoolHasRoom added pool.old
             → LeavesGiven S.Child.may_answer S.Child.child_view added pool.old pool.new) }
     {
         let (running, reader) = self.launch_reader(sys, pool)?;

@@ -1,6 +1,5 @@
 //! The start of an expression: what is asked of the system, and what is kept of it.
-ghost use Rattle.std.specs.Prelude.{◌≡◌, ◌+◌, ◌<◌, ◌≤◌, ◌^◌, [], false, length, is_some, vec_capacity, IfOk, IfErr, OnOk, OnErr, IsOkUnless, None};
-ghost use Rattle.duct_system.specs.Started.{children_in};
+ghost use Rattle.std.specs.Prelude.{◌≡◌, ◌≤◌, [], false, length, is_some, vec_capacity, IfOk, IfErr, OnOk, OnErr, IsOkUnless, None};
 ghost use Rattle.duct_system.specs.Trace.{segment};
 ghost use Rattle.duct_system.specs.declared.system.Side.TheVariants as side;
 ghost use Rattle.duct_status.specs.CoreView.{latest_in, shape_in};
@@ -18,6 +17,7 @@ ghost use Rattle.duct_run.specs.HeldView.{AreNew, IsEmpty};
 ghost use Rattle.duct_running.specs.NumbersView.{HaveRoom};
 ghost use Rattle.duct_handle.specs.Started.{IsHandle};
 ghost use Rattle.duct_tree.specs.NodeView.{node_view};
+ghost use Rattle.duct.specs.Ended.{PoolHasRoom};
 ghost use Rattle.duct.specs.TreeView.{tree_view};
 
 use crate::expression::Expression;
@@ -232,12 +232,10 @@ impl<E: Drop, H: Hook> Expression<E, H> {
         ensures err { IfErr result (let tree = tree_view self.now in
             StartRefused H.allows H.refuses E.number_of tree (plan_of tree) (S.journal_view sys.old)
             (S.journal_view sys.new)) }
-
-        // The bound is that of the lists of the standard library.
         ensures pool_given { OnErr result
             (let old = S.journal_view sys.old in
             let added = segment old.entries (S.journal_view sys.new).entries in
-            pool.old.given + length (children_in added) < 2 ^ 63
+            PoolHasRoom added pool.old
             → LeavesStarted S.Child.may_answer S.Child.child_view added pool.old pool.new) }
     {
         let alloc = self.allocator();
@@ -274,12 +272,10 @@ impl<E: Drop, H: Hook> Expression<E, H> {
         ensures err { IfErr result (let tree = tree_view self.now in
             StartRefused H.allows H.refuses E.number_of tree (plan_of_reader tree)
             (S.journal_view sys.old) (S.journal_view sys.new)) }
-
-        // The bound is that of the lists of the standard library.
         ensures pool_given { OnErr result
             (let old = S.journal_view sys.old in
             let added = segment old.entries (S.journal_view sys.new).entries in
-            pool.old.given + length (children_in added) < 2 ^ 63
+            PoolHasRoom added pool.old
             → LeavesStarted S.Child.may_answer S.Child.child_view added pool.old pool.new) }
     {
         let alloc = self.allocator();
@@ -313,12 +309,10 @@ impl<E: Drop, H: Hook> Expression<E, H> {
         ensures err { IfErr result (let tree = tree_view self.now in
             StartRefused H.allows H.refuses E.number_of tree (plan_of tree) (S.journal_view sys.old)
             (S.journal_view sys.new)) }
-
-        // The bound is that of the lists of the standard library.
         ensures pool_given { OnErr result
             (let old = S.journal_view sys.old in
             let added = segment old.entries (S.journal_view sys.new).entries in
-            pool.old.given + length (children_in added) < 2 ^ 63
+            PoolHasRoom added pool.old
             → LeavesStarted S.Child.may_answer S.Child.child_view added pool.old pool.new) }
     {
         let alloc = self.allocator();

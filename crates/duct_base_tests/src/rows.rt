@@ -12,13 +12,13 @@ fn in_steps(alloc: Global, row: &str, drains: Drains, told: &str) -> Result<Stri
     Ok(text)
 }
 
-/// The same in one run.
+/// The same in one run, by a copy of the shape.
 fn at_once(alloc: Global, row: &str, drains: Drains, told: &str) -> Result<String, Stop> {
     let mut text = String::new(alloc);
     let events = events_of(alloc, told)?;
     push_run(
         alloc,
-        shape_of(alloc, row)?,
+        shape_of(alloc, row)?.try_clone(alloc)?,
         drains,
         events.as_slice(),
         &mut text,

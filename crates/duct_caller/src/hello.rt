@@ -13,7 +13,7 @@ pub fn hello<S: System>(alloc: Global, system: &mut S) -> Result<Option<Arc<Outp
         if !matches!(answer, Ok(None)) {
             break;
         }
-        answer = running.poll(); // `None` while it runs, then how it ended
+        answer = running.poll(); // `Ok(None)` while it runs, then how it ended
     }
     let (_children, _feeds, _drains) = running.into_parts(); // what runs must be spent
     answer

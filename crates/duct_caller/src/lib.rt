@@ -1,26 +1,28 @@
 //! A caller of duct: expressions of every kind, built by its public calls alone.
 #![tactic(auto)]
 
-ghost use Rattle.std.specs.Prelude.{◌≡◌, OnOk};
-
 pub mod hello;
 
-use duct::{CommandSpec, Error, Expression, Fault, Hook, HookBox, IntoExecutablePath, Port, cmd};
+use duct::{
+    CommandSpec, Error, Expression, Fault, Hook, HookBox, IntoExecutablePath, Pool, Port, System,
+    cmd,
+};
 use std::alloc::{AllocError, Global};
 use std::path::{Path, PathBuf};
+use std::sync::Wait;
 
 /// A hook that starts its commands with an empty stdin and one more argument.
 #[derive(Drop)]
-pub struct Verbose;
+pub struct OneMore;
 
-impl Hook for Verbose {
+impl Hook for OneMore {
     ghost allows = { λ _ _ _. Unit {0} };
 
     ghost refuses = { λ _ _ _. Unit {0} };
 
     fn change(&self, spec: &mut CommandSpec) -> Result<(), Fault> {
         spec.stdin(Port::Null);
-        match spec.arg("-v") {
+        match spec.arg("bar") {
             Ok(()) => Ok(()),
             Err(_) => Err(Fault::new(duct::Kind::OutOfMemory)),
         }
@@ -105,10 +107,19 @@ pub fn with_hook<E: Drop>(
 
 /// The debug text of a command inside a boxed hook.
 pub fn shown(alloc: Global) -> Result<String, Error> {
-    let hook: HookBox = Box::new(alloc, Verbose)?;
+    let hook: HookBox = Box::new(alloc, OneMore)?;
     let e: Expression<u64> = cmd!(in alloc; "a")?;
     let hooked = e.before_spawn(hook, Vec::new(alloc))?;
     Ok(format!(in alloc; "{hooked:?}")?)
+}
+
+/// What `echo foo` prints inside of a boxed hook.
+pub fn echoed<S: System>(rt: &impl Wait, alloc: Global, system: &mut S) -> Result<String, Error> {
+    let hook: HookBox = Box::new(alloc, OneMore)?;
+    let echo: Expression<S::End> = cmd!(in alloc; "echo", "foo")?;
+    let hooked = echo.before_spawn(hook, Vec::new(alloc))?;
+    let mut pool = Pool::new(alloc);
+    hooked.read(rt, system, &mut pool)
 }
 
 #[cfg(test)]
@@ -121,6 +132,14 @@ mod tests {
     fn a_hook_in_a_box(rt: HostRuntime) -> Result<(), Error> {
         let text = shown(rt.alloc())?;
         assert_eq!(rt; text.as_str(), "Io(BeforeSpawn(<closure>), Cmd([\"a\"]))");
+        Ok(())
+    }
+
+    #[test]
+    fn a_boxed_hook_adds_an_argument(rt: HostRuntime) -> Result<(), Error> {
+        let mut host = Host::new(&rt, rt.alloc());
+        let text = echoed(&rt, rt.alloc(), &mut host)?;
+        assert_eq!(rt; text.as_str(), "foo bar");
         Ok(())
     }
 

@@ -105,7 +105,7 @@ impl<S: System> Handle<S> {
         }
     }
 
-    /// Polls, where the token does not know the answer yet, and answers how the expression ended; nothing while it runs.
+    /// Polls, unless the answer is published already, and answers how the expression ended; `None` while it runs.
     ///
     /// A checked failure is `Error::Checked`, a fault of a command or a worker `Error::System`. `Error::Memory` comes only for
     /// want of memory, and the next wait tries again.

@@ -81,8 +81,10 @@ pub(crate) fn settled<S: System>(
 
 impl<S: System> Handle<S> {
     /// Waits until the expression has ended, and answers the output itself, copied only where another still shares it. The pool
-    /// stays as it was. Where it fails, the children are given to the pool, as `give_up` gives them; with a checked failure the
-    /// captured bytes are lost.
+    /// stays as it was.
+    ///
+    /// Refused by `Error::Checked` for a checked failure, whose captured bytes are lost, by `Error::System` for a fault, as `wait`
+    /// answers it, and by `Error::Memory` for want of memory. The children are then given to the pool, as `give_up` gives them.
     pub fn into_output(self, rt: &impl Wait, pool: &mut Pool<S::Child>) -> Result<Output, Error>
         ensures output { IfOk result (λ output. WasConcluded S.Child.may_answer S.Feed.may_say
             S.Drain.may_say (shape_view self.shape) self.numbers

@@ -14,8 +14,9 @@ use std::sync::{Arc, Wait};
 use std::time::Duration;
 
 impl<S: System> Handle<S> {
-    /// Waits until the expression has ended, and answers how. A fault is answered at the first poll that finds one while no
-    /// command says that it runs.
+    /// Waits until the expression has ended, and answers how. A fault is answered, as `Error::System`, at the first poll that finds
+    /// one while no command says that it runs; a checked failure, as `Error::Checked`, and want of memory, as `Error::Memory`, at
+    /// once. After a fault or want of memory the handle may be asked again.
     pub fn wait_as(&self, rt: &impl Wait, seen: &mut Seen<S>) -> Result<Arc<Output>, Error>
         requires { seen.old.cell ≡ self.now.cell }
         ensures { Waited S.Child.may_answer S.Feed.may_say S.Drain.may_say self.now

@@ -4,7 +4,7 @@
 //! `a b pipe | code 0; running | | | 0,5s | timeout 5s, kill, give -> nothing. done. | poll a, poll b, order b | 2 | 1 2 1 0`
 //!
 //! The last call spends the handle: `give`, or `into` for `into_output`; with `sweep`, the pool is swept once more behind a `give`. The
-//! polls of a `give` are not listed. The pool stands by how many it keeps, was given, found ended and lost.
+//! polls of a `give` are not listed, and those of a `leave`, which is the same, are. The pool stands by how many it keeps, was given, found ended and lost.
 use crate::calls::{duration, push_call};
 use duct::{Error, Handle, Output, Pool};
 use duct_rows::expressions::{Tree, written};
@@ -87,6 +87,9 @@ fn told(
     let to = bench.calls.noted();
     match spent(rt, bench, handle, end.trim()) {
         Some(output) => with_output(alloc, bench, from, text?, &output),
+        None if end.trim() == "leave" => {
+            with_noted(alloc, bench, (from, bench.calls.noted()), text?)
+        }
         None => with_noted(alloc, bench, (from, to), text?),
     }
 }

@@ -4,7 +4,7 @@ ghost use Rattle.std.specs.Prelude.{◌≡◌};
 
 use crate::bench::counts;
 use crate::calls::{Waiting, wait_as};
-use duct::{Error, ExitStatus, Handle, Output, Pool, Said, Seen, cmd};
+use duct::{Error, ExitStatus, Handle, Kind, Output, Pool, Said, Seen, cmd};
 use duct_rows::expressions::Tree;
 use duct_script::child::{PollAnswer, ScriptChild};
 use duct_script::clock::ScriptClock;
@@ -28,7 +28,9 @@ enum Came {
 fn came_of(made: Result<Came, Error>) -> Came {
     match made {
         Ok(came) => came,
-        Err(_) => Came::Refused,
+        Err(Error::Memory) => Came::Refused,
+        Err(Error::System(fault)) if fault.kind == Kind::OutOfMemory => Came::Refused,
+        Err(_) => Came::Wrong,
     }
 }
 

@@ -55,7 +55,7 @@ impl<R: Processes> Child<R> {
 }
 
 /// Ends a child, if it has not been seen to end.
-fn end<P: OpenProcess>(started: &mut process::Child<P>) -> Result<(), Fault> {
+fn kill_process<P: OpenProcess>(started: &mut process::Child<P>) -> Result<(), Fault> {
     ask(|| started.kill())
 }
 
@@ -142,7 +142,7 @@ impl<R: Processes + Drop> system::Child for Child<R> {
         if self.orders.reserve(1).is_err() {
             return Err(no_memory());
         }
-        let answer = end(&mut self.started);
+        let answer = kill_process(&mut self.started);
         self.orders.push_reserved((Order::Kill, answer));
         answer
     }
@@ -154,7 +154,7 @@ impl<R: Processes + Drop> system::Child for Child<R> {
         let answer = if !is_served(signal) {
             Err(Fault::new(Kind::InvalidInput))
         } else if signal == KILL {
-            end(&mut self.started)
+            kill_process(&mut self.started)
         } else {
             self.send(signal)
         };

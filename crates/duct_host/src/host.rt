@@ -1,5 +1,5 @@
 //! The host: a system over the real machine.
-ghost use Rattle.std.specs.Prelude.{◌≡◌, ◌≢◌, ◌+◌, ◌-◌, ◌^◌, ◌<◌, ◌≤◌, [], map, min, string_bytes, IfOk, IfErr, OnOk};
+ghost use Rattle.std.specs.Prelude.{◌≡◌, ◌≢◌, ◌+◌, ◌-◌, ◌^◌, ◌<◌, ◌≤◌, [], map, min, string_bytes, Ok, Err, IfOk, IfErr, OnOk, OnErr};
 ghost use Rattle.duct_system.specs.Journal.{IsNew};
 ghost use Rattle.duct_system.specs.SpecView.{pair_text};
 ghost use Rattle.duct_system.specs.declared.system.Kind.TheVariants.{Other, OutOfMemory};
@@ -163,6 +163,19 @@ impl<R> Host<R> {
         let fd = answer?;
         Ok(End::new(self.take_number()?, fd))
     }
+
+    /// What a request was answered. Where it was refused, the room that was made for an end is given back.
+    fn got(&mut self, made: Result<End, Fault>) -> Result<End, Fault>
+        requires { 0 < self.old.room }
+        ensures same { result ≡ made }
+        ensures ok { OnOk result (self.new ≡ self.old) }
+        ensures err { OnErr result (self.new ≡ record self.old { room = self.old.room - 1 }) }
+    {
+        if made.is_err() {
+            self.journal.give_back(1);
+        }
+        made
+    }
 }
 
 impl<R: Processes + Files<File = File> + Env + Parents + Clone + Drop> Host<R> {
@@ -287,49 +300,25 @@ impl<R: Processes + Files<File = File> + Env + Parents + Threads + Clone + Drop>
     fn open_read(&mut self, path: &str) -> Result<End, Fault> {
         let kept = self.prepare_named(path, 1)?;
         let answer = ask(|| File::open(&self.rt, path).map(OwnedFd::from));
-        match self.numbered(answer) {
-            Ok(end) => {
-                self.journal.add(Entry::OpenRead(kept, Ok(end.number())));
-                Ok(end)
-            }
-            Err(fault) => {
-                self.journal.give_back(1);
-                self.journal.add(Entry::OpenRead(kept, Err(fault)));
-                Err(fault)
-            }
-        }
+        let made = self.numbered(answer);
+        self.journal.add(Entry::OpenRead(kept, number_of(&made)));
+        self.got(made)
     }
 
     fn create(&mut self, path: &str) -> Result<End, Fault> {
         let kept = self.prepare_named(path, 1)?;
         let answer = ask(|| File::create(&self.rt, path).map(OwnedFd::from));
-        match self.numbered(answer) {
-            Ok(end) => {
-                self.journal.add(Entry::Create(kept, Ok(end.number())));
-                Ok(end)
-            }
-            Err(fault) => {
-                self.journal.give_back(1);
-                self.journal.add(Entry::Create(kept, Err(fault)));
-                Err(fault)
-            }
-        }
+        let made = self.numbered(answer);
+        self.journal.add(Entry::Create(kept, number_of(&made)));
+        self.got(made)
     }
 
     fn duplicate(&mut self, end: &End) -> Result<End, Fault> {
         self.journal.prepare(1)?;
-        let lent = end.number();
-        match self.numbered(ask(|| end.descriptor().try_clone())) {
-            Ok(made) => {
-                self.journal.add(Entry::Duplicate(lent, Ok(made.number())));
-                Ok(made)
-            }
-            Err(fault) => {
-                self.journal.give_back(1);
-                self.journal.add(Entry::Duplicate(lent, Err(fault)));
-                Err(fault)
-            }
-        }
+        let made = self.numbered(ask(|| end.descriptor().try_clone()));
+        self.journal
+            .add(Entry::Duplicate(end.number(), number_of(&made)));
+        self.got(made)
     }
 
     fn parent(&mut self, side: Side) -> Result<End, Fault> {
@@ -338,17 +327,9 @@ impl<R: Processes + Files<File = File> + Env + Parents + Threads + Clone + Drop>
             Side::Out => ask(|| self.rt.duplicate_stdout()),
             Side::Err => ask(|| self.rt.duplicate_stderr()),
         };
-        match self.numbered(answer) {
-            Ok(made) => {
-                self.journal.add(Entry::Parent(side, Ok(made.number())));
-                Ok(made)
-            }
-            Err(fault) => {
-                self.journal.give_back(1);
-                self.journal.add(Entry::Parent(side, Err(fault)));
-                Err(fault)
-            }
-        }
+        let made = self.numbered(answer);
+        self.journal.add(Entry::Parent(side, number_of(&made)));
+        self.got(made)
     }
 
     fn canonicalize(&mut self, path: &str) -> Result<String, Fault> {
@@ -443,6 +424,17 @@ impl<R: Processes + Files<File = File> + Env + Parents + Threads + Clone + Drop>
     ghost same_bytes = { λ one other same. same };
 
     ghost feeds_say_again = { λ refusable. refusable };
+}
+
+/// The number of an end, if there is one.
+fn number_of(made: &Result<End, Fault>) -> Result<u64, Fault>
+    ensures ok { IfOk made.now (λ end. result ≡ Ok end) }
+    ensures err { IfErr made.now (λ fault. result ≡ Err fault) }
+{
+    match made {
+        Ok(end) => Ok(end.number()),
+        Err(fault) => Err(*fault),
+    }
 }
 
 /// The canonical name of a path, and a copy of it for the journal.

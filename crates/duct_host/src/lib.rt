@@ -3,10 +3,10 @@
 
 pub mod child;
 pub mod end;
-pub mod environment;
-pub mod fault;
+mod environment;
+mod fault;
 pub mod host;
 pub mod parents;
 pub mod reader;
-pub mod spawn;
-pub mod standard;
+mod spawn;
+mod standard;

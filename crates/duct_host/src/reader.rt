@@ -1,6 +1,7 @@
 //! What reads an end.
+use duct_worker::transfer::read_retried;
 use std::io;
-use std::io::{ErrorKind, Read};
+use std::io::Read;
 use std::os::fd::OwnedFd;
 use std::process::ChildStdout;
 
@@ -22,12 +23,6 @@ impl Reader {
 impl Read for Reader {
     /// Reads once. A read that a signal interrupts is tried again.
     fn read(&mut self, buf: &mut [u8]) -> io::Result<usize> {
-        for _ in 0..u64::MAX {
-            match self.source.read(buf) {
-                Err(error) if error.kind() == ErrorKind::Interrupted => {}
-                answer => return answer,
-            }
-        }
-        Err(io::Error::from(ErrorKind::Other))
+        read_retried(&mut self.source, buf)
     }
 }

@@ -245,6 +245,12 @@ fn readers(rt: HostRuntime) -> Result<(), Fail> {
         pool
         says 2; 2; nothing; done; command ["sh", "-c", "echo abc; exec sleep 1000"] exited with code <signal 9>; Other; Some(0); Some(0); (0, 1, 1, 0);
 
+        command sh,-c,echo hi
+        command cat
+        pipe
+        reader ids, all, try
+        says "hi\n"; Code(0);
+
         command sh,-c,printf abcdef; exit 3
         .unchecked
         reader read 4, read 0, all, try

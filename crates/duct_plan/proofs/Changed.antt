@@ -1,28 +1,16 @@
 -- Variables that are put in, taken away or replaced are those that are found from the change on.
-use Rattle.std.specs.Prelude.{ℕ, List, [], ◌∷◌, cond, filter, map, not, string_bytes, None, Some}
+use Rattle.std.specs.Prelude.{ℕ, List, cond, filter, map, not, string_bytes, None, Some}
 use Rattle.std.specs.declared.string.String.{String}
 use Rattle.std.specs.BTreeMap.{insert_entry}
-use Rattle.std.specs.List.{AllZip}
 use Rattle.std.specs.List.Sorted.{IsStrictlySortedBy}
 use Rattle.std.specs.Map.{keys_of}
-use Rattle.std.proofs.Common.{◌≡◌, ap, refl, ◌∙◌}
+use Rattle.std.proofs.Common.{◌≡◌, ap, ◌∙◌}
 use Rattle.duct_system.specs.Name.{is_same_name, name_cmp}
 use Rattle.duct_system.specs.SpecView.{Vars, spelled, var_view, variable_in}
 use Rattle.duct_system.proofs.Entries.{insert_var, filter_vars, are_ordered}
 use Rattle.duct_system.proofs.Variables.{variable_in-with, variable_in-without}
 use Rattle.duct_start.specs.Found.{Sets, Removes, Replaces}
 use Rattle.duct_plan.specs.Variables.{Changes}
-
--- a copy has the variables of what was copied
-pub copied_vars : {Z : Type 0} (es copy : List (List ℕ × String Z))
-    → AllZip (λ p q. (q.0 ≡ p.0) × (string_bytes q.1 ≡ string_bytes p.1)) es copy
-    → map var_view copy ≡ map var_view es
-copied_vars [] [] same = refl
-copied_vars [] (c ∷ copy) same = absurd same
-copied_vars (e ∷ es) [] same = absurd same
-copied_vars {Z} (e ∷ es) (c ∷ copy) same =
-    let rest : map (var_view {Z = Z}) copy ≡ map var_view es = copied_vars es copy same.1 in
-    (λ i. (same.0.0 i, same.0.1 i) ∷ rest i)
 
 module _ {Z : Type 0} (es new : List (List ℕ × String Z)) where
   -- a variable that was put in

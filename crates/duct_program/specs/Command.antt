@@ -29,18 +29,24 @@ redirected arg =
 
 -- a command with one more word in front
 abbrev pub with_word : List ℕ → CommandView → CommandView
-with_word word command = record { words = word ∷ command.words; redirections = command.redirections }
+with_word word command = record {
+  words = word ∷ command.words;
+  redirections = command.redirections;
+}
 
 -- a command with one more redirection in front
 abbrev pub with_redirection : Stream → List ℕ → CommandView → CommandView
-with_redirection stream path command =
-    record { words = command.words; redirections = record { stream = stream; path = path } ∷ command.redirections }
+with_redirection stream path command = record {
+  words = command.words;
+  redirections = record { stream = stream; path = path } ∷ command.redirections;
+}
 
 -- what the arguments of a command say; the stream is that which the argument before them redirects, if it does
 abbrev pub parts_of : Option Stream → List (List ℕ) → Result CommandView Usage
 parts_of None [] = Ok (record { words = []; redirections = [] })
 parts_of (Some stream) [] = Err MissingPath
-parts_of (Some stream) (path ∷ args) = parts_of None args >>= λ command. Ok (with_redirection stream path command)
+parts_of (Some stream) (path ∷ args) =
+    parts_of None args >>= λ command. Ok (with_redirection stream path command)
 parts_of None (arg ∷ args) =
     elim (redirected arg) [
       | Some stream ↦ parts_of (Some stream) args

@@ -11,4 +11,7 @@ redirection_view redirection = record { stream = redirection.stream; path = redi
 
 -- a command, with its words and paths as bytes
 abbrev pub command_view : Command → seen.CommandView
-command_view command = record { words = texts_of command.words.items; redirections = map redirection_view command.redirections.items }
+command_view command = record {
+  words = texts_of command.words.items;
+  redirections = map redirection_view command.redirections.items;
+}

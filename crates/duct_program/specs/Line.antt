@@ -38,7 +38,8 @@ module _ {E H : Type 0} where
   -- redirections round a command; the first one stands outermost
   abbrev pub redirected_tree : List RedirectionView → TreeView E H → TreeView E H
   redirected_tree [] tree = tree
-  redirected_tree (redirection ∷ others) tree = around (redirects redirection) (redirected_tree others tree)
+  redirected_tree (redirection ∷ others) tree =
+      around (redirects redirection) (redirected_tree others tree)
 
   -- a command with its redirections round it
   abbrev pub command_tree : CommandView → TreeView E H
@@ -57,13 +58,17 @@ module _ {E H : Type 0} where
   -- `unchecked` stands round that
   abbrev pub with_options : OptionsView → TreeView E H → TreeView E H
   with_options options tree =
-      elim options.unchecked [ true ↦ around unchecked (with_input options.stdin tree) | false ↦ with_input options.stdin tree ]
+      elim options.unchecked [
+        | true ↦ around unchecked (with_input options.stdin tree)
+        | false ↦ with_input options.stdin tree
+      ]
 
   -- the pipe that pieces mean
   abbrev pub pipeline_of : List (List (List ℕ)) → Result (TreeView E H) Usage
   pipeline_of [] = Err EmptyCommand
   pipeline_of (first ∷ others) =
-      command_of first >>= λ left. commands_of others >>= λ commands. Ok (piped (command_tree left) commands)
+      command_of first >>= λ left.
+      commands_of others >>= λ commands. Ok (piped (command_tree left) commands)
 
   -- the command that one piece means
   abbrev pub piece_tree : List (List ℕ) → Result (TreeView E H) Usage
@@ -72,4 +77,5 @@ module _ {E H : Type 0} where
   -- the expression that arguments mean, or the first fault that is found in them from left to right
   abbrev pub meant : List (List ℕ) → Result (TreeView E H) Usage
   meant args =
-      options_from false no_options args >>= λ front. pipeline_of (pieces front.1) >>= λ tree. Ok (with_options front.0 tree)
+      options_from false no_options args >>= λ front.
+      pipeline_of (pieces front.1) >>= λ tree. Ok (with_options front.0 tree)

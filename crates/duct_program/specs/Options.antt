@@ -25,5 +25,6 @@ options_from true options (text ∷ args) =
 options_from false options [] = Ok (options, [])
 options_from false options (arg ∷ args) =
     if bytes_eq arg (codes "--stdin") then options_from true options args
-    else if bytes_eq arg (codes "--unchecked") then options_from false (record { stdin = options.stdin; unchecked = true }) args
+    else if bytes_eq arg (codes "--unchecked")
+    then options_from false (record { stdin = options.stdin; unchecked = true }) args
     else Ok (options, arg ∷ args)

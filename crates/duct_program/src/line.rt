@@ -73,13 +73,13 @@ fn redirected_by<E: Drop, H: Drop>(
     let mut inner = command;
     let mut left = redirections;
     while let Some(redirection) = left.pop() {
-        inner = round(redirection, &inner).map_err(out_of_memory)?;
+        inner = redirect(redirection, &inner).map_err(out_of_memory)?;
     }
     Ok(inner)
 }
 
 // One redirection round an expression.
-fn round<E: Drop, H: Drop>(
+fn redirect<E: Drop, H: Drop>(
     redirection: Redirection<'_>,
     inner: &Expression<E, H>,
 ) -> Result<Expression<E, H>, Error>

@@ -63,13 +63,13 @@ pub fn perform<S: System>(
     err: &mut impl Write,
 ) -> u8 {
     match answer::<S, HookBox>(rt, alloc, sys, args) {
-        Ok(text) => said(writeln!(out, "{text}"), 0),
-        Err(failure) => said(writeln!(err, "host: {failure}"), failure.status()),
+        Ok(text) => status_after(writeln!(out, "{text}"), 0),
+        Err(failure) => status_after(writeln!(err, "host: {failure}"), failure.status()),
     }
 }
 
 // The status after a text was written.
-fn said(written: io::Result<()>, status: u8) -> u8 {
+fn status_after(written: io::Result<()>, status: u8) -> u8 {
     match written {
         Ok(()) => status,
         Err(_) => 1,

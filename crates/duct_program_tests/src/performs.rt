@@ -1,6 +1,8 @@
 //! What the program does: its status, what it writes, and what it asks.
 use super::bench::{arguments, performs};
+use duct::Error;
 use duct_program::perform::perform;
+use duct_program::usage::Usage;
 use duct_rows::scenes::{Scene, bench_of};
 use std::alloc::Global;
 use std::sync::Wait;
@@ -14,7 +16,11 @@ fn texts(rt: HostRuntime) -> Result<(), Fail> {
         --stdin hello cat ;; code 0 ;; hello ;; -> 0 out=hello$ err= ;; Environment, Pipe, Pipe, Spawn cat -> reader-2 writer-1 inherit, Feed writer-2 [104, 101, 108, 108, 111], Reader reader-1
         --unchecked sh -c exit_3 ;; code 3 ;; ;; -> 0 out=$ err= ;; Environment, Pipe, Spawn sh -c exit 3 -> inherit writer-1 inherit, Reader reader-1
         a ;; running,code 0 ;; x$y$^$ ;; -> 0 out=x$y$ err= ;; Environment, Pipe, Spawn a -> inherit writer-1 inherit, Reader reader-1
-        cat < f > g ;; code 0 ;; ;; -> 0 out=$ err= ;; Environment, Pipe, OpenRead f, Create g, Spawn cat -> file-2 file-3 inherit, Reader reader-1";
+        cat < f > g ;; code 0 ;; ;; -> 0 out=$ err= ;; Environment, Pipe, OpenRead f, Create g, Spawn cat -> file-2 file-3 inherit, Reader reader-1
+        --stdin q cat < f ;; code 0 ;; w ;; -> 0 out=w$ err= ;; Environment, Pipe, Pipe, OpenRead f, Spawn cat -> file-3 writer-1 inherit, Feed writer-2 [113], Reader reader-1
+        a > x > y < i ;; code 0 ;; ;; -> 0 out=$ err= ;; Environment, Pipe, Create x, Create y, OpenRead i, Spawn a -> file-4 file-3 inherit, Reader reader-1
+        < i a | b 2> e ;; code 0; code 0 ;; ;; -> 0 out=$ err= ;; Environment, Pipe, Pipe, OpenRead i, Spawn a -> file-3 writer-2 inherit, Create e, Spawn b -> reader-2 writer-1 file-5, Reader reader-1
+        a > < ;; code 0 ;; ;; -> 0 out=$ err= ;; Environment, Pipe, Create <, Spawn a -> inherit file-2 inherit, Reader reader-1";
     performs(&rt, rt.alloc(), table)
 }
 
@@ -41,6 +47,15 @@ fn usages(rt: HostRuntime) -> Result<(), Fail> {
         --stdin ;; ;; ;; -> 2 out= err=host: missing text$ ;;
         a > ;; ;; ;; -> 2 out= err=host: missing path$ ;;";
     performs(&rt, rt.alloc(), table)
+}
+
+/// Want of memory, which the library and the reading of arguments tell alike.
+#[test]
+fn want_of_memory(rt: HostRuntime) -> Result<(), Fail> {
+    let (error, usage) = (Error::Memory, Usage::Memory);
+    let text = format!(in rt.alloc(); "{error}, {usage}")?;
+    assert_eq!(rt; text.as_str(), "out of memory, out of memory");
+    Ok(())
 }
 
 // The status where nothing can be written, for arguments whose one command ends well.

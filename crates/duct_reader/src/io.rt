@@ -19,7 +19,7 @@ fn read_once<S: System, R: Wait>(reader: &ReaderHandle<S, R>, buf: &mut [u8]) ->
     }
 }
 
-// Reads until the buffer is full. `UnexpectedEof` where the expression ended well before.
+// Reads until the buffer is full. `UnexpectedEof` where the expression ended with an output before that.
 fn read_full<S: System, R: Wait>(reader: &ReaderHandle<S, R>, buf: &mut [u8]) -> io::Result<()> {
     let mut at = 0;
     while at < buf.len() {

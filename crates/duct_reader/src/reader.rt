@@ -1,5 +1,5 @@
 //! The handle of an expression whose stdout is read from a pipe while it runs.
-ghost use Rattle.std.specs.Prelude.{◌≡◌, ◌⊎◌, ◌<◌, ◌≤◌, ◌+◌, ◌^◌, List, length, IfOk, IfErr, OnOk, Ok, None};
+ghost use Rattle.std.specs.Prelude.{◌≡◌, ◌<◌, ◌≤◌, ◌+◌, ◌^◌, List, length, IfOk, IfErr, OnOk, Ok, None};
 ghost use Rattle.duct_base.specs.Pool.{Takes};
 ghost use Rattle.duct_system.specs.declared.error.Error.TheVariants as error;
 ghost use Rattle.duct_system.specs.declared.system.Fault.{Fault};
@@ -73,7 +73,7 @@ impl<S: System, R> ReaderHandle<S, R> {
 }
 
 impl<S: System, R: Wait> ReaderHandle<S, R> {
-    /// Polls what runs, and answers how it ended; nothing while it runs. It is `Handle::try_wait`: it reads nothing, and the output's
+    /// Polls what runs, and answers how it ended; `None` while it runs. It is `Handle::try_wait`: it reads nothing, and the output's
     /// `stdout` is empty.
     pub fn try_wait(&self) -> Result<Option<Arc<Output>>, Error>
         ensures told { IsAnswer S.Child.may_answer S.Feed.may_say S.Drain.may_say

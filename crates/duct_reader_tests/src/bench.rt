@@ -3,9 +3,11 @@
 //!
 //! `a | code 1 | | | b | read 4, read 4, kill -> 1 b. command ["a"] exited with code 1. done. | 1 0 | 0 1 1 0`
 //!
-//! `run` and `read` start and wait by themselves. The others are calls of one reader handle, which is given up behind the last:
-//! `read` with a number is `read_as` into so many bytes, `std`, `own` and `exact` are those of std. Behind the count of a read stand
-//! the bytes that it gave.
+//! `run` and `read` start and wait by themselves, `start` and `reader` start alone and give up what runs. The others are calls of one
+//! reader handle, which is given up behind the last:
+//! `read` with a number is `read_as` into so many bytes; `std`, `own`, `exact` and `own_exact` are those of std, by reference and by the
+//! handle itself. Behind the count of a read stand the bytes that it gave. Behind a `&` stands what the children that the pool keeps
+//! answer.
 use duct::{Error, Output, ReaderHandle};
 use duct_rows::expressions::{Tree, written};
 use duct_rows::scenes::{Bench, Scene, bench_of};
@@ -49,10 +51,12 @@ fn row_text(rt: &impl Wait, alloc: Global, row: &str) -> Result<String, Fail> {
     Ok(text)
 }
 
-/// A system whose children answer this.
+/// A system whose children answer this, and a pool whose children answer what stands behind a `&`.
 pub fn scene_of(children: &str) -> Scene<'_> {
+    let (children, kept) = children.split_once('&').unwrap_or((children, ""));
     let scene = Scene::plain();
-    scene.with("children", children).unwrap_or(scene)
+    let scene = scene.with("children", children.trim()).unwrap_or(scene);
+    scene.with("kept", kept.trim()).unwrap_or(scene)
 }
 
 // What the calls answer.
@@ -66,6 +70,8 @@ fn answers(
     match calls {
         "run" => Ok(run_text(alloc, &tree.run(rt, &mut bench.sys, &mut bench.pool))?),
         "read" => Ok(read_text(alloc, &tree.read(rt, &mut bench.sys, &mut bench.pool))?),
+        "start" => Ok(start_text(alloc, tree, bench)?),
+        "reader" => Ok(reader_text(rt, alloc, tree, bench)?),
         calls => calls_text(rt, alloc, tree, bench, calls),
     }
 }
@@ -84,6 +90,27 @@ fn read_text(alloc: Global, answer: &Result<String, Error>) -> Result<String, Al
         Ok(read) => format!(in alloc; "{read:?}. "),
         Err(error) => format!(in alloc; "{error}. "),
     }
+}
+
+fn start_text(alloc: Global, tree: &Tree, bench: &mut Bench) -> Result<String, AllocError> {
+    match tree.start(&mut bench.sys, &mut bench.pool) {
+        Ok(handle) => handle.give_up(&mut bench.pool),
+        Err(error) => return format!(in alloc; "{error}. "),
+    }
+    String::from_str(alloc, "started. ")
+}
+
+fn reader_text(
+    rt: &impl Wait,
+    alloc: Global,
+    tree: &Tree,
+    bench: &mut Bench,
+) -> Result<String, AllocError> {
+    match tree.reader(rt, &mut bench.sys, &mut bench.pool) {
+        Ok(handle) => handle.give_up(&mut bench.pool),
+        Err(error) => return format!(in alloc; "{error}. "),
+    }
+    String::from_str(alloc, "started. ")
 }
 
 // What the calls of one reader handle answer.
@@ -167,6 +194,7 @@ fn push_read<R: Wait>(
         "std" => shared(handle, buffer),
         "own" => handle.read(buffer),
         "exact" => exact(handle, buffer),
+        "own_exact" => own_exact(handle, buffer),
         _ => return text.push_str("no such call. "),
     };
     push_std(text, answer, buffer)
@@ -188,6 +216,15 @@ fn shared<R: Wait>(mut handle: &ReaderHandle<Script, R>, buffer: &mut [u8]) -> i
 
 // A read of the whole buffer, and its length.
 fn exact<R: Wait>(mut handle: &ReaderHandle<Script, R>, buffer: &mut [u8]) -> io::Result<usize> {
+    handle.read_exact(buffer)?;
+    Ok(buffer.len())
+}
+
+// The same by the handle itself.
+fn own_exact<R: Wait>(
+    handle: &mut ReaderHandle<Script, R>,
+    buffer: &mut [u8],
+) -> io::Result<usize> {
     handle.read_exact(buffer)?;
     Ok(buffer.len())
 }

@@ -23,7 +23,9 @@ enum Came {
 fn came_of(made: Result<Came, Error>) -> Came {
     match made {
         Ok(came) => came,
-        Err(_) => Came::Refused,
+        Err(Error::Memory) => Came::Refused,
+        Err(Error::System(fault)) if fault.kind == Kind::OutOfMemory => Came::Refused,
+        Err(_) => Came::Wrong,
     }
 }
 

@@ -1,5 +1,5 @@
 -- What stays of what runs while it is only polled.
-use Rattle.std.specs.Prelude.{ℕ, ◌≡◌, List, map}
+use Rattle.std.specs.Prelude.{◌≡◌, map}
 use Rattle.duct_system.specs.Child.{ChildView}
 use Rattle.duct_system.specs.Job.{JobView}
 use Rattle.duct_status.specs.ShapeView.{shape_view}

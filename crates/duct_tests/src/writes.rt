@@ -34,7 +34,7 @@ fn ports(spec: &CommandSpec) -> [Port; 3] {
     [Stream::In, Stream::Out, Stream::Err].map(|stream| spec.port(stream))
 }
 
-/// The variables of a spec, where its list has the same as the look-up of each name.
+/// The variables of a spec, where its list has the same as the look-up of each name in another spelling.
 fn variables(alloc: Global, spec: &CommandSpec) -> Result<String, Error> {
     let listed = listed(alloc, spec)?;
     let found = found(alloc, spec)?;
@@ -54,8 +54,8 @@ fn listed(alloc: Global, spec: &CommandSpec) -> Result<String, Error> {
 
 fn found(alloc: Global, spec: &CommandSpec) -> Result<String, Error> {
     let mut text = String::new(alloc);
-    for name in ["A", "B", "C", "D"] {
-        if let Some(value) = spec.var(name) {
+    for (spelling, name) in [("a", "A"), ("b", "B"), ("c", "C"), ("d", "D")] {
+        if let Some(value) = spec.var(spelling) {
             push_variable(&mut text, name, value)?;
         }
     }

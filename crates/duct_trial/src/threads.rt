@@ -179,14 +179,14 @@ fn four_agree<H: Played + Sync, R: Wait + Threads + Sync>(
     (agree, one.0)
 }
 
-// Whether eight threads are told the same.
+// Whether eight threads are told the same, which is that the commands ended well or were killed.
 fn eight_agree<H: Played + Sync, R: Wait + Threads + Sync>(rt: &R, handle: &H) -> bool {
     let (one, other) = thread::join(
         rt,
         || four_agree(rt, handle, 0),
         || four_agree(rt, handle, 4),
     );
-    one.0 && other.0 && one.1 == other.1
+    one.0 && other.0 && one.1 == other.1 && (one.1 == 0 || one.1 == -9)
 }
 
 // Two commands with a pipe between them, which end after so many milliseconds, or a little later.

@@ -2,12 +2,23 @@
 //! in turn, and on random trees, with one at a random request.
 use crate::agree::{LAUNCHED, READ};
 use crate::cases::{Case, case_of, case_with, noted_tree};
-use duct::{Fault, Kind};
+use duct::{Error, Fault, Kind};
 use duct_rows::dice::Dice;
 use duct_rows::scenes::{Scene, bench_of};
-use duct_rows::starts::{Way, started_tree};
+use duct_rows::starts::{Start, Way, started_tree};
 use std::alloc::Global;
 use std::test::Fail;
+
+/// Whether a start was refused for want of memory, which none of these is.
+fn wants_memory(start: &Start) -> bool {
+    match &start.answer {
+        Err(Error::Memory) => true,
+        Err(Error::System(fault) | Error::Hook(fault)) => fault.kind == Kind::OutOfMemory,
+        Ok(_) | Err(Error::Checked(_) | Error::NotUtf8 | Error::HookEnd(_) | Error::Deadline) => {
+            false
+        }
+    }
+}
 
 /// Starts a case where the request of this number is refused, which counts all. Answers how many requests there were.
 fn follows(alloc: Global, case: &Case, refused: u64) -> Result<u64, Fail> {
@@ -15,6 +26,9 @@ fn follows(alloc: Global, case: &Case, refused: u64) -> Result<u64, Fail> {
     bench.sys.refuse(refused, Fault::new(Kind::NotFound))?;
     let tree = noted_tree(alloc, case, &bench)?;
     let start = started_tree(alloc, &tree, case.way, bench)?;
+    if wants_memory(&start) {
+        return Err(Fail::from("there was no memory"));
+    }
     Ok(start.bench.sys.requests())
 }
 

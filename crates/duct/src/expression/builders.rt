@@ -1,5 +1,4 @@
-//! The calls that make an expression of an old one. Each adds one node, outermost, and leaves the old expression as it
-//! was. Each is refused, by `Error::Memory`, only for want of memory; what was handed in is then dropped.
+//! The calls that make an expression of an old one.
 ghost use Rattle.std.specs.Prelude.{◌≡◌, map, IfOk, IsOkUnless};
 ghost use Rattle.duct_system.specs.SpecView.{var_view};
 ghost use Rattle.duct.specs.LastValues.{last_values};
@@ -16,6 +15,8 @@ use std::alloc::Global;
 use std::collections::BTreeMap;
 use std::sync::Arc;
 
+/// The calls that make an expression of this one. Each adds one node, outermost, and leaves this expression as it was. Each is
+/// refused, by `Error::Memory`, only for want of memory; what was handed in is then dropped.
 impl<E: Drop, H: Drop> Expression<E, H> {
     // The modifier round this expression.
     fn around(&self, modifier: Modifier<E, H>) -> Result<Expression<E, H>, Error>

@@ -45,7 +45,8 @@ impl<S: System> Running<S> {
         self.order_all(Order::Kill)
     }
 
-    /// Sends a signal to each command that is not known as ended, as `kill` kills them.
+    /// Sends a signal, by its number, to each command that is not known as ended, as `kill` kills them. It may wait for a program that
+    /// the system has send it.
     pub fn signal(&mut self, signal: i32) -> Result<(), Error>
         ensures shape { self.new.shape ≡ self.old.shape }
         ensures ordered { IsOrdered S.Child.may_obey (Signal signal)

@@ -46,6 +46,8 @@ fn writes(rt: HostRuntime) -> Result<(), Fail> {
         env_clear -> ["a"] None [Inherit, Given, Null]
         env=A,1 -> ["a"] None A=1 [Inherit, Given, Null]
 
+        env=b,2 env_remove=a -> ["a"] None B=2 [Inherit, Given, Null]
+
         stdin_to=7 -> ["a"] None A=1 B=1 [Place(7), Given, Null]
         stdout_to_null -> ["a"] None A=1 B=1 [Place(7), Null, Null]
         stderr_to_inherit -> ["a"] None A=1 B=1 [Place(7), Null, Inherit]

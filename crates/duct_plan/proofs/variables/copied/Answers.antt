@@ -1,5 +1,5 @@
 -- A clone has the same variables.
-use Rattle.duct_plan.proofs.Changed.{copied_vars}
+use Rattle.duct_run.proofs.Changed.{copied_vars}
 use Rattle.duct_plan.proofs.variables.copied.Goals as goal
 
 pub returns-clause-vars : goal.returns-clause-vars

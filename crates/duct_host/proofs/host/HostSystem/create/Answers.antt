@@ -1,5 +1,8 @@
 use Rattle.std.proofs.Common.{rules}
 use Rattle.duct_host.proofs.host.HostSystem.create.Goals as goal
 
-pub returns-in-Ok-clause-ok : goal.returns-in-Ok-clause-ok
-returns-in-Ok-clause-ok g c = search rules
+pub returns-clause-ok : goal.returns-clause-ok
+returns-clause-ok g c = search rules
+
+pub returns-clause-err : goal.returns-clause-err
+returns-clause-err g c = search rules
