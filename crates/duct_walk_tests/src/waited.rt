@@ -1,7 +1,8 @@
-//! Runs and reads of chosen trees with a fault at each request in turn, and at each child's poll: where one is refused, no end is left, and each
-//! child that was started was given to the pool.
+//! Runs and reads of chosen trees with a fault at each request in turn, and at each child's poll: that fault is the answer, no end is left, and
+//! each child that was started was given to the pool.
 use crate::agree::LAUNCHED;
 use duct::{Entry, Error, Fault, Kind, System};
+use duct_follows::causes::last_fault;
 use duct_plain::checker::is_balanced;
 use duct_rows::expressions::written;
 use duct_rows::scenes::{Bench, Scene, bench_of};
@@ -27,29 +28,44 @@ fn started(bench: &Bench) -> u64 {
     count
 }
 
-/// Whether a child of these, or a hook of this expression, answers a fault.
-fn meets_a_fault(expression: &str, children: &str) -> bool {
-    children.contains("Other") || expression.contains("refuse")
+/// Whether one of the children that were started answers a fault to a poll.
+fn polls_a_fault(children: &str, started: u64) -> bool {
+    let mut place = 0_u64;
+    for child in children.split(';') {
+        if place < started && child.contains("Other") {
+            return true;
+        }
+        place = place.saturating_add(1);
+    }
+    false
 }
 
-/// Whether a run, or a read, was refused by a fault or by a hook. It has to be, where a request or a poll was.
-fn refused_in(
+/// Runs, or reads, an expression.
+fn waited(
     rt: &impl Wait,
     alloc: Global,
     expression: &str,
     bench: &mut Bench,
     reads: bool,
-) -> Result<bool, Fail> {
+) -> Result<Result<(), Error>, Fail> {
     let tree = written(alloc, Some(&bench.calls), expression)?;
-    let answer = if reads {
+    Ok(if reads {
         tree.read(rt, &mut bench.sys, &mut bench.pool).map(drop)
     } else {
         tree.run(rt, &mut bench.sys, &mut bench.pool).map(drop)
-    };
-    match answer {
-        Ok(()) => Ok(false),
-        Err(Error::System(_) | Error::Hook(_)) => Ok(true),
-        Err(error) => Err(Fail::new(format_args!("{expression}: {error}"))),
+    })
+}
+
+/// Whether this is what the journal and the children bring about: the fault of a request, that of a hook, that of a poll, or none.
+fn is_right(expression: &str, children: &str, bench: &Bench, answer: &Result<(), Error>) -> bool {
+    let refuses = expression.contains("refuse");
+    let faults = polls_a_fault(children, started(bench));
+    match (answer, last_fault(bench.sys.journal())) {
+        (Err(Error::System(fault)), Some(refused)) => *fault == refused,
+        (Err(Error::Hook(_)), None) => refuses,
+        (Err(Error::System(fault)), None) => faults && !refuses && fault.kind == Kind::Other,
+        (Ok(()), None) => !faults && !refuses,
+        _ => false,
     }
 }
 
@@ -67,9 +83,9 @@ fn waits(
         .ok_or("no children")?;
     let mut bench = bench_of(alloc, scene)?;
     bench.sys.refuse(refused, Fault::new(Kind::NotFound))?;
-    let was_refused = refused_in(rt, alloc, expression, &mut bench, reads)?;
-    let given = if was_refused { started(&bench) } else { 0 };
-    let is_right = was_refused || refused == 0 && !meets_a_fault(expression, children);
+    let answer = waited(rt, alloc, expression, &mut bench, reads)?;
+    let given = if answer.is_err() { started(&bench) } else { 0 };
+    let is_right = is_right(expression, children, &bench, &answer);
     if !is_right || !is_balanced(alloc, bench.sys.journal())? || bench.pool.given() != given {
         return Err(Fail::new(format_args!("{expression}, {children}, request {refused}")));
     }
