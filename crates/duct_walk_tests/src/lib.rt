@@ -1,5 +1,5 @@
 //! Tests of starts by a second body, the plain walk: over chosen trees and random ones, with a fault at each entry. Random trees
-//! beside the definitions of a start, too.
+//! beside the definitions of a start, too, and chosen ones without memory.
 #![tactic(auto)]
 
 #[cfg(test)]
@@ -10,5 +10,7 @@ mod bodies;
 mod cases;
 #[cfg(test)]
 mod follow;
+#[cfg(test)]
+mod memory;
 #[cfg(test)]
 mod waited;

@@ -17,10 +17,10 @@ const CHILDREN: &[&str] = &[
     "Other; code 0; code 0",
 ];
 
-/// How many children were started.
-fn started(bench: &Bench) -> u64 {
+/// How many children a journal says were started.
+pub(crate) fn started(entries: &[Entry]) -> u64 {
     let mut count = 0_u64;
-    for entry in bench.sys.journal() {
+    for entry in entries {
         if let Entry::Spawn(_, _, Ok(_)) = entry {
             count = count.saturating_add(1);
         }
@@ -59,7 +59,7 @@ fn waited(
 /// Whether this is what the journal and the children bring about: the fault of a request, that of a hook, that of a poll, or none.
 fn is_right(expression: &str, children: &str, bench: &Bench, answer: &Result<(), Error>) -> bool {
     let refuses = expression.contains("refuse");
-    let faults = polls_a_fault(children, started(bench));
+    let faults = polls_a_fault(children, started(bench.sys.journal()));
     match (answer, last_fault(bench.sys.journal())) {
         (Err(Error::System(fault)), Some(refused)) => *fault == refused,
         (Err(Error::Hook(_)), None) => refuses,
@@ -84,7 +84,11 @@ fn waits(
     let mut bench = bench_of(alloc, scene)?;
     bench.sys.refuse(refused, Fault::new(Kind::NotFound))?;
     let answer = waited(rt, alloc, expression, &mut bench, reads)?;
-    let given = if answer.is_err() { started(&bench) } else { 0 };
+    let given = if answer.is_err() {
+        started(bench.sys.journal())
+    } else {
+        0
+    };
     let is_right = is_right(expression, children, &bench, &answer);
     if !is_right || !is_balanced(alloc, bench.sys.journal())? || bench.pool.given() != given {
         return Err(Fail::new(format_args!("{expression}, {children}, request {refused}")));

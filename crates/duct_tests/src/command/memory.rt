@@ -4,6 +4,7 @@ use super::{command, launched, parts, piped, poll};
 use crate::came::Came;
 use duct::{Entry, Error, ExitStatus, Expression, Fault, Kind, Output, Pool, Running, System};
 use duct_base::pool::{place_new, pool_take, seat_new};
+use duct_plain::checker::is_balanced;
 use duct_script::answers::Answers;
 use duct_script::child::{ChildScript, PollAnswer, ScriptChild};
 use duct_script::system::{Script, ScriptEnd};
@@ -191,6 +192,11 @@ fn is_right(sys: &Script, error: &Error, pool: (usize, u64, u64)) -> bool {
     }
 }
 
+// Whether each end of a journal is spent, as far as there is memory to tell.
+fn has_spent(alloc: Global, journal: &[Entry]) -> bool {
+    is_balanced(alloc, journal).unwrap_or(true)
+}
+
 // Starts a pipe over a system that was asked once.
 fn start_pipe(alloc: Global, sys: &mut Script, pool: &mut Pool<ScriptChild>) -> Came {
     match piped(alloc, sys, pool) {
@@ -203,7 +209,7 @@ fn start_pipe(alloc: Global, sys: &mut Script, pool: &mut Pool<ScriptChild>) -> 
             }
         }
         Err(error) => {
-            if is_right(sys, &error, counts(pool)) {
+            if is_right(sys, &error, counts(pool)) && has_spent(alloc, sys.journal()) {
                 Came::Refused
             } else {
                 Came::Wrong
@@ -255,12 +261,18 @@ fn is_time(sys: &Script) -> bool {
 }
 
 // What came of a start of it, over a system that was asked once and with an empty pool.
-fn came_of_filed(made: Result<(), Error>, sys: &Script, pool: &Pool<ScriptChild>) -> Came {
+fn came_of_filed(
+    alloc: Global,
+    made: Result<(), Error>,
+    sys: &Script,
+    pool: &Pool<ScriptChild>,
+) -> Came {
     match made {
         Ok(()) => Came::Whole,
         Err(Error::Memory) if !is_time(sys) => Came::Wrong,
         Err(error) => {
-            if is_memory(&error) && pool.given() == started(sys.journal()) {
+            let is_given = pool.given() == started(sys.journal());
+            if is_memory(&error) && is_given && has_spent(alloc, sys.journal()) {
                 Came::Refused
             } else {
                 Came::Wrong
@@ -300,7 +312,7 @@ fn came_of_way(rt: &impl Wait, alloc: Global, way: Way) -> Came {
         Ok(mut sys) => {
             let mut pool = Pool::new(alloc);
             let made = start_filed(rt, alloc, &mut sys, &mut pool, way);
-            came_of_filed(made, &sys, &pool)
+            came_of_filed(alloc, made, &sys, &pool)
         }
         Err(_) => Came::Refused,
     }
