@@ -175,7 +175,7 @@ fn memory_of_a_hook(rt: HostRuntime) -> Result<(), Fail> {
     both(rt.alloc(), Chosen::Hook)
 }
 
-/// With ample memory each starts, which asks for more than the starts of any one of them.
+/// With ample memory each starts both ways, which asks for more than the starts of any one of them.
 #[test]
 fn all_memory_is_there(rt: HostRuntime) {
     let all = [
@@ -186,6 +186,9 @@ fn all_memory_is_there(rt: HostRuntime) {
         Chosen::Surroundings,
         Chosen::Hook,
     ];
-    let found = all.map(|chosen| outcome(rt.alloc(), chosen, Way::Launched));
-    assert_eq!(rt; found, [Came::Whole; 6]);
+    let both = all.map(|chosen| {
+        let launched = outcome(rt.alloc(), chosen, Way::Launched);
+        (launched, outcome(rt.alloc(), chosen, Way::Read))
+    });
+    assert_eq!(rt; both, [(Came::Whole, Came::Whole); 6]);
 }
