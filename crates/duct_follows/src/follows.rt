@@ -1,5 +1,5 @@
 //! Whether what a start added to the journal follows a plan, for hooks of the scripted system.
-ghost use Rattle.std.specs.Prelude.{◌≡◌, ℕ, ◌+◌, ◌↔◌, ◌<◌, ◌≤◌, ◌^◌, length, map, string_bytes, IfOk, IfErr, IsTrue, List};
+ghost use Rattle.std.specs.Prelude.{◌≡◌, ◌+◌, ◌↔◌, ◌<◌, ◌≤◌, ◌^◌, length, map, string_bytes, IfOk, IfErr, IsTrue, List};
 ghost use Rattle.duct_system.specs.EntryView.{entry_view};
 ghost use Rattle.duct_system.specs.Origin.{Origin, origin, Opened};
 ghost use Rattle.duct_system.specs.SpecView.{SpecView};

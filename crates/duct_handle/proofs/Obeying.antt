@@ -10,7 +10,7 @@ use Rattle.duct_system.specs.declared.error.Error.{Error}
 use Rattle.duct_system.specs.declared.system.ExitStatus.{ExitStatus}
 use Rattle.duct_system.specs.declared.system.Kind.TheVariants.{OutOfMemory}
 use Rattle.duct_system.specs.declared.system.Order.{Order}
-use Rattle.duct_running.specs.Ordered.{AllOrdered, Answers, IsOrdered, leftmost}
+use Rattle.duct_running.specs.Ordered.{AllOrdered, OrderAnswers, IsOrdered, leftmost}
 use Rattle.duct_running.specs.Told.{IsTold}
 use Rattle.duct_handle.specs.Obeyed.{AllObeyed}
 
@@ -44,7 +44,7 @@ module _ (answer : ℕ → Answer → Type 0) (obey : ℕ → Order → Obeyed �
       (obeyed_by before after before.ending (All-head (IsTold answer) before befores told).ended ordered.0)
       (all_obeyed befores answers afters ordered.1 ok (All-tail (IsTold answer) before befores told))
 
-  ok_leftmost : (least : Obeyed) → Answers least (Ok tt) → least ≡ Ok tt
+  ok_leftmost : (least : Obeyed) → OrderAnswers least (Ok tt) → least ≡ Ok tt
   ok_leftmost (Ok done) is = refl
   ok_leftmost (Err fault) is = absurd (cc)
 

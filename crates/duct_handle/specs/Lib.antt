@@ -1,4 +1,5 @@
 pub mod AnswerView
+pub mod AreGiven
 pub mod Deadline
 pub mod HandleView
 pub mod Obeyed

@@ -133,7 +133,7 @@ impl<S: System> Handle<S> {
         self.try_wait_as(rt, &mut seen)
     }
 
-    // The same, and says whether a command said `Running` then.
+    // As `try_wait_as`, and sets `busy` where a command said `Running` then.
     pub(crate) fn poll_as(
         &self,
         rt: &impl Wait,

@@ -20,7 +20,7 @@ pub(crate) struct Locked<S: System> {
     pub(crate) spare: Option<Box<Published<S>>>,
 }
 
-// The answer that shape and numbers differ, which no start brings about.
+// The answer where shape and numbers differ or no answer stands, which no start brings about.
 pub(crate) fn differs() -> Error
     ensures { result ≡ Error.System (record { kind = Kind.Other }) }
 {
@@ -89,8 +89,5 @@ pub(crate) fn same<S: System>(published: &Published<S>, shape: &Shape, numbers: 
     ensures { IsTrue result ↔ ((shape_view published.now.shape ≡ shape_view shape.now)
         × (numbers_view published.now.numbers ≡ numbers_view numbers.now)) }
 {
-    if !published.shape.is_same(shape) {
-        return false;
-    }
-    published.numbers.is_same(numbers)
+    published.shape.is_same(shape) && published.numbers.is_same(numbers)
 }

@@ -1,18 +1,23 @@
 //! The output itself, where no thread shares the handle any more.
-ghost use Rattle.std.specs.Prelude.{◌≡◌, ◌⊎◌, ◌<◌, ◌+◌, ◌^◌, List, length, OnErr, OnOk, IfOk, IfErr, IsOkAnd, IsOkUnless, Err};
+ghost use Rattle.std.specs.Prelude.{◌≡◌, ◌⊎◌, ◌<◌, ◌+◌, ◌^◌, length, OnErr, OnOk, IfOk, IfErr, IsOkAnd, IsOkUnless, Err};
 ghost use Rattle.std.specs.Arc.{arc_value};
 ghost use Rattle.duct_base.specs.Pool.{Takes};
 ghost use Rattle.duct_status.specs.ShapeView.{shape_view};
 ghost use Rattle.duct_running.specs.Answered.{IsAnswer, WasConcluded};
 ghost use Rattle.duct_running.specs.Polled.{IsOutput};
 ghost use Rattle.duct_status.specs.ReplyView.{answered};
+ghost use Rattle.duct_running.specs.NumbersView.{numbers_view};
+ghost use Rattle.duct_handle.specs.AreGiven.{AreGiven};
 
 use crate::handle::Handle;
+use crate::look::differs;
 use crate::room::released;
 use duct_base::error::Error;
 use duct_base::pool::Pool;
-use duct_base::system::{Child, Job, Output, System};
+use duct_base::status::Shape;
+use duct_base::system::{Child, Job, Kind, Output, System};
 use duct_run::ending::give_all;
+use duct_running::numbers::Numbers;
 use duct_running::running::Running;
 use std::alloc::{AllocError, Global};
 use std::sync::{Arc, Wait};
@@ -79,6 +84,29 @@ pub(crate) fn settled<S: System>(
     }
 }
 
+// The same of what stood in a lock, where it is of the shape and the numbers that stood beside the lock.
+fn settled_of<S: System>(
+    alloc: Global,
+    released: (Running<S>, Shape, Numbers),
+    waited: Result<Arc<Output>, Error>,
+    pool: &mut Pool<S::Child>,
+) -> Result<Output, Error>
+    ensures ok { IfOk result (λ own. IsOkAnd waited (λ output. IsOutput (arc_value output).status
+        (arc_value output).stdout.items (arc_value output).stderr.items own)) }
+    ensures err { IfErr result (λ e. (waited ≡ Err e) ⊎ (e ≡ Error.Memory)
+        ⊎ (e ≡ Error.System (record { kind = Kind.Other }))) }
+    ensures kept { OnOk result (pool.new ≡ pool.old) }
+    ensures given { IfErr result (λ e. AreGiven S.Child.may_answer S.Child.child_view
+        (numbers_view released.2) e pool.old pool.new) }
+{
+    let (ran, shape, numbers) = released;
+    if !ran.is_of(&shape, &numbers) {
+        ran.give_up(pool);
+        return Err(differs());
+    }
+    settled(alloc, ran, waited, pool)
+}
+
 impl<S: System> Handle<S> {
     /// Waits until the expression has ended, and answers the output itself, copied only where another still shares it. The pool
     /// stays as it was.
@@ -92,12 +120,11 @@ impl<S: System> Handle<S> {
         ensures err { IfErr result (λ e. IsAnswer S.Child.may_answer S.Feed.may_say S.Drain.may_say
             (shape_view self.shape) self.numbers (Err e)) }
         ensures kept { OnOk result (pool.new ≡ pool.old) }
-        ensures given { OnErr result
-            ((children : List S.Child) × (pool.old.given + length children < 2 ^ 63
-            → Takes S.Child.may_answer S.Child.child_view children pool.old pool.new)) }
+        ensures given { IfErr result (λ e. AreGiven S.Child.may_answer S.Child.child_view
+            self.numbers e pool.old pool.new) }
     {
         let waited = self.wait(rt);
         let alloc = self.alloc;
-        settled(alloc, released(self), waited, pool)
+        settled_of(alloc, released(self), waited, pool)
     }
 }

@@ -2,7 +2,7 @@
 ghost use Rattle.std.specs.Prelude.{◌≡◌, ◌≤◌, ◌<◌, ◌+◌, ◌^◌, List, [], length, vec_capacity, IfOk, IsOkUnless, None};
 ghost use Rattle.duct_base.specs.Pool.{Takes};
 ghost use Rattle.duct_status.specs.ShapeView.{command_count, input_count, shape_view};
-ghost use Rattle.duct_running.specs.NumbersView.{HaveRoom, numbers_in};
+ghost use Rattle.duct_running.specs.NumbersView.{HaveRoom, numbers_in, numbers_view};
 
 use crate::handle::Handle;
 use crate::look::Locked;
@@ -108,8 +108,11 @@ pub fn handle_of<S: System>(alloc: Global, running: Running<S>, room: HandleRoom
     }
 }
 
-// What stands in the lock of a handle.
-pub(crate) fn released<S: System>(handle: Handle<S>) -> Running<S> {
+// What stands in the lock of a handle, with the shape and the numbers that stand beside it.
+pub(crate) fn released<S: System>(handle: Handle<S>) -> (Running<S>, Shape, Numbers)
+    ensures shape { result.1 ≡ handle.shape }
+    ensures numbers { numbers_view result.2 ≡ handle.numbers }
+{
     let Handle {
         alloc: _,
         shape,
@@ -118,10 +121,10 @@ pub(crate) fn released<S: System>(handle: Handle<S>) -> Running<S> {
         lock,
         cell,
     } = handle;
-    drop((shape, numbers, ids, cell));
+    drop((ids, cell));
     let Locked { running, spare } = lock.into_inner();
     drop(spare);
-    running
+    (running, shape, numbers)
 }
 
 impl<S: System> Handle<S> {
@@ -130,6 +133,8 @@ impl<S: System> Handle<S> {
         ensures { (children : List S.Child) × (pool.old.given + length children < 2 ^ 63
             → Takes S.Child.may_answer S.Child.child_view children pool.old pool.new) }
     {
-        released(self).give_up(pool);
+        let (running, shape, numbers) = released(self);
+        drop((shape, numbers));
+        running.give_up(pool);
     }
 }

@@ -12,8 +12,8 @@ pub trait HandleExt {
     ghost obeyed: { Self → ℤ → Type 0 };
 
     /// Sends each command that is not known as ended a signal, by its number, also behind one that refused it, and answers the
-    /// leftmost fault as `Error::System`. A number that the system does not serve is `InvalidInput`. It never waits for a wait of
-    /// another thread; where the system has a program send the signal, it waits for that, and holds the handle's lock meanwhile.
+    /// leftmost fault as `Error::System`. Which numbers are served, the system says. It never waits for a wait of another thread;
+    /// where the system has a program send the signal, it waits for that, and holds the handle's lock meanwhile.
     fn send_signal(&self, rt: &impl Wait, signal: i32) -> Result<(), Error>
         ensures { OnOk result (obeyed self.now signal) };
 }

@@ -1,5 +1,5 @@
-//! Tables of handles. A line has an expression; what its children, its input workers and its capture workers answer; the moments of
-//! a clock; and what is called, before the answers, the polls and orders of the children, how often the clock was asked, and the pool:
+//! Tables of handles. A line has an expression; what its children answer (and behind a `&` the children that the pool keeps), its input
+//! workers and its capture workers; the moments of a clock; and what is called, before the answers, the polls and orders of the children, how often the clock was asked, and the pool:
 //!
 //! `a b pipe | code 0; running | | | 0,5s | timeout 5s, kill, give -> nothing. done. | poll a, poll b, order b | 2 | 1 2 1 0`
 //!
@@ -9,10 +9,9 @@ use crate::calls::{duration, push_call};
 use duct::{Error, Handle, Output, Pool};
 use duct_rows::expressions::{Tree, written};
 use duct_rows::scenes::{Bench, Scene, bench_of};
-use duct_rows::told::noted_text;
+use duct_rows::told::{counts, noted_text};
 use duct_rows::words::{part, pieces};
 use duct_rows::workers::{push_output, set_drains, set_feeds};
-use duct_script::child::ScriptChild;
 use duct_script::clock::ScriptClock;
 use duct_script::system::Script;
 use std::alloc::{AllocError, Global};
@@ -39,7 +38,7 @@ fn row_text(rt: &impl Wait, alloc: Global, row: &str) -> Result<String, Fail> {
     let (feeds, row) = part(row);
     let (drains, row) = part(row);
     let (moments, calls) = part(row);
-    let mut bench = bench_of(alloc, scene_of(children))?;
+    let mut bench = bench_of(alloc, Scene::of(children))?;
     set_feeds(alloc, &mut bench.sys, feeds)?;
     set_drains(alloc, &mut bench.sys, drains)?;
     let clock = clock_of(alloc, moments)?;
@@ -47,12 +46,6 @@ fn row_text(rt: &impl Wait, alloc: Global, row: &str) -> Result<String, Fail> {
     let mut text = told(rt, alloc, &tree, &mut bench, &clock, calls)?;
     push_left(&mut text, &bench, &clock)?;
     Ok(text)
-}
-
-/// A system whose children answer this.
-pub fn scene_of(children: &str) -> Scene<'_> {
-    let scene = Scene::plain();
-    scene.with("children", children).unwrap_or(scene)
 }
 
 fn clock_of(alloc: Global, text: &str) -> Result<ScriptClock, Fail> {
@@ -65,10 +58,7 @@ fn clock_of(alloc: Global, text: &str) -> Result<ScriptClock, Fail> {
 
 /// A handle of an expression.
 pub fn started(tree: &Tree, bench: &mut Bench) -> Result<Handle<Script>, Fail> {
-    match tree.start(&mut bench.sys, &mut bench.pool) {
-        Ok(handle) => Ok(handle),
-        Err(error) => Err(Fail::new(format_args!("{error}"))),
-    }
+    Ok(tree.start(&mut bench.sys, &mut bench.pool)?)
 }
 
 // What the calls answer, and what they asked of the children.
@@ -156,9 +146,4 @@ fn with_noted(
 fn push_left(text: &mut String, bench: &Bench, clock: &ScriptClock) -> Result<(), AllocError> {
     let (len, given, reaped, lost) = counts(&bench.pool);
     write!(text, " | {} | {len} {given} {reaped} {lost}", clock.asked())
-}
-
-/// How many children the pool keeps, was given, found ended and lost.
-pub fn counts(pool: &Pool<ScriptChild>) -> (usize, u64, u64, u64) {
-    (pool.len(), pool.given(), pool.reaped(), pool.lost())
 }

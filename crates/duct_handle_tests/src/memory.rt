@@ -2,10 +2,11 @@
 //! or that a call was refused for want of memory and nothing was lost.
 ghost use Rattle.std.specs.Prelude.{◌≡◌};
 
-use crate::bench::counts;
 use crate::calls::{Waiting, wait_as};
-use duct::{Error, ExitStatus, Handle, Kind, Output, Pool, Said, Seen, cmd};
+use duct::{Error, ExitStatus, Handle, Output, Pool, Said, Seen, cmd};
 use duct_rows::expressions::Tree;
+use duct_rows::memory::Came;
+use duct_rows::told::counts;
 use duct_script::child::{PollAnswer, ScriptChild};
 use duct_script::clock::ScriptClock;
 use duct_script::job::DrainScript;
@@ -13,34 +14,6 @@ use duct_script::system::Script;
 use std::alloc::Global;
 use std::sync::{Arc, Wait};
 use std::time::Duration;
-
-/// What came of a call.
-#[derive(Clone, Copy, Debug, PartialEq, Eq)]
-enum Came {
-    /// As with ample memory.
-    Whole,
-    /// Memory was refused, by its name, and nothing was lost.
-    Refused,
-    Wrong,
-}
-
-// What came of a call, where there was memory for what it needs.
-fn came_of(made: Result<Came, Error>) -> Came {
-    match made {
-        Ok(came) => came,
-        Err(Error::Memory) => Came::Refused,
-        Err(Error::System(fault)) if fault.kind == Kind::OutOfMemory => Came::Refused,
-        Err(_) => Came::Wrong,
-    }
-}
-
-fn whole_if(right: bool) -> Came {
-    if right { Came::Whole } else { Came::Wrong }
-}
-
-fn refused_if(right: bool) -> Came {
-    if right { Came::Refused } else { Came::Wrong }
-}
 
 // A system in which a command ends, and its capture worker has `xy`.
 fn system(alloc: Global) -> Result<Script, Error> {
@@ -61,13 +34,6 @@ fn started(
 ) -> Result<Handle<Script>, Error> {
     let tree: Tree = cmd!(in alloc; "a")?.stdout_capture()?;
     tree.start(sys, pool)
-}
-
-fn is_memory(error: &Error) -> bool {
-    match error {
-        Error::Memory => true,
-        _ => false,
-    }
 }
 
 fn is_xy(output: &Output) -> bool {
@@ -96,7 +62,7 @@ fn knows(rt: &impl Wait, alloc: Global, handle: &Handle<Script>, seen: &mut Seen
 fn told_again(rt: &impl Wait, alloc: Global, handle: &Handle<Script>) -> Came {
     let mut seen = handle.seen();
     match handle.wait_as(rt, &mut seen) {
-        Ok(_) => whole_if(knows(rt, alloc, handle, &mut seen)),
+        Ok(_) => Came::whole_if(knows(rt, alloc, handle, &mut seen)),
         Err(Error::Memory) => Came::Refused,
         Err(_) => Came::Wrong,
     }
@@ -105,8 +71,8 @@ fn told_again(rt: &impl Wait, alloc: Global, handle: &Handle<Script>) -> Came {
 // A refused poll keeps what it heard, and the next one answers.
 fn tried_again(rt: &impl Wait, handle: &Handle<Script>) -> Came {
     match handle.try_wait(rt) {
-        Ok(Some(output)) => whole_if(is_xy(&output)),
-        Err(Error::Memory) => refused_if(gives_xy(handle.try_wait(rt))),
+        Ok(Some(output)) => Came::whole_if(is_xy(&output)),
+        Err(Error::Memory) => Came::refused_if(gives_xy(handle.try_wait(rt))),
         Ok(None) | Err(_) => Came::Wrong,
     }
 }
@@ -145,8 +111,24 @@ fn output_in(rt: &impl Wait, alloc: Global) -> Result<Came, Error> {
     let own = handle.into_output(rt, &mut pool);
     drop(shared);
     Ok(match own {
-        Ok(output) => whole_if(is_xy(&output) && counts(&pool) == (0, 0, 0, 0)),
-        Err(error) => refused_if(is_memory(&error) && counts(&pool) == (0, 1, 1, 0)),
+        Ok(output) => Came::whole_if(is_xy(&output) && counts(&pool) == (0, 0, 0, 0)),
+        Err(Error::Memory) => Came::refused_if(counts(&pool) == (0, 1, 1, 0)),
+        Err(_) => Came::Wrong,
+    })
+}
+
+// The output where nobody shares it any more: it is given itself, which takes no memory.
+fn own_output_in(rt: &impl Wait, alloc: Global) -> Result<Came, Error> {
+    let mut sys = system(alloc)?;
+    let mut pool = Pool::new(alloc);
+    let handle = started(alloc, &mut sys, &mut pool)?;
+    if let Err(error) = handle.wait(rt) {
+        handle.give_up(&mut pool);
+        return Err(error);
+    }
+    Ok(match handle.into_output(rt, &mut pool) {
+        Ok(output) => Came::whole_if(is_xy(&output) && counts(&pool) == (0, 0, 0, 0)),
+        Err(_) => Came::Wrong,
     })
 }
 
@@ -165,39 +147,54 @@ fn pools_in(alloc: Global) -> Result<Came, Error> {
     let mut new = Pool::new(alloc);
     one.give_up(&mut new);
     other.give_up(&mut new);
-    Ok(whole_if(counts(&new) == (2, 2, 0, 0) && counts(&pool) == (0, 0, 0, 0)))
+    Ok(Came::whole_if(counts(&new) == (2, 2, 0, 0) && counts(&pool) == (0, 0, 0, 0)))
 }
 
 /// Waits through a token that knows the answer.
 #[test]
 fn memory_of_tokens(rt: HostRuntime) {
-    assert_ne!(rt; came_of(tokens_in(&rt, rt.alloc())), Came::Wrong);
+    assert_ne!(rt; Came::of(tokens_in(&rt, rt.alloc())), Came::Wrong);
 }
 
 /// A poll.
 #[test]
 fn memory_of_a_try(rt: HostRuntime) {
-    assert_ne!(rt; came_of(try_in(&rt, rt.alloc())), Came::Wrong);
+    assert_ne!(rt; Came::of(try_in(&rt, rt.alloc())), Came::Wrong);
 }
 
 /// The output itself.
 #[test]
 fn memory_of_an_output(rt: HostRuntime) {
-    assert_ne!(rt; came_of(output_in(&rt, rt.alloc())), Came::Wrong);
+    assert_ne!(rt; Came::of(output_in(&rt, rt.alloc())), Came::Wrong);
+}
+
+/// The output itself, which a wait answered before.
+#[test]
+fn memory_of_an_own_output(rt: HostRuntime) {
+    assert_ne!(rt; Came::of(own_output_in(&rt, rt.alloc())), Came::Wrong);
 }
 
 /// Handles that are given up.
 #[test]
 fn memory_of_pools(rt: HostRuntime) {
-    assert_ne!(rt; came_of(pools_in(rt.alloc())), Came::Wrong);
+    assert_ne!(rt; Came::of(pools_in(rt.alloc())), Came::Wrong);
 }
 
 /// With ample memory all answer.
 #[test]
 fn all_memory_is_there(rt: HostRuntime) {
     let alloc = rt.alloc();
-    let waits = (came_of(tokens_in(&rt, alloc)), came_of(try_in(&rt, alloc)));
-    let pools = (came_of(output_in(&rt, alloc)), came_of(pools_in(alloc)));
+    let waits = (
+        Came::of(tokens_in(&rt, alloc)),
+        Came::of(try_in(&rt, alloc)),
+    );
+    let outputs = (
+        Came::of(output_in(&rt, alloc)),
+        Came::of(own_output_in(&rt, alloc)),
+    );
     let all = (Came::Whole, Came::Whole);
-    assert_eq!(rt; (waits, pools), (all, all));
+    assert_eq!(rt;
+        (waits, outputs, Came::of(pools_in(alloc))),
+        (all, all, Came::Whole)
+    );
 }

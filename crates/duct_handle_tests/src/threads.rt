@@ -1,12 +1,13 @@
 //! Threads that share a handle. Each looks for the others so many times at most, and goes on then all the same.
 ghost use Rattle.std.specs.Prelude.{◌≡◌};
 
-use crate::bench::{counts, started};
+use crate::bench::started;
 use crate::calls::{Waiting, wait_as};
 use duct::unix::HandleExt;
 use duct::{Error, ExitStatus, Handle, Output, Pool, Said, Seen, cmd};
 use duct_rows::expressions::{Tree, written};
 use duct_rows::scenes::{Bench, Scene, bench_of};
+use duct_rows::told::counts;
 use duct_script::answers::Answers;
 use duct_script::calls::{Call, CallLog};
 use duct_script::child::{ChildScript, PollAnswer, ScriptChild};

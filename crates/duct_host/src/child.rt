@@ -170,8 +170,8 @@ impl<R: Processes + Drop> system::Child for Child<R> {
 }
 
 impl<R: Processes> Child<R> {
-    /// Sends the child a signal. A child that has been seen to end gets none, and the answer is `Ok` as for a kill; nor
-    /// does one of which the machine knows nothing, since its number may be another's: `Other`.
+    /// Sends the child a signal. One that has been seen to end is sent nothing, and the answer is `Ok`, as for a kill. One whose last
+    /// poll was a fault is sent nothing either, since its id may be another process's: `Other`.
     fn send(&self, signal: i32) -> Result<(), Fault>
         ensures ended { IfSome self.now.ending (λ _. result ≡ Ok tt) }
         ensures lost { IfNone self.now.ending

@@ -8,7 +8,8 @@
 //!   `variables A=1,B=2` are those of the commands that follow. Then `poll`, `kill`, `signal 15`, and `ending`, which waits for the
 //!   child's end and says how it ended.
 //! - `read 1` reads to the end and says the text, `stars 1` how many bytes there were and whether each was a star, `read_id 1`
-//!   whether the text is the child's id and a line feed; `ready 1` reads the line `ready`.
+//!   whether the text is the child's id and a line feed; `ready 1` reads the line `ready`. `unread 2` says by which kind of fault
+//!   a read is refused.
 //! - `journal` says the journal, and `opened` how many more descriptors are open than at first.
 //! - `adopt_pipe xyz` adopts the ends of a pipe of somebody else with this text in it, and `adopt_file f` a file; `lend 1` asks for
 //!   a duplicate of an adopted end, and `drop 1` drops one.
@@ -116,6 +117,7 @@ impl<R: Real> Bench<R> {
             "variables" => set(&mut self.variables, rest),
             "poll" | "kill" | "signal" | "ending" => self.order(word, rest),
             "read" | "stars" | "read_id" | "ready" => self.read(word, rest.parse()?),
+            "unread" => self.unread(rest.parse()?),
             "journal" => self.tell_journal(),
             "opened" => self.tell_opened(),
             "adopt_pipe" | "adopt_file" | "lend" | "drop" => self.adopt(word, rest),
@@ -173,6 +175,11 @@ impl<R: Real> Bench<R> {
                 say(&mut self.said, &(id.is_some() && found == id))
             }
         }
+    }
+
+    fn unread(&mut self, number: u64) -> Result<(), Fail> {
+        let kind = self.held.unread(number)?;
+        say(&mut self.said, &kind)
     }
 
     fn tell_journal(&mut self) -> Result<(), Fail> {

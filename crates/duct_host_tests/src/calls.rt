@@ -151,6 +151,10 @@ fn requests(rt: HostRuntime) -> Result<(), Fail> {
         feed 1
         drain 2
         says (1, 2); Other; Other;
+
+        pipe
+        unread 2
+        says (1, 2); Some(Other);
         "#,
     )
 }

@@ -4,7 +4,7 @@ ghost use Rattle.duct_system.specs.Streams.{ends_of};
 
 use crate::support::{Real, heard, same, say, tell, text_of};
 use duct_base::spec::CommandSpec;
-use duct_base::system::{Fault, Numbered, Side, Stdio, System};
+use duct_base::system::{Fault, Kind, Numbered, Side, Stdio, System};
 use duct_host::child::Child;
 use duct_host::end::End;
 use duct_host::host::Host;
@@ -139,6 +139,16 @@ impl<R: Real> Held<R> {
         let end = taken(&mut self.ends, number)?;
         let reader = self.host.reader(end);
         text_of(self.host.allocator(), reader)
+    }
+
+    /// By which kind of fault a read of an end is refused, if it is.
+    pub fn unread(&mut self, number: u64) -> Result<Option<Kind>, Fail> {
+        let end = taken(&mut self.ends, number)?;
+        let mut byte = [0u8; 1];
+        match self.host.reader(end).read(&mut byte) {
+            Ok(_) => Ok(None),
+            Err(error) => Ok(Some(Fault::from(error).kind)),
+        }
     }
 
     /// Waits until a child has said that it is ready.

@@ -1,11 +1,11 @@
 //! What a journal says, read by plain functions: the numbers that were got and spent, whether they balance, the trace, and
 //! where an end comes from.
-ghost use Rattle.std.specs.Prelude.{◌≡◌, ◌++◌, ◌↔◌, ◌≤◌, map, IfOk, OnOk, IsTrue};
+ghost use Rattle.std.specs.Prelude.{◌≡◌, ◌++◌, ◌↔◌, map, IfOk, OnOk, IsTrue};
 ghost use Rattle.duct_system.specs.EntryView.{entry_view};
 ghost use Rattle.duct_system.specs.Trace.{trace, is_traced};
 ghost use Rattle.duct_system.specs.Ledger.{got, got_by, spent, spent_by, count_of, IsBalanced, held};
 ghost use Rattle.duct_system.specs.Origin.{origin};
-ghost use Rattle.duct_system.specs.Streams.{end_of, ends_of};
+ghost use Rattle.duct_system.specs.Streams.{ends_of};
 ghost use Rattle.duct_plain.specs.Balance.{Balances, BalancesAt, AllBalance};
 ghost use Rattle.duct_plain.specs.Source.{origin_of, Steps};
 

@@ -1,7 +1,7 @@
 //! The latest word of a command and of a worker, read off the whole list of events.
 ghost use Rattle.std.specs.Prelude.{◌≡◌, map};
 ghost use Rattle.duct_status.specs.Bytes.{lent_bytes};
-ghost use Rattle.duct_status.specs.Latest.{first_ending, last_or, words_of_command, words_of_input, words_of_drain, latest_of_command, latest_of_input, latest_of_drain};
+ghost use Rattle.duct_status.specs.Latest.{first_ending, last_or, words_of_command, latest_of_command, latest_of_input, latest_of_drain};
 ghost use Rattle.duct_status.specs.EventView.{event_view};
 ghost use Rattle.duct_status.specs.declared.status.Word.TheVariants as word;
 

@@ -408,10 +408,7 @@ fn are_asked(
 fn started(alloc: Global, case: &Case, lists: &Lists) -> Result<Running<Script>, Fail> {
     let mut sys = system(alloc, lists, case.drains)?;
     let mut pool = Pool::new(alloc);
-    match captured(alloc, case)?.launch(&mut sys, &mut pool) {
-        Ok(running) => Ok(running),
-        Err(error) => Err(Fail::new(format_args!("{error}"))),
-    }
+    Ok(captured(alloc, case)?.launch(&mut sys, &mut pool)?)
 }
 
 // A random tree, with lists of what everybody in it answers.

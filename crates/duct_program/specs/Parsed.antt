@@ -11,13 +11,13 @@ abbrev pub ◌>>=◌ : {A B : Type 0} → Result A Usage → (A → Result B Usa
 (Err usage) >>= next = Err usage
 
 -- a refusal is the one that is read, or there was no memory
-abbrev pub Refuses : {B : Type 0} → Usage → Result B Usage → Type 0
-Refuses Memory read = Unit {0}
-Refuses EmptyCommand read = read ≡ Err EmptyCommand
-Refuses MissingText read = read ≡ Err MissingText
-Refuses MissingPath read = read ≡ Err MissingPath
+abbrev pub RefusesAs : {B : Type 0} → Usage → Result B Usage → Type 0
+RefusesAs Memory read = Unit {0}
+RefusesAs EmptyCommand read = read ≡ Err EmptyCommand
+RefusesAs MissingText read = read ≡ Err MissingText
+RefusesAs MissingPath read = read ≡ Err MissingPath
 
 -- an answer, seen by a view, is what is read, or there was no memory
-abbrev pub Gives : {A B : Type 0} → (A → B) → Result A Usage → Result B Usage → Type 0
-Gives view (Ok value) read = read ≡ Ok (view value)
-Gives view (Err usage) read = Refuses usage read
+abbrev pub ReadsAs : {A B : Type 0} → (A → B) → Result A Usage → Result B Usage → Type 0
+ReadsAs view (Ok value) read = read ≡ Ok (view value)
+ReadsAs view (Err usage) read = RefusesAs usage read

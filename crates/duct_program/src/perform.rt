@@ -5,7 +5,7 @@ ghost use Rattle.duct_start.specs.Plan.{plan_of_reader};
 ghost use Rattle.duct_start.specs.Start.{StartSucceeds, StartRefused};
 ghost use Rattle.duct.specs.Ended.{WasRead};
 ghost use Rattle.duct_program.specs.Answered.{IfUsage, IfRefused, Means, line_of};
-ghost use Rattle.duct_program.specs.Parsed.{Refuses};
+ghost use Rattle.duct_program.specs.Parsed.{RefusesAs};
 
 use crate::failure::Failure;
 use crate::line::line;
@@ -24,7 +24,7 @@ pub fn answer<S: System, H: Hook + Drop>(
     args: &[String],
 ) -> Result<String, Failure>
     ensures usage { IfUsage result (λ usage.
-        Refuses usage (line_of S.End.number_of H.allows (map string_bytes args.now))
+        RefusesAs usage (line_of S.End.number_of H.allows (map string_bytes args.now))
         × (S.journal_view sys.new ≡ S.journal_view sys.old)) }
     ensures text { IfOk result (λ text.
         Means (line_of S.End.number_of H.allows (map string_bytes args.now))

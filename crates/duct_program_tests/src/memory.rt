@@ -3,21 +3,12 @@
 use super::bench::arguments;
 use duct::ExitStatus;
 use duct_program::perform::perform;
+use duct_rows::memory::Came;
 use duct_script::child::PollAnswer;
 use duct_script::reader::ReaderScript;
 use duct_script::system::Script;
 use std::alloc::{AllocError, Global};
 use std::sync::Wait;
-
-/// What came of a run of the program.
-#[derive(Clone, Copy, Debug, PartialEq, Eq)]
-enum Came {
-    /// As with ample memory.
-    Whole,
-    /// Memory was refused, by its name.
-    Refused,
-    Wrong,
-}
 
 // A system in which two commands end, and a reader has a text.
 fn system(alloc: Global) -> Result<Script, AllocError> {

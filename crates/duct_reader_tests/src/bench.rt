@@ -11,6 +11,7 @@
 use duct::{Error, Output, ReaderHandle};
 use duct_rows::expressions::{Tree, written};
 use duct_rows::scenes::{Bench, Scene, bench_of};
+use duct_rows::told::counts;
 use duct_rows::words::{first_word, part};
 use duct_rows::workers::{push_output, push_polled, set_drains, set_feeds, set_reader};
 use duct_script::calls::Call;
@@ -41,7 +42,7 @@ fn row_text(rt: &impl Wait, alloc: Global, row: &str) -> Result<String, Fail> {
     let (feeds, row) = part(row);
     let (drains, row) = part(row);
     let (reader, calls) = part(row);
-    let mut bench = bench_of(alloc, scene_of(children))?;
+    let mut bench = bench_of(alloc, Scene::of(children))?;
     set_feeds(alloc, &mut bench.sys, feeds)?;
     set_drains(alloc, &mut bench.sys, drains)?;
     set_reader(alloc, &mut bench.sys, reader)?;
@@ -49,14 +50,6 @@ fn row_text(rt: &impl Wait, alloc: Global, row: &str) -> Result<String, Fail> {
     let mut text = answers(rt, alloc, &tree, &mut bench, calls)?;
     push_left(&mut text, &bench)?;
     Ok(text)
-}
-
-/// A system whose children answer this, and a pool whose children answer what stands behind a `&`.
-pub fn scene_of(children: &str) -> Scene<'_> {
-    let (children, kept) = children.split_once('&').unwrap_or((children, ""));
-    let scene = Scene::plain();
-    let scene = scene.with("children", children.trim()).unwrap_or(scene);
-    scene.with("kept", kept.trim()).unwrap_or(scene)
 }
 
 // What the calls answer.
@@ -133,10 +126,7 @@ pub fn started<R: Wait + Drop>(
     tree: &Tree,
     bench: &mut Bench,
 ) -> Result<ReaderHandle<Script, R>, Fail> {
-    match tree.reader(rt, &mut bench.sys, &mut bench.pool) {
-        Ok(handle) => Ok(handle),
-        Err(error) => Err(Fail::new(format_args!("{error}"))),
-    }
+    Ok(tree.reader(rt, &mut bench.sys, &mut bench.pool)?)
 }
 
 fn each_text<R: Wait>(
@@ -261,9 +251,7 @@ fn push_front(text: &mut String, buffer: &[u8], count: usize) -> Result<(), Allo
 // How often a child was polled and given an order, and the pool: how many it keeps, was given, found ended and lost.
 fn push_left(text: &mut String, bench: &Bench) -> Result<(), AllocError> {
     let (polls, orders) = asked(bench);
-    let pool = &bench.pool;
-    let (len, given) = (pool.len(), pool.given());
-    let (reaped, lost) = (pool.reaped(), pool.lost());
+    let (len, given, reaped, lost) = counts(&bench.pool);
     write!(text, "| {polls} {orders} | {len} {given} {reaped} {lost}")
 }
 

@@ -1,5 +1,5 @@
 //! Threads that share a reader handle. Each looks for the other so many times at most, and goes on then all the same.
-use crate::bench::{read_once, scene_of, started};
+use crate::bench::{read_once, started};
 use duct::ReaderHandle;
 use duct_rows::expressions::written;
 use duct_rows::scenes::{Bench, Scene, bench_of};
@@ -101,7 +101,7 @@ fn count_together<R: Wait + Threads + Sync>(rt: &R, handle: &ReaderHandle<Script
 #[test]
 fn two_threads_read(rt: HostRuntime) -> Result<(), Fail> {
     let gate = Gate::new(rt.alloc())?;
-    let mut bench = bench_of(rt.alloc(), scene_of("code 0"))?;
+    let mut bench = bench_of(rt.alloc(), Scene::of("code 0"))?;
     let handle = at_a_gate(&rt, rt.alloc(), &mut bench, &gate, 1000)?;
     let total = count_together(&rt, &handle);
     handle.give_up(&mut bench.pool);

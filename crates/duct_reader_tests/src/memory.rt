@@ -1,7 +1,9 @@
 //! Want of memory: whatever single request of the process is refused, each test of `memory_` either finds what comes of ample memory,
 //! or that the call was refused for want of memory and gave its child to the pool.
-use duct::{Entry, Error, ExitStatus, Kind, Pool, Said, System, cmd};
+use duct::{Error, ExitStatus, Pool, Said, System, cmd};
 use duct_rows::expressions::Tree;
+use duct_rows::memory::{Came, is_memory};
+use duct_rows::told::children_started;
 use duct_script::child::{PollAnswer, ScriptChild};
 use duct_script::job::DrainScript;
 use duct_script::reader::ReaderScript;
@@ -10,26 +12,6 @@ use std::alloc::Global;
 use std::io;
 use std::io::{ErrorKind, Read};
 use std::sync::{Arc, Wait};
-
-/// What came of a call.
-#[derive(Clone, Copy, Debug, PartialEq, Eq)]
-enum Came {
-    /// As with ample memory.
-    Whole,
-    /// Memory was refused, by its name, and nothing was lost.
-    Refused,
-    Wrong,
-}
-
-// What came of a call, where there was memory for what it needs.
-fn came_of(made: Result<Came, Error>) -> Came {
-    match made {
-        Ok(came) => came,
-        Err(Error::Memory) => Came::Refused,
-        Err(Error::System(fault)) if fault.kind == Kind::OutOfMemory => Came::Refused,
-        Err(_) => Came::Wrong,
-    }
-}
 
 // A system in which one command runs and ends, a capture worker has `xy`, and a reader `xy` and a newline.
 fn system(alloc: Global) -> Result<Script, Error> {
@@ -51,26 +33,12 @@ fn drain(alloc: Global) -> Result<DrainScript, Error> {
 
 // Whether each child that was started was given to the pool.
 fn gave_up(sys: &Script, pool: &Pool<ScriptChild>) -> bool {
-    let mut started = 0_u64;
-    for entry in sys.journal() {
-        if let Entry::Spawn(_, _, Ok(_)) = entry {
-            started = started.saturating_add(1);
-        }
-    }
-    pool.given() == started
+    pool.given() == children_started(sys.journal())
 }
 
 // What came of a call that was refused.
 fn came_of_refusal(error: &Error, sys: &Script, pool: &Pool<ScriptChild>) -> Came {
-    let memory = match error {
-        Error::Memory => true,
-        Error::System(fault) => fault.kind == Kind::OutOfMemory,
-        _ => false,
-    };
-    if memory && gave_up(sys, pool) {
-        return Came::Refused;
-    }
-    Came::Wrong
+    Came::refused_if(is_memory(error) && gave_up(sys, pool))
 }
 
 fn run_in(rt: &impl Wait, alloc: Global) -> Result<Came, Error> {
@@ -121,28 +89,28 @@ fn kind_of(read: io::Result<usize>) -> Option<ErrorKind> {
 /// A run.
 #[test]
 fn memory_of_a_run(rt: HostRuntime) {
-    assert_ne!(rt; came_of(run_in(&rt, rt.alloc())), Came::Wrong);
+    assert_ne!(rt; Came::of(run_in(&rt, rt.alloc())), Came::Wrong);
 }
 
 /// A read.
 #[test]
 fn memory_of_a_read(rt: HostRuntime) {
-    assert_ne!(rt; came_of(read_in(&rt, rt.alloc())), Came::Wrong);
+    assert_ne!(rt; Came::of(read_in(&rt, rt.alloc())), Came::Wrong);
 }
 
 /// A read of std.
 #[test]
 fn memory_of_a_read_of_std(rt: HostRuntime) {
-    assert_ne!(rt; came_of(read_once_in(&rt, rt.alloc())), Came::Wrong);
+    assert_ne!(rt; Came::of(read_once_in(&rt, rt.alloc())), Came::Wrong);
 }
 
 /// With ample memory all answer.
 #[test]
 fn all_memory_is_there(rt: HostRuntime) {
     let all = [
-        came_of(run_in(&rt, rt.alloc())),
-        came_of(read_in(&rt, rt.alloc())),
-        came_of(read_once_in(&rt, rt.alloc())),
+        Came::of(run_in(&rt, rt.alloc())),
+        Came::of(read_in(&rt, rt.alloc())),
+        Came::of(read_once_in(&rt, rt.alloc())),
     ];
     assert_eq!(rt; all, [Came::Whole; 3]);
 }

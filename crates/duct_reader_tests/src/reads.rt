@@ -9,6 +9,7 @@ fn reads(rt: HostRuntime) -> Result<(), Fail> {
         a | code 1 | | | a,Other,b | read 4, read 4, read 4, read 4, read 4 -> 1 a. system: Other. 1 b. command [\"a\"] exited with code 1. command [\"a\"] exited with code 1. | 2 0 | 0 1 1 0
         a | code 1 | | | | read 0 -> 0. | 1 0 | 0 1 1 0
         a | code 1 | | | a | read 4, read 4, read 0, read 4, read 0 -> 1 a. command [\"a\"] exited with code 1. 0. command [\"a\"] exited with code 1. 0. | 2 0 | 0 1 1 0
+        a | code 0 | | | a,Other,b | read 4, read 0, read 4, read 0, read 4 -> 1 a. 0. system: Other. 0. 1 b. | 1 0 | 0 1 1 0
         a b pipe | Other,code 0; running,code 0 | | | | read 4 -> 0. | 6 0 | 0 2 2 0
         a unchecked | code 1 | | | | read 4, read 4, try -> 0. 0. Code(1) out= err=. | 2 0 | 0 1 1 0
         a | running,running,code 0 | | | abcde | read 3, read 3, read 3, try -> 3 abc. 2 de. 0. Code(0) out= err=. | 4 0 | 0 1 1 0

@@ -34,6 +34,15 @@ impl<'t> Scene<'t> {
         }
     }
 
+    /// A plain system whose children answer this, and a pool whose children answer what stands behind a `&`.
+    pub fn of(children: &'t str) -> Scene<'t> {
+        let (children, kept) = children.split_once('&').unwrap_or((children, ""));
+        let mut scene = Scene::plain();
+        scene.children = children.trim();
+        scene.kept = kept.trim();
+        scene
+    }
+
     /// The scene after a line about it, if the line of this key is one.
     pub fn with(self, key: &str, text: &'t str) -> Option<Scene<'t>> {
         let mut scene = self;

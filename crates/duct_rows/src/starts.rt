@@ -293,7 +293,7 @@ fn deepest<E, H>(node: &Node<E, H>) -> usize {
     }
 }
 
-/// Whether a modifier is such a node.
+/// 1 for such a node, and 0 for any other.
 fn depth<E, H>(modifier: &Modifier<E, H>) -> usize {
     match modifier {
         Modifier::StdinBytes(_)

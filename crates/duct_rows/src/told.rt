@@ -139,10 +139,25 @@ pub fn answer_text(alloc: Global, answer: &Result<Runs, Error>) -> Result<String
     }
 }
 
+/// How many children were started.
+pub fn children_started(entries: &[Entry]) -> u64 {
+    let mut count = 0_u64;
+    for entry in entries {
+        if let Entry::Spawn(_, _, Ok(_)) = entry {
+            count = count.saturating_add(1);
+        }
+    }
+    count
+}
+
 /// How many children the pool keeps, was given, found ended, and lost.
+pub fn counts(pool: &Pool<ScriptChild>) -> (usize, u64, u64, u64) {
+    (pool.len(), pool.given(), pool.reaped(), pool.lost())
+}
+
+/// The same in words.
 pub fn pool_text(alloc: Global, pool: &Pool<ScriptChild>) -> Result<String, AllocError> {
-    let (len, given) = (pool.len(), pool.given());
-    let (reaped, lost) = (pool.reaped(), pool.lost());
+    let (len, given, reaped, lost) = counts(pool);
     format!(in alloc; "len {len}, given {given}, reaped {reaped}, lost {lost}")
 }
 

@@ -22,7 +22,7 @@ use Rattle.duct_start.specs.Chain.{Allows, Refuses}
 use Rattle.duct_start.specs.Commands.{GoesSaying, Refused, RefusedSaying}
 use Rattle.duct_start.specs.Holdings.{Holdings, ends}
 use Rattle.duct_start.specs.Listed.{IsWithin, resolved, resolved_all}
-use Rattle.duct_start.specs.Standing.{CanDo, Course, IsHooks, IsUnasked, Stands, Stood}
+use Rattle.duct_start.specs.Standing.{CanDo, Course, IsHooks, IsWantOfMemory, Stands, Stood}
 use Rattle.duct_start.specs.Step.{Item}
 use Rattle.duct_start.proofs.Running.{can_now, memory_now}
 use Rattle.duct_start.proofs.Spawning.{plain_refused}
@@ -187,7 +187,7 @@ module _ {E H : Type 0} (allows : Allows H) (refuses : Refuses H) (number_of : E
       pub memory_refused : (error : Error) → error ≡ Memory
           → Refused allows refuses number_of course goal.plan.items now kept error
       memory_refused error memory = plain_refused allows refuses number_of course goal.plan.items now kept error (λ hooks. subst (λ (e : Error). IsHooks e) memory hooks)
-          (memory_now allows number_of course goal actions rest act now kept stood is now error (still now) (subst (λ (e : Error). IsUnasked e) (sym memory) tt))
+          (memory_now allows number_of course goal actions rest act now kept stood is now error (still now) (subst (λ (e : Error). IsWantOfMemory e) (sym memory) tt))
 
       -- what the action needs is held, with room to give it back
       pub can_here : (pops act ≤ length kept.stack) × CanDo act kept

@@ -9,4 +9,5 @@ use Rattle.duct_run.specs.declared.held.Held.{Held}
 abbrev pub held_ends : {E C F D : Type 0} → (E → ℕ) → Held E C F D → List ℕ
 held_ends number_of held =
     let numbers = option_map (λ pair. (number_of pair.0, number_of pair.1)) in
-    stack_view number_of held.stack.items ++ (pair_of (numbers held.output) ++ pair_of (numbers held.error))
+    stack_view number_of held.stack.items
+    ++ (pair_of (numbers held.output) ++ pair_of (numbers held.error))

@@ -27,7 +27,6 @@ use duct_base::pool::{Place, place_new, seat_new};
 use duct_system::error::Error;
 use duct_system::spec::{Hook, Port};
 use duct_system::system::{Numbered, Stdio, System};
-use std::alloc::Global;
 
 // The program of some words.
 fn program_of(words: &[String]) -> &str

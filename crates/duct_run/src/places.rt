@@ -1,5 +1,5 @@
 //! The places that a hook names in a spec.
-ghost use Rattle.std.specs.Prelude.{◌≡◌, length};
+ghost use Rattle.std.specs.Prelude.{◌≡◌};
 ghost use Rattle.duct_start.specs.Chain.{missing, missing_at};
 ghost use Rattle.duct_run.specs.Places.{with_found, with_places_found};
 

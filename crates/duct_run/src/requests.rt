@@ -22,11 +22,11 @@ pub(crate) fn open_read<S: System, H: Hook>(
 ) -> Result<(), Error>
     requires reserved { vec_len held.old.stack + 1 ≤ vec_capacity held.old.stack }
     ensures ok { OnOk result (GoesOn H.allows S.End.number_of S.Child.child_view S.Feed.job_view
-        S.Drain.job_view (action.open_read path.now) (S.journal_view sys.old) (S.journal_view sys.new)
-        held.old held.new) }
+        S.Drain.job_view (action.open_read path.now) (S.journal_view sys.old)
+        (S.journal_view sys.new) held.old held.new) }
     ensures err { IfErr result (QuitsAt H.allows S.End.number_of S.Child.child_view S.Feed.job_view
-        S.Drain.job_view (action.open_read path.now) (S.journal_view sys.old) (S.journal_view sys.new)
-        held.old held.new) }
+        S.Drain.job_view (action.open_read path.now) (S.journal_view sys.old)
+        (S.journal_view sys.new) held.old held.new) }
     ensures new { AreNew S.Child.child_view S.Feed.job_view S.Drain.job_view held.old
         → AreNew S.Child.child_view S.Feed.job_view S.Drain.job_view held.new }
     ensures workers { HasSameWorkers held.old held.new }
@@ -344,11 +344,11 @@ pub(crate) fn feed<S: System, H: Hook>(
     requires room { 0 < (S.journal_view sys.old).room }
     requires reserved { vec_len held.old.feeds + 1 ≤ vec_capacity held.old.feeds }
     ensures ok { OnOk result (GoesOn H.allows S.End.number_of S.Child.child_view S.Feed.job_view
-        S.Drain.job_view (action.feed (arc_value bytes.now).items) (S.journal_view sys.old) (S.journal_view sys.new)
-        held.old held.new) }
+        S.Drain.job_view (action.feed (arc_value bytes.now).items) (S.journal_view sys.old)
+        (S.journal_view sys.new) held.old held.new) }
     ensures err { IfErr result (QuitsAt H.allows S.End.number_of S.Child.child_view S.Feed.job_view
-        S.Drain.job_view (action.feed (arc_value bytes.now).items) (S.journal_view sys.old) (S.journal_view sys.new)
-        held.old held.new) }
+        S.Drain.job_view (action.feed (arc_value bytes.now).items) (S.journal_view sys.old)
+        (S.journal_view sys.new) held.old held.new) }
     ensures new { AreNew S.Child.child_view S.Feed.job_view S.Drain.job_view held.old
         → AreNew S.Child.child_view S.Feed.job_view S.Drain.job_view held.new }
     ensures workers { HasSameWorkers held.old held.new }

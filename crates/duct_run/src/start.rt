@@ -178,8 +178,9 @@ pub fn start<S: System, H: Hook>(
 }
 
 /// Runs the actions of a reader's start, which open stdout's capture pipe, where nothing is held yet. Answers what they leave, and
-/// the reader of that pipe, which has no worker. Before each command the pool is swept. Refused by the fault of the first request that is, by a hook, or by `Error::Memory`. Then each end that is held is closed,
-/// each child that was started is asked once and goes into the pool if it runs, and the workers are let go.
+/// the reader of that pipe, which has no worker. Before each command the pool is swept. Refused by the fault of the first request
+/// that is, by a hook, or by `Error::Memory`. Then each end that is held is closed, each child that was started is asked once and
+/// goes into the pool if it runs, and the workers are let go.
 pub fn start_reader<S: System, H: Hook>(
     sys: &mut S,
     pool: &mut Pool<S::Child>,

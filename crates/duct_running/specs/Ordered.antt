@@ -31,13 +31,13 @@ leftmost (Ok done ∷ answers) = leftmost answers
 leftmost (Err fault ∷ answers) = Err fault
 
 -- the fault of the answer is the error of the result, or neither has any
-abbrev pub Answers : Obeyed → Result (Unit {0}) Error → Type 0
-Answers (Ok done) result = result ≡ Ok tt
-Answers (Err fault) result = result ≡ Err (error.System fault)
+abbrev pub OrderAnswers : Obeyed → Result (Unit {0}) Error → Type 0
+OrderAnswers (Ok done) result = result ≡ Ok tt
+OrderAnswers (Err fault) result = result ≡ Err (error.System fault)
 
 -- each of them was given the order if it had not ended, and the result is the leftmost fault of their answers
 abbrev pub IsOrdered : (ℕ → Order → Obeyed → Type 0) → Order → List ChildView
     → Result (Unit {0}) Error → List ChildView → Type 0
 IsOrdered may order befores result afters =
     (answers : List Obeyed) × AllOrdered may order befores answers afters
-    × Answers (leftmost answers) result
+    × OrderAnswers (leftmost answers) result

@@ -39,18 +39,18 @@ fn row_text(alloc: Global, row: &str) -> Result<String, Fail> {
     set_children(alloc, &mut sys, children)?;
     set_feeds(alloc, &mut sys, feeds)?;
     set_drains(alloc, &mut sys, drains)?;
-    let running = started(alloc, &mut sys, expression)?;
+    let running = started(alloc, &mut sys, &mut Pool::new(alloc), expression)?;
     Ok(polled(alloc, running, polls)?)
 }
 
 /// Starts the expression of a text.
-pub fn started(alloc: Global, sys: &mut Script, expression: &str) -> Result<Running<Script>, Fail> {
-    let tree = written(alloc, None, expression)?;
-    let mut pool = Pool::new(alloc);
-    match tree.launch(sys, &mut pool) {
-        Ok(running) => Ok(running),
-        Err(error) => Err(Fail::new(format_args!("{error}"))),
-    }
+pub fn started(
+    alloc: Global,
+    sys: &mut Script,
+    pool: &mut Pool<ScriptChild>,
+    expression: &str,
+) -> Result<Running<Script>, Fail> {
+    Ok(written(alloc, None, expression)?.launch(sys, pool)?)
 }
 
 // What so many polls answer, and how often everybody was asked.

@@ -1,6 +1,6 @@
 //! Ids: they are those of the children, from left to right, and stay the same.
 use super::bench::started;
-use duct::{Entry, Running, System};
+use duct::{Entry, Pool, Running, System};
 use duct_rows::scenes::set_children;
 use duct_script::system::Script;
 use std::alloc::{AllocError, Global};
@@ -40,7 +40,7 @@ fn ids_of(
 fn row(alloc: Global, expression: &str, children: &str) -> Result<(), Fail> {
     let mut sys = Script::new(alloc)?;
     set_children(alloc, &mut sys, children)?;
-    let mut running = started(alloc, &mut sys, expression)?;
+    let mut running = started(alloc, &mut sys, &mut Pool::new(alloc), expression)?;
     let ids = ids_of(alloc, &mut running);
     drop(running.into_parts());
     let (before, after) = ids?;

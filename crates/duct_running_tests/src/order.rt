@@ -1,7 +1,7 @@
 //! In which order the children of what runs are asked and ordered.
+use super::bench::started;
 use duct::{Entry, Running, System};
-use duct_rows::expressions::written;
-use duct_rows::scenes::{Bench, Scene, bench_of};
+use duct_rows::scenes::{Scene, bench_of};
 use duct_script::calls::{Call, CallLog};
 use duct_script::system::Script;
 use std::alloc::{AllocError, Global};
@@ -39,15 +39,6 @@ fn noted(alloc: Global, calls: &CallLog, ordered: bool) -> Result<Vec<u64>, Allo
     Ok(numbers)
 }
 
-// Starts the expression of a text.
-fn started(alloc: Global, bench: &mut Bench, expression: &str) -> Result<Running<Script>, Fail> {
-    let tree = written(alloc, None, expression)?;
-    match tree.launch(&mut bench.sys, &mut bench.pool) {
-        Ok(running) => Ok(running),
-        Err(error) => Err(Fail::new(format_args!("{error}"))),
-    }
-}
-
 // One poll and one kill, and then it is let go.
 fn ask_and_kill(mut running: Running<Script>) {
     let _ = running.poll();
@@ -58,7 +49,7 @@ fn ask_and_kill(mut running: Running<Script>) {
 // Fails unless a poll asks, and a kill orders, each child once and in the order of their spawns.
 fn row(alloc: Global, expression: &str) -> Result<(), Fail> {
     let mut bench = bench_of(alloc, Scene::plain())?;
-    ask_and_kill(started(alloc, &mut bench, expression)?);
+    ask_and_kill(started(alloc, &mut bench.sys, &mut bench.pool, expression)?);
     let wanted = spawned(alloc, bench.sys.journal())?;
     let asked = noted(alloc, &bench.calls, false)?;
     let killed = noted(alloc, &bench.calls, true)?;

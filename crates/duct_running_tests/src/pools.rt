@@ -1,7 +1,8 @@
 //! What is given up, and the pool that keeps what runs.
 use super::bench::started;
-use duct::{Pool, Running};
+use duct::Pool;
 use duct_rows::scenes::set_children;
+use duct_rows::told::counts;
 use duct_script::child::ScriptChild;
 use duct_script::system::Script;
 use std::alloc::Global;
@@ -16,13 +17,8 @@ fn given_up(
 ) -> Result<(), Fail> {
     let mut sys = Script::new(alloc)?;
     set_children(alloc, &mut sys, children)?;
-    started(alloc, &mut sys, expression)?.give_up(pool);
+    started(alloc, &mut sys, &mut Pool::new(alloc), expression)?.give_up(pool);
     Ok(())
-}
-
-// How many children the pool keeps, was given, found ended and lost.
-fn counts(pool: &Pool<ScriptChild>) -> (usize, u64, u64, u64) {
-    (pool.len(), pool.given(), pool.reaped(), pool.lost())
 }
 
 fn same(found: (usize, u64, u64, u64), wanted: (usize, u64, u64, u64)) -> Result<(), Fail> {
@@ -70,12 +66,6 @@ fn a_start_sweeps_before_each_command(rt: HostRuntime) -> Result<(), Fail> {
 // Starts one command with this pool, and lets it go.
 fn started_over(alloc: Global, pool: &mut Pool<ScriptChild>, expression: &str) -> Result<(), Fail> {
     let mut sys = Script::new(alloc)?;
-    let tree = duct_rows::expressions::written(alloc, None, expression)?;
-    match tree.launch(&mut sys, pool) {
-        Ok(running) => {
-            let _ = Running::into_parts(running);
-            Ok(())
-        }
-        Err(error) => Err(Fail::new(format_args!("{error}"))),
-    }
+    drop(started(alloc, &mut sys, pool, expression)?.into_parts());
+    Ok(())
 }

@@ -6,7 +6,6 @@ ghost use Rattle.duct_script.specs.Said.{word_of, SameBytes};
 
 use crate::answers::Answers;
 use duct_base::system::{Job, Numbered, Said};
-use std::alloc::AllocError;
 use std::collections::VecDeque;
 use std::snapshot::Snapshot;
 use std::sync::Arc;

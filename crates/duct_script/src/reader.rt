@@ -1,5 +1,5 @@
 //! The readers of a scripted system.
-ghost use Rattle.std.specs.Prelude.{◌≡◌, ℕ, ◌<◌, ◌≤◌, [], ◌++◌, take, drop, length, vec_len, Some, IfOk};
+ghost use Rattle.std.specs.Prelude.{◌≡◌, ◌<◌, ◌≤◌, [], ◌++◌, take, drop, length, vec_len, Some, IfOk};
 
 use crate::gate::Gate;
 use std::alloc::Global;

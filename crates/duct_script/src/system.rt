@@ -1,5 +1,5 @@
 //! The scripted system.
-ghost use Rattle.std.specs.Prelude.{◌≡◌, ℕ, ◌+◌, ◌-◌, ◌^◌, ◌<◌, ◌≤◌, max, length, map, string_bytes, unwrap_or, IfOk, IfErr, IfSome, OnOk, OnErr, Ok, Err, Some, None, [], ◌∷◌, ◌++◌};
+ghost use Rattle.std.specs.Prelude.{◌≡◌, ◌+◌, ◌-◌, ◌^◌, ◌<◌, ◌≤◌, max, length, map, string_bytes, unwrap_or, IfOk, IfErr, OnOk, OnErr, Ok, Err, Some, None, [], ◌∷◌, ◌++◌};
 ghost use Rattle.duct_system.specs.declared.system.Kind.TheVariants.{OutOfMemory, Other};
 ghost use Rattle.duct_system.specs.SpecView.{pair_text};
 ghost use Rattle.duct_script.specs.Paths.{canonical_of, with_path};
@@ -337,7 +337,8 @@ impl Script {
     /// What a path is answered as its canonical name: the text that was set for it, or the path itself.
     fn canonical_text<'a>(&'a self, path: &'a str) -> &'a str
         ensures { result.now
-            ≡ unwrap_or (canonical_of path.now (map pair_text self.now.canonical.entries)) path.now }
+            ≡ unwrap_or (canonical_of path.now (map pair_text self.now.canonical.entries))
+            path.now }
     {
         match self.canonical.get(path) {
             Some(text) => text.as_str(),
@@ -454,7 +455,6 @@ impl System for Script {
     ghost use Rattle.duct_system.specs.EntryView.{Spawn};
     ghost use Rattle.duct_system.specs.Streams.{stream_of, ends_of};
     ghost use Rattle.duct_script.specs.Views.{child_view};
-    ghost use Rattle.duct_script.specs.Said.{SameBytes};
     ghost use Rattle.std.proofs.Common.{lit<};
 
     type End = ScriptEnd;

@@ -23,7 +23,7 @@ use Rattle.duct_start.specs.Commands.{Refused}
 use Rattle.duct_start.specs.Follows.{AnswersFrom, Follows}
 use Rattle.duct_start.specs.Holdings.{Holdings, ends}
 use Rattle.duct_start.specs.Plan.{Plan}
-use Rattle.duct_start.specs.Standing.{Course, Ended, HeldFew, IsHooks, IsLater, IsUnasked, unasked, hooked, refused}
+use Rattle.duct_start.specs.Standing.{Course, Ended, HeldFew, IsHooks, IsLater, IsWantOfMemory, unasked, hooked, refused}
 use Rattle.duct_start.specs.Start.{AreEarlier, HoldsFew, StartRefused, ceiling, depth}
 use Rattle.duct_start.specs.Step.{Item}
 use Rattle.duct_start.specs.TreeView.{TreeView}
@@ -175,7 +175,7 @@ module _ {E H : Type 0} (allows : Allows H) (refuses : Refuses H) (number_of : E
   abbrev Caused : Error → Type 0
   Caused error = HasCause allows refuses number_of plan entries error
 
-  cause_unasked : (error : Error) → IsUnasked error → Caused error
+  cause_unasked : (error : Error) → IsWantOfMemory error → Caused error
   cause_unasked (System fault) un = inl un
   cause_unasked (Checked text) un = absurd un
   cause_unasked NotUtf8 un = absurd un
@@ -205,7 +205,7 @@ may_answer : (entries added : List EntryView) (error : Error) → Ended added er
     → last_fault entries ≡ last_fault added → MayAnswer entries error
 may_answer entries added error (unasked clean un) same = by error un
   where
-    by : (error : Error) → IsUnasked error → MayAnswer entries error
+    by : (error : Error) → IsWantOfMemory error → MayAnswer entries error
     by (System fault) un = inl un
     by (Checked text) un = absurd un
     by NotUtf8 un = absurd un

@@ -24,7 +24,7 @@ use Rattle.duct_start.specs.Follows.{text_in}
 use Rattle.duct_start.specs.Found.{Target, target_of}
 use Rattle.duct_start.specs.Holdings.{Holdings}
 use Rattle.duct_start.specs.Plan.{asks, program_of}
-use Rattle.duct_start.specs.Standing.{Course, IsHooks, IsUnasked, Quits, Stands, origin_to}
+use Rattle.duct_start.specs.Standing.{Course, IsHooks, IsWantOfMemory, Quits, Stands, origin_to}
 use Rattle.duct_start.specs.Step.{Item, AskCanonicalize, AskSpawn}
 use Rattle.duct_start.proofs.Commanded.{items_if, items_of, commanded_is}
 use Rattle.duct_start.proofs.Going.{none_changes, memory_quits, quits_none}
@@ -36,7 +36,7 @@ use Rattle.duct_start.proofs.Standing.{as_many, few_now, sources_now, stands_mor
 use Rattle.duct_start.proofs.Wires.{alike_by, handed_taken}
 
 -- an error for want of memory is not a hook's
-unasked_plain : (e : Error) → IsUnasked e → IsHooks e → ⊥
+unasked_plain : (e : Error) → IsWantOfMemory e → IsHooks e → ⊥
 unasked_plain (error.System fault) un is = is
 unasked_plain error.Memory un is = is
 unasked_plain (error.Hook fault) un is = un
@@ -113,7 +113,7 @@ module _ {E H : Type 0} (allows : Allows H) (number_of : E → ℕ) (scope : Sco
     act = action.spawn scope words ports
 
     -- no memory before anything was asked
-    pub unasked_refused : (next : JournalView) (e : Error) → AddsNothing now next → IsUnasked e
+    pub unasked_refused : (next : JournalView) (e : Error) → AddsNothing now next → IsWantOfMemory e
         → RefusedSaying allows refuses number_of pairs act now next held held e
     unasked_refused next e nothing un = λ course state is ready stands.
         plain_refused allows refuses number_of course _ next held e (unasked_plain e un)
@@ -128,7 +128,7 @@ module _ {E H : Type 0} (allows : Allows H) (number_of : E → ℕ) (scope : Sco
 
     module _ (one : JournalView) (program : List ℕ) (names : Names {E = E} {H = H} allows number_of scope words now one program) where
       -- no memory for the spec
-      pub spec_refused : (e : Error) → IsUnasked e
+      pub spec_refused : (e : Error) → IsWantOfMemory e
           → RefusedSaying allows refuses number_of pairs act now one held held e
       spec_refused e un = λ course state is ready stands.
           let n = names course state held stands in

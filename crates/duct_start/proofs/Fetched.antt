@@ -9,7 +9,7 @@ use Rattle.duct_system.specs.declared.spec.Stream.{Stream}
 use Rattle.duct_system.specs.declared.spec.Stream.TheVariants.{In, Out, Err}
 use Rattle.duct_start.specs.Actions as action
 use Rattle.duct_start.specs.Actions.{Action, Scope, State, Three, Leads, advance, port_in, level, given, less, many, left_by, found_by}
-use Rattle.duct_start.specs.Flat.{Wire, fetches, port_at, ports_at, commands, WireIs, is_stdin, is_in, is_out, is_err, is_nothing, is_slot, is_captured, is_lent, IsGot, Fits}
+use Rattle.duct_start.specs.Flat.{Wire, fetches, port_at, ports_at, commands, WireIs, is_stdin, is_in, is_out, is_err, is_nothing, is_slot, is_captured, is_lent, IsGot, WiresFit}
 use Rattle.duct_start.specs.Found.{Found, Target, Parents, Nothing, ReaderAt, WriterAt, FileAt, Lends, target_of}
 use Rattle.duct_start.specs.Plan.{Plan, commanded}
 use Rattle.duct_start.proofs.Keeping.{Keeps, keeps_same}
@@ -111,8 +111,8 @@ module _ {E H : Type 0} (number_of : E → ℕ) (base : ℕ) where
   wire_grows state next b w t grows (is_lent c end is) = is_lent c end is
 
   pub fits_grow : (state next : State E H) (scope : Scope E H) (wires : Three (Wire E))
-      (found : Found E H) → Grows state next → Fits number_of base state scope wires found
-      → Fits number_of base next scope wires found
+      (found : Found E H) → Grows state next → WiresFit number_of base state scope wires found
+      → WiresFit number_of base next scope wires found
   fits_grow state next scope wires found grows fits = record {
     folder = fits.folder;
     changes = fits.changes;
@@ -164,7 +164,7 @@ module _ {E H : Type 0} (number_of : E → ℕ) (base : ℕ) where
     -- a command's actions lead to its item, and leave the stack as it was
     pub command_leads : (state : State E H) (scope : Scope E H) (wires : Three (Wire E))
         (found : Found E H) (words : List (List ℕ)) →
-        Fits number_of base state scope wires found → length state.stack + 3 < bound →
+        WiresFit number_of base state scope wires found → length state.stack + 3 < bound →
         Leads number_of base bound state (commands scope wires words)
         (record { stack = state.stack; plan = commanded found words state.plan })
     command_leads state scope wires found words fits low =

@@ -27,7 +27,7 @@ use Rattle.duct_start.specs.Follows.{AnswersFrom}
 use Rattle.duct_start.specs.Found.{Target, Parents, Nothing, ReaderAt, WriterAt, FileAt, Lends}
 use Rattle.duct_start.specs.Holdings.{Holdings, ends, pair_of}
 use Rattle.duct_start.specs.Kinds.{entry_kind, item_kind}
-use Rattle.duct_start.specs.Standing.{AreFresh, Course, IsLater, IsShaped, IsPair, Sourced, Stands, IsUnasked, Goes, Quits, origin_to}
+use Rattle.duct_start.specs.Standing.{AreFresh, Course, IsLater, IsShaped, IsPair, Sourced, Stands, IsWantOfMemory, Goes, Quits, origin_to}
 use Rattle.duct_start.specs.Step.{Item, AskPipe, AskOpenRead, AskCreate, AskFeed}
 use Rattle.duct_start.proofs.Counts.{fresh_one, fresh_two, fresh_none, is_itself, other_than, count_other, count_same, count-cons, count-append}
 use Rattle.duct_start.proofs.Origins.{later_more, origin_stays, origin-more, origin_lent, end_at_seam}
@@ -408,7 +408,7 @@ module _ {E H : Type 0} (allows : Allows H) (number_of : E → ℕ) where
   pub memory_quits : (act : Action E H) (asked : State E H → List (Item E H))
       (now next : JournalView) (held : Holdings) (error : Error) →
       ((st : State E H) → (advance st act).plan.items ≡ st.plan.items ++ asked st)
-      → AddsNothing now next → IsUnasked error
+      → AddsNothing now next → IsWantOfMemory error
       → Quits allows number_of act now next held held error
   memory_quits act asked now next held error items nothing un = λ course st ready stands.
       stops_unasked allows number_of course st (advance st act).plan.items (asked st) now next held error stands (items st) nothing un

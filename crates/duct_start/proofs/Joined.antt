@@ -8,7 +8,7 @@ use Rattle.duct_system.specs.declared.spec.Stream.TheVariants.{In, Out, Err}
 use Rattle.duct_system.specs.declared.system.Side.TheVariants as side
 use Rattle.duct_start.specs.Actions as action
 use Rattle.duct_start.specs.Actions.{Action, Scope, State, Three, IsReady, AreBelow, Leads, advance, with_plan}
-use Rattle.duct_start.specs.Flat.{Wire, slot, captured, flat, flat_of, scope_within, rooted, outside, inputs, outputs, errors, WireIs, is_in, is_out, is_err, is_nothing, is_slot, is_captured, is_lent, Fits}
+use Rattle.duct_start.specs.Flat.{Wire, slot, captured, flat, flat_of, scope_within, rooted, outside, inputs, outputs, errors, WireIs, is_in, is_out, is_err, is_nothing, is_slot, is_captured, is_lent, WiresFit}
 use Rattle.duct_start.specs.Flat as flat
 use Rattle.duct_start.specs.Found.{Found, Target, ReaderAt, WriterAt, FileAt, plain, target_of}
 use Rattle.duct_start.specs.Lookup.{turned}
@@ -72,10 +72,10 @@ module _ {E H : Type 0} (number_of : E → ℕ) (base bound : ℕ) where
 
   -- other wires, inside a node that says nothing of folder, variables and hooks
   rewired : (state : State E H) (s : Scope E H) (w more : Three (Wire E)) (found inner : Found E H)
-      → Fits number_of base state s w found →
+      → WiresFit number_of base state s w found →
       inner.folder ≡ found.folder → inner.changes ≡ found.changes → inner.hooks ≡ found.hooks ++ [] →
       WireIs number_of base state true more.input inner.input → WireIs number_of base state false more.output inner.output → WireIs number_of base state false more.error inner.error →
-      Fits number_of base state s more inner
+      WiresFit number_of base state s more inner
   rewired state s w more found inner fits folder changes hooks input output error = record {
     folder = folder ∙ fits.folder;
     changes = changes ∙ fits.changes;
@@ -88,8 +88,8 @@ module _ {E H : Type 0} (number_of : E → ℕ) (base bound : ℕ) where
 
   -- the same wires, inside a node that says something of folder, variables or hooks, and nothing of streams
   scoped : (node : Step E H) (p : Plan E H) (stack : List (Target E)) (s : Scope E H)
-      (w : Three (Wire E)) (found : Found E H) → Fits number_of base (at_st stack p) s w found →
-      node.turn ≡ (λ place stream. Follows stream) → AreBelow number_of base node.hooks → Fits number_of base (at_st stack p) (scope_within node s) w (found_within node (length p.items) found)
+      (w : Three (Wire E)) (found : Found E H) → WiresFit number_of base (at_st stack p) s w found →
+      node.turn ≡ (λ place stream. Follows stream) → AreBelow number_of base node.hooks → WiresFit number_of base (at_st stack p) (scope_within node s) w (found_within node (length p.items) found)
   scoped node p stack s w found fits still below = record {
     folder = ap (option_or node.folder) fits.folder;
     changes = ap (λ changes. node.changes ++ changes) fits.changes;
@@ -103,7 +103,7 @@ module _ {E H : Type 0} (number_of : E → ℕ) (base bound : ℕ) where
   pub flat_leads : (tree : TreeView E H) (s : Scope E H) (w : Three (Wire E)) (found : Found E H)
       (stack : List (Target E)) (p : Plan E H) (n : ℕ) → n ≡ length stack
       → All (λ end. number_of end < base) (ends_in tree)
-      → Fits number_of base (record { stack = stack; plan = p }) s w found
+      → WiresFit number_of base (record { stack = stack; plan = p }) s w found
       → n + (2 * depth tree + 3) < bound
       → Leads number_of base bound (record { stack = stack; plan = p }) (flat s w tree n)
       (record { stack = stack; plan = walked found tree p })
@@ -262,7 +262,7 @@ pub tree_leads : {E H : Type 0} (number_of : E → ℕ) (base : ℕ) (tree : Tre
     (with_plan (planned [] tree begun))
 tree_leads {E} {H} number_of base tree older =
     let bound = 2 * depth tree + 4 in
-    let fits : Fits {E = E} {H = H} number_of base (with_plan begun) rooted outside plain =
+    let fits : WiresFit {E = E} {H = H} number_of base (with_plan begun) rooted outside plain =
     record { folder = refl; changes = refl; hooks = refl; input = is_in; output = is_out; error = is_err; below = All-nil _ } in
     subst (λ p. Leads number_of base bound (with_plan begun) (flat_of tree) (with_plan p)) (sym (joined tree [] begun))
     (flat_leads number_of base bound tree rooted outside plain [] begun 0 refl older fits (omega arith))

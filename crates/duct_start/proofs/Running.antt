@@ -18,7 +18,7 @@ use Rattle.duct_start.specs.Chain.{Allows}
 use Rattle.duct_start.specs.Follows.{AnswersFrom}
 use Rattle.duct_start.specs.Holdings.{Holdings, empty}
 use Rattle.duct_start.specs.Plan.{Plan, begun, drains}
-use Rattle.duct_start.specs.Standing.{Books, Course, HeldFew, IsShaped, Stands, Stood, Stopped, Goes, Quits, IsUnasked, CanDo, refused, unasked}
+use Rattle.duct_start.specs.Standing.{Books, Course, HeldFew, IsShaped, Stands, Stood, Stopped, Goes, Quits, IsWantOfMemory, CanDo, refused, unasked}
 use Rattle.duct_start.specs.Step.{Item, AskEnvironment, AskDrain, AskPipe}
 use Rattle.duct_start.proofs.Commanded.{items_of, commanded_is}
 use Rattle.duct_start.proofs.Going.{none_changes}
@@ -73,7 +73,7 @@ module _ (course : Course) (now : JournalView) where
 
     -- where nothing was asked
     pub stopped_unasked : (items : List (Item E H)) (error : Error) → AddsNothing course.old now
-        → IsUnasked error → Stopped allows number_of course items now empty error
+        → IsWantOfMemory error → Stopped allows number_of course items now empty error
     stopped_unasked items error nothing un = record {
       added = [];
       books = record {
@@ -199,7 +199,7 @@ module _ {E H : Type 0} (allows : Allows H) (number_of : E → ℕ) (course : Co
           ended = q.ended;
         }
 
-    pub memory_now : (next : JournalView) (error : Error) → AddsNothing now next → IsUnasked error
+    pub memory_now : (next : JournalView) (error : Error) → AddsNothing now next → IsWantOfMemory error
         → Stopped allows number_of course goal.plan.items next kept error
     memory_now next error nothing un =
         let more = items_grow stood.state (act ∷ rest) in

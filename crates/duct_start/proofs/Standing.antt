@@ -18,7 +18,7 @@ use Rattle.duct_start.specs.Chain.{Allows}
 use Rattle.duct_start.specs.Follows.{AnswersFrom, pairs_in}
 use Rattle.duct_start.specs.Holdings.{Holdings, ends, pair_of}
 use Rattle.duct_start.specs.Kinds.{Kind, entry_kind, item_kind}
-use Rattle.duct_start.specs.Standing.{AreFresh, Course, HeldFew, IsLater, IsShaped, Books, Sourced, Stands, Stopped, refused, unasked, IsUnasked}
+use Rattle.duct_start.specs.Standing.{AreFresh, Course, HeldFew, IsLater, IsShaped, Books, Sourced, Stands, Stopped, refused, unasked, IsWantOfMemory}
 use Rattle.duct_start.specs.Step.{Item}
 use Rattle.duct_start.proofs.Counts.{once_of}
 use Rattle.duct_start.proofs.Origins.{got-append, spent-append, count_got-append, count_spent-append, trace-append, later_more}
@@ -206,7 +206,7 @@ pub stops_unasked : {E H : Type 0} (allows : Allows H) (number_of : E → ℕ) (
     (state : State E H) (items more_items : List (Item E H))
     (now then : JournalView) (held : Holdings) (error : Error) →
     Stands allows number_of course state now held → items ≡ state.plan.items ++ more_items
-    → AddsNothing now then → IsUnasked error
+    → AddsNothing now then → IsWantOfMemory error
     → Stopped allows number_of course items then held error
 stops_unasked {E} {H} allows number_of course state items more_items now then held error stands is nothing un =
     let b = stands.books in

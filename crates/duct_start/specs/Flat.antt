@@ -160,7 +160,7 @@ pub data WireIs {E H : Type 0} (number_of : E → ℕ) (base : ℕ) (state : Sta
       → WireIs number_of base state b (lent end) (Lends end)
 
 -- the wires lead where what is found outwards says, and this is the scope of it; the ends beside its hooks are lent ones
-pub record Fits {E H : Type 0} (number_of : E → ℕ) (base : ℕ) (state : State E H)
+pub record WiresFit {E H : Type 0} (number_of : E → ℕ) (base : ℕ) (state : State E H)
     (scope : Scope E H) (wires : Three (Wire E)) (found : Found E H) : Type 0 where
   pub folder : found.folder ≡ scope.folder
   pub changes : found.changes ≡ scope.changes

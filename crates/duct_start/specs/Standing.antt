@@ -116,10 +116,10 @@ pub record Stands {E H : Type 0} (allows : Allows H) (number_of : E → ℕ) (co
   pub clean : IsClean added
 
 -- an error that comes with no entry: want of memory
-abbrev pub IsUnasked : Error → Type 0
-IsUnasked (System fault) = fault.kind ≡ OutOfMemory
-IsUnasked Memory = Unit {0}
-IsUnasked error = ⊥
+abbrev pub IsWantOfMemory : Error → Type 0
+IsWantOfMemory (System fault) = fault.kind ≡ OutOfMemory
+IsWantOfMemory Memory = Unit {0}
+IsWantOfMemory error = ⊥
 
 -- an error that comes with no entry: that of a hook
 abbrev pub IsHooks : Error → Type 0
@@ -129,7 +129,7 @@ IsHooks error = ⊥
 
 -- nothing was refused but memory, or by a hook, or the error is the fault of the last entry
 pub data Ended : List EntryView → Error → Type 0 where
-  unasked : {added : List EntryView} {error : Error} → IsClean added → IsUnasked error
+  unasked : {added : List EntryView} {error : Error} → IsClean added → IsWantOfMemory error
       → Ended added error
   hooked : {added : List EntryView} {error : Error} → IsClean added → IsHooks error
       → Ended added error

@@ -55,7 +55,7 @@ least_above number_of (end ∷ ends) = max (number_of end + 1) (least_above numb
 abbrev pub ceiling : {E H : Type 0} → (E → ℕ) → TreeView E H → ℕ
 ceiling number_of tree = least_above number_of (ends_in tree)
 
--- how many ends a node may hold open while its command starts
+-- how many ends a node adds to those that may be open while a command inside of it starts
 abbrev pub modifier_depth : {E H : Type 0} → ModifierView E H → ℕ
 modifier_depth (stdin_bytes bytes) = 1
 modifier_depth (stdin_path path) = 1

@@ -13,7 +13,7 @@ lent_bytes said.Running = said.Running
 lent_bytes (said.Done bytes) = said.Done bytes.now
 lent_bytes (said.Fault fault) = said.Fault fault
 
--- what contracts see of a outcome
+-- what contracts see of an outcome
 abbrev pub outcome_view : Found → OutcomeView
 outcome_view found.Waits = waits
 outcome_view (found.Faults fault) = faults fault

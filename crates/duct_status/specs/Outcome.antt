@@ -121,7 +121,7 @@ abbrev pub AnswersWinner : Endings → List ℕ → List ℕ → ReplyView → T
 AnswersWinner t output error reply =
     (winner : Way t) × IsWinner t winner × AnswersFor t winner output error reply
 
--- the reply that a outcome gives
+-- the reply that an outcome gives
 abbrev pub AnswersOutcome : OutcomeView → Endings → ReplyView → Type 0
 AnswersOutcome waits t reply = reply ≡ pending
 AnswersOutcome (faults fault) t reply = reply ≡ faulted fault

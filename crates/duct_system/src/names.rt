@@ -1,5 +1,5 @@
 //! The names of variables.
-ghost use Rattle.std.specs.Prelude.{◌≡◌, ◌↔◌, IsTrue, Some, fold, map, refl, string_bytes};
+ghost use Rattle.std.specs.Prelude.{◌≡◌, ◌↔◌, IsTrue, Some, map, refl, string_bytes};
 ghost use Rattle.std.specs.Char.{to_ascii_lowercase};
 ghost use Rattle.std.specs.Fmt.{debug_str};
 ghost use Rattle.std.proofs.Common.{rules};
@@ -94,8 +94,9 @@ impl Eq for EnvNameString {
 impl PartialOrd for EnvNameString {
     ghost partial_cmp = { λ x y. Some (name_cmp x y) };
 
-    ghost laws = { partial_order_from_agreeing_total name_cmp (on_total name_form nat_list_cmp_total)
-        (λ x y. refl) (λ x y. texts_ties (name_form x) (name_form y)) };
+    ghost laws = { partial_order_from_agreeing_total name_cmp
+        (on_total name_form nat_list_cmp_total) (λ x y. refl)
+        (λ x y. texts_ties (name_form x) (name_form y)) };
 
     fn partial_cmp(&self, other: &EnvNameString) -> Option<Ordering> {
         Some(self.cmp(other))

@@ -135,10 +135,12 @@ pub enum Entry {
     Close(u64),
 }
 
-/// What has a number that the system gave it, and that no other end or child has.
+/// What has a number that the system gave it. No other end or child has that of an end or a child; a job has that of the end
+/// that it was given.
 pub trait Numbered: Drop {
     ghost number_of: { Self → ℕ };
 
+    /// Its number, which never changes.
     fn number(&self) -> u64
         ensures { result ≡ number_of self.now };
 }
@@ -194,6 +196,7 @@ pub enum Said<T> {
 
 /// A worker that reads or writes beside the caller. Its number is that of the end that it was given, and never changes.
 pub trait Job: Numbered {
+    /// What it gives once it is done.
     type Result: Drop;
 
     /// The result, said by one more owner.
@@ -222,6 +225,7 @@ pub trait Clock {
     /// What the clock may show.
     ghost may_show: { Self → Duration → Type 0 };
 
+    /// How long after the clock's zero it is.
     fn now(&self) -> Duration
         ensures { may_show self.now result };
 }
@@ -229,16 +233,22 @@ pub trait Clock {
 /// The operating system. Each call from `environment` to `close` adds one entry to the journal, its request and its
 /// answer. A call that is given no end, and finds no memory for its entry or for the room of the ends that it would
 /// get, asks nothing, adds no entry and answers `OutOfMemory`. An end that a call is given is spent, whatever is
-/// answered, and such a call always adds its entry, in the room that was made as the end was got.
+/// answered, and such a call always adds its entry, in the room that was made as the end was got. Ends and children get
+/// their numbers from one count that only grows, also where the journal is emptied.
 pub trait System {
+    /// One side of a pipe, a file or a stream of the parent's, held open until it is given back.
     type End: Numbered;
 
+    /// A child process that was started.
     type Child: Child;
 
+    /// A worker that writes bytes to an end.
     type Feed: Job<Result = ()>;
 
+    /// A worker that reads an end to its end, and gives the bytes.
     type Drain: Job<Result = Arc<Vec<u8>>>;
 
+    /// What reads an end for the caller.
     type Reader: Read + Drop;
 
     /// The journal, with the count of numbers and the room for more entries.

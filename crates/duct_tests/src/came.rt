@@ -34,7 +34,7 @@ impl Came {
     }
 }
 
-/// Does what the tests of `memory_` do, and passes only where no memory is refused.
+/// Does what the tests of `memory_` do, but for the three single starts, which ask for less, and passes only where no memory is refused.
 #[test]
 fn all_memory_is_there(rt: HostRuntime) {
     let alloc = rt.alloc();

@@ -93,7 +93,8 @@ fn enter<'a, E, H>(
 ) -> Result<Inside<'a, E>, Error>
     ensures list { IfOk result (λ within. (tree : TreeView E H) →
         with_ending (modifier_view modifier.now) (with_tree within tree (listing_view list.new))
-        ≡ with_tree inside.entry (around (modifier_view modifier.now) tree) (listing_view list.old)) }
+        ≡ with_tree inside.entry (around (modifier_view modifier.now) tree)
+        (listing_view list.old)) }
     ensures memory { IsOkUnless result Error.Memory }
 {
     let depth = inside.depth;
@@ -153,7 +154,8 @@ fn scoped<'a, E, H>(
 ) -> Result<Inside<'a, E>, Error>
     ensures list { IfOk result (λ within. (tree : TreeView E H) →
         with_tree within tree (listing_view list.new)
-        ≡ with_tree inside.entry (around (setting_view setting.entry) tree) (listing_view list.old)) }
+        ≡ with_tree inside.entry (around (setting_view setting.entry) tree)
+        (listing_view list.old)) }
     ensures memory { IsOkUnless result Error.Memory }
 {
     let scope = list.add_scope(setting, inside.scope)?;

@@ -92,10 +92,10 @@ fn tree_of<R: Files<File = File>>(
     alloc: Global,
     number: u32,
 ) -> Result<Expression<End, Wires>, Error> {
-    let ends = if number < TREES_WITH_ENDS {
-        Vec::new(alloc)
-    } else {
+    let ends = if TREES_WITH_ENDS.contains(&number) {
         two_ends(rt, host, alloc)?
+    } else {
+        Vec::new(alloc)
     };
     tree(alloc, number, ends)
 }

@@ -1,4 +1,4 @@
-//! Ten trees with a node of each kind, of commands that end by themselves and print little.
+//! Trees of commands that end by themselves and print little. Among them they have a node of each kind but `stderr_file`.
 use duct::{CommandSpec, Error, Expression, Fault, Hook, Port, cmd};
 use std::alloc::Global;
 
@@ -41,9 +41,7 @@ fn pipeline<E: Drop>(alloc: Global) -> Result<Tree<E>, Error> {
 }
 
 fn with_input<E: Drop>(alloc: Global) -> Result<Tree<E>, Error> {
-    let mut bytes = Vec::new(alloc);
-    bytes.extend_from_slice(b"xyz")?;
-    let reads = cat(alloc)?.stdin_bytes(bytes)?;
+    let reads = cat(alloc)?.stdin_bytes(Vec::from_slice(alloc, b"xyz")?)?;
     reads.pipe(&cat(alloc)?)?.stdout_capture()
 }
 
@@ -81,10 +79,26 @@ fn lent<E: Drop>(alloc: Global, mut ends: Vec<E>) -> Result<Tree<E>, Error> {
     left.pipe(&right)?.env("A", "1")
 }
 
-/// The first tree that takes two ends; those behind it take them too.
-pub const TREES_WITH_ENDS: u32 = 9;
+// Each command writes to the stream that the other one is named after.
+fn streams<E: Drop>(alloc: Global) -> Result<Tree<E>, Error> {
+    let left = shell(alloc, "echo left")?.stdout_to_stderr()?;
+    let right = shell(alloc, "echo right >&2")?.stderr_to_stdout()?;
+    left.pipe(&right)
+}
 
-/// The tree of a number from 1 to 10; of any other number a command that does nothing.
+// Variables set, removed and whole, and a stderr that nobody reads.
+fn surrounded<E: Drop>(alloc: Global) -> Result<Tree<E>, Error> {
+    let script = "echo $A $B $C; echo lost >&2";
+    let shows: Tree<E> = cmd!(in alloc; "/bin/sh", "-c", script)?;
+    let fewer = shows.env("A", "1")?.env_remove("B")?;
+    let whole = fewer.full_env(&[("B", "2"), ("C", "3")])?;
+    whole.stderr_null()?.stdout_capture()
+}
+
+/// The trees that take two ends.
+pub const TREES_WITH_ENDS: [u32; 2] = [9, 10];
+
+/// The tree of a number from 1 to 12; of any other number a command that does nothing.
 pub fn tree<E: Drop>(alloc: Global, number: u32, ends: Vec<E>) -> Result<Tree<E>, Error> {
     match number {
         1 => cat(alloc),
@@ -97,6 +111,8 @@ pub fn tree<E: Drop>(alloc: Global, number: u32, ends: Vec<E>) -> Result<Tree<E>
         8 => crossed(alloc),
         9 => hooked(alloc, ends),
         10 => lent(alloc, ends),
+        11 => surrounded(alloc),
+        12 => streams(alloc),
         _ => shell(alloc, "exit 0"),
     }
 }

@@ -1,6 +1,5 @@
 //! A build step with a time limit.
 use duct::{Clock, Error, Expression, Output, Pool, System};
-use std::alloc::Global;
 use std::sync::Wait;
 use std::time::Duration;
 

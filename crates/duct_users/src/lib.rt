@@ -1,8 +1,11 @@
-//! Four users of duct, over any system: a script runner, a build step with a time limit, a supervisor that restarts, and a harness.
+//! Users of duct, as anybody would write them: a caller that builds each kind of expression, and over any system a script runner, a
+//! build step with a time limit, a supervisor that restarts, and a harness.
 #![tactic(auto)]
 
 pub mod build;
 pub mod harness;
+pub mod hello;
+pub mod kinds;
 pub mod script;
 pub mod supervisor;
 #[cfg(test)]

@@ -1,9 +1,12 @@
-//! The four users over the scripted system.
+//! The users over the scripted system, and the caller over the real machine.
 use crate::build::build;
 use crate::harness::started;
+use crate::hello::hello;
+use crate::kinds::{echoed, shown};
 use crate::script::run_script;
 use crate::supervisor::supervise;
 use duct::{Error, ExitStatus, Expression, Pool, cmd};
+use duct_host::host::Host;
 use duct_script::child::PollAnswer;
 use duct_script::clock::ScriptClock;
 use duct_script::reader::ReaderScript;
@@ -82,5 +85,28 @@ fn supervised(rt: &impl Wait, alloc: Global) -> Result<u32, Error> {
 #[test]
 fn a_service(rt: HostRuntime) -> Result<(), Error> {
     assert_eq!(rt; supervised(&rt, rt.alloc())?, 2);
+    Ok(())
+}
+
+#[test]
+fn a_hook_in_a_box(rt: HostRuntime) -> Result<(), Error> {
+    let text = shown(rt.alloc())?;
+    assert_eq!(rt; text.as_str(), "Io(BeforeSpawn(<closure>), Cmd([\"a\"]))");
+    Ok(())
+}
+
+#[test]
+fn a_boxed_hook_adds_an_argument(rt: HostRuntime) -> Result<(), Error> {
+    let mut host = Host::new(&rt, rt.alloc());
+    let text = echoed(&rt, rt.alloc(), &mut host)?;
+    assert_eq!(rt; text.as_str(), "foo bar");
+    Ok(())
+}
+
+#[test]
+fn hello_ends_well(rt: HostRuntime) -> Result<(), Error> {
+    let mut host = Host::new(&rt, rt.alloc());
+    let answer = hello(rt.alloc(), &mut host)?;
+    assert!(rt; answer.is_some_and(|output| output.status.success()));
     Ok(())
 }

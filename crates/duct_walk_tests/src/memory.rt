@@ -1,10 +1,11 @@
 //! Want of memory in starts of chosen trees: whatever single request of the process is refused, a start answers as with ample memory, or that
 //! there was none; then each end that was got is spent, and each child that was started is the pool's.
-use crate::waited::started;
-use duct::{Error, Kind, Pool, Stream, System, cmd};
+use duct::{Error, Pool, Stream, System, cmd};
 use duct_plain::checker::is_balanced;
 use duct_rows::expressions::Tree;
+use duct_rows::memory::{Came, is_memory};
 use duct_rows::starts::Way;
+use duct_rows::told::children_started;
 use duct_script::child::ScriptChild;
 use duct_script::hook::{Change, ScriptHook, Target};
 use duct_script::system::Script;
@@ -20,16 +21,6 @@ enum Chosen {
     Redirections,
     Surroundings,
     Hook,
-}
-
-/// What came of a start.
-#[derive(Clone, Copy, Debug, PartialEq, Eq)]
-enum Came {
-    /// As with ample memory.
-    Whole,
-    /// Memory was refused, by its name, and nothing was lost.
-    Refused,
-    Wrong,
 }
 
 /// A chosen tree.
@@ -90,15 +81,6 @@ fn start(
     Ok(())
 }
 
-/// Whether an error is want of memory: of the library, of the system, or of a hook.
-fn is_memory(error: &Error) -> bool {
-    match error {
-        Error::Memory => true,
-        Error::System(fault) | Error::Hook(fault) => fault.kind == Kind::OutOfMemory,
-        Error::Checked(_) | Error::NotUtf8 | Error::HookEnd(_) | Error::Deadline => false,
-    }
-}
-
 /// What came of a start, by its answer, the ledger of its journal, and what the pool was given.
 fn came_of(
     alloc: Global,
@@ -109,7 +91,7 @@ fn came_of(
     let balanced = is_balanced(alloc, sys.journal())?;
     Ok(match answer {
         Ok(()) if balanced && given == 0 => Came::Whole,
-        Err(error) if balanced && given == started(sys.journal()) && is_memory(&error) => {
+        Err(error) if balanced && given == children_started(sys.journal()) && is_memory(&error) => {
             Came::Refused
         }
         _ => Came::Wrong,
@@ -124,20 +106,11 @@ fn tried(alloc: Global, chosen: Chosen, way: Way) -> Result<Came, Error> {
     came_of(alloc, &sys, pool.given(), answer)
 }
 
-/// What came of a start, where there was memory for what it needs.
-fn outcome(alloc: Global, chosen: Chosen, way: Way) -> Came {
-    match tried(alloc, chosen, way) {
-        Ok(came) => came,
-        Err(error) if is_memory(&error) => Came::Refused,
-        Err(_) => Came::Wrong,
-    }
-}
-
 /// What came of both starts of a tree.
 fn both(alloc: Global, chosen: Chosen) -> Result<(), Fail> {
     let ways = (
-        outcome(alloc, chosen, Way::Launched),
-        outcome(alloc, chosen, Way::Read),
+        Came::of(tried(alloc, chosen, Way::Launched)),
+        Came::of(tried(alloc, chosen, Way::Read)),
     );
     match ways {
         (Came::Wrong, _) | (_, Came::Wrong) => Err(Fail::from("something was lost")),
@@ -187,8 +160,8 @@ fn all_memory_is_there(rt: HostRuntime) {
         Chosen::Hook,
     ];
     let both = all.map(|chosen| {
-        let launched = outcome(rt.alloc(), chosen, Way::Launched);
-        (launched, outcome(rt.alloc(), chosen, Way::Read))
+        let launched = Came::of(tried(rt.alloc(), chosen, Way::Launched));
+        (launched, Came::of(tried(rt.alloc(), chosen, Way::Read)))
     });
     assert_eq!(rt; both, [(Came::Whole, Came::Whole); 6]);
 }

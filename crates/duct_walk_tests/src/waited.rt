@@ -1,11 +1,12 @@
 //! Runs and reads of chosen trees with a fault at each request in turn, and at each child's poll: that fault is the answer, no end is left, and
 //! each child that was started was given to the pool.
 use crate::agree::LAUNCHED;
-use duct::{Entry, Error, Fault, Kind, System};
+use duct::{Error, Fault, Kind, System};
 use duct_follows::causes::last_fault;
 use duct_plain::checker::is_balanced;
 use duct_rows::expressions::written;
 use duct_rows::scenes::{Bench, Scene, bench_of};
+use duct_rows::told::children_started;
 use std::alloc::Global;
 use std::sync::Wait;
 use std::test::Fail;
@@ -16,17 +17,6 @@ const CHILDREN: &[&str] = &[
     "code 0; Other; code 0",
     "Other; code 0; code 0",
 ];
-
-/// How many children a journal says were started.
-pub(crate) fn started(entries: &[Entry]) -> u64 {
-    let mut count = 0_u64;
-    for entry in entries {
-        if let Entry::Spawn(_, _, Ok(_)) = entry {
-            count = count.saturating_add(1);
-        }
-    }
-    count
-}
 
 /// Whether one of the children that were started answers a fault to a poll.
 fn polls_a_fault(children: &str, started: u64) -> bool {
@@ -59,7 +49,7 @@ fn waited(
 /// Whether this is what the journal and the children bring about: the fault of a request, that of a hook, that of a poll, or none.
 fn is_right(expression: &str, children: &str, bench: &Bench, answer: &Result<(), Error>) -> bool {
     let refuses = expression.contains("refuse");
-    let faults = polls_a_fault(children, started(bench.sys.journal()));
+    let faults = polls_a_fault(children, children_started(bench.sys.journal()));
     match (answer, last_fault(bench.sys.journal())) {
         (Err(Error::System(fault)), Some(refused)) => *fault == refused,
         (Err(Error::Hook(_)), None) => refuses,
@@ -85,7 +75,7 @@ fn waits(
     bench.sys.refuse(refused, Fault::new(Kind::NotFound))?;
     let answer = waited(rt, alloc, expression, &mut bench, reads)?;
     let given = if answer.is_err() {
-        started(bench.sys.journal())
+        children_started(bench.sys.journal())
     } else {
         0
     };

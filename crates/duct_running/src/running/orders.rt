@@ -3,7 +3,7 @@ ghost use Rattle.std.specs.Prelude.{◌≡◌, ◌<◌, ◌+◌, ◌^◌, length
 ghost use Rattle.duct_base.specs.Pool.{Takes};
 ghost use Rattle.duct_system.specs.Child.{OrdersChild};
 ghost use Rattle.duct_system.specs.declared.system.Order.TheVariants.{Kill, Signal};
-ghost use Rattle.duct_running.specs.Ordered.{Answers, OrderedIfDue, IsOrdered};
+ghost use Rattle.duct_running.specs.Ordered.{OrderAnswers, OrderedIfDue, IsOrdered};
 ghost use Rattle.duct_running.specs.Polled.{ChangedAt};
 
 use crate::running::Running;
@@ -25,7 +25,7 @@ fn give<C: Child>(child: &mut C, order: Order) -> Result<(), Fault>
 
 // An answer, with its fault as the system's error.
 fn result_of(answer: Result<(), Fault>) -> Result<(), Error>
-    ensures { Answers answer result }
+    ensures { OrderAnswers answer result }
 {
     Ok(answer?)
 }

@@ -75,7 +75,7 @@ impl<E, H> fmt::Debug for Modifier<E, H> {
 }
 
 // A command with these words.
-#[tactic(auto, using(crate::proofs::Debug::list_of_map))]
+#[tactic(auto, using(duct_status::proofs::Shown::list_of_map))]
 fn write_command<W: fmt::Write>(words: &[String], f: &mut fmt::Formatter<W>) -> fmt::Result
     ensures { DisplaysOnOk W.write_str_gives f.old result
         (printed (named (codes "Cmd(") (texts (map string_bytes words.now)))) f.new }

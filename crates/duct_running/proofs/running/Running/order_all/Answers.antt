@@ -1,7 +1,7 @@
 use Rattle.std.proofs.Common.{◌≤◌, ◌++◌, [], ◌∷◌, ap, sym, ◌∙◌, subst, map, length, length-append, arith}
 use Rattle.std.proofs.lemmas.List.{length-map}
 use Rattle.std.specs.Result.{result_and}
-use Rattle.duct_running.specs.Ordered.{OrderedIfDue, Answers}
+use Rattle.duct_running.specs.Ordered.{OrderedIfDue, OrderAnswers}
 use Rattle.duct_running.specs.Polled.{ChangedAt}
 use Rattle.duct_running.proofs.InTurn.{length_kept}
 use Rattle.duct_running.proofs.Orders.{one_more_ordered, all_ordered, leftmost_next}
@@ -38,5 +38,5 @@ returns-clause-ordered g c =
     let all : length (map view c.args.self.now.children) ≤ length o.0 = omega (arith, length-map c.args.self.now.children view, i.kept, o.1, c.loop-at-test.false) in (
       o.0,
       all_ordered g.S.Child.Child.may_obey c.args.order (map view c.args.self.now.children) o.0 (map view c.loop-at.self.children) all o.3,
-      subst (λ a. Answers a c.result_of.result) o.2 c.result_of.ensures,
+      subst (λ a. OrderAnswers a c.result_of.result) o.2 c.result_of.ensures,
     )

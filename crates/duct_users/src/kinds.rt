@@ -1,8 +1,4 @@
-//! A caller of duct: expressions of every kind, built by its public calls alone.
-#![tactic(auto)]
-
-pub mod hello;
-
+//! Expressions of every kind, built by public calls alone.
 use duct::{
     CommandSpec, Error, Expression, Fault, Hook, HookBox, IntoExecutablePath, Pool, Port, System,
     cmd,
@@ -120,34 +116,4 @@ pub fn echoed<S: System>(rt: &impl Wait, alloc: Global, system: &mut S) -> Resul
     let hooked = echo.before_spawn(hook, Vec::new(alloc))?;
     let mut pool = Pool::new(alloc);
     hooked.read(rt, system, &mut pool)
-}
-
-#[cfg(test)]
-mod tests {
-    use super::*;
-    use crate::hello::hello;
-    use duct_host::host::Host;
-
-    #[test]
-    fn a_hook_in_a_box(rt: HostRuntime) -> Result<(), Error> {
-        let text = shown(rt.alloc())?;
-        assert_eq!(rt; text.as_str(), "Io(BeforeSpawn(<closure>), Cmd([\"a\"]))");
-        Ok(())
-    }
-
-    #[test]
-    fn a_boxed_hook_adds_an_argument(rt: HostRuntime) -> Result<(), Error> {
-        let mut host = Host::new(&rt, rt.alloc());
-        let text = echoed(&rt, rt.alloc(), &mut host)?;
-        assert_eq!(rt; text.as_str(), "foo bar");
-        Ok(())
-    }
-
-    #[test]
-    fn hello_ends_well(rt: HostRuntime) -> Result<(), Error> {
-        let mut host = Host::new(&rt, rt.alloc());
-        let answer = hello(rt.alloc(), &mut host)?;
-        assert!(rt; answer.is_some_and(|output| output.status.success()));
-        Ok(())
-    }
 }

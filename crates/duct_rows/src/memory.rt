@@ -1,0 +1,41 @@
+//! What comes of a call while requests for memory may be refused.
+use duct::{Error, Kind};
+
+/// What came of a call.
+#[derive(Clone, Copy, Debug, PartialEq, Eq)]
+pub enum Came {
+    /// As with ample memory.
+    Whole,
+    /// Memory was refused, by its name, and nothing was lost.
+    Refused,
+    Wrong,
+}
+
+impl Came {
+    /// What came of a call, where there was memory for what it needs.
+    pub fn of(made: Result<Came, Error>) -> Came {
+        match made {
+            Ok(came) => came,
+            Err(error) => Came::refused_if(is_memory(&error)),
+        }
+    }
+
+    /// As with ample memory, if what was found is right.
+    pub fn whole_if(right: bool) -> Came {
+        if right { Came::Whole } else { Came::Wrong }
+    }
+
+    /// A refusal, if what it left is right.
+    pub fn refused_if(right: bool) -> Came {
+        if right { Came::Refused } else { Came::Wrong }
+    }
+}
+
+/// Whether an error is want of memory: of the library, of the system, or of a hook.
+pub fn is_memory(error: &Error) -> bool {
+    match error {
+        Error::Memory => true,
+        Error::System(fault) | Error::Hook(fault) => fault.kind == Kind::OutOfMemory,
+        Error::Checked(_) | Error::NotUtf8 | Error::HookEnd(_) | Error::Deadline => false,
+    }
+}
