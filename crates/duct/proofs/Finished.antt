@@ -5,7 +5,7 @@ use Rattle.std.proofs.lemmas.List.Elements.{All-cons, All-nil, All-head, All-tai
 use Rattle.std.specs.List.{All}
 use Rattle.std.specs.Prelude.{map, IfOk, IfErr, Ok, Err}
 use Rattle.std.specs.declared.result.Result.{Result}
-use Rattle.duct_base.specs.Pool.{PoolView, Takes}
+use Rattle.duct_base.specs.Pool.{PoolView, IsGiven}
 use Rattle.duct_system.specs.Child.{Answer, ChildView, IsUnasked}
 use Rattle.duct_system.specs.EntryView.{EntryView}
 use Rattle.duct_system.specs.Job.{JobView}
@@ -65,9 +65,9 @@ module _ {E H C F D V W : Type 0} (child : C → ChildView) (feed : F → JobVie
       (before mid after : PoolView C)
       → Leaves may [] (pool_view child before) (pool_view child mid)
       → Stays child feed drain running waited
-      → (mid.given + length waited.children < 2 ^ 63 → Takes may child waited.children mid after)
+      → IsGiven may child waited.children mid after
       → PoolHasRoom added before → LeavesGiven may child added before after
-  given_after may waited before mid after swept stays takes fits =
+  given_after may waited before mid after swept stays given fits =
       let numbers : map (λ c. c.number) (map child waited.children) ≡ children_in added =
       ap (λ n. n.children) stays.numbers_are ∙ numbers_seen child running.children ∙ runs.children_are in
       let many : length waited.children ≡ length (children_in added) =
@@ -76,7 +76,7 @@ module _ {E H C F D V W : Type 0} (child : C → ChildView) (feed : F → JobVie
         map child waited.children,
         numbers,
         still_unordered child running.children waited.children stays.orders_are runs.unasked,
-        leaves_on may (map child waited.children) (pool_view child before) (pool_view child mid) (pool_view child after) swept (leaves_taken may child waited.children mid after (takes low)),
+        leaves_on may (map child waited.children) (pool_view child before) (pool_view child mid) (pool_view child after) swept (leaves_taken may child waited.children mid after (given.takes low)),
       )
 
 -- what holds of an answer is kept by what follows from it

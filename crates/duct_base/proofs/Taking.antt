@@ -1,9 +1,9 @@
 -- Children that are given to a pool one after the other.
-use Rattle.std.proofs.Common.{ℕ, zero, suc, ◌+◌, ◌^◌, ◌<◌, ◌≤◌, List, [], ◌∷◌, ◌++◌, length, refl, ap, sym, ◌∙◌, arith, append_assoc, length-append}
+use Rattle.std.proofs.Common.{ℕ, zero, suc, ◌≡◌, ◌+◌, ◌^◌, ◌<◌, ◌≤◌, List, [], ◌∷◌, ◌++◌, length, refl, ap, sym, ◌∙◌, arith, append_assoc, length-append}
 use Rattle.std.proofs.lemmas.List.{append-nil}
 use Rattle.std.specs.Prelude.{Ok, None}
 use Rattle.duct_system.specs.Child.{Answer, ChildView, PollsChild}
-use Rattle.duct_base.specs.Pool.{PoolView, Takes, counted}
+use Rattle.duct_base.specs.Pool.{PoolView, Takes, IsGiven, counted}
 use Rattle.duct_base.proofs.Sieving.{counted_more, sieves-append}
 
 counted_low : (count more : ℕ) → counted count more ≤ count + more
@@ -41,12 +41,20 @@ module _ {C : Type 0} (may : ℕ → Answer → Type 0) (view : C → ChildView)
     lost_is = second.lost_is ∙ ap (λ (n : ℕ). counted n second.lost) first.lost_is ∙ counted_more before.lost first.lost second.lost;
   }
 
-  -- one child more, where all that are to be given fit
-  pub takes_next : (taken : List C) (child : C) (many : ℕ) (before mid after : PoolView C)
-      → before.given + many < 2 ^ 63 → length taken + 1 ≤ many
-      → Takes may view taken before mid
-      → (mid.given + 1 < 2 ^ 63 → Takes may view (child ∷ []) mid after)
-      → Takes may view (taken ++ child ∷ []) before after
-  takes_next taken child many before mid after fits less first one =
-      let low : mid.given + 1 < 2 ^ 63 = omega (arith, fits, less, first.given_is, counted_low before.given (length taken)) in
-      takes_append taken (child ∷ []) before mid after first (one low)
+  -- no child was given, and one more
+  pub given_none : (pool : PoolView C) → IsGiven may view [] pool pool
+  given_none pool = record { counts = refl; takes = λ fits. takes_none pool }
+
+  pub given_next : (taken : List C) (child : C) (before mid after : PoolView C)
+      → IsGiven may view taken before mid → IsGiven may view (child ∷ []) mid after
+      → IsGiven may view (taken ++ child ∷ []) before after
+  given_next taken child before mid after first one =
+      let many : length (taken ++ child ∷ []) ≡ length taken + 1 = length-append taken (child ∷ []) in
+      record {
+        counts = one.counts ∙ ap (λ (n : ℕ). counted n 1) first.counts ∙ counted_more before.given (length taken) 1
+            ∙ ap (λ (n : ℕ). counted before.given n) (sym many);
+        takes = λ fits.
+            let few : before.given + length taken < 2 ^ 63 = omega (arith, fits, many) in
+            let low : mid.given + 1 < 2 ^ 63 = omega (arith, fits, many, first.counts, counted_low before.given (length taken)) in
+            takes_append taken (child ∷ []) before mid after (first.takes few) (one.takes low);
+      }

@@ -1,7 +1,7 @@
 //! Children that a start or a handle gave up while they ran, kept so that they can be asked for their endings.
 ghost use Rattle.std.specs.Prelude.{◌≡◌, ◌+◌, ◌<◌, ◌^◌, ◌∷◌, ◌++◌, [], length, Some, None};
 ghost use Rattle.duct_system.specs.Child.{one_more};
-ghost use Rattle.duct_base.specs.Pool.{Sweeps, IsSwept, Takes};
+ghost use Rattle.duct_base.specs.Pool.{AddsUp, Sweeps, IsSwept, IsGiven};
 
 use duct_system::system::{Child, ExitStatus, Fault, Numbered};
 use std::alloc::{AllocError, Global};
@@ -136,9 +136,11 @@ impl<C: Drop> Pool<C> {
         }
     }
 
-    /// How many children it keeps.
+    /// How many children it keeps. What it was given are these, those that were found ended, and those that were let go, as long
+    /// as they can be counted.
     pub fn len(&self) -> usize
-        ensures { result ≡ length self.now.children }
+        ensures length { result ≡ length self.now.children }
+        ensures adds_up { AddsUp self.now }
     {
         self.seats.len()
     }
@@ -166,7 +168,8 @@ impl<C: Drop> Pool<C> {
 
     // Keeps a child that runs, behind the others. With 2 ^ 63 seats there is no room: the child is then let go.
     fn keep(&mut self, child: C, seat: Seat<C>)
-        ensures { length self.old.children + 1 < 2 ^ 63 → self.new ≡ record self.old {
+        ensures counts { self.new.given ≡ one_more self.old.given }
+        ensures keeps { length self.old.children + 1 < 2 ^ 63 → self.new ≡ record self.old {
           children = self.old.children ++ child ∷ [];
           given = one_more self.old.given;
         } }
@@ -242,8 +245,7 @@ impl<C: Child> Pool<C> {
 /// Gives a child to a pool. It is asked once: one that runs goes behind the others, one that ended counts as reaped, and one
 /// that answered a fault as lost. It takes no memory. For a start and a handle alone.
 pub fn pool_take<C: Child>(pool: &mut Pool<C>, place: Place<C>)
-    ensures { pool.old.given + 1 < 2 ^ 63
-        → Takes C.may_answer C.child_view (place ∷ []) pool.old pool.new }
+    ensures { IsGiven C.may_answer C.child_view (place ∷ []) pool.old pool.new }
 {
     let _ = &pool.seats;
     let Place { mut child, seat } = place;

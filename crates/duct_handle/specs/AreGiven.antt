@@ -1,10 +1,10 @@
 -- The children that a handle gives to a pool where it answers no output.
-use Rattle.std.specs.Prelude.{ℕ, ◌≡◌, ◌⊎◌, ◌<◌, ◌+◌, ◌^◌, List, length, map}
+use Rattle.std.specs.Prelude.{ℕ, ◌≡◌, ◌⊎◌, List, map}
 use Rattle.duct_system.specs.Child.{Answer, ChildView}
 use Rattle.duct_system.specs.declared.error.Error.{Error}
 use Rattle.duct_system.specs.declared.error.Error.TheVariants as error
 use Rattle.duct_system.specs.declared.system.Kind.TheVariants.{Other}
-use Rattle.duct_base.specs.Pool.{PoolView, Takes}
+use Rattle.duct_base.specs.Pool.{PoolView, IsGiven}
 use Rattle.duct_running.specs.NumbersView.{NumbersView}
 
 -- the pool takes children of these numbers, or those of what differs from them, which no start brings about
@@ -14,5 +14,4 @@ AreGiven {C} may_answer child_view numbers e before after =
     (children : List C)
     × ((map (λ c. c.number) (map child_view children) ≡ numbers.children)
     ⊎ (e ≡ error.System (record { kind = Other })))
-    × (before.given + length children < 2 ^ 63
-    → Takes may_answer child_view children before after)
+    × IsGiven may_answer child_view children before after

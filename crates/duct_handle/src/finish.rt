@@ -1,6 +1,6 @@
 //! A start that nobody shares is waited for without a lock, as a handle waits, and answers its output or its error.
-ghost use Rattle.std.specs.Prelude.{◌≡◌, ◌<◌, ◌+◌, ◌^◌, length, IfErr, IfOk, OnErr, OnOk, Err};
-ghost use Rattle.duct_base.specs.Pool.{Takes};
+ghost use Rattle.std.specs.Prelude.{◌≡◌, IfErr, IfOk, OnErr, OnOk, Err};
+ghost use Rattle.duct_base.specs.Pool.{IsGiven};
 ghost use Rattle.duct_start.specs.Running.{RunningView};
 ghost use Rattle.duct_status.specs.ReplyView.{answered};
 ghost use Rattle.duct_status.specs.ShapeView.{shape_view};
@@ -72,8 +72,7 @@ pub fn finish<S: System>(
     ensures kept { OnOk result (pool.new ≡ pool.old) }
     ensures given { OnErr result ((waited : RunningView S.Child S.Feed S.Drain)
         × Stays S.Child.child_view S.Feed.job_view S.Drain.job_view running waited
-        × (pool.old.given + length waited.children < 2 ^ 63
-        → Takes S.Child.may_answer S.Child.child_view waited.children pool.old pool.new)) }
+        × IsGiven S.Child.may_answer S.Child.child_view waited.children pool.old pool.new) }
 {
     let waited = wait_for(rt, &mut running);
     settled(alloc, running, waited, pool)

@@ -1,7 +1,7 @@
 //! The output itself, where no thread shares the handle any more.
-ghost use Rattle.std.specs.Prelude.{◌≡◌, ◌⊎◌, ◌<◌, ◌+◌, ◌^◌, length, OnErr, OnOk, IfOk, IfErr, IsOkAnd, IsOkUnless, Err};
+ghost use Rattle.std.specs.Prelude.{◌≡◌, ◌⊎◌, OnErr, OnOk, IfOk, IfErr, IsOkAnd, IsOkUnless, Err};
 ghost use Rattle.std.specs.Arc.{arc_value};
-ghost use Rattle.duct_base.specs.Pool.{Takes};
+ghost use Rattle.duct_base.specs.Pool.{IsGiven};
 ghost use Rattle.duct_status.specs.ShapeView.{shape_view};
 ghost use Rattle.duct_running.specs.Answered.{IsAnswer, WasConcluded};
 ghost use Rattle.duct_running.specs.Polled.{IsOutput};
@@ -60,8 +60,8 @@ pub(crate) fn settled<S: System>(
         (arc_value output).stdout.items (arc_value output).stderr.items own)) }
     ensures err { IfErr result (λ e. (waited ≡ Err e) ⊎ (e ≡ Error.Memory)) }
     ensures kept { OnOk result (pool.new ≡ pool.old) }
-    ensures given { OnErr result (pool.old.given + length running.children < 2 ^ 63
-        → Takes S.Child.may_answer S.Child.child_view running.children pool.old pool.new) }
+    ensures given { OnErr result (IsGiven S.Child.may_answer S.Child.child_view running.children
+        pool.old pool.new) }
 {
     let output = match waited {
         Ok(output) => output,

@@ -1,6 +1,6 @@
 //! How a handle is made of what runs, and how it is given up.
-ghost use Rattle.std.specs.Prelude.{◌≡◌, ◌≤◌, ◌<◌, ◌+◌, ◌^◌, List, [], length, vec_capacity, IfOk, IsOkUnless, None};
-ghost use Rattle.duct_base.specs.Pool.{Takes};
+ghost use Rattle.std.specs.Prelude.{◌≡◌, ◌≤◌, List, [], length, vec_capacity, IfOk, IsOkUnless, None};
+ghost use Rattle.duct_base.specs.Pool.{IsGiven};
 ghost use Rattle.duct_status.specs.ShapeView.{command_count, input_count, shape_view};
 ghost use Rattle.duct_running.specs.NumbersView.{HaveRoom, numbers_in, numbers_view};
 
@@ -130,8 +130,8 @@ pub(crate) fn released<S: System>(handle: Handle<S>) -> (Running<S>, Shape, Numb
 impl<S: System> Handle<S> {
     /// Gives the children that stand in the lock to a pool, as `Running::give_up` does. No other thread holds the handle then.
     pub fn give_up(self, pool: &mut Pool<S::Child>)
-        ensures { (children : List S.Child) × (pool.old.given + length children < 2 ^ 63
-            → Takes S.Child.may_answer S.Child.child_view children pool.old pool.new) }
+        ensures { (children : List S.Child)
+            × IsGiven S.Child.may_answer S.Child.child_view children pool.old pool.new }
     {
         let (running, shape, numbers) = released(self);
         drop((shape, numbers));

@@ -1,6 +1,6 @@
 //! The text of all that a start writes to its pipe, without a lock.
-ghost use Rattle.std.specs.Prelude.{◌≡◌, ◌<◌, ◌+◌, ◌^◌, length, OnErr, OnOk};
-ghost use Rattle.duct_base.specs.Pool.{Takes};
+ghost use Rattle.std.specs.Prelude.{◌≡◌, OnErr, OnOk};
+ghost use Rattle.duct_base.specs.Pool.{IsGiven};
 ghost use Rattle.duct_start.specs.Running.{RunningView};
 ghost use Rattle.duct_status.specs.ShapeView.{shape_view};
 ghost use Rattle.duct_running.specs.NumbersView.{numbers_in};
@@ -59,8 +59,7 @@ pub fn read_text<S: System>(
     ensures kept { OnOk result (pool.new ≡ pool.old) }
     ensures given { OnErr result ((waited : RunningView S.Child S.Feed S.Drain)
         × Stays S.Child.child_view S.Feed.job_view S.Drain.job_view running waited
-        × (pool.old.given + length waited.children < 2 ^ 63
-        → Takes S.Child.may_answer S.Child.child_view waited.children pool.old pool.new)) }
+        × IsGiven S.Child.may_answer S.Child.child_view waited.children pool.old pool.new) }
 {
     let text = read_all(alloc, rt, &mut running, reader);
     if text.is_ok() {

@@ -1,6 +1,6 @@
 //! The handle of an expression whose stdout is read from a pipe while it runs.
-ghost use Rattle.std.specs.Prelude.{◌≡◌, ◌<◌, ◌≤◌, ◌+◌, ◌^◌, List, length, IfOk, IfErr, OnOk, Ok, None};
-ghost use Rattle.duct_base.specs.Pool.{Takes};
+ghost use Rattle.std.specs.Prelude.{◌≡◌, ◌<◌, ◌≤◌, List, length, IfOk, IfErr, OnOk, Ok, None};
+ghost use Rattle.duct_base.specs.Pool.{IsGiven};
 ghost use Rattle.duct_system.specs.declared.error.Error.TheVariants as error;
 ghost use Rattle.duct_system.specs.declared.system.Fault.{Fault};
 ghost use Rattle.duct_system.specs.declared.system.Order.TheVariants.{Kill};
@@ -133,8 +133,8 @@ impl<S: System, R: Wait> ReaderHandle<S, R> {
 impl<S: System, R: Drop> ReaderHandle<S, R> {
     /// Gives the children to a pool, as `Handle::give_up` does, and closes the pipe. No other thread holds the handle then.
     pub fn give_up(self, pool: &mut Pool<S::Child>)
-        ensures { (children : List S.Child) × (pool.old.given + length children < 2 ^ 63
-            → Takes S.Child.may_answer S.Child.child_view children pool.old pool.new) }
+        ensures { (children : List S.Child)
+            × IsGiven S.Child.may_answer S.Child.child_view children pool.old pool.new }
     {
         let ReaderHandle { rt, handle, pipe } = self;
         drop((rt, pipe));

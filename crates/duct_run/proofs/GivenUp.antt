@@ -1,6 +1,6 @@
 -- A run that was refused, and then gave up what it held, is a start that is refused, and leaves its children to the pool.
 use Rattle.std.proofs.Common.{◌≡◌, ℕ, ◌+◌, ◌*◌, ◌^◌, ◌<◌, ◌≤◌, List, [], length}
-use Rattle.duct_base.specs.Pool.{PoolView, Takes}
+use Rattle.duct_base.specs.Pool.{PoolView, IsGiven}
 use Rattle.duct_system.specs.Child.{Answer, ChildView}
 use Rattle.duct_system.specs.Job.{JobView}
 use Rattle.duct_system.specs.Journal.{JournalView}
@@ -38,10 +38,9 @@ module _ {E H C F D V W : Type 0} (allows : Allows H) (refuses : Refuses H) (num
     pub left_started : (may : ℕ → Answer → Type 0) (before mid after : PoolView C)
         → AreNew child feed drain held
         → Leaves may [] (pool_view child before) (pool_view child mid)
-        → (mid.given + length held.children.items < 2 ^ 63
-        → Takes may child held.children.items mid after)
+        → IsGiven may child held.children.items mid after
         → before.given + length (children_in (segment course.old.entries then.entries)) < 2 ^ 63
         → LeavesStarted may child (segment course.old.entries then.entries) before after
-    left_started may before mid after new swept takes fits =
-        leaves_refused may child held.children.items (segment course.old.entries then.entries) before mid after swept takes
+    left_started may before mid after new swept given fits =
+        leaves_refused may child held.children.items (segment course.old.entries then.entries) before mid after swept given
         (refused_children allows refuses number_of course items now then (held_view number_of child feed drain held) error run closes) new.children fits

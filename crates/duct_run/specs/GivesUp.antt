@@ -1,6 +1,6 @@
 -- A run that was refused, and gave up what it held.
-use Rattle.std.specs.Prelude.{ℕ, ◌+◌, ◌^◌, ◌<◌, List, [], length}
-use Rattle.duct_base.specs.Pool.{PoolView, Takes}
+use Rattle.std.specs.Prelude.{ℕ, List, []}
+use Rattle.duct_base.specs.Pool.{PoolView, IsGiven}
 use Rattle.duct_system.specs.Child.{Answer, ChildView}
 use Rattle.duct_system.specs.Job.{JobView}
 use Rattle.duct_system.specs.Journal.{JournalView}
@@ -27,5 +27,4 @@ pub record GivesUp {E H C F D V W : Type 0} (allows : Allows H) (refuses : Refus
   pub new : AreNew child feed drain held
   pub closes : Closes (held_ends end held) stopped next
   pub leaves : Leaves may [] (pool_view child before) (pool_view child swept)
-  pub takes : swept.given + length held.children.items < 2 ^ 63
-      → Takes may child held.children.items swept after
+  pub given : IsGiven may child held.children.items swept after

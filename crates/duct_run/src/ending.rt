@@ -1,7 +1,7 @@
 //! What is done once a run has ended: the ends that it holds are closed, and its children are given to a pool.
-ghost use Rattle.std.specs.Prelude.{◌≡◌, ◌<◌, ◌≤◌, ◌+◌, ◌^◌, [], length};
+ghost use Rattle.std.specs.Prelude.{◌≡◌, ◌≤◌, [], length};
 ghost use Rattle.std.specs.Option.{option_map};
-ghost use Rattle.duct_base.specs.Pool.{Takes};
+ghost use Rattle.duct_base.specs.Pool.{IsGiven};
 ghost use Rattle.duct_start.specs.Closes.{Closes};
 ghost use Rattle.duct_start.specs.Holdings.{pair_of};
 ghost use Rattle.duct_run.specs.HeldEnds.{held_ends};
@@ -55,8 +55,7 @@ pub(crate) fn close_all<S: System, C, F, D>(sys: &mut S, held: &mut Held<S::End,
 /// Gives these children to a pool, in order. Each is asked once: one that runs goes behind the others, one that ended counts
 /// as reaped, and one that answered a fault as lost. It takes no memory.
 pub fn give_all<C: Child>(pool: &mut Pool<C>, children: Vec<Place<C>>)
-    ensures { pool.old.given + length children.items < 2 ^ 63
-        → Takes C.may_answer C.child_view children.items pool.old pool.new }
+    ensures { IsGiven C.may_answer C.child_view children.items pool.old pool.new }
 {
     for child in children {
         pool_take(pool, child);
@@ -72,8 +71,8 @@ pub(crate) fn give_up<S: System>(
     requires room { length (held_ends S.End.number_of held) ≤ (S.journal_view sys.old).room }
     ensures closes { Closes (held_ends S.End.number_of held) (S.journal_view sys.old)
         (S.journal_view sys.new) }
-    ensures given { pool.old.given + length held.children.items < 2 ^ 63
-        → Takes S.Child.may_answer S.Child.child_view held.children.items pool.old pool.new }
+    ensures given { IsGiven S.Child.may_answer S.Child.child_view held.children.items
+        pool.old pool.new }
 {
     close_all(sys, &mut held);
     give_all(pool, held.children);

@@ -1,7 +1,6 @@
-//! Journals in words, so that a test can compare a whole one with a text.
+//! Entries of a journal in words, so that a test can compare a whole one with a text.
 
 use duct_base::system::{Entry, Fault, Stdio};
-use std::alloc::{AllocError, Global};
 use std::fmt;
 
 /// An entry in words: the request, then its answer, which is `ok` with what was answered, or the kind of the fault.
@@ -99,13 +98,4 @@ impl fmt::Display for Stream {
             Stdio::End(number) => write!(f, "end {number}"),
         }
     }
-}
-
-/// The entries in words, one a line.
-pub fn journal_in_words(alloc: Global, entries: &[Entry]) -> Result<String, AllocError> {
-    let mut text = String::new(alloc);
-    for entry in entries {
-        writeln!(text, "{}", Words(entry))?;
-    }
-    Ok(text)
 }

@@ -5,7 +5,7 @@ use Rattle.std.specs.List.{All}
 use Rattle.std.proofs.lemmas.List.Elements.{All-cons, All-nil, All-head, All-tail}
 use Rattle.std.specs.Prelude.{map, Ok, Err, Some, None}
 use Rattle.duct_base.proofs.Sieving.{counted_more}
-use Rattle.duct_base.specs.Pool.{PoolView, AsksAll, IsSwept, Sieves, Takes, counted}
+use Rattle.duct_base.specs.Pool.{PoolView, AsksAll, IsSwept, IsGiven, Sieves, Takes, counted}
 use Rattle.duct_system.specs.Child.{Answer, ChildView, PollsChild, IsUnasked}
 use Rattle.duct_system.specs.EntryView.{EntryView}
 use Rattle.duct_system.specs.Started.{children_in}
@@ -202,12 +202,12 @@ module _ (may : ℕ → Answer → Type 0) where
     pub leaves_refused : (children : List C) (added : List EntryView)
         (before mid after : PoolView C)
         → Leaves may [] (pool_view view before) (pool_view view mid)
-        → (mid.given + length children < 2 ^ 63 → Takes may view children mid after)
+        → IsGiven may view children mid after
         → map (λ c. (view c).number) children ≡ children_in added
         → All (λ c. IsUnasked (view c)) children
         → before.given + length (children_in added) < 2 ^ 63
         → LeavesStarted may view added before after
-    leaves_refused children added before mid after swept takes numbers unasked fits =
+    leaves_refused children added before mid after swept given numbers unasked fits =
         let many : length children ≡ length (children_in added) = sym (length-map children (λ c. (view c).number)) ∙ ap (λ (l : List ℕ). length l) numbers in
         let low : mid.given + length children < 2 ^ 63 = omega (arith, fits, many, swept.given_is) in
-        leaves_started children added before mid after swept (takes low) numbers unasked
+        leaves_started children added before mid after swept (given.takes low) numbers unasked

@@ -1,6 +1,6 @@
 //! The orders to the commands of an expression that runs, and how it is given up.
-ghost use Rattle.std.specs.Prelude.{◌≡◌, ◌<◌, ◌+◌, ◌^◌, length, map};
-ghost use Rattle.duct_base.specs.Pool.{Takes};
+ghost use Rattle.std.specs.Prelude.{◌≡◌, ◌<◌, length, map};
+ghost use Rattle.duct_base.specs.Pool.{IsGiven};
 ghost use Rattle.duct_system.specs.Child.{OrdersChild};
 ghost use Rattle.duct_system.specs.declared.system.Order.TheVariants.{Kill, Signal};
 ghost use Rattle.duct_running.specs.Ordered.{OrderAnswers, OrderedIfDue, IsOrdered};
@@ -62,8 +62,7 @@ impl<S: System> Running<S> {
     /// Gives the children to a pool, from left to right. Each is asked once: one that runs goes behind the pool's others, one
     /// that ended counts as reaped, and one that answered a fault as lost. The workers are let go. It takes no memory.
     pub fn give_up(self, pool: &mut Pool<S::Child>)
-        ensures { pool.old.given + length self.children < 2 ^ 63
-            → Takes S.Child.may_answer S.Child.child_view self.children pool.old pool.new }
+        ensures { IsGiven S.Child.may_answer S.Child.child_view self.children pool.old pool.new }
     {
         let (children, feeds, drains) = self.into_parts();
         drop((feeds, drains));

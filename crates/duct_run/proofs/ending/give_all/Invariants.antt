@@ -1,13 +1,12 @@
 -- The children that were given so far, and those that are left, are all.
-use Rattle.std.proofs.Common.{◌≡◌, ◌++◌, ◌<◌, ◌+◌, ◌^◌, length}
+use Rattle.std.proofs.Common.{◌≡◌, ◌++◌, length}
 use Rattle.std.specs.Vec.Iter.{into_iter_items, into_iter_len}
-use Rattle.duct_base.specs.Pool.{Takes}
+use Rattle.duct_base.specs.Pool.{IsGiven}
 use Rattle.duct_run.proofs.ending.give_all.Given as goal
 
 abbrev pub invariant-loop-child : goal.invariant-loop-child
 invariant-loop-child g l = record {
-  takes : l.fn.pool.given + length l.fn.children.items < 2 ^ 63
-      → Takes g.C.Child.may_answer g.C.Child.child_view l.yielded l.fn.pool l.pool;
+  given : IsGiven g.C.Child.may_answer g.C.Child.child_view l.yielded l.fn.pool l.pool;
   whole : l.fn.children.items ≡ l.yielded ++ into_iter_items l.child-iterator;
   many : into_iter_len l.child-iterator ≡ length (into_iter_items l.child-iterator);
 }

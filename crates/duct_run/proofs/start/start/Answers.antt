@@ -17,5 +17,5 @@ returns-in-Err-clause-err g c = record {
   new = c.in-Err.ensures.new c.requires.new;
   closes = c.give_up.ensures.closes;
   leaves = c.in-Err.ensures.pool;
-  takes = c.give_up.ensures.given;
+  given = c.give_up.ensures.given;
 }

@@ -133,7 +133,7 @@ returns-in_err-kept-clause-pool_given g c =
     let e = c.in_err-kept.ensures.err in
     let refused = refused_launched allows num (around stdout_capture tree) acts same drained_and_read g.H.Hook.refuses old e.stopped (held_view num child feed drain e.held) c.in_err-kept.field-0.0 e.refused in
     on_err c.from_residual-in_err-kept.result (λ fits. left_started allows g.H.Hook.refuses num child feed drain _ _ e.stopped e.held _ refused (g.S.System.journal_view c.start_reader.new.sys) e.closes
-    g.S.Child.Child.may_answer c.args.pool.now e.swept c.start_reader.new.pool e.new e.leaves e.takes fits)
+    g.S.Child.Child.may_answer c.args.pool.now e.swept c.start_reader.new.pool e.new e.leaves e.given fits)
 
 pub running-requires-clause-silent : goal.running-requires-clause-silent
 running-requires-clause-silent g c =
