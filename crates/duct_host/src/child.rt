@@ -139,27 +139,11 @@ impl<R: Processes + Drop> system::Child for Child<R> {
     }
 
     fn kill(&mut self) -> Result<(), Fault> {
-        if self.orders.reserve(1).is_err() {
-            return Err(no_memory());
-        }
-        let answer = kill_process(&mut self.started);
-        self.orders.push_reserved((Order::Kill, answer));
-        answer
+        self.order(Order::Kill)
     }
 
     fn signal(&mut self, signal: i32) -> Result<(), Fault> {
-        if self.orders.reserve(1).is_err() {
-            return Err(no_memory());
-        }
-        let answer = if !is_served(signal) {
-            Err(Fault::new(Kind::InvalidInput))
-        } else if signal == KILL {
-            kill_process(&mut self.started)
-        } else {
-            self.send(signal)
-        };
-        self.orders.push_reserved((Order::Signal(signal), answer));
-        answer
+        self.order(Order::Signal(signal))
     }
 
     fn id(&self) -> u32 {
@@ -170,6 +154,27 @@ impl<R: Processes + Drop> system::Child for Child<R> {
 }
 
 impl<R: Processes> Child<R> {
+    ghost use Rattle.duct_system.specs.Child.{OrdersChild};
+    ghost use Rattle.duct_host.specs.ChildView.{child_view};
+    ghost use Rattle.duct_host.specs.Signals.{ObeysIfServed};
+
+    /// Gives the child an order, and notes it with its answer. Where there is no memory for that, nobody is asked.
+    fn order(&mut self, order: Order) -> Result<(), Fault>
+        ensures { OrdersChild (λ _ order answer. ObeysIfServed order answer) order
+            (child_view self.old) result (child_view self.new) }
+    {
+        if self.orders.reserve(1).is_err() {
+            return Err(no_memory());
+        }
+        let answer = match order {
+            Order::Signal(signal) if !is_served(signal) => Err(Fault::new(Kind::InvalidInput)),
+            Order::Kill | Order::Signal(KILL) => kill_process(&mut self.started),
+            Order::Signal(signal) => self.send(signal),
+        };
+        self.orders.push_reserved((order, answer));
+        answer
+    }
+
     /// Sends the child a signal. One that has been seen to end is sent nothing, and the answer is `Ok`, as for a kill. One whose last
     /// poll was a fault is sent nothing either, since its id may be another process's: `Other`.
     fn send(&self, signal: i32) -> Result<(), Fault>

@@ -1,5 +1,4 @@
-use Rattle.std.proofs.Common.{rules}
 use Rattle.duct_host.proofs.child.ChildChild.kill.Goals as goal
 
 pub returns : goal.returns
-returns g c = search rules
+returns g c = c.order.ensures

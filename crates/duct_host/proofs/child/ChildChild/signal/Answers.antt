@@ -1,0 +1,4 @@
+use Rattle.duct_host.proofs.child.ChildChild.signal.Goals as goal
+
+pub returns : goal.returns
+returns g c = c.order.ensures
