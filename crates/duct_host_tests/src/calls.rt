@@ -90,7 +90,8 @@ fn the_environment_is_the_parents(rt: HostRuntime) -> Result<(), Fail> {
 
 /// A pipe carries what a child writes, and a duplicate writes to the same pipe; a file is emptied, written and read; a canonical
 /// name follows links; numbers go on after the journal is emptied; a worker writes and
-/// another reads to the end, a pipe that nobody reads ends a writer well, and an end that can't be written or read is a fault.
+/// another reads to the end, a pipe that nobody reads ends a writer well, and an end that can't be written or read is a fault; a folder is
+/// opened, and its read is the fault; a new file may be read and written by whom a shell's may be.
 #[test]
 fn requests(rt: HostRuntime) -> Result<(), Fail> {
     rows(
@@ -155,12 +156,23 @@ fn requests(rt: HostRuntime) -> Result<(), Fail> {
         pipe
         unread 2
         says (1, 2); Some(Other);
+
+        open_read /
+        unread 1
+        says 1; Some(Other);
+
+        create {place}file
+        spawn null 1 null (/bin/sh,-c,echo > {place}other && [ $(stat -c %a {place}file) = $(stat -c %a {place}other) ])
+        ending
+        remove {place}file
+        remove {place}other
+        says 1; 2; Code(0);
         "#,
     )
 }
 
 /// The parent's streams are given to a child; a child inherits streams or has none, and each stream is its own; it has the folder
-/// and the variables of its spec; it reads an end.
+/// and the variables of its spec, and its words as they are, the program's name first; it reads an end.
 #[test]
 fn streams_and_specs(rt: HostRuntime) -> Result<(), Fail> {
     rows(
@@ -201,6 +213,12 @@ fn streams_and_specs(rt: HostRuntime) -> Result<(), Fail> {
         read 4
         ending
         says (1, 2); 3; "A=1\nB=x=y\nC=\n"; Code(0); (4, 5); 6; "/proc\n"; Code(0);
+
+        pipe
+        spawn null 2 inherit (/bin/cat,/proc/self/cmdline)
+        read 1
+        ending
+        says (1, 2); 3; "/bin/cat\0/proc/self/cmdline\0"; Code(0);
 
         pipe
         spawn 1 null inherit (/bin/cat)

@@ -52,6 +52,9 @@ fn refused_spawns(rt: HostRuntime) -> Result<(), Fail> {
         journal
         says (1, 2); InvalidInput; Pipe Ok((1, 2)); Spawn [End(1), End(2), Null] Err(Fault { kind: InvalidInput });
 
+        spawn null null null (/dev/null/program)
+        says Other;
+
         folder /no-such-folder
         pipe
         spawn 1 2 null (/bin/true)
@@ -76,7 +79,10 @@ fn refused_paths(rt: HostRuntime) -> Result<(), Fail> {
 
         create /
         open_read a{nul}b
-        says Other; InvalidInput;
+        open_read /dev/null/file
+        create /dev/null/file
+        canonicalize /dev/null/file
+        says Other; InvalidInput; Other; Other; Other;
 
         make_folder {place}folder
         mode {place}folder r-x------

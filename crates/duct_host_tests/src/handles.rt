@@ -1,9 +1,9 @@
-//! Handles on the real machine: a signal reaches both sides of a pipe, and what has ended unasked is given up.
+//! Handles on the real machine: a signal reaches both sides of a pipe, and what has ended unasked is given up or still takes orders.
 use crate::trees::rows;
 use std::test::Fail;
 
 /// A signal ends both sides of a pipe: the answer is the one that is not unchecked. A handle of children that have ended, which nobody
-/// has asked, is given up, and they are found ended then.
+/// has asked, is given up, and they are found ended then. A kill leaves the ending to a poll, and so do orders to a child that has ended.
 #[test]
 fn signals_and_ends(rt: HostRuntime) -> Result<(), Fail> {
     rows(
@@ -50,6 +50,11 @@ fn signals_and_ends(rt: HostRuntime) -> Result<(), Fail> {
         children
         pool
         says Some(0); Some(0); (0, 1, 1, 0);
+
+        command sleep,1000
+        .unchecked
+        start try, kill, ended, kill, signal 9, signal 15, ids, try
+        says nothing; done; done; done; done; Signal(9);
 
         command sleep,1000
         start signal 10, signal 15, ended

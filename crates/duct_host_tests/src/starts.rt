@@ -51,7 +51,8 @@ fn files_in_and_out(rt: HostRuntime) -> Result<(), Fail> {
     )
 }
 
-/// Of two redirections of a stream the inner one counts, and both files are made. What shares a file writes behind one another.
+/// Of two redirections of a stream the inner one counts, and both files are made. What shares a file writes behind one another, and what
+/// opened it twice writes over one another.
 #[test]
 fn two_redirections(rt: HostRuntime) -> Result<(), Fail> {
     rows(
@@ -73,6 +74,13 @@ fn two_redirections(rt: HostRuntime) -> Result<(), Fail> {
         launch
         file {place}out
         says Code(0); "1\n2\n3\n4\n";
+
+        command /bin/sh,-c,echo one; echo 2 >&2
+        .stdout_path {place}out
+        .stderr_path {place}out
+        launch
+        file {place}out
+        says Code(0); "2\ne\n";
 
         command /bin/sh,-c,echo left >&2; echo go
         command /bin/sh,-c,read word; echo right >&2

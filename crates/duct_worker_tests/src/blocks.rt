@@ -28,7 +28,11 @@ fn fed(alloc: Global, count: usize, script: &str) -> Result<(bool, usize), Fail>
     Ok((answer.is_ok(), sink.taken.len()))
 }
 
-/// A broken pipe ends a feed well after a front of it, and no bytes are no writes.
+/// How many calls the long scripts have, which is more than 16 bits count.
+const CALLS: usize = 70_000;
+
+/// A broken pipe ends a feed well after a front of it, and no bytes are no writes. However many writes it takes, and
+/// however often it is interrupted, it goes on.
 #[test]
 fn long_feeds(rt: HostRuntime) -> Result<(), Fail> {
     let alloc = rt.alloc();
@@ -36,8 +40,18 @@ fn long_feeds(rt: HostRuntime) -> Result<(), Fail> {
         fed(alloc, 1_000_000, "65536 BrokenPipe")?,
         fed(alloc, 1_000_000, "65536 1 65536")?,
         fed(alloc, 0, "Other")?,
+        fed(alloc, CALLS, "1 ".repeat(alloc, CALLS)?.as_str())?,
+        fed(alloc, 3, "Interrupted ".repeat(alloc, CALLS)?.as_str())?,
     );
-    if found == ((true, 65536), (true, 1_000_000), (true, 0)) {
+    if found
+        == (
+            (true, 65536),
+            (true, 1_000_000),
+            (true, 0),
+            (true, CALLS),
+            (true, 3),
+        )
+    {
         return Ok(());
     }
     Err(Fail::new(format_args!("{found:?}")))
@@ -54,7 +68,7 @@ fn drained(alloc: Global, all: &[u8], script: &str) -> Result<(bool, usize), Fau
     Ok((found.as_slice() == all, source.least))
 }
 
-/// However a reader cuts its bytes, a drain gives them all, and each read may give 64 KiB.
+/// However a reader cuts its bytes, and however often it is interrupted, a drain gives them all, and each read may give 64 KiB.
 #[test]
 fn long_drains(rt: HostRuntime) -> Result<(), Fail> {
     let alloc = rt.alloc();
@@ -65,6 +79,8 @@ fn long_drains(rt: HostRuntime) -> Result<(), Fail> {
         "65535 1 65536 3",
         "4096 4096 4096 100000 1 1 1",
         "7 Interrupted 100000",
+        "1 ".repeat(alloc, CALLS)?.as_str(),
+        "Interrupted ".repeat(alloc, CALLS)?.as_str(),
     ] {
         if drained(alloc, all.as_slice(), script)? != (true, 65536) {
             return Err(Fail::new(script));
