@@ -4,55 +4,12 @@
 //! and `a,b input` a command of two words with input. Events are parted by `; `: `0 code 1` and `1 signal 6` are endings of
 //! commands, `1 Other` and `1 running` other words of them, `input 0 done` and `input 0 Other` words of an input worker,
 //! `out xy` the bytes of stdout, `err Other` the fault of stderr, and `conclude` asks.
-use duct_base::error::Error;
 use duct_base::status::{Core, Drains, Event, Reply, Shape, Word};
 use duct_base::system::{ExitStatus, Fault, Kind, Said, Side};
-use std::alloc::{AllocError, AllocFailed, Global};
-use std::num::ParseIntError;
+use duct_words::stop::Stop;
+use duct_words::words::first_word;
+use std::alloc::{AllocError, Global};
 use std::sync::Arc;
-
-/// Why a line of a table stops.
-#[derive(Debug, Drop)]
-pub enum Stop {
-    /// Memory was refused.
-    Memory,
-    /// A word or a number that is not known, or another error.
-    Word,
-    /// This text was found where another one was wanted.
-    Found(String),
-}
-
-impl From<AllocError> for Stop {
-    fn from(_error: AllocError) -> Stop {
-        Stop::Memory
-    }
-}
-
-impl<T: Drop> From<AllocFailed<T>> for Stop {
-    fn from(_failed: AllocFailed<T>) -> Stop {
-        Stop::Memory
-    }
-}
-
-impl From<ParseIntError> for Stop {
-    fn from(_error: ParseIntError) -> Stop {
-        Stop::Word
-    }
-}
-
-impl From<Error> for Stop {
-    fn from(error: Error) -> Stop {
-        match error {
-            Error::Memory => Stop::Memory,
-            _ => Stop::Word,
-        }
-    }
-}
-
-/// The text before the first space, and the text after it.
-fn first_word(text: &str) -> (&str, &str) {
-    text.split_once(' ').unwrap_or((text, ""))
-}
 
 /// The shape that a row writes.
 pub fn shape_of(alloc: Global, row: &str) -> Result<Shape, Stop> {

@@ -1,37 +1,12 @@
 //! Want of memory: whatever single request of the process is refused, each test of `memory_` either finds the answer that it gets
 //! with ample memory, or finds that this call answered `Memory`, that nothing was lost, and the answer at the next one.
-use crate::build::{Stop, core_of, drains_of, events_of, shape_of};
+use crate::build::{core_of, drains_of, events_of, shape_of};
+use duct_base::error::Error;
 use duct_base::status::{Core, Event, Reply};
 use duct_base::system::ExitStatus;
+use duct_words::came::Came;
+use duct_words::stop::Stop;
 use std::alloc::Global;
-
-/// What came of a run.
-#[derive(Clone, Copy, Debug, PartialEq, Eq)]
-enum Came {
-    /// As with ample memory.
-    Whole,
-    /// Memory was refused, by its name, and nothing was lost.
-    Refused,
-    Wrong,
-}
-
-/// What came of a run and of one more.
-fn both(one: Came, other: Came) -> Came {
-    match (one, other) {
-        (Came::Wrong, _) | (_, Came::Wrong) => Came::Wrong,
-        (Came::Refused, _) | (_, Came::Refused) => Came::Refused,
-        _ => Came::Whole,
-    }
-}
-
-/// What came of a run that may have stopped.
-fn came_of(run: Result<Came, Stop>) -> Came {
-    match run {
-        Ok(came) => came,
-        Err(Stop::Memory) => Came::Refused,
-        Err(_) => Came::Wrong,
-    }
-}
 
 /// An unchecked failure piped into a success.
 const ANSWERED: &str = "one,a unchecked zero pipe";
@@ -39,20 +14,11 @@ const ANSWERED: &str = "one,a unchecked zero pipe";
 /// The words of two commands and of both capture workers.
 const WORDS: &str = "0 code 1; 1 code 0; out x; err yz";
 
-/// What came of a call whose value isn't needed.
-fn came_of_other<T: Drop>(other: Result<T, Stop>) -> Came {
-    match other {
-        Ok(_made) => Came::Whole,
-        Err(Stop::Memory) => Came::Refused,
-        Err(_stop) => Came::Wrong,
-    }
-}
-
 /// Of a call and one more, the first that is not refused, and what came of both.
 fn either<T: Drop>(first: Result<T, Stop>, second: Result<T, Stop>) -> Result<(T, Came), Stop> {
     match first {
-        Ok(made) => Ok((made, came_of_other(second))),
-        Err(Stop::Memory) => Ok((second?, Came::Refused)),
+        Ok(made) => Ok((made, Came::of_lines(second.map(|_other| Came::Whole)))),
+        Err(Stop::Error(Error::Memory)) => Ok((second?, Came::Refused)),
         Err(stop) => Err(stop),
     }
 }
@@ -113,14 +79,15 @@ fn asked(alloc: Global, row: &str, wants_answer: bool) -> Result<Came, Stop> {
     let drains = drains_of("both")?;
     let (events, words) = either(events_of(alloc, WORDS), events_of(alloc, WORDS))?;
     let (mut core, made) = either(core_of(alloc, row, drains), core_of(alloc, row, drains))?;
-    Ok(both(
-        both(words, made),
-        ask_thrice(&mut core, events, wants_answer),
-    ))
+    Ok(
+        words
+            .then(made)
+            .then(ask_thrice(&mut core, events, wants_answer)),
+    )
 }
 
 fn answer(alloc: Global) -> Came {
-    came_of(asked(alloc, ANSWERED, true))
+    Came::of_lines(asked(alloc, ANSWERED, true))
 }
 
 #[test]
@@ -129,7 +96,7 @@ fn memory_of_an_answer(rt: HostRuntime) {
 }
 
 fn message(alloc: Global) -> Came {
-    came_of(asked(alloc, "one,a", false))
+    Came::of_lines(asked(alloc, "one,a", false))
 }
 
 #[test]
@@ -168,8 +135,9 @@ fn ran(alloc: Global) -> Result<Came, Stop> {
 /// Of two runs one at most is refused.
 fn runs(alloc: Global) -> Came {
     match (ran(alloc), ran(alloc)) {
-        (Ok(first), Ok(second)) => both(first, second),
-        (Ok(came), Err(Stop::Memory)) | (Err(Stop::Memory), Ok(came)) => both(came, Came::Refused),
+        (Ok(first), Ok(second)) => first.then(second),
+        (Ok(came), Err(Stop::Error(Error::Memory))) | (Err(Stop::Error(Error::Memory)), Ok(came)) =>
+            came.then(Came::Refused),
         _ => Came::Wrong,
     }
 }

@@ -1,7 +1,8 @@
 //! Rows of events with the replies that they must get.
-use crate::build::{Stop, core_of, drains_of, events_of, push_run, push_steps, shape_of};
+use crate::build::{core_of, drains_of, events_of, push_run, push_steps, shape_of};
 use duct_base::status::{Core, Drains, Event, Word};
 use duct_base::system::{ExitStatus, Fault, Kind};
+use duct_words::stop::{Stop, same, tried};
 use std::alloc::Global;
 use std::test::Fail;
 
@@ -26,14 +27,6 @@ fn at_once(alloc: Global, row: &str, drains: Drains, told: &str) -> Result<Strin
     Ok(text)
 }
 
-fn same(found: String, wanted: &str) -> Result<(), Stop> {
-    if found.as_str().trim_end() == wanted {
-        Ok(())
-    } else {
-        Err(Stop::Found(found))
-    }
-}
-
 /// Tries a line: `streams that are captured | shape | events -> replies`.
 fn try_line(alloc: Global, line: &str) -> Result<(), Stop> {
     let (case, wanted) = line.split_once(" -> ").ok_or(Stop::Word)?;
@@ -49,9 +42,7 @@ fn replies(alloc: Global, table: &str) -> Result<(), Fail> {
     for text in table.trim().lines() {
         let text = text.trim();
         if !text.starts_with('#') {
-            if let Err(stop) = try_line(alloc, text) {
-                return Err(Fail::new(format_args!("{text}: {stop:?}")));
-            }
+            tried(text, try_line(alloc, text))?;
         }
     }
     Ok(())

@@ -15,15 +15,13 @@ use duct_script::clock::ScriptClock;
 use duct_script::gate::Gate;
 use duct_script::job::DrainScript;
 use duct_script::system::Script;
+use duct_words::waits::until;
 use std::alloc::{AllocError, Global};
 use std::sync::{Arc, Mutex, Wait};
 use std::test::Fail;
 use std::thread;
 use std::thread::Threads;
 use std::time::Duration;
-
-/// How often a test looks at most whether a thread stands at its gate.
-const TURNS: u32 = 1_000_000;
 
 /// How many runs of eight threads there are.
 const RUNS: u32 = 40;
@@ -116,13 +114,7 @@ fn two_threads_wait(rt: HostRuntime) -> Result<(), Fail> {
 
 // Whether a thread came to the gate, which is shut.
 fn stands(gate: &Gate) -> bool {
-    for _ in 0..TURNS {
-        if gate.standing() > 0 {
-            return true;
-        }
-        thread::yield_now();
-    }
-    false
+    until(|| gate.standing() > 0)
 }
 
 // Opens the gate once a thread stands there, and kills. Answers whether both went well.

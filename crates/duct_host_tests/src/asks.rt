@@ -26,6 +26,7 @@ use crate::support::{
 use duct_base::system::{Child, Numbered, System};
 use duct_host::child;
 use duct_host::end::End;
+use duct_words::words::first_word;
 use std::alloc::{AllocError, Global};
 use std::fs::{File, Permissions};
 use std::io::Write;
@@ -87,11 +88,6 @@ pub fn filled(alloc: Global, line: &str, place: &str, id: u32) -> Result<String,
 fn with_id(alloc: Global, line: &str, id: u32) -> Result<String, AllocError> {
     let id = format!(in alloc; "{id}")?;
     line.replace(alloc, "{id}", id.as_str())
-}
-
-/// The text before the first space, and the text after it.
-pub fn first_word(text: &str) -> (&str, &str) {
-    text.split_once(' ').unwrap_or((text, ""))
 }
 
 impl<R: Real> Bench<R> {

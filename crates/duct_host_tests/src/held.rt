@@ -2,12 +2,14 @@
 ghost use Rattle.std.specs.Prelude.{◌≡◌, ◌+◌, ◌≤◌, [], ◌∷◌, length, vec_len, IfOk, OnOk, OnErr};
 ghost use Rattle.duct_system.specs.Streams.{ends_of};
 
-use crate::support::{Real, heard, same, say, tell, text_of};
+use crate::support::{Real, same, say, tell, text_of};
 use duct_base::spec::CommandSpec;
 use duct_base::system::{Fault, Kind, Numbered, Side, Stdio, System};
 use duct_host::child::Child;
 use duct_host::end::End;
 use duct_host::host::Host;
+use duct_words::waits::heard;
+use duct_words::words::side;
 use std::io::Read;
 use std::rt::Clock;
 use std::sync::Arc;
@@ -170,15 +172,6 @@ fn tell_bytes(said: &mut String, bytes: &[u8]) -> Result<(), Fail> {
     match str::from_utf8(bytes) {
         Ok(text) => say(said, &text),
         Err(_) => say(said, &bytes.len()),
-    }
-}
-
-/// The stream of the parent of this name.
-fn side(name: &str) -> Result<Side, Fail> {
-    match name {
-        "out" => Ok(Side::Out),
-        "err" => Ok(Side::Err),
-        _ => Err(Fail::new("no such stream of the parent")),
     }
 }
 

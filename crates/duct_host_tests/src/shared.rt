@@ -5,11 +5,11 @@
 //!   into so many bytes, and `all`, which reads to the end.
 
 use crate::answers::{tell_bytes, tell_done, tell_polled, tell_refusal, tell_waited};
-use crate::asks::first_word;
 use crate::support::{Real, children_text, same, say};
 use duct::unix::HandleExt;
 use duct::{Handle, ReaderHandle};
 use duct_host::host::Host;
+use duct_words::words::first_word;
 use std::alloc::{AllocError, Global};
 use std::fmt::Write;
 use std::io::Read;

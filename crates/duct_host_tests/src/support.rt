@@ -1,7 +1,7 @@
 //! What the tests share: commands, waiting, journals as texts, and the descriptors of this process.
 use duct_base::names::EnvNameString;
 use duct_base::spec::{CommandSpec, Port, spec_of};
-use duct_base::system::{Child, Entry, ExitStatus, Fault, Job, Said};
+use duct_base::system::{Child, Entry, ExitStatus, Fault};
 use duct_host::parents::Parents;
 use std::alloc::{AllocError, Global};
 use std::collections::BTreeMap;
@@ -124,18 +124,6 @@ pub fn ending<C: Child>(rt: &impl Clock, child: &mut C) -> Result<ExitStatus, Fa
         thread::sleep(rt, Duration::from_millis(10));
     }
     Err(Fail::new("the child goes on"))
-}
-
-/// What a worker comes to, which is polled for half a minute at most.
-pub fn heard<J: Job>(rt: &impl Clock, worker: &mut J) -> Result<Result<J::Result, Fault>, Fail> {
-    for _ in 0..30_000 {
-        match worker.poll() {
-            Said::Running => thread::sleep(rt, Duration::from_millis(1)),
-            Said::Done(done) => return Ok(Ok(done)),
-            Said::Fault(fault) => return Ok(Err(fault)),
-        }
-    }
-    Err(Fail::new("the worker goes on"))
 }
 
 /// All that is read from an end, as text.

@@ -19,7 +19,7 @@
 //! Files are changed, and `{place}` and its like are filled in, as in requests.
 
 use crate::answers::{tell_bytes, tell_polled, tell_refusal, tell_run};
-use crate::asks::{arrange, filled, first_word};
+use crate::asks::{arrange, filled};
 use crate::held::taken;
 use crate::shared::{handle_calls, reader_calls};
 use crate::support::{Real, children, open_descriptors, own_id, place, same, say};
@@ -30,6 +30,7 @@ use duct::{
 use duct_host::child::Child;
 use duct_host::end::End;
 use duct_host::host::Host;
+use duct_words::words::{first_word, stream};
 use std::alloc::Global;
 use std::fs::{self, File};
 use std::io::{self, PipeReader, Write};
@@ -351,16 +352,6 @@ fn command(alloc: Global, words: &str) -> Result<Tree, Fail> {
         }
     }
     Ok(cmd(alloc, program, args.as_slice())?)
-}
-
-/// The stream of this name.
-fn stream(name: &str) -> Result<Stream, Fail> {
-    match name {
-        "in" => Ok(Stream::In),
-        "out" => Ok(Stream::Out),
-        "err" => Ok(Stream::Err),
-        _ => Err(Fail::new("no such stream")),
-    }
 }
 
 /// A call with an end.

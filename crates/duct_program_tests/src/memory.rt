@@ -3,10 +3,10 @@
 use super::bench::arguments;
 use duct::ExitStatus;
 use duct_program::perform::perform;
-use duct_rows::memory::Came;
 use duct_script::child::PollAnswer;
 use duct_script::reader::ReaderScript;
 use duct_script::system::Script;
+use duct_words::came::Came;
 use std::alloc::{AllocError, Global};
 use std::sync::Wait;
 

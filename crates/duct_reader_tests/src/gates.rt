@@ -6,13 +6,14 @@ use duct_rows::scenes::{Bench, Scene, bench_of};
 use duct_script::gate::Gate;
 use duct_script::reader::ReaderScript;
 use duct_script::system::Script;
+use duct_words::waits::until;
 use std::alloc::Global;
 use std::sync::Wait;
 use std::test::Fail;
 use std::thread;
 use std::thread::Threads;
 
-/// How often a test looks at most whether a thread stands at its gate, and how often a thread reads.
+/// How often a thread reads at most.
 const TURNS: u32 = 1_000_000;
 
 // A reader handle of one command that runs. The reader gives so many bytes, and has a gate.
@@ -34,14 +35,7 @@ fn at_a_gate<'r, R: Wait>(
 // What is told beside a read: whether it stood at the gate, how many ids there are, whether a poll said that the command runs, and whether
 // a kill was obeyed. It asks once a thread stands at the gate, and opens it then.
 fn ask_beside<R: Wait>(handle: &ReaderHandle<Script, R>, gate: &Gate) -> (bool, usize, bool, bool) {
-    let mut stood = false;
-    for _ in 0..TURNS {
-        stood = gate.standing() > 0;
-        if stood {
-            break;
-        }
-        thread::yield_now();
-    }
+    let stood = until(|| gate.standing() > 0);
     let ids = handle.pids().len();
     let runs = matches!(handle.try_wait(), Ok(None));
     let killed = handle.kill().is_ok();

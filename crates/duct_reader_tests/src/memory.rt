@@ -2,12 +2,12 @@
 //! or that the call was refused for want of memory and gave its child to the pool.
 use duct::{Error, ExitStatus, Pool, Said, System, cmd};
 use duct_rows::expressions::Tree;
-use duct_rows::memory::{Came, is_memory};
 use duct_rows::told::children_started;
 use duct_script::child::{PollAnswer, ScriptChild};
 use duct_script::job::DrainScript;
 use duct_script::reader::ReaderScript;
 use duct_script::system::Script;
+use duct_words::came::{Came, is_memory};
 use std::alloc::Global;
 use std::io;
 use std::io::{ErrorKind, Read};

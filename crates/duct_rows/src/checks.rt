@@ -4,12 +4,12 @@ use crate::scenes::{Scene, bench_of};
 use crate::starts::{Way, started_tree};
 use crate::texts::TestPlan;
 use crate::told::trace_text;
-use crate::words::{fault, first_word};
 use duct::{Entry, Error, System};
 use duct_follows::causes::{answers_last_fault, has_cause};
 use duct_follows::follows::{follows, follows_whole};
 use duct_follows::untold::Untold;
 use duct_plan::plan::plan;
+use duct_words::words::{fault, first_word};
 use std::alloc::Global;
 use std::test::Fail;
 

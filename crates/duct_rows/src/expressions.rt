@@ -4,11 +4,11 @@
 //! word `x`, with the ends of the numbers 7 and 8 beside it; what else a hook may do stands in `hooks`. `unchecked=9` is nine
 //! nodes of that call. `again` is the last expression once more: `a again pipe` is `a.pipe(&a)`.
 use crate::hooks::hook;
-use crate::words::{pairs, pieces};
 use duct::{Error, Expression, Fault};
 use duct_script::calls::CallLog;
 use duct_script::hook::ScriptHook;
 use duct_script::system::{Script, ScriptEnd};
+use duct_words::words::{pairs, pieces};
 use std::alloc::Global;
 use std::sync::Arc;
 use std::test::Fail;

@@ -3,8 +3,8 @@
 //! `unset:A` takes it away; `dir:/in` sets the folder; `refuse:Other` refuses each spec by `Other`, and `refuse_word:b:Other`
 //! each that has the word `b`; `label:1` is what a log knows it by. Several are parted by `+`: `err>1+x`.
 use crate::expressions::Log;
-use crate::words::{fault, stream};
 use duct_script::hook::{Change, HookAnswer, ScriptHook, Target};
+use duct_words::words::{fault, stream};
 use std::alloc::{AllocError, Global};
 use std::sync::Arc;
 use std::test::Fail;

@@ -11,10 +11,11 @@
 //!
 //! `refused=Other` stands for the answer of a request for a pipe, a file, another end or a child that was refused by that kind
 //! of fault.
-use crate::words::{fault, first_word, owned_pairs, side};
+use crate::words::owned_pairs;
 use duct::{CommandSpec, Entry, Fault, Port, Stdio};
 use duct_base::names::EnvNameString;
 use duct_base::spec::spec_of;
+use duct_words::words::{fault, first_word, side};
 use std::alloc::{AllocError, Global};
 use std::collections::BTreeMap;
 use std::sync::Arc;

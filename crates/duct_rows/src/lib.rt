@@ -8,7 +8,6 @@ pub mod dice;
 pub mod expressions;
 mod hooks;
 pub mod journals;
-pub mod memory;
 pub mod rows;
 pub mod scenes;
 pub mod starts;

@@ -1,6 +1,5 @@
 //! What a row says of the system and of the pool before a start: the parent's variables, canonical names, requests that are
 //! refused, what children answer to polls, and the children that the pool keeps.
-use crate::words::{fault, first_word, pairs, pieces};
 use duct::{ExitStatus, Fault, Pool};
 use duct_base::pool::{place_new, pool_take, seat_new};
 use duct_script::answers::Answers;
@@ -8,6 +7,7 @@ use duct_script::calls::CallLog;
 use duct_script::child::{ChildScript, PollAnswer, ScriptChild};
 use duct_script::requests::Sort;
 use duct_script::system::Script;
+use duct_words::words::{fault, first_word, pairs, pieces};
 use std::alloc::{AllocError, Global};
 use std::sync::Arc;
 use std::test::Fail;

@@ -1,31 +1,7 @@
-//! Lists in texts, and the names of streams and of kinds of faults.
-use duct::{Fault, Kind, Side, Stream};
+//! Lists in texts.
 use std::alloc::{AllocError, Global};
-use std::test::Fail;
 
-/// The texts that commas part. There is none in an empty text.
-pub fn pieces(alloc: Global, text: &str) -> Result<Vec<&str>, AllocError> {
-    let mut pieces = Vec::new(alloc);
-    if !text.is_empty() {
-        for piece in text.split(',') {
-            pieces.push(piece)?;
-        }
-    }
-    Ok(pieces)
-}
-
-/// The pairs of names and values of a text: `A:1,B:2`.
-pub fn pairs(alloc: Global, text: &str) -> Result<Vec<(&str, &str)>, AllocError> {
-    let mut pairs = Vec::new(alloc);
-    for piece in text.split(',') {
-        if let Some(pair) = piece.split_once(':') {
-            pairs.push(pair)?;
-        }
-    }
-    Ok(pairs)
-}
-
-/// The same, owned.
+/// The pairs of names and values of a text, owned: `A:1,B:2`.
 pub fn owned_pairs(alloc: Global, text: &str) -> Result<Vec<(String, String)>, AllocError> {
     let mut pairs = Vec::new(alloc);
     for piece in text.split(',') {
@@ -45,44 +21,4 @@ fn owned_pair(alloc: Global, name: &str, value: &str) -> Result<(String, String)
 pub fn part(row: &str) -> (&str, &str) {
     let (part, rest) = row.split_once('|').unwrap_or((row, ""));
     (part.trim(), rest.trim())
-}
-
-/// The text before the first space, and the text after it.
-pub fn first_word(text: &str) -> (&str, &str) {
-    text.split_once(' ').unwrap_or((text, ""))
-}
-
-/// The stream of this name: `in`, `out` or `err`.
-pub fn stream(name: &str) -> Result<Stream, Fail> {
-    match name {
-        "in" => Ok(Stream::In),
-        "out" => Ok(Stream::Out),
-        "err" => Ok(Stream::Err),
-        _ => Err(Fail::from("no such stream")),
-    }
-}
-
-/// The output stream of the parent of this name: `out` or `err`.
-pub fn side(name: &str) -> Result<Side, Fail> {
-    match name {
-        "out" => Ok(Side::Out),
-        "err" => Ok(Side::Err),
-        _ => Err(Fail::from("no such stream of the parent")),
-    }
-}
-
-/// The fault of the kind of this name.
-pub fn fault(kind: &str) -> Result<Fault, Fail> {
-    let kind = match kind {
-        "NotFound" => Kind::NotFound,
-        "PermissionDenied" => Kind::PermissionDenied,
-        "BrokenPipe" => Kind::BrokenPipe,
-        "WriteZero" => Kind::WriteZero,
-        "InvalidInput" => Kind::InvalidInput,
-        "Unsupported" => Kind::Unsupported,
-        "OutOfMemory" => Kind::OutOfMemory,
-        "Other" => Kind::Other,
-        _ => return Err(Fail::from("no such kind of fault")),
-    };
-    Ok(Fault::new(kind))
 }

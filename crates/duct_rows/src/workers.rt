@@ -1,10 +1,10 @@
 //! What a row says of the workers and readers of a start, and of what they told.
-use crate::words::{fault, first_word};
 use duct::{Error, Output, Said};
 use duct_script::answers::Answers;
 use duct_script::job::{DrainScript, FeedScript};
 use duct_script::reader::{ReadStep, ReaderScript};
 use duct_script::system::Script;
+use duct_words::words::{fault, first_word};
 use std::alloc::{AllocError, Global};
 use std::io::ErrorKind;
 use std::sync::Arc;

@@ -15,11 +15,13 @@
 use crate::children::{push_orders, push_polls};
 use crate::jobs::{push_drain, push_feed, push_reads};
 use crate::lists;
-use crate::words::{Stop, fault, first_word, side, sort};
 use duct_base::spec::{CommandSpec, Port, spec_of};
 use duct_base::system::{Entry, Fault, Numbered, Stdio, System};
+use duct_script::requests::Sort;
 use duct_script::system::{Script, ScriptEnd};
 use duct_script::text::Words;
+use duct_words::stop::{Stop, same, tried};
+use duct_words::words::{fault, first_word, side};
 use std::alloc::{AllocError, Global};
 use std::collections::BTreeMap;
 use std::sync::Arc;
@@ -61,9 +63,7 @@ impl Bench {
 
     fn try_lines(&mut self, row: &str) -> Result<(), Fail> {
         for line in row.trim().lines() {
-            if let Err(stop) = self.line(line.trim()) {
-                return Err(Fail::new(format_args!("{line}: {stop:?}")));
-            }
+            tried(line, self.line(line.trim()))?;
         }
         Ok(())
     }
@@ -245,12 +245,13 @@ fn refuse_sort(sys: &mut Script, rest: &str) -> Result<(), Stop> {
     Ok(sys.refuse_sort(sort(name)?, place.parse()?, fault(kind)?)?)
 }
 
-/// Stops unless this text was found, but for spaces at its end.
-pub fn same(found: String, wanted: &str) -> Result<(), Stop> {
-    if found.as_str().trim_end() == wanted {
-        Ok(())
-    } else {
-        Err(Stop::Found(found))
+/// The sort of requests of this name.
+fn sort(name: &str) -> Result<Sort, Stop> {
+    match name {
+        "pipe" => Ok(Sort::Pipe),
+        "spawn" => Ok(Sort::Spawn),
+        "close" => Ok(Sort::Close),
+        _ => Err(Stop::Word),
     }
 }
 

@@ -1,10 +1,10 @@
 //! The children of a scripted system, and its clock.
 use crate::bench::{rows, spec_of_words};
-use crate::words::Stop;
 use duct_base::system::{Child, Clock, ExitStatus, Stdio, System};
 use duct_script::child::ScriptChild;
 use duct_script::clock::ScriptClock;
 use duct_script::system::Script;
+use duct_words::stop::Stop;
 use std::alloc::{AllocError, Global};
 use std::test::Fail;
 use std::time::Duration;

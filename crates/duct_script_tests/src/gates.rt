@@ -7,22 +7,12 @@ use duct_script::gate::Gate;
 use duct_script::gated::Gated;
 use duct_script::reader::{ReaderScript, ScriptReader};
 use duct_script::system::Script;
+use duct_words::waits::until;
 use std::alloc::Global;
 use std::io::{Read, Write};
 use std::test::Fail;
 use std::thread;
 use std::thread::Threads;
-
-/// How many threads stand at a gate, once one does.
-fn stands(gate: &Gate) -> u64 {
-    for _ in 0..1_000_000 {
-        if gate.standing() > 0 {
-            break;
-        }
-        thread::yield_now();
-    }
-    gate.standing()
-}
 
 /// What has a gate to pass.
 #[derive(Drop)]
@@ -60,7 +50,8 @@ type Seen = (u64, u64, u64);
 fn let_in(rt: &impl Threads, gate: &Gate, guest: Guest) -> Result<Seen, Fail> {
     gate.shut();
     let there = thread::spawn(rt, move || answer(guest))?;
-    let standing = stands(gate);
+    until(|| gate.standing() > 0);
+    let standing = gate.standing();
     gate.open();
     let answer = there.join(rt);
     Ok((standing, answer, gate.standing()))

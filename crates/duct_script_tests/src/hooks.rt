@@ -1,13 +1,14 @@
 //! The hooks of the tests, and the log that they share with a scripted system.
-use crate::bench::{same, spec_of_words};
+use crate::bench::spec_of_words;
 use crate::children::start;
-use crate::words::{Stop, first_word};
 use duct_base::spec::{CommandSpec, Hook, Stream};
 use duct_base::system::{Child, Fault, Kind, System};
 use duct_script::calls::{Call, CallLog};
 use duct_script::hook::{Change, HookAnswer, ScriptHook, Target};
 use duct_script::requests::Sort;
 use duct_script::system::Script;
+use duct_words::stop::{Stop, same, tried};
+use duct_words::words::first_word;
 use std::alloc::{AllocError, Global};
 use std::sync::Arc;
 use std::test::Fail;
@@ -116,9 +117,7 @@ fn hooks(rt: HostRuntime) -> Result<(), Fail> {
         refuses_x a,x -> PermissionDenied
         ";
     for text in table.trim().lines() {
-        if let Err(stop) = try_line(rt.alloc(), text.trim()) {
-            return Err(Fail::new(format_args!("{text}: {stop:?}")));
-        }
+        tried(text, try_line(rt.alloc(), text.trim()))?;
     }
     Ok(())
 }

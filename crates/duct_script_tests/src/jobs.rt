@@ -1,10 +1,10 @@
 //! The feeds, drains and readers of a scripted system.
 use crate::bench::rows;
-use crate::words::Stop;
 use duct_base::system::{Job, Numbered, Said, System};
 use duct_script::job::{ScriptDrain, ScriptFeed};
 use duct_script::reader::ScriptReader;
 use duct_script::system::Script;
+use duct_words::stop::Stop;
 use std::alloc::{AllocError, Global};
 use std::io::Read;
 use std::sync::Arc;

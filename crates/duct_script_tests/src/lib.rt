@@ -17,5 +17,3 @@ mod lists;
 mod memory;
 #[cfg(test)]
 mod requests;
-#[cfg(test)]
-mod words;

@@ -1,10 +1,11 @@
 //! What the next child, feed, drain or reader of a system says, as texts that commas part.
-use crate::words::{Stop, fault, first_word};
 use duct_base::system::{ExitStatus, Fault, Said};
 use duct_script::answers::Answers;
 use duct_script::child::{ChildScript, PollAnswer};
 use duct_script::reader::{ReadStep, ReaderScript};
 use duct_script::system::Script;
+use duct_words::stop::Stop;
+use duct_words::words::{fault, first_word};
 use std::alloc::Global;
 use std::collections::VecDeque;
 use std::io::ErrorKind;

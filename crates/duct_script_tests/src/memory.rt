@@ -2,11 +2,12 @@
 //! refused; the last test passes only where none is.
 use crate::bench::Bench;
 use crate::children::start;
-use crate::words::Stop;
-use duct_base::system::{Child, Entry, Kind, System};
+use duct_base::system::{Child, Entry, System};
 use duct_plain::checker::{got, held, is_balanced, spent, trace};
 use duct_script::child::ScriptChild;
 use duct_script::system::Script;
+use duct_words::came::{Came, is_memory};
+use duct_words::stop::Stop;
 use std::alloc::{AllocError, Global};
 
 /// Each request, one after another, all of them Ok where there is memory.
@@ -14,22 +15,11 @@ const ALL: &str =
     "variable A 1; canonical ./x /x; environment; pipe; open_read in; create out; duplicate 4; parent err; \
      canonicalize ./x; spawn 1 null 5; feed 2; drain 3; reader 4; close 6; environment";
 
-/// What came of a run.
-#[derive(Clone, Copy, Debug, PartialEq, Eq)]
-enum Came {
-    /// As with ample memory.
-    Whole,
-    /// Memory was refused, and by its name.
-    Refused,
-    Wrong,
-}
-
 /// What came of a run that stopped.
 fn stopped(stop: &Stop) -> Came {
     match stop {
-        Stop::Memory => Came::Refused,
-        Stop::Fault(fault) if fault.kind == Kind::OutOfMemory => Came::Refused,
-        _ => Came::Wrong,
+        Stop::Error(error) => Came::refused_if(is_memory(error)),
+        Stop::Word | Stop::Found(_) => Came::Wrong,
     }
 }
 

@@ -5,10 +5,10 @@ pub mod memory;
 mod orders;
 mod starts;
 
-use crate::texts::pieces;
 use duct::{Error, Expression, Output, Place, Pool, Running, cmd};
 use duct_script::child::ScriptChild;
 use duct_script::system::{Script, ScriptEnd};
+use duct_words::words::pieces;
 use std::alloc::Global;
 use std::sync::Arc;
 

@@ -8,6 +8,4 @@ mod command;
 #[cfg(test)]
 mod expression;
 #[cfg(test)]
-mod texts;
-#[cfg(test)]
 mod writes;

@@ -1,7 +1,8 @@
 //! Specs in words, and writes of a spec that are written as texts: `env=A,2` gives the variable `A` the value `2`.
-use crate::texts::{Stop, pieces};
 use duct::{CommandSpec, Error, Port, Stream};
 use duct_base::spec::{give, spec_of};
+use duct_words::stop::Stop;
+use duct_words::words::pieces;
 use std::alloc::{AllocError, Global};
 use std::collections::BTreeMap;
 

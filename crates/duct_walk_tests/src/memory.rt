@@ -3,12 +3,12 @@
 use duct::{Error, Pool, Stream, System, cmd};
 use duct_plain::checker::is_balanced;
 use duct_rows::expressions::Tree;
-use duct_rows::memory::{Came, is_memory};
 use duct_rows::starts::Way;
 use duct_rows::told::children_started;
 use duct_script::child::ScriptChild;
 use duct_script::hook::{Change, ScriptHook, Target};
 use duct_script::system::Script;
+use duct_words::came::{Came, is_memory};
 use std::alloc::Global;
 use std::test::Fail;
 

@@ -1,22 +1,16 @@
 //! Want of memory: whatever single request of the process is refused, each test of `memory_` finds what there is with ample memory, or
 //! the fault `OutOfMemory`.
 use crate::scripted::Source;
-use crate::threads::{Zeros, heard};
+use crate::threads::Zeros;
 use duct_base::system::{Fault, Kind};
+use duct_words::came::Came;
+use duct_words::waits::heard;
 use duct_worker::spawn::spawn_drain;
 use duct_worker::transfer::drain;
 use std::alloc::Global;
 use std::rt::Clock;
 use std::test::Fail;
 use std::thread::Threads;
-
-/// What came of a run.
-#[derive(Clone, Copy, Debug, PartialEq, Eq)]
-enum Came {
-    Whole,
-    Refused,
-    Wrong,
-}
 
 fn came_of(answer: Result<usize, Fault>) -> Came {
     match answer {

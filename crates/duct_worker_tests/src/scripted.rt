@@ -1,6 +1,7 @@
 //! Writers and readers whose calls go by the words of a text, one a call: a number takes or gives at most so many bytes, and the
 //! name of a kind is an error of that kind. A call behind the last word takes or gives all that it can.
 
+use duct_words::words::first_word;
 use std::io;
 use std::io::{ErrorKind, Read, Write};
 
@@ -8,11 +9,6 @@ use std::io::{ErrorKind, Read, Write};
 enum Step {
     Moves(usize),
     Fails(ErrorKind),
-}
-
-/// The first word of a script, and what comes after it.
-fn first_word(script: &str) -> (&str, &str) {
-    script.split_once(' ').unwrap_or((script, ""))
 }
 
 /// What a word says.

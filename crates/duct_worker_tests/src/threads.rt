@@ -2,6 +2,7 @@
 use duct_base::system::{Fault, Job, Numbered, Said};
 use duct_script::gate::Gate;
 use duct_script::gated::Gated;
+use duct_words::waits::{heard, until};
 use duct_worker::spawn::{spawn_drain, spawn_feed};
 use duct_worker::worker::Worker;
 use std::alloc::Global;
@@ -9,12 +10,7 @@ use std::io::{self, Read, Write};
 use std::rt::{Clock, Files};
 use std::sync::Arc;
 use std::test::Fail;
-use std::thread;
 use std::thread::Threads;
-use std::time::Duration;
-
-/// How often a test looks at most, a millisecond apart.
-const TURNS: u32 = 30_000;
 
 /// How many bytes go through a pipe, which is more than it holds.
 const MANY: usize = 1_000_000;
@@ -22,29 +18,6 @@ const MANY: usize = 1_000_000;
 /// So many bytes that many may own.
 fn shared(alloc: Global, count: usize) -> Result<Arc<Vec<u8>>, Fail> {
     Ok(Arc::new(alloc, vec![in alloc; 7; count]?)?)
-}
-
-/// What a worker comes to.
-pub fn heard<J: Job>(rt: &impl Clock, worker: &mut J) -> Result<Result<J::Result, Fault>, Fail> {
-    for _ in 0..TURNS {
-        match worker.poll() {
-            Said::Running => thread::sleep(rt, Duration::from_millis(1)),
-            Said::Done(done) => return Ok(Ok(done)),
-            Said::Fault(fault) => return Ok(Err(fault)),
-        }
-    }
-    Err(Fail::new("the worker goes on"))
-}
-
-/// Waits until a thread stands at a gate.
-fn stands(rt: &impl Clock, gate: &Gate) -> Result<(), Fail> {
-    for _ in 0..TURNS {
-        if gate.standing() > 0 {
-            return Ok(());
-        }
-        thread::sleep(rt, Duration::from_millis(1));
-    }
-    Err(Fail::new("nobody stands at the gate"))
 }
 
 /// A gated one of these.
@@ -58,8 +31,8 @@ fn feed_at_a_gate<R: Threads + Clock>(rt: &R, alloc: Global, gate: &Gate) -> Res
     gate.shut();
     let writer = gated(gate, Vec::<u8>::new(alloc))?;
     let mut worker = spawn_feed(rt, alloc, writer, shared(alloc, 100)?)?;
-    stands(rt, gate)?;
-    let first = matches!(worker.poll(), Said::Running);
+    let stands = until(|| gate.standing() > 0);
+    let first = stands && matches!(worker.poll(), Said::Running);
     gate.open();
     let done = heard(rt, &mut worker)?.is_ok() && worker.poll() == Said::Done(());
     if first && done && worker.number() == 0 {
@@ -105,10 +78,10 @@ fn through_a_pipe<R: Threads + Files + Clock>(
 ) -> Result<(), Fail> {
     gate.shut();
     let (mut feed, mut drain) = workers_of_a_pipe(rt, alloc, gate)?;
-    stands(rt, gate)?;
+    let stands = until(|| gate.standing() > 0);
     gate.open();
     let lengths = lengths(rt, &mut drain)?;
-    if lengths == (MANY, MANY) && heard(rt, &mut feed)?.is_ok() {
+    if stands && lengths == (MANY, MANY) && heard(rt, &mut feed)?.is_ok() {
         return Ok(());
     }
     Err(Fail::new(format_args!("{lengths:?}")))

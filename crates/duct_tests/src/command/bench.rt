@@ -9,13 +9,14 @@
 //! - `journal -> text`, `spec -> text` and `pool -> text` say what stands in the journal, what the last child was started with,
 //!   and how many children the pool keeps and was given.
 use super::{launched, parts, poll};
-use crate::texts::{Stop, fault, same, tried};
 use crate::writes::spec_text;
 use duct::{Entry, Error, ExitStatus, Numbered, Output, Place, Pool, Running, System};
 use duct_script::child::{PollAnswer, ScriptChild};
 use duct_script::requests::Sort;
 use duct_script::system::Script;
 use duct_script::text::Words;
+use duct_words::stop::{Stop, same, tried};
+use duct_words::words::{fault, first_word};
 use std::alloc::{AllocError, Global};
 use std::sync::Arc;
 use std::test::Fail;
@@ -66,7 +67,7 @@ impl Bench {
 
     /// Sets what the system answers.
     fn set(&mut self, line: &str) -> Result<(), Stop> {
-        let (word, values) = line.split_once(' ').unwrap_or((line, ""));
+        let (word, values) = first_word(line);
         match word {
             "variable" => set_variable(&mut self.sys, values),
             "refuse_environment" => refuse(&mut self.sys, Sort::Environment, values),

@@ -1,13 +1,13 @@
 //! Want of memory: whichever one request for memory is refused, a start and a poll answer as with ample memory, or name the
 //! refusal and lose nothing.
 use super::{command, launched, parts, piped, poll};
-use crate::came::Came;
 use duct::{Entry, Error, ExitStatus, Expression, Fault, Kind, Output, Pool, Running, System};
 use duct_base::pool::{place_new, pool_take, seat_new};
 use duct_plain::checker::is_balanced;
 use duct_script::answers::Answers;
 use duct_script::child::{ChildScript, PollAnswer, ScriptChild};
 use duct_script::system::{Script, ScriptEnd};
+use duct_words::came::Came;
 use std::alloc::{AllocError, Global};
 use std::sync::{Arc, Wait};
 

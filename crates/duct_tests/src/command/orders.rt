@@ -1,11 +1,12 @@
 //! Orders to pipes over the scripted system, and pipes that are given up.
 use super::bench::{poll_answer, push_poll};
 use super::{command, parts, poll};
-use crate::texts::{Stop, fault, pieces, same, tried};
 use duct::{Error, Pool, Running};
 use duct_script::answers::Answers;
 use duct_script::child::{ChildScript, ScriptChild};
 use duct_script::system::Script;
+use duct_words::stop::{Stop, same, tried};
+use duct_words::words::{fault, pieces};
 use std::alloc::{AllocError, Global};
 use std::test::Fail;
 

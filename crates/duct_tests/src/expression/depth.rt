@@ -1,7 +1,7 @@
 //! Deep trees are dropped without stack.
 use super::made::shows;
-use crate::texts::Stop;
 use duct::{Error, Expression, cmd};
+use duct_words::stop::Stop;
 use std::alloc::Global;
 use std::test::Fail;
 

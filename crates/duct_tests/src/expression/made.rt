@@ -6,8 +6,9 @@
 //! `echo,hi` has two words. `@1` takes expression 1 in hand, of those that the paragraph made, from 0; `pipe=1` pipes the
 //! expression at hand into that one.
 use super::Quiet;
-use crate::texts::{Stop, numbers, pairs, pieces, same, tried};
 use duct::{Error, Expression, HookBox};
+use duct_words::stop::{Stop, same, tried};
+use duct_words::words::{pairs, pieces};
 use std::alloc::{AllocError, Global};
 use std::test::Fail;
 
@@ -202,4 +203,13 @@ fn hooked(alloc: Global, inner: &Expression<u64>, ends: &str) -> Result<Expressi
     let ends = numbers(alloc, ends)?;
     let hook: HookBox = Box::new(alloc, Quiet)?;
     Ok(inner.before_spawn(hook, ends)?)
+}
+
+/// The numbers that commas part.
+fn numbers(alloc: Global, text: &str) -> Result<Vec<u64>, Stop> {
+    let mut numbers = Vec::new(alloc);
+    for piece in text.split(',') {
+        numbers.push(piece.parse()?)?;
+    }
+    Ok(numbers)
 }

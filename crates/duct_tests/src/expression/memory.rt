@@ -2,10 +2,10 @@
 //! and leaves the old value as it was. The tests of `memory_` pass either way.
 use super::made::{Made, shows};
 use super::programs;
-use crate::came::Came;
-use crate::texts::{Stop, same};
 use crate::writes::{spec, spec_text, write};
 use duct::{CommandSpec, Error, Expression, cmd};
+use duct_words::came::Came;
+use duct_words::stop::{Stop, same};
 use std::alloc::Global;
 use std::path::Path;
 
@@ -59,7 +59,7 @@ fn build(made: &mut Made) -> Result<Came, Stop> {
 }
 
 pub fn builders(alloc: Global) -> Came {
-    Came::of(build(&mut Made::new(alloc)))
+    Came::of_lines(build(&mut Made::new(alloc)))
 }
 
 #[test]
@@ -93,7 +93,7 @@ fn copy_and_name(alloc: Global) -> Result<Came, Stop> {
 
 /// Clones a command, and names programs by texts and by paths.
 pub fn commands(alloc: Global) -> Came {
-    Came::of(copy_and_name(alloc)).then(Came::of(name_programs(alloc)))
+    Came::of_lines(copy_and_name(alloc)).then(Came::of_lines(name_programs(alloc)))
 }
 
 fn name_programs(alloc: Global) -> Result<Came, Stop> {
@@ -141,7 +141,7 @@ fn wrote_anew(alloc: Global, line: &str) -> Result<Came, Stop> {
 }
 
 pub fn writes(alloc: Global) -> Came {
-    Came::of(write_all(alloc))
+    Came::of_lines(write_all(alloc))
 }
 
 #[test]

@@ -1,7 +1,7 @@
 //! How programs are named, and when a name is made canonical.
 use super::shown::made_shows;
-use crate::texts::{Stop, same, tried};
 use duct::{Error, IntoExecutablePath, asks_canonical, cmd};
+use duct_words::stop::{Stop, same, tried};
 use std::alloc::Global;
 use std::path::{Path, PathBuf};
 use std::test::Fail;

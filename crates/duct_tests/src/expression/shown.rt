@@ -1,7 +1,7 @@
 //! The debug text of each kind of node.
 use super::made::{rows, shows};
-use crate::texts::Stop;
 use duct::{Error, Expression, cmd};
+use duct_words::stop::Stop;
 use std::alloc::Global;
 use std::test::Fail;
 

@@ -1,7 +1,7 @@
 //! The writes of a command's spec.
-use crate::texts::{Stop, same, tried};
 use crate::writes::{spec, spec_text, write};
 use duct::CommandSpec;
+use duct_words::stop::{Stop, same, tried};
 use std::alloc::Global;
 use std::test::Fail;
 

@@ -1,5 +1,7 @@
 //! What comes of a call while requests for memory may be refused.
-use duct::{Error, Kind};
+use crate::stop::Stop;
+use duct_system::error::Error;
+use duct_system::system::Kind;
 
 /// What came of a call.
 #[derive(Clone, Copy, Debug, PartialEq, Eq)]
@@ -8,6 +10,7 @@ pub enum Came {
     Whole,
     /// Memory was refused, by its name, and nothing was lost.
     Refused,
+    /// Neither.
     Wrong,
 }
 
@@ -20,6 +23,15 @@ impl Came {
         }
     }
 
+    /// What came of lines that ask no system, so that a refusal is the library's own.
+    pub fn of_lines(tried: Result<Came, Stop>) -> Came {
+        match tried {
+            Ok(came) => came,
+            Err(Stop::Error(Error::Memory)) => Came::Refused,
+            Err(_) => Came::Wrong,
+        }
+    }
+
     /// As with ample memory, if what was found is right.
     pub fn whole_if(right: bool) -> Came {
         if right { Came::Whole } else { Came::Wrong }
@@ -28,6 +40,15 @@ impl Came {
     /// A refusal, if what it left is right.
     pub fn refused_if(right: bool) -> Came {
         if right { Came::Refused } else { Came::Wrong }
+    }
+
+    /// What came of this call and of one more.
+    pub fn then(self, next: Came) -> Came {
+        match self {
+            Came::Whole => next,
+            Came::Refused if next == Came::Wrong => next,
+            came => came,
+        }
     }
 }
 
