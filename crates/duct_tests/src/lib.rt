@@ -2,10 +2,10 @@
 #![tactic(auto)]
 
 #[cfg(test)]
-mod came;
-#[cfg(test)]
 mod command;
 #[cfg(test)]
 mod expression;
+#[cfg(test)]
+mod memory;
 #[cfg(test)]
 mod writes;
