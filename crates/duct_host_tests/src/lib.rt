@@ -20,6 +20,10 @@ mod held;
 #[cfg(test)]
 mod leftovers;
 #[cfg(test)]
+mod odd;
+#[cfg(test)]
+mod rare;
+#[cfg(test)]
 mod shared;
 #[cfg(test)]
 mod starts;

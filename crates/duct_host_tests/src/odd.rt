@@ -1,0 +1,217 @@
+//! A runtime that stands in front of another one. What it answers of processes is written in a text; the rest it asks the other.
+//!
+//! Commas part the answers, and each question takes the next one: a start, a poll, a wait and a kill, of children and of the shell
+//! alike. `ok` is a process that starts, goes on, or takes a kill. `status 256` is an end, as the machine writes it. Another word is
+//! the kind of a fault.
+
+use crate::asks::first_word;
+use crate::support::same;
+use duct_host::parents::Parents;
+use std::alloc::{Allocator, Global};
+use std::env::FillError;
+use std::fs::{Metadata, OpenOptions};
+use std::io;
+use std::io::{ErrorKind, PipeReader, PipeWriter};
+use std::os::fd::OwnedFd;
+use std::os::unix::process::ExitStatusExt;
+use std::path::PathBuf;
+use std::process::{
+    Child, ChildStderr, ChildStdin, ChildStdout, Command, ExitStatus, OpenProcess, Processes, Stdio,
+};
+use std::rt::{Clock, Env, Files};
+use std::sync::Wait;
+use std::sync::atomic::{AtomicUsize, Ordering};
+use std::test::Fail;
+use std::thread::Threads;
+use std::time::Duration;
+
+/// A process that answers by a text, and how many answers were given of it.
+#[derive(Clone, Copy, Drop)]
+pub struct Script<'a> {
+    answers: &'a str,
+    given: &'a AtomicUsize,
+}
+
+impl<'a> Script<'a> {
+    /// The next answer. Behind the last one each is a fault.
+    fn next(&self) -> io::Result<Option<ExitStatus>> {
+        let place = self.given.fetch_add(1, Ordering::SeqCst);
+        let answer = self.answers.split(", ").nth(place).unwrap_or("none");
+        let (word, raw) = first_word(answer);
+        match (word, raw.parse()) {
+            ("ok", _) => Ok(None),
+            ("status", Ok(raw)) => Ok(Some(ExitStatus::from_raw(raw))),
+            _ => Err(io::Error::from(kind(answer))),
+        }
+    }
+}
+
+/// The kind of this name.
+fn kind(name: &str) -> ErrorKind {
+    match name {
+        "Interrupted" => ErrorKind::Interrupted,
+        "NotFound" => ErrorKind::NotFound,
+        "PermissionDenied" => ErrorKind::PermissionDenied,
+        "WouldBlock" => ErrorKind::WouldBlock,
+        _ => ErrorKind::Other,
+    }
+}
+
+impl<'a> OpenProcess for Script<'a> {
+    type Stdin = ChildStdin;
+
+    type Stdout = ChildStdout;
+
+    type Stderr = ChildStderr;
+
+    fn id(&self) -> u32 {
+        7
+    }
+
+    fn wait(&mut self) -> io::Result<ExitStatus> {
+        self.next()?.ok_or(io::Error::from(ErrorKind::Other))
+    }
+
+    fn try_wait(&mut self) -> io::Result<Option<ExitStatus>> {
+        self.next()
+    }
+
+    fn kill(&mut self) -> io::Result<()> {
+        self.next().map(drop)
+    }
+}
+
+/// A runtime with such answers. It doesn't give the environment at once, so that it is read entry by entry.
+#[derive(Clone, Drop)]
+pub struct Odd<'a, R> {
+    real: R,
+    script: Script<'a>,
+}
+
+impl<'a, R> Odd<'a, R> {
+    pub fn new(real: R, answers: &'a str, given: &'a AtomicUsize) -> Odd<'a, R> {
+        let script = Script { answers, given };
+        Odd { real, script }
+    }
+
+    /// Fails unless as many questions were asked as there are answers.
+    pub fn is_spent(&self) -> Result<(), Fail> {
+        let given = self.script.given.load(Ordering::SeqCst);
+        same(given, self.script.answers.split(", ").count())
+    }
+}
+
+impl<'a, R> Processes for Odd<'a, R> {
+    type Started = Script<'a>;
+
+    fn spawn<B: Allocator + Clone>(
+        &self,
+        _command: &Command<B>,
+        _stdin: &Stdio,
+        _stdout: &Stdio,
+        _stderr: &Stdio,
+    ) -> io::Result<Child<Script<'a>>> {
+        self.script.next()?;
+        Ok(Child::from_parts(self.script, None, None, None))
+    }
+}
+
+impl<'a, R: Wait> Wait for Odd<'a, R> {}
+
+impl<'a, R: Threads> Threads for Odd<'a, R> {}
+
+impl<'a, R: AllocGlobal> Alloc for Odd<'a, R> {
+    type A = Global;
+
+    fn alloc(&self) -> Global {
+        self.real.alloc()
+    }
+}
+
+impl<'a, R: Parents> Parents for Odd<'a, R> {
+    fn duplicate_stdout(&self) -> io::Result<OwnedFd> {
+        self.real.duplicate_stdout()
+    }
+
+    fn duplicate_stderr(&self) -> io::Result<OwnedFd> {
+        self.real.duplicate_stderr()
+    }
+}
+
+impl<'a, R: Clock> Clock for Odd<'a, R> {
+    fn monotonic(&self) -> io::Result<Duration> {
+        self.real.monotonic()
+    }
+
+    fn since_1970(&self) -> io::Result<Duration> {
+        self.real.since_1970()
+    }
+}
+
+impl<'a, R: Env> Env for Odd<'a, R> {
+    fn arg(&self, i: usize, buf: &mut [u8]) -> Result<usize, FillError> {
+        self.real.arg(i, buf)
+    }
+
+    fn var(&self, name: &str, buf: &mut [u8]) -> Result<usize, FillError> {
+        self.real.var(name, buf)
+    }
+
+    fn var_at(&self, i: usize, buf: &mut [u8]) -> Result<usize, FillError> {
+        self.real.var_at(i, buf)
+    }
+}
+
+impl<'a, R: Files> Files for Odd<'a, R> {
+    type File = R::File;
+
+    type Dir = R::Dir;
+
+    fn open_file(&self, how: &OpenOptions, path: &str) -> io::Result<R::File> {
+        self.real.open_file(how, path)
+    }
+
+    fn open_dir(&self, path: &str) -> io::Result<R::Dir> {
+        self.real.open_dir(path)
+    }
+
+    fn metadata(&self, path: &str) -> io::Result<Metadata> {
+        self.real.metadata(path)
+    }
+
+    fn symlink_metadata(&self, path: &str) -> io::Result<Metadata> {
+        self.real.symlink_metadata(path)
+    }
+
+    fn copy(&self, from: &str, to: &str) -> io::Result<u64> {
+        self.real.copy(from, to)
+    }
+
+    fn rename(&self, from: &str, to: &str) -> io::Result<()> {
+        self.real.rename(from, to)
+    }
+
+    fn remove_file(&self, path: &str) -> io::Result<()> {
+        self.real.remove_file(path)
+    }
+
+    fn create_dir(&self, path: &str) -> io::Result<()> {
+        self.real.create_dir(path)
+    }
+
+    fn remove_dir(&self, path: &str) -> io::Result<()> {
+        self.real.remove_dir(path)
+    }
+
+    fn remove_dir_all<B: Allocator>(&self, alloc: B, path: &str) -> io::Result<()> {
+        self.real.remove_dir_all(alloc, path)
+    }
+
+    fn canonicalize<B: Allocator>(&self, alloc: B, path: &str) -> io::Result<PathBuf<B>> {
+        self.real.canonicalize(alloc, path)
+    }
+
+    fn pipe(&self) -> io::Result<(PipeReader, PipeWriter)> {
+        self.real.pipe()
+    }
+}
