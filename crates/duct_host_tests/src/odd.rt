@@ -4,9 +4,9 @@
 //! alike. `ok` is a process that starts, goes on, or takes a kill. `status 256` is an end, as the machine writes it. Another word is
 //! the kind of a fault.
 
-use crate::asks::first_word;
 use crate::support::same;
 use duct_host::parents::Parents;
+use duct_words::words::first_word;
 use std::alloc::{Allocator, Global};
 use std::env::FillError;
 use std::fs::{Metadata, OpenOptions};

@@ -1,9 +1,9 @@
 //! What the machine rarely answers of a process: faults at polls, orders and starts, questions that a signal interrupts, and a shell
 //! that sends no signal. A row begins with `child` for requests, or with `expression`, and has the answers behind it.
-use crate::asks::first_word;
 use crate::odd::Odd;
 use crate::support::Real;
 use crate::{asks, trees};
+use duct_words::words::first_word;
 use std::sync::Wait;
 use std::sync::atomic::AtomicUsize;
 use std::test::Fail;
