@@ -110,8 +110,8 @@ fn output_in(rt: &impl Wait, alloc: Global) -> Result<Came, Error> {
     let shared = handle.wait(rt);
     let own = handle.into_output(rt, &mut pool);
     drop(shared);
-    Ok(match own {
-        Ok(output) => Came::whole_if(is_xy(&output) && counts(&pool) == (0, 0, 0, 0)),
+    Ok(match &own {
+        Ok(output) => Came::whole_if(is_xy(output) && counts(&pool) == (0, 0, 0, 0)),
         Err(Error::Memory) => Came::refused_if(counts(&pool) == (0, 1, 1, 0)),
         Err(_) => Came::Wrong,
     })
