@@ -1,5 +1,6 @@
 -- What a start that was waited for answers, and what it leaves of the pool.
 use Rattle.std.proofs.Common.{◌≡◌, ℕ, ◌+◌, ◌^◌, ◌<◌, Bool, List, [], ◌∷◌, length, refl, ap, sym, ◌∙◌, arith}
+use Rattle.std.proofs.lemmas.Simd.{map-map}
 use Rattle.std.proofs.lemmas.List.{length-map}
 use Rattle.std.proofs.lemmas.List.Elements.{All-cons, All-nil, All-head, All-tail}
 use Rattle.std.specs.List.{All}
@@ -35,11 +36,6 @@ pub given_started : {C : Type 0} (may : ℕ → Answer → Type 0) (view : C →
 given_started may view added before after leaves = (leaves.0, leaves.1, all_unordered leaves.0 leaves.2, leaves.3)
 
 module _ {C : Type 0} (view : C → ChildView) where
-  numbers_seen : (children : List C) → map (λ c. c.number) (map view children) ≡ map
-      (λ c. (view c).number) children
-  numbers_seen [] = refl
-  numbers_seen (child ∷ children) = ap (λ (l : List ℕ). (view child).number ∷ l) (numbers_seen children)
-
   -- children that kept their orders
   still_unordered : (children waited : List C)
       → map (λ c. c.orders) (map view waited) ≡ map (λ c. c.orders) (map view children)
@@ -69,7 +65,7 @@ module _ {E H C F D V W : Type 0} (child : C → ChildView) (feed : F → JobVie
       → PoolHasRoom added before → LeavesGiven may child added before after
   given_after may waited before mid after swept stays given fits =
       let numbers : map (λ c. c.number) (map child waited.children) ≡ children_in added =
-      ap (λ n. n.children) stays.numbers_are ∙ numbers_seen child running.children ∙ runs.children_are in
+      ap (λ n. n.children) stays.numbers_are ∙ map-map (λ (c : ChildView). c.number) child running.children ∙ runs.children_are in
       let many : length waited.children ≡ length (children_in added) =
       sym (length-map waited.children child) ∙ sym (length-map (map child waited.children) (λ c. c.number)) ∙ ap (λ (l : List ℕ). length l) numbers in
       let low : mid.given + length waited.children < 2 ^ 63 = omega (arith, fits, many, swept.given_is) in (

@@ -1,6 +1,5 @@
 -- Children that are given to a pool one after the other.
-use Rattle.std.proofs.Common.{ℕ, zero, suc, ◌≡◌, ◌+◌, ◌^◌, ◌<◌, ◌≤◌, List, [], ◌∷◌, ◌++◌, length, refl, ap, sym, ◌∙◌, arith, append_assoc, length-append}
-use Rattle.std.proofs.lemmas.List.{append-nil}
+use Rattle.std.proofs.Common.{ℕ, zero, suc, ◌≡◌, ◌+◌, ◌^◌, ◌<◌, ◌≤◌, List, [], ◌∷◌, ◌++◌, length, ap, sym, ◌∙◌, arith, append_assoc, length-append}
 use Rattle.std.specs.Prelude.{Ok, None}
 use Rattle.duct_system.specs.Child.{Answer, ChildView, PollsChild}
 use Rattle.duct_base.specs.Pool.{PoolView, Takes, IsGiven, counted}
@@ -11,19 +10,6 @@ counted_low count zero = omega arith
 counted_low count (suc more) = omega arith
 
 module _ {C : Type 0} (may : ℕ → Answer → Type 0) (view : C → ChildView) where
-  -- no child was given
-  pub takes_none : (pool : PoolView C) → Takes may view [] pool pool
-  takes_none pool = record {
-    kept = [];
-    reaped = 0;
-    lost = 0;
-    asked = (refl, refl, refl);
-    children_are = sym (append-nil pool.children);
-    given_is = refl;
-    reaped_is = refl;
-    lost_is = refl;
-  }
-
   -- some children, and then others
   pub takes_append : (taken more : List C) (before mid after : PoolView C)
       → Takes may view taken before mid → Takes may view more mid after
@@ -41,10 +27,7 @@ module _ {C : Type 0} (may : ℕ → Answer → Type 0) (view : C → ChildView)
     lost_is = second.lost_is ∙ ap (λ (n : ℕ). counted n second.lost) first.lost_is ∙ counted_more before.lost first.lost second.lost;
   }
 
-  -- no child was given, and one more
-  pub given_none : (pool : PoolView C) → IsGiven may view [] pool pool
-  given_none pool = record { counts = refl; takes = λ fits. takes_none pool }
-
+  -- some children, and one more
   pub given_next : (taken : List C) (child : C) (before mid after : PoolView C)
       → IsGiven may view taken before mid → IsGiven may view (child ∷ []) mid after
       → IsGiven may view (taken ++ child ∷ []) before after

@@ -8,7 +8,7 @@ use Rattle.duct_system.specs.SpecView.{SpecView}
 use Rattle.duct_system.specs.declared.error.Error.{Error}
 use Rattle.duct_system.specs.declared.system.Stdio.{Stdio}
 use Rattle.duct_start.specs.Chain.{Wired, Chain, ChainStops, lent}
-use Rattle.duct_start.specs.Follows.{IsGiven, IsAskedAt}
+use Rattle.duct_start.specs.Follows.{IsSpawnedAt, IsAskedAt}
 use Rattle.duct_start.specs.Found.{Found}
 use Rattle.duct_follows.specs.Given.{AreThese, AreAnswered, FoundNoMemory, Decides}
 use Rattle.duct_follows.specs.ScriptHooks.{allows, refuses}
@@ -39,8 +39,8 @@ module _ {E : Type 0} (entries : List EntryView) (number_of : E → ℕ) (place 
   IsAskedHere wired = IsAskedAt entries number_of place found words wired
 
   -- a spec and streams are to be given
-  abbrev IsGivenHere : SpecView → List (Stdio Origin) → Type 0
-  IsGivenHere spec streams = IsGiven allows number_of entries place found words spec streams
+  abbrev IsSpawnedHere : SpecView → List (Stdio Origin) → Type 0
+  IsSpawnedHere spec streams = IsSpawnedAt allows number_of entries place found words spec streams
 
   -- what the answer stands for is asked for
   pub answer_is_asked : (asked : answer.Wired)
@@ -56,23 +56,23 @@ module _ {E : Type 0} (entries : List EntryView) (number_of : E → ℕ) (place 
   given_these : (asked given : answer.Wired)
       → IsAskedThere entries number_of place found words asked →
       Chain allows (lent number_of found.hooks) (wired_of asked) (wired_of given) → IsAnswered (wired_of given) given →
-      (spec : SpecView) (streams : List (Stdio Origin)) → IsGivenHere spec streams ↔ AreThese given spec streams
+      (spec : SpecView) (streams : List (Stdio Origin)) → IsSpawnedHere spec streams ↔ AreThese given spec streams
   given_these asked given there chain own spec streams =
-      let to : IsGivenHere spec streams → AreThese given spec streams = λ is.
+      let to : IsSpawnedHere spec streams → AreThese given spec streams = λ is.
       let before : is.0 ≡ wired_of asked = only_the_answer asked is.0 there is.2 in
       let also : Chain allows (lent number_of found.hooks) (wired_of asked) is.1 = subst (λ (wired : Wired). Chain allows (lent number_of found.hooks) wired is.1) before is.3 in
       let after : is.1 ≡ wired_of given = chain_one allows makes_one (lent number_of found.hooks) (wired_of asked) is.1 (wired_of given) also chain in
       record { spec_is = is.4 ∙ ap (λ wired. wired.spec) after; streams_are = is.5 ∙ ap streams_in after ∙ own.streams_are } in
-      let back : AreThese given spec streams → IsGivenHere spec streams = λ these.
+      let back : AreThese given spec streams → IsSpawnedHere spec streams = λ these.
       (wired_of asked, wired_of given, answer_is_asked asked there, chain, these.spec_is, these.streams_are ∙ sym own.streams_are) in
       (to, back)
 
   given_none : (asked : answer.Wired) (error : Error)
       → IsAskedThere entries number_of place found words asked →
       ChainStops allows refuses (lent number_of found.hooks) (wired_of asked) error → ¬ (FoundNoMemory error) →
-      (spec : SpecView) (streams : List (Stdio Origin)) → IsGivenHere spec streams ↔ ⊥
+      (spec : SpecView) (streams : List (Stdio Origin)) → IsSpawnedHere spec streams ↔ ⊥
   given_none asked error there stops decided spec streams =
-      let to : IsGivenHere spec streams → ⊥ = λ is.
+      let to : IsSpawnedHere spec streams → ⊥ = λ is.
       let before : is.0 ≡ wired_of asked = only_the_answer asked is.0 there is.2 in
       let also : Chain allows (lent number_of found.hooks) (wired_of asked) is.1 = subst (λ (wired : Wired). Chain allows (lent number_of found.hooks) wired is.1) before is.3 in
       chain_none allows refuses makes_one makes_none (lent number_of found.hooks) (wired_of asked) is.1 error decided stops also in
@@ -84,8 +84,8 @@ module _ {E : Type 0} (entries : List EntryView) (number_of : E → ℕ) (place 
       IfOk made (λ after. Chain allows (lent number_of found.hooks) (wired_of asked) (wired_of after)) →
       IfOk made (λ after. IsAnswered (wired_of after) after) →
       IfErr made (λ error. ChainStops allows refuses (lent number_of found.hooks) (wired_of asked) error) →
-      Decides made given → (spec : SpecView) (streams : List (Stdio Origin)) → IsGivenHere spec streams ↔ AreAnswered given spec streams
+      Decides made given → (spec : SpecView) (streams : List (Stdio Origin)) → IsSpawnedHere spec streams ↔ AreAnswered given spec streams
   given_is asked (Ok after) given there chain own stops decides spec streams =
-      subst (λ (given : Option answer.Wired). IsGivenHere spec streams ↔ AreAnswered given spec streams) (sym decides) (given_these asked after there chain own spec streams)
+      subst (λ (given : Option answer.Wired). IsSpawnedHere spec streams ↔ AreAnswered given spec streams) (sym decides) (given_these asked after there chain own spec streams)
   given_is asked (Err error) given there chain own stops decides spec streams =
-      subst (λ (given : Option answer.Wired). IsGivenHere spec streams ↔ AreAnswered given spec streams) (sym decides.0) (given_none asked error there stops decides.1 spec streams)
+      subst (λ (given : Option answer.Wired). IsSpawnedHere spec streams ↔ AreAnswered given spec streams) (sym decides.0) (given_none asked error there stops decides.1 spec streams)

@@ -4,7 +4,7 @@ use Rattle.std.specs.Cmp.Lexicographic.{pointwise}
 use Rattle.std.proofs.lemmas.Bool.{false≢true}
 use Rattle.std.proofs.lemmas.Slice.Eq.{slice_eq-Decides, bytes_eq-Decides}
 use Rattle.duct_status.proofs.Texts.{pointwise-map, same_text}
-use Rattle.duct_follows.specs.Same.{lent_pair}
+use Rattle.duct_plan.specs.Found.{pair_seen}
 
 -- whether two pairs of texts are the same
 abbrev same_pair : List ℕ × List ℕ → List ℕ × List ℕ → Bool
@@ -23,5 +23,5 @@ pair_decides one other = parts_decide one other _ _ (bytes_eq-Decides one.0 othe
 
 -- pairs of texts that are lent
 pub pairs_decide : (xs ys : List (Bor (List ℕ) × Bor (List ℕ))) (result : Bool) →
-    result ≡ pointwise (λ x y. same_pair (lent_pair x) (lent_pair y)) xs ys → Decides result (map lent_pair xs ≡ map lent_pair ys)
-pairs_decide xs ys result is = slice_eq-Decides pair_decides (map lent_pair xs) (map lent_pair ys) result (is ∙ sym (pointwise-map lent_pair same_pair xs ys))
+    result ≡ pointwise (λ x y. same_pair (pair_seen x) (pair_seen y)) xs ys → Decides result (map pair_seen xs ≡ map pair_seen ys)
+pairs_decide xs ys result is = slice_eq-Decides pair_decides (map pair_seen xs) (map pair_seen ys) result (is ∙ sym (pointwise-map pair_seen same_pair xs ys))

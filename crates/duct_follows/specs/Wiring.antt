@@ -5,11 +5,9 @@ use Rattle.std.specs.declared.option.Option.{Option}
 use Rattle.duct_system.specs.Origin.{Origin, Lent}
 use Rattle.duct_system.specs.SpecView.{SpecView}
 use Rattle.duct_system.specs.Streams.{stream_of}
-use Rattle.duct_system.specs.declared.spec.Stream.{Stream}
-use Rattle.duct_system.specs.declared.spec.Stream.TheVariants.{In, Out, Err}
 use Rattle.duct_system.specs.declared.system.Stdio.{Stdio}
 use Rattle.duct_system.specs.declared.system.Stdio.TheVariants.{Inherit}
-use Rattle.duct_start.specs.Chain.{Wired, found}
+use Rattle.duct_start.specs.Chain.{Wired}
 use Rattle.duct_plan.specs.Found.{hook_of}
 use Rattle.duct_plan.specs.declared.asked.Wired as answer
 use Rattle.duct_plain.specs.Source.{origin_of}
@@ -42,9 +40,3 @@ hooks_of hooks = map hook_of hooks
 -- where the ends beside a hook come from: they are the caller's own
 abbrev pub lent_ends : {E : Type 0} → (E → ℕ) → List E → List Origin
 lent_ends number_of ends = map (λ end. Lent (number_of end)) ends
-
--- the spec with a given end in place of the place that a stream names, if it names one
-abbrev pub with_found : Stream → SpecView → SpecView
-with_found In spec = record spec { input = found spec.input }
-with_found Out spec = record spec { output = found spec.output }
-with_found Err spec = record spec { error = found spec.error }

@@ -1,8 +1,8 @@
 //! What the hooks of a command make of its spec and its streams, or the error by which one of them stops the start.
 ghost use Rattle.std.specs.Prelude.{◌≡◌, length, OnOk, IfOk, IfErr};
 ghost use Rattle.duct_system.specs.Streams.{stream_of};
-ghost use Rattle.duct_start.specs.Chain.{Changes, Chain, Stops, ChainStops, lent, missing, missing_at, settle, settled};
-ghost use Rattle.duct_follows.specs.Wiring.{wired_with, wired_of, hooks_of, lent_ends, with_found};
+ghost use Rattle.duct_start.specs.Chain.{Changes, Chain, Stops, ChainStops, lent, missing, missing_at, settle, settled, with_found};
+ghost use Rattle.duct_follows.specs.Wiring.{wired_with, wired_of, hooks_of, lent_ends};
 ghost use Rattle.duct_plan.specs.AskedOf.{IsAnswered};
 ghost use Rattle.duct_plain.specs.Source.{origin_of};
 

@@ -7,7 +7,7 @@ ghost use Rattle.duct_system.specs.Streams.{stream_of};
 ghost use Rattle.duct_system.specs.Trace.{trace};
 ghost use Rattle.duct_system.specs.declared.system.Stdio.{Stdio};
 ghost use Rattle.duct_start.specs.Asked.{end_at};
-ghost use Rattle.duct_start.specs.Follows.{Answers, AnswersFrom, Follows, FollowsWhole, IsGiven};
+ghost use Rattle.duct_start.specs.Follows.{Answers, AnswersFrom, Follows, FollowsWhole, IsSpawnedAt};
 ghost use Rattle.duct_follows.specs.Given.{AreAnswered, FoundNoMemory, Decides, IsUntoldBy};
 ghost use Rattle.duct_follows.specs.ScriptHooks.{allows};
 ghost use Rattle.duct_plan.specs.Found.{found_of};
@@ -169,7 +169,7 @@ fn given<E: Numbered>(
 ) -> Result<Option<Wired>, Untold>
     requires { place ≤ length (trace (map entry_view added.now)) }
     ensures { IfOk result (λ given. (spec : SpecView) (streams : List (Stdio Origin)) →
-        IsGiven allows E.number_of (trace (map entry_view added.now)) place (found_of found.now)
+        IsSpawnedAt allows E.number_of (trace (map entry_view added.now)) place (found_of found.now)
         (map string_bytes words.now) spec streams
         ↔ AreAnswered given spec streams) }
 {

@@ -4,7 +4,8 @@ ghost use Rattle.std.specs.Option.{option_copied};
 ghost use Rattle.duct_system.specs.EntryView.{entry_view};
 ghost use Rattle.duct_system.specs.Origin.{origin};
 ghost use Rattle.duct_system.specs.Streams.{stream_of};
-ghost use Rattle.duct_follows.specs.Same.{lent_pair, HaveSamePorts};
+ghost use Rattle.duct_follows.specs.Same.{HaveSamePorts};
+ghost use Rattle.duct_plan.specs.Found.{pair_seen};
 ghost use Rattle.duct_plain.specs.Source.{origin_of};
 
 use duct_base::spec::{CommandSpec, Port, Stream};
@@ -28,7 +29,7 @@ pub fn same_spec(one: &CommandSpec, other: &CommandSpec) -> Result<bool, AllocEr
 
 /// The variables of a spec.
 fn vars(spec: &CommandSpec) -> Result<Vec<(&str, &str)>, AllocError>
-    ensures { IfOk result (λ vars. map lent_pair vars.items ≡ spec.now.vars) }
+    ensures { IfOk result (λ vars. map pair_seen vars.items ≡ spec.now.vars) }
 {
     match spec.vars() {
         Ok(vars) => Ok(vars),
@@ -52,7 +53,7 @@ fn same_folder(one: Option<&str>, other: Option<&str>) -> bool
 
 /// Whether two lists of variables are the same.
 fn same_vars(one: &[(&str, &str)], other: &[(&str, &str)]) -> bool
-    ensures { IsTrue result ↔ (map lent_pair one.now ≡ map lent_pair other.now) }
+    ensures { IsTrue result ↔ (map pair_seen one.now ≡ map pair_seen other.now) }
 {
     one == other
 }

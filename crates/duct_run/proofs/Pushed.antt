@@ -21,7 +21,7 @@ use Rattle.duct_start.specs.Commands.{handed, taken_by}
 use Rattle.duct_start.specs.Chain.{Allows}
 use Rattle.duct_start.specs.Holdings.{Holdings}
 use Rattle.duct_start.specs.Standing.{Goes}
-use Rattle.duct_start.proofs.Going.{over}
+use Rattle.duct_start.specs.Commands.{holding}
 use Rattle.duct_start.proofs.Changing.{handed_long}
 use Rattle.duct_start.proofs.Wires.{handed_taken}
 use Rattle.duct_run.specs.HeldView.{stack_view}
@@ -52,9 +52,9 @@ module _ {E : Type 0} (f : E → ℕ) where
 -- the same stack, written otherwise
 pub goes_over : {E H : Type 0} (allows : Allows H) (number_of : E → ℕ) (act : Action E H)
     (now next : JournalView) (held : Holdings) (s t : List ℕ) → t ≡ s
-    → Goes allows number_of act now next held (over s held)
-    → Goes allows number_of act now next held (over t held)
-goes_over allows number_of act now next held s t is goes = subst (λ l. Goes allows number_of act now next held (over l held)) (sym is) goes
+    → Goes allows number_of act now next held (holding s held)
+    → Goes allows number_of act now next held (holding t held)
+goes_over allows number_of act now next held s t is goes = subst (λ l. Goes allows number_of act now next held (holding l held)) (sym is) goes
 
 -- the same holdings, written otherwise
 pub goes_as : {E H : Type 0} (allows : Allows H) (number_of : E → ℕ) (act : Action E H)

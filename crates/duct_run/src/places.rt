@@ -1,7 +1,7 @@
 //! The places that a hook names in a spec.
 ghost use Rattle.std.specs.Prelude.{◌≡◌};
-ghost use Rattle.duct_start.specs.Chain.{missing, missing_at};
-ghost use Rattle.duct_run.specs.Places.{with_found, with_places_found};
+ghost use Rattle.duct_start.specs.Chain.{missing, missing_at, with_found};
+ghost use Rattle.duct_run.specs.Places.{with_places_found};
 
 use duct_system::spec::{CommandSpec, Port, Stream, give};
 

@@ -4,7 +4,7 @@ use Rattle.std.specs.Option.{option_map}
 use Rattle.std.specs.declared.option.Option.{Option}
 use Rattle.std.proofs.Common.{◌≡◌, refl, ap, ◌∙◌}
 use Rattle.duct_system.specs.Child.{Answer, ChildView, PollsChild, child_after}
-use Rattle.duct_system.specs.Job.{JobView, PollsJob}
+use Rattle.duct_system.specs.Job.{JobView}
 use Rattle.duct_system.specs.declared.system.ExitStatus.{ExitStatus}
 use Rattle.duct_system.specs.declared.system.Said.{Said}
 use Rattle.duct_system.specs.declared.system.Said.TheVariants as said
@@ -12,7 +12,6 @@ use Rattle.duct_system.specs.declared.system.Side.{Side}
 use Rattle.duct_system.specs.declared.system.Side.TheVariants as side
 use Rattle.duct_status.specs.ShapeView.{shape_view}
 use Rattle.duct_start.specs.Running.{RunningView}
-use Rattle.duct_running.specs.NumbersView.{NumbersView}
 use Rattle.duct_running.specs.Polled.{AllAsked, WhileRuns, IsPolled, AllPolled, IsThereAndPolled, PolledWhere}
 use Rattle.duct_running.specs.Stays.{Stays}
 

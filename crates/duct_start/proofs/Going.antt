@@ -23,6 +23,7 @@ use Rattle.duct_start.specs.Actions as action
 use Rattle.duct_start.specs.Actions.{Action, State, IsReady, IsWriter, advance, level, place_of}
 use Rattle.duct_start.specs.Asked.{end_at}
 use Rattle.duct_start.specs.Chain.{Allows}
+use Rattle.duct_start.specs.Commands.{holding}
 use Rattle.duct_start.specs.Follows.{AnswersFrom}
 use Rattle.duct_start.specs.Found.{Target, Parents, Nothing, ReaderAt, WriterAt, FileAt, Lends}
 use Rattle.duct_start.specs.Holdings.{Holdings, ends, pair_of}
@@ -36,10 +37,6 @@ use Rattle.duct_start.proofs.Standing.{Changes, as_many, stands_more, stops_more
 -- with these on the stack
 abbrev pub on : List ℕ → Holdings → Holdings
 on tops held = record held { stack = tops ++ held.stack }
-
--- with this stack
-abbrev pub over : List ℕ → Holdings → Holdings
-over stack held = record held { stack = stack }
 
 pub cons_eq : {A : Type 0} (a b : A) (xs ys : List A) → a ≡ b → xs ≡ ys → a ∷ xs ≡ b ∷ ys
 cons_eq a b xs ys x y = cc
@@ -356,15 +353,15 @@ module _ {E H : Type 0} (allows : Allows H) (number_of : E → ℕ) where
 
   pub close_goes : (n : ℕ) (rest : List ℕ) (now next : JournalView) (held : Holdings)
       → held.stack ≡ n ∷ rest → GivesEnds (Close n) 1 now next
-      → Goes allows number_of action.close now next held (over rest held)
+      → Goes allows number_of action.close now next held (holding rest held)
   close_goes n rest now next held is gives = λ course st ready stands.
-      let ch : Changes (Close n) now next held (over rest held) =
+      let ch : Changes (Close n) now next held (holding rest held) =
       pop_changes (Close n) n rest held.children held.feeds held.drains now next held gives refl refl is (sym (append-nil held.children)) (sym (append-nil held.feeds)) (sym (append-nil held.drains)) in
       let items = sym (append-nil st.plan.items) in
-      stands_more allows number_of course st (advance st action.close) [] now next held (over rest held) (Close n) stands items ch
-      (omega (arith, few_now allows number_of course st now held stands, ap (λ (l : List ℕ). length (l ++ (pair_of held.out ++ pair_of held.err))) is)) (popped_shape n rest (advance st action.close) st (over rest held) held is refl refl refl refl refl refl stands.shaped) refl refl (λ more later. tt)
+      stands_more allows number_of course st (advance st action.close) [] now next held (holding rest held) (Close n) stands items ch
+      (omega (arith, few_now allows number_of course st now held stands, ap (λ (l : List ℕ). length (l ++ (pair_of held.out ++ pair_of held.err))) is)) (popped_shape n rest (advance st action.close) st (holding rest held) held is refl refl refl refl refl refl stands.shaped) refl refl (λ more later. tt)
       (λ more later.
-      let s = sources_now allows number_of course st (advance st action.close) [] now next held (over rest held) (Close n) stands items ch more later in
+      let s = sources_now allows number_of course st (advance st action.close) [] now next held (holding rest held) (Close n) stands items ch more later in
       let L = (stands.added ++ Close n ∷ []) ++ more in
       record { stack = popped (λ k. Some (origin L k)) (origin_to (trace L) number_of) n rest st.stack (ap (λ (l : List ℕ). map (λ k. Some (origin L k)) l) (sym is) ∙ s.stack); out = s.out; err = s.err })
 
@@ -395,14 +392,14 @@ module _ {E H : Type 0} (allows : Allows H) (number_of : E → ℕ) where
         record { stack = popped (λ k. Some (origin L k)) (origin_to (trace L) number_of) n rest st.stack (ap (λ (l : List ℕ). map (λ k. Some (origin L k)) l) (sym is) ∙ s.stack); out = s.out; err = s.err })
 
     pub feed_quits : (fault : Fault) → GivesEnds (Feed n bytes (Err fault)) 1 now next
-        → Quits allows number_of (action.feed bytes) now next held (over rest held) (System fault)
+        → Quits allows number_of (action.feed bytes) now next held (holding rest held) (System fault)
     feed_quits fault gives = λ course st ready stands.
         let entry = Feed n bytes (Err fault) in
-        let ch : Changes entry now next held (over rest held) =
+        let ch : Changes entry now next held (holding rest held) =
         pop_changes entry n rest held.children held.feeds held.drains now next held gives refl refl is (sym (append-nil held.children)) (sym (append-nil held.feeds)) (sym (append-nil held.drains)) in
-        stops_more allows number_of course st (advance st (action.feed bytes)) (AskFeed (place_of st.stack) bytes ∷ []) now next held (over rest held) entry stands refl ch
+        stops_more allows number_of course st (advance st (action.feed bytes)) (AskFeed (place_of st.stack) bytes ∷ []) now next held (holding rest held) entry stands refl ch
         (omega (arith, few_now allows number_of course st now held stands, ap (λ (l : List ℕ). length (l ++ (pair_of held.out ++ pair_of held.err))) is)) fault refl
-        (λ more later. ((refl, fed (Err fault) (over rest held) course st ready stands ch more later), tt))
+        (λ more later. ((refl, fed (Err fault) (holding rest held) course st ready stands ch more later), tt))
 
   -- no memory before anything was asked
   pub memory_quits : (act : Action E H) (asked : State E H → List (Item E H))

@@ -1,5 +1,6 @@
 -- A run of the list of a whole tree is its start.
-use Rattle.std.proofs.Common.{◌≡◌, ℕ, ◌+◌, ◌*◌, List, [], ◌∷◌, ◌++◌, length, ap, refl, sym, ◌∙◌, arith, subst}
+use Rattle.std.proofs.Common.{◌≡◌, ℕ, ◌+◌, ◌*◌, List, [], ◌++◌, ap, refl, sym, ◌∙◌, arith, subst}
+use Rattle.std.proofs.lemmas.List.{nil_from_length}
 use Rattle.std.specs.declared.option.Option.{Option}
 use Rattle.std.specs.Prelude.{false, None, Some, is_some}
 use Rattle.duct_system.specs.Journal.{JournalView}
@@ -24,10 +25,6 @@ use Rattle.duct_start.proofs.Joined.{tree_leads}
 use Rattle.duct_start.proofs.Running.{stopped_unasked}
 use Rattle.duct_start.proofs.Spawning.{plain_refused}
 use Rattle.duct_start.proofs.Whole.{succeeded}
-
-no_items : {A : Type 0} (xs : List A) → length xs ≡ 0 → xs ≡ []
-no_items [] is = refl
-no_items (x ∷ xs) is = absurd (omega (arith, is))
 
 no_pair : (o : Option (ℕ × ℕ)) → is_some o ≡ false → pair_of o ≡ []
 no_pair None is = refl
@@ -115,7 +112,7 @@ module _ {E H : Type 0} (allows : Allows H) (number_of : E → ℕ) (tree : Tree
       → Runs allows number_of ending actions old now held → ends held ≡ []
   nothing_left ending no_out no_err old now held runs =
       let stands = stands_launched ending old now held runs in
-      let stack = no_items held.stack stands.shaped.stack in
+      let stack = nil_from_length held.stack stands.shaped.stack in
       let out = no_pair held.out (stands.shaped.out ∙ ap (λ (o : Option ℕ). is_some o) no_out) in
       let err = no_pair held.err (stands.shaped.err ∙ ap (λ (o : Option ℕ). is_some o) no_err) in
       λ i. stack i ++ (out i ++ err i)

@@ -1,5 +1,6 @@
 -- What a start leaves of a pool: sweeps one after the other, and then the children that it started.
 use Rattle.std.proofs.Common.{◌≡◌, ℕ, ◌+◌, ◌^◌, ◌<◌, List, [], ◌∷◌, ◌++◌, length, refl, ap, sym, ◌∙◌, arith, subst, inl, inr}
+use Rattle.std.proofs.lemmas.Simd.{map-map}
 use Rattle.std.proofs.lemmas.List.{append-nil, map-append, length-map}
 use Rattle.std.specs.List.{All}
 use Rattle.std.proofs.lemmas.List.Elements.{All-cons, All-nil, All-head, All-tail}
@@ -173,11 +174,6 @@ module _ (may : ℕ → Answer → Type 0) where
         let nothing : segment entries entries ≡ [] = ap (λ (l : List EntryView). segment entries l) (sym (append-nil entries)) ∙ segment-added entries [] in
         ([], sym (ap (λ (l : List EntryView). children_in l) nothing), All-nil IsUnasked, leaves_same (pool_view view pool))
 
-    numbers_seen : (children : List C) → map (λ c. c.number) (map view children) ≡ map
-        (λ c. (view c).number) children
-    numbers_seen [] = refl
-    numbers_seen (child ∷ children) = ap (λ (l : List ℕ). (view child).number ∷ l) (numbers_seen children)
-
     unasked_seen : (children : List C) → All (λ c. IsUnasked (view c)) children
         → All IsUnasked (map view children)
     unasked_seen [] all = All-nil IsUnasked
@@ -193,7 +189,7 @@ module _ (may : ℕ → Answer → Type 0) where
         → All (λ c. IsUnasked (view c)) children → LeavesStarted may view added before after
     leaves_started children added before mid after swept takes numbers unasked = (
       map view children,
-      numbers_seen children ∙ numbers,
+      map-map (λ (c : ChildView). c.number) view children ∙ numbers,
       unasked_seen children unasked,
       leaves_on (map view children) (pool_view view before) (pool_view view mid) (pool_view view after) swept (leaves_taken children mid after takes),
     )

@@ -11,15 +11,10 @@ use Rattle.duct_start.specs.Flat.{Wire, parents, nothing, slot, captured, lent, 
 use Rattle.duct_start.specs.Listed.{ListedScope, listed, listed_of, scope_at, with_scope, scopes_from, resolved, resolved_all}
 use Rattle.duct_start.specs.Step.{step}
 use Rattle.duct_start.specs.TreeView.{TreeView, command, pipe, around, stdin_bytes, stdin_path, stdin_file, stdin_null, stdout_path, stdout_file, stdout_null, stdout_capture, stdout_to_stderr, stderr_path, stderr_file, stderr_null, stderr_capture, stderr_to_stdout, stdout_stderr_swap, dir, env, env_remove, full_env, unchecked, before_spawn}
-use Rattle.duct_start.proofs.Stacks.{get_seam, get_front}
+use Rattle.duct_start.proofs.ScopeIn.{known_stays}
+use Rattle.duct_start.proofs.Stacks.{get_seam}
 
 module _ {E H : Type 0} where
-  -- what is known stays where it is
-  known_stays : (known : List (Scope E H)) (scopes : List (ListedScope E H)) (i : ℕ)
-      (s : Scope E H) → slice_get known i ≡ Some s → slice_get (scopes_from known scopes) i ≡ Some s
-  known_stays known [] i s is = is
-  known_stays known (scope ∷ scopes) i s is = known_stays (with_scope known scope) scopes i s (get_front known _ i s is)
-
   from_append : (known : List (Scope E H)) (xs ys : List (ListedScope E H))
       → scopes_from known (xs ++ ys) ≡ scopes_from (scopes_from known xs) ys
   from_append known [] ys = refl

@@ -1,31 +1,19 @@
 -- The scope of an index in a list: that of its own node inside the scope outside of it.
 use Rattle.std.specs.Prelude.{Some, slice_get, unwrap_or}
-use Rattle.std.proofs.Common.{◌≡◌, ℕ, zero, suc, ◌+◌, ◌<◌, List, [], ◌∷◌, ◌++◌, length, refl, ap, sym, ◌∙◌, arith, inl, inr, length-append}
+use Rattle.std.proofs.Common.{◌≡◌, ℕ, zero, suc, ◌+◌, ◌<◌, List, [], ◌∷◌, ◌++◌, length, ap, sym, ◌∙◌, arith, inl, inr, length-append}
 use Rattle.std.proofs.lemmas.Option.{slice_get_cases}
 use Rattle.duct_start.specs.Actions.{Scope}
 use Rattle.duct_start.specs.Flat.{rooted, scope_within}
 use Rattle.duct_start.specs.Listed.{AreOutwards, ListedScope, scope_at, scope_in, scopes_from, with_scope}
 use Rattle.duct_start.specs.Step.{step}
-
-end_of : {A : Type 0} (xs : List A) (x : A) (n : ℕ) → n ≡ length xs
-    → slice_get (xs ++ x ∷ []) n ≡ Some x
-end_of [] x zero is = refl
-end_of [] x (suc n) is = absurd (omega arith)
-end_of (y ∷ xs) x zero is = absurd (omega arith)
-end_of (y ∷ xs) x (suc n) is = end_of xs x n (omega arith)
-
-front_of : {A : Type 0} (xs ys : List A) (n : ℕ) (x : A) → slice_get xs n ≡ Some x
-    → slice_get (xs ++ ys) n ≡ Some x
-front_of [] ys n x is = cc
-front_of (y ∷ xs) ys zero x is = is
-front_of (y ∷ xs) ys (suc n) x is = front_of xs ys n x is
+use Rattle.duct_start.proofs.Stacks.{get_front, get_seam}
 
 module _ {E H : Type 0} where
   -- what is known stays where it is
-  known_stays : (known : List (Scope E H)) (scopes : List (ListedScope E H)) (i : ℕ)
+  pub known_stays : (known : List (Scope E H)) (scopes : List (ListedScope E H)) (i : ℕ)
       (s : Scope E H) → slice_get known i ≡ Some s → slice_get (scopes_from known scopes) i ≡ Some s
   known_stays known [] i s is = is
-  known_stays known (scope ∷ scopes) i s is = known_stays (with_scope known scope) scopes i s (front_of known _ i s is)
+  known_stays known (scope ∷ scopes) i s is = known_stays (with_scope known scope) scopes i s (get_front known _ i s is)
 
   scope_stays : (known : List (Scope E H)) (scopes : List (ListedScope E H)) (i : ℕ)
       → i < length known → scope_at known i ≡ scope_at (scopes_from known scopes) i
@@ -44,7 +32,8 @@ module _ {E H : Type 0} where
       let same : x ≡ scope = cc in
       let made = scope_within (step x.0) (scope_at known x.1) in
       let stays : scope_at known x.1 ≡ scope_at (scopes_from (with_scope known x) scopes) x.1 = scope_stays known (x ∷ scopes) x.1 (omega (arith, ap (λ (s : ListedScope E H). s.1) same)) in
-      known_stays (with_scope known x) scopes n made (end_of known made n (omega arith))
+      let last : n ≡ length known = omega arith in
+      known_stays (with_scope known x) scopes n made (ap (λ k. slice_get (known ++ made ∷ []) k) last ∙ get_seam known made)
       ∙ ap (λ s. Some (scope_within (step x.0) s)) stays
       ∙ ap (λ (s : ListedScope E H). Some (scope_within (step s.0) (scope_at (scopes_from (with_scope known x) scopes) s.1))) same
   stands_behind known (x ∷ scopes) (suc k) n scope here is outwards =

@@ -1,6 +1,6 @@
 -- The spawn of a command, after its canonical name and its hooks.
 use Rattle.std.proofs.Common.{◌≡◌, ℕ, zero, suc, inl, inr, ◌+◌, ◌-◌, ◌<◌, ◌≤◌, List, [], ◌∷◌, ◌++◌, length, refl, ap, sym, ◌∙◌, arith, subst, append_assoc, length-append}
-use Rattle.std.proofs.lemmas.List.{append-nil, length-map, map-append}
+use Rattle.std.proofs.lemmas.List.{append-nil, length-map, map-append, nil_from_length}
 use Rattle.std.specs.declared.option.Option.{Option}
 use Rattle.std.specs.declared.result.Result.{Result}
 use Rattle.std.specs.Prelude.{Bool, true, false, Err, None, Ok, Some, if◌then◌else◌, map, slice_get, unwrap_or}
@@ -26,7 +26,7 @@ use Rattle.duct_start.specs.Asked.{IsAsked}
 use Rattle.duct_start.specs.Causes.{StoppedBy}
 use Rattle.duct_start.specs.Chain.{Allows, Refuses, Chain, ChainStops, WiredTo, lent}
 use Rattle.duct_start.specs.Commands.{AreAlike, Halts, IsAlike, Refused, Staged, handed, holding, is_named, lends, named, program_in, streams_in, taken_by, with_stack}
-use Rattle.duct_start.specs.Follows.{IsAskedAt, IsGiven, pairs_in, program_at, text_in}
+use Rattle.duct_start.specs.Follows.{IsAskedAt, IsSpawnedAt, pairs_in, program_at, text_in}
 use Rattle.duct_start.specs.Found.{Found, Target, Parents, Nothing, ReaderAt, WriterAt, FileAt, Lends}
 use Rattle.duct_start.specs.Holdings.{Holdings, pair_of}
 use Rattle.duct_start.specs.Plan.{Plan, asks, program_of}
@@ -216,10 +216,6 @@ named_positive : {E H : Type 0} (b : Bool) (p : Plan E H) (item : Item E H) → 
 named_positive false p item is = absurd (cc)
 named_positive true p item is = omega (arith, length-append p.items (item ∷ []))
 
-none_of : {A : Type 0} (xs : List A) → length xs ≡ 0 → xs ≡ []
-none_of [] is = refl
-none_of (x ∷ xs) is = absurd (omega (arith, is))
-
 -- three streams without an end
 none_handed : {A : Type 0} (s : Three (Stdio A)) (rest : List A)
     → length (ends_of (s.input ∷ s.output ∷ s.error ∷ [])) ≡ 0 → handed s rest ≡ rest
@@ -230,9 +226,9 @@ none_handed s rest none =
     let long = length-append i (o ++ (e ++ [])) in
     let more = length-append o (e ++ []) in
     let last = length-append e [] in
-    let ni : i ≡ [] = none_of i (omega (arith, none, long)) in
-    let no : o ≡ [] = none_of o (omega (arith, none, long, more)) in
-    let ne : e ≡ [] = none_of e (omega (arith, none, long, more, last)) in
+    let ni : i ≡ [] = nil_from_length i (omega (arith, none, long)) in
+    let no : o ≡ [] = nil_from_length o (omega (arith, none, long, more)) in
+    let ne : e ≡ [] = nil_from_length e (omega (arith, none, long, more, last)) in
     λ j. ne j ++ (no j ++ (ni j ++ rest))
 
 -- more that would have been asked
@@ -325,7 +321,7 @@ module _ {E H : Type 0} (allows : Allows H) (number_of : E → ℕ) (course : Co
           × (map (λ n. Some (origin whole n)) low.stack ≡ map (origin_to (trace whole) number_of) below.stack)
       origins = alike_origins number_of whole s (streams_in staged.wired) low.stack below.stack staged.alike sourced.stack
 
-      given_there : IsGiven allows number_of (trace whole)
+      given_there : IsSpawnedAt allows number_of (trace whole)
           (length below.plan.items) found words spec
           (map (stream_of (origin whole)) (s.input ∷ s.output ∷ s.error ∷ []))
       given_there =

@@ -7,6 +7,8 @@ use Rattle.duct_system.specs.declared.error.Error.{Error}
 use Rattle.duct_system.specs.declared.error.Error.TheVariants.{Hook, HookEnd}
 use Rattle.duct_system.specs.declared.spec.Port.{Port}
 use Rattle.duct_system.specs.declared.spec.Port.TheVariants as port
+use Rattle.duct_system.specs.declared.spec.Stream.{Stream}
+use Rattle.duct_system.specs.declared.spec.Stream.TheVariants.{In, Out, Err}
 use Rattle.duct_system.specs.declared.system.Fault.{Fault}
 use Rattle.duct_system.specs.declared.system.Stdio.{Stdio}
 use Rattle.duct_system.specs.declared.system.Stdio.TheVariants.{Inherit, Null, End}
@@ -50,6 +52,12 @@ missing count spec =
 abbrev pub found : Port → Port
 found (port.Place place) = port.Given
 found other = other
+
+-- the spec with a given end in place of the place that a stream names, if it names one
+abbrev pub with_found : Stream → SpecView → SpecView
+with_found In spec = record spec { input = found spec.input }
+with_found Out spec = record spec { output = found spec.output }
+with_found Err spec = record spec { error = found spec.error }
 
 -- the end at a place
 abbrev pub end_of_place : {O : Type 0} → Option O → Stdio O

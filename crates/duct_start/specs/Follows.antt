@@ -36,10 +36,10 @@ pub record IsAskedAt {E H : Type 0} (entries : List EntryView) (number_of : E �
   pub streams_are : wired.input ∷ wired.output ∷ wired.error ∷ []
       ≡ streams_to entries number_of found
 
--- a spawn is given what the hooks of the command make of what the tree asks for it
-abbrev pub IsGiven : {E H : Type 0} → Allows H → (E → ℕ) → List EntryView → ℕ → Found E H
+-- the spawn at this place is given what the hooks of the command make of what the tree asks for it
+abbrev pub IsSpawnedAt : {E H : Type 0} → Allows H → (E → ℕ) → List EntryView → ℕ → Found E H
     → List (List ℕ) → SpecView → List (Stdio Origin) → Type 0
-IsGiven allows number_of entries place found words spec streams =
+IsSpawnedAt allows number_of entries place found words spec streams =
     (before : Wired) × (after : Wired) × IsAskedAt entries number_of place found words before
     × Chain allows (lent number_of found.hooks) before after
     × (spec ≡ after.spec) × (streams ≡ after.input ∷ after.output ∷ after.error ∷ [])
@@ -54,7 +54,7 @@ Answers allows number_of added place (AskCreate path) (Create made answer) = mad
 Answers allows number_of added place (AskCanonicalize program) (Canonicalize path answer) =
     path ≡ program
 Answers allows number_of added place (AskSpawn found words) (Spawn spec io answer) =
-    IsGiven allows number_of (trace added) place found words spec
+    IsSpawnedAt allows number_of (trace added) place found words spec
     (map (stream_of (origin added)) io)
 Answers allows number_of added place (AskFeed pipe bytes) (Feed end fed answer) =
     (fed ≡ bytes) × (origin added end ≡ Opened (end_at (trace added) pipe 1))
