@@ -1,4 +1,5 @@
 //! The pauses between the polls of a wait. No clock is asked: what was waited is the sum of the pauses.
+ghost use Rattle.std.specs.Prelude.{◌≡◌, ◌⊎◌, ◌+◌, ◌-◌, ◌*◌, ◌^◌, ◌<◌, ◌≤◌, min, IfNone, IfSome};
 
 use std::sync::Wait;
 use std::thread::{Parker, yield_now};
@@ -27,7 +28,9 @@ pub(crate) struct Pause {
 }
 
 impl Pause {
-    pub(crate) fn new() -> Pause {
+    pub(crate) fn new() -> Pause
+        ensures { result.yields ≡ 0 }
+    {
         Pause {
             parker: Parker::new(),
             yields: 0,
@@ -36,17 +39,32 @@ impl Pause {
         }
     }
 
-    /// Pauses once.
-    pub(crate) fn rest(&mut self, rt: &impl Wait) {
+    /// How long the next pause parks, in microseconds, or none for one that yields.
+    fn next(&mut self) -> Option<u64>
+        ensures yields { IfNone result ((self.old.yields < 64)
+            × (self.new.yields ≡ self.old.yields + 1)) }
+        ensures parks { IfSome result (λ park. (park ≤ 10000)
+            × ((park ≤ 1000) ⊎ (100 * park ≤ self.old.waited))
+            × (self.new.yields ≡ self.old.yields)) }
+        ensures grows { IfSome result (λ park. ((park ≡ self.old.park) ⊎ (1000 ≤ park))
+            × (self.new.park ≡ min (self.old.park * 2) (2 ^ 64 - 1))) }
+    {
         if self.yields < YIELDS {
-            self.yields = self.yields.saturating_add(1);
-            yield_now();
-            return;
+            self.yields += 1;
+            return None;
         }
         let most = (self.waited / 100).clamp(SHORT, LONG);
         let park = self.park.min(most);
         self.park = self.park.saturating_mul(2);
         self.waited = self.waited.saturating_add(park);
-        self.parker.park_timeout(rt, Duration::from_micros(park));
+        Some(park)
+    }
+
+    /// Pauses once.
+    pub(crate) fn rest(&mut self, rt: &impl Wait) {
+        match self.next() {
+            Some(park) => self.parker.park_timeout(rt, Duration::from_micros(park)),
+            None => yield_now(),
+        }
     }
 }

@@ -11,6 +11,8 @@ fn orders(rt: HostRuntime) -> Result<(), Fail> {
         a b c pipe pipe | code 0; running / Other; running | | | | try, ids, signal 15, ids, give -> nothing. ids a b c. system: Other. ids a b c. | poll a, poll b, poll c, order b, order c | 0 | 2 3 1 0
         a b pipe c pipe stdin_bytes=p | running | | | | ids, kill, signal 1, ids, give -> ids a b c. done. done. ids a b c. | order a, order b, order c, order a, order b, order c | 0 | 3 3 0 0
         a b pipe | running / NotFound; running / Other | | | | kill, signal 2, give -> system: NotFound. system: NotFound. | order a, order b, order a, order b | 0 | 2 2 0 0
+        a b c d pipe pipe pipe | running / Other; running; running; running | | | | kill, signal 15, give -> system: Other. system: Other. | order a, order b, order c, order d, order a, order b, order c, order d | 0 | 4 4 0 0
+        a | running / PermissionDenied | | | | kill, signal 15, give -> system: PermissionDenied. system: PermissionDenied. | order a, order a | 0 | 1 1 0 0
         a | running / Other,done | | | | kill, kill, kill, signal 9, give -> system: Other. done. done. system: Other. | order a, order a, order a, order a | 0 | 1 1 0 0";
     rows(&rt, rt.alloc(), table)
 }

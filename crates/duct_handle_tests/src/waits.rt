@@ -53,6 +53,8 @@ fn deadlines(rt: HostRuntime) -> Result<(), Fail> {
         a | running | | | 4s,4s,5s | deadline 5s, give -> nothing. | poll a, poll a, poll a | 3 | 1 1 0 0
         a | code 0 | | | 9s | deadline 5s, give -> Code(0) out= err=. | poll a | 0 | 0 1 1 0
         a | running | | | 1s,2s,6s | timeout 5s, give -> nothing. | poll a, poll a | 3 | 1 1 0 0
+        a | running | | | 0,1ns,2ns | deadline 2ns, give -> nothing. | poll a, poll a, poll a | 3 | 1 1 0 0
+        a | running | | | 1ns,2ns,3ns | timeout 2ns, give -> nothing. | poll a, poll a | 3 | 1 1 0 0
         a | running | | | 7s,8s,12s | timeout 5s, give -> nothing. | poll a, poll a | 3 | 1 1 0 0
         a | running | | | 1s | timeout 0, give -> nothing. | poll a | 2 | 1 1 0 0
         a | code 3 | | | 0 | deadline 1s, give -> command [\"a\"] exited with code 3. | poll a | 0 | 0 1 1 0

@@ -42,6 +42,7 @@ fn orders(rt: HostRuntime) -> Result<(), Fail> {
         a b pipe c pipe | running | | | | pids, kill, try, pids -> 3 ids. done. nothing. 3 ids. | 6 3 | 3 3 0 0
         a | code 1 | | | | try, try -> command [\"a\"] exited with code 1. command [\"a\"] exited with code 1. | 2 0 | 0 1 1 0
         a | NotFound | | | | try -> system: NotFound. | 2 0 | 0 1 0 1
+        a b c pipe pipe | running / PermissionDenied; running; running | | | | kill -> system: PermissionDenied. | 3 3 | 3 3 0 0
         a | running / NotFound | | | | kill -> system: NotFound. | 1 1 | 1 1 0 0";
     rows(&rt, rt.alloc(), table)
 }
