@@ -213,11 +213,6 @@ sweep_ends {C} may view i before now s done = record {
   lost_is = s.lost_is;
 }
 
--- seats that are all taken
-pub seated_somes : {C : Type 0} (xs : List C) → seated (map Some xs) ≡ xs
-seated_somes [] = refl
-seated_somes {C} (x ∷ xs) = ap (λ (l : List C). x ∷ l) (seated_somes xs)
-
 pub one_seat : {C : Type 0} (seats one rest : List (Option C)) → seats ≡ map Some (seated seats)
     → seats ≡ one ++ rest → length one ≡ 1 →
     (child : C) × (one ≡ Some child ∷ [])

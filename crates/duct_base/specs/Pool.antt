@@ -85,7 +85,7 @@ pub record Takes {C : Type 0} (may : ℕ → Answer → Type 0) (view : C → Ch
   pub lost_is : after.lost ≡ counted before.lost lost
 
 -- these children were given to a pool: each is counted, and taken while fewer than 2 ^ 63 were ever given to it
-pub record IsGiven {C : Type 0} (may : ℕ → Answer → Type 0) (view : C → ChildView) (children : List C)
-    (before after : PoolView C) : Type 0 where
+pub record IsGiven {C : Type 0} (may : ℕ → Answer → Type 0) (view : C → ChildView)
+    (children : List C) (before after : PoolView C) : Type 0 where
   pub counts : after.given ≡ counted before.given (length children)
   pub takes : before.given + length children < 2 ^ 63 → Takes may view children before after

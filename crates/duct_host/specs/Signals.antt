@@ -1,8 +1,7 @@
 -- The signals that a child of a host can be sent.
-use Rattle.std.specs.Prelude.{◌≡◌, ℤ, pos, List, [], ◌∷◌, Contains, Err}
-use Rattle.std.specs.declared.result.Result.{Result}
-use Rattle.duct_system.specs.declared.system.Fault.{Fault}
-use Rattle.duct_system.specs.declared.system.Kind.TheVariants.{InvalidInput}
+use Rattle.std.specs.Prelude.{◌≡◌, ◌⊎◌, ℤ, pos, List, [], ◌∷◌, Contains, Err}
+use Rattle.duct_system.specs.Child.{Obeyed}
+use Rattle.duct_system.specs.declared.system.Kind.TheVariants.{InvalidInput, OutOfMemory}
 use Rattle.duct_system.specs.declared.system.Order.{Order}
 use Rattle.duct_system.specs.declared.system.Order.TheVariants.{Kill, Signal}
 
@@ -11,7 +10,12 @@ abbrev pub signals : List ℤ
 signals = pos 1 ∷ pos 2 ∷ pos 3 ∷ pos 6 ∷ pos 9 ∷ pos 14 ∷ pos 15 ∷ []
 
 -- a signal that is none of them is answered InvalidInput; nothing more is said of what the machine answers
-abbrev pub ObeysIfServed : Order → Result (Unit {0}) Fault → Type 0
+abbrev pub ObeysIfServed : Order → Obeyed → Type 0
 ObeysIfServed Kill answer = Unit {0}
 ObeysIfServed (Signal number) answer =
     (Contains signals number → ⊥) → answer ≡ Err (record { kind = InvalidInput })
+
+-- the same, unless there is no memory to note the order
+abbrev pub MayObey : Order → Obeyed → Type 0
+MayObey order answer =
+    (answer ≡ Err (record { kind = OutOfMemory })) ⊎ ObeysIfServed order answer

@@ -1,5 +1,5 @@
 //! A child process of the host.
-ghost use Rattle.std.specs.Prelude.{◌≡◌, ◌↔◌, Contains, IsTrue, IfSome, IfNone, IfErr};
+ghost use Rattle.std.specs.Prelude.{◌≡◌, ◌↔◌, Contains, IsTrue, IfSome, IfNone, IfErr, true};
 ghost use Rattle.duct_system.specs.declared.system.Kind.TheVariants.{Other};
 ghost use Rattle.std.specs.Process.{exit_code, exit_signal};
 ghost use Rattle.duct_host.specs.Endings.{ending_said};
@@ -67,6 +67,24 @@ fn ending<P: OpenProcess>(started: &mut process::Child<P>) -> Result<Option<Exit
     }
 }
 
+/// Whether a child has ended, by what was seen of it, or else by what the machine says, since the id of one that has may be another
+/// process's. One whose last poll was a fault may be lost for the same reason: `Other`.
+fn has_ended<P: OpenProcess>(
+    seen: Option<ExitStatus>,
+    last: Option<Result<Option<ExitStatus>, Fault>>,
+    started: &mut process::Child<P>,
+) -> Result<bool, Fault>
+    ensures ended { IfSome seen (λ _. result ≡ Ok true) }
+    ensures lost { IfNone seen
+        (IfSome last (λ answer. IfErr answer (λ _. result ≡ Err (record { kind = Other })))) }
+{
+    match (seen, last) {
+        (Some(_), _) => Ok(true),
+        (None, Some(Err(_))) => Err(Fault::new(Kind::Other)),
+        (None, _) => Ok(ask(|| started.try_wait())?.is_some()),
+    }
+}
+
 /// The signals that a child can be sent.
 const SIGNALS: [i32; 7] = [1, 2, 3, 6, KILL, 14, 15];
 
@@ -113,15 +131,15 @@ impl<R: Processes + Drop> Numbered for Child<R> {
     }
 }
 
-/// What the machine may answer is left open. A signal that isn't served is always answered `InvalidInput`.
+/// What the machine may answer is left open. A signal that isn't served is answered `InvalidInput`, unless there is no memory to note it.
 impl<R: Processes + Drop> system::Child for Child<R> {
     ghost use Rattle.std.proofs.Common.{refl};
     ghost use Rattle.duct_host.specs.ChildView.{child_view};
-    ghost use Rattle.duct_host.specs.Signals.{ObeysIfServed};
+    ghost use Rattle.duct_host.specs.Signals.{MayObey};
 
     ghost may_answer = { λ _ _. Unit {0} };
 
-    ghost may_obey = { λ _ order answer. ObeysIfServed order answer };
+    ghost may_obey = { λ _ order answer. MayObey order answer };
 
     ghost child_view = { child_view };
 
@@ -156,11 +174,11 @@ impl<R: Processes + Drop> system::Child for Child<R> {
 impl<R: Processes> Child<R> {
     ghost use Rattle.duct_system.specs.Child.{OrdersChild};
     ghost use Rattle.duct_host.specs.ChildView.{child_view};
-    ghost use Rattle.duct_host.specs.Signals.{ObeysIfServed};
+    ghost use Rattle.duct_host.specs.Signals.{MayObey};
 
     /// Gives the child an order, and notes it with its answer. Where there is no memory for that, nobody is asked.
     fn order(&mut self, order: Order) -> Result<(), Fault>
-        ensures { OrdersChild (λ _ order answer. ObeysIfServed order answer) order
+        ensures { OrdersChild (λ _ order answer. MayObey order answer) order
             (child_view self.old) result (child_view self.new) }
     {
         if self.orders.reserve(1).is_err() {
@@ -169,24 +187,23 @@ impl<R: Processes> Child<R> {
         let answer = match order {
             Order::Signal(signal) if !is_served(signal) => Err(Fault::new(Kind::InvalidInput)),
             Order::Kill | Order::Signal(KILL) => kill_process(&mut self.started),
-            Order::Signal(signal) => self.send(signal),
+            Order::Signal(signal) => {
+                let ended = has_ended(self.ending, self.last, &mut self.started);
+                self.send(signal, ended)
+            }
         };
         self.orders.push_reserved((order, answer));
         answer
     }
 
-    /// Sends the child a signal. One that has been seen to end is sent nothing, and the answer is `Ok`, as for a kill. One whose last
-    /// poll was a fault is sent nothing either, since its id may be another process's: `Other`.
-    fn send(&self, signal: i32) -> Result<(), Fault>
-        ensures ended { IfSome self.now.ending (λ _. result ≡ Ok tt) }
-        ensures lost { IfNone self.now.ending
-            (IfSome self.now.last
-            (λ answer. IfErr answer (λ _. result ≡ Err (record { kind = Other })))) }
+    /// Sends the child a signal, unless it has ended, which is answered `Ok`, as a kill is.
+    fn send(&self, signal: i32, ended: Result<bool, Fault>) -> Result<(), Fault>
+        ensures ended { ended ≡ Ok true → result ≡ Ok tt }
     {
-        match (self.ending, self.last) {
-            (Some(_), _) => Ok(()),
-            (None, Some(Err(_))) => Err(Fault::new(Kind::Other)),
-            (None, _) => self.send_by_shell(signal),
+        if ended? {
+            Ok(())
+        } else {
+            self.send_by_shell(signal)
         }
     }
 
@@ -195,7 +212,8 @@ impl<R: Processes> Child<R> {
         let Ok(mut shell) = kill_command(self.alloc, signal, self.id) else {
             return Err(no_memory());
         };
-        if ask(|| shell.status(&self.rt))?.success() {
+        let mut started = ask(|| shell.spawn(&self.rt))?;
+        if ask(|| started.wait())?.success() {
             Ok(())
         } else {
             Err(Fault::new(Kind::Other))

@@ -1,4 +1,4 @@
-//! The parent's environment, read at once, or entry by entry where the runtime can't.
+//! The parent's environment, read at once, or entry by entry where the runtime can't, or has changed it.
 ghost use Rattle.std.specs.Prelude.{◌≡◌, [], ◌∷◌, ◌++◌, map, string_bytes, IfOk, IfSome, OnOk};
 ghost use Rattle.duct_system.specs.SpecView.{pair_text};
 
@@ -14,9 +14,23 @@ pub(crate) fn variables<R: Parents + Env>(
     alloc: Global,
 ) -> Result<Vec<(String, String)>, AllocError> {
     match rt.environment(alloc) {
-        Ok(entries) => variables_at_once(entries.as_slice(), alloc),
-        Err(_) => variables_in_turn(rt, alloc),
+        Ok(entries) if has_as_many(rt, entries.as_slice()) => {
+            variables_at_once(entries.as_slice(), alloc)
+        }
+        _ => variables_in_turn(rt, alloc),
     }
+}
+
+/// Whether the runtime has as many entries as stand here with a NUL behind each.
+fn has_as_many<E: Env>(rt: &E, entries: &[u8]) -> bool {
+    let count = entries.iter().filter(|byte| **byte == 0).count();
+    (count == 0 || has_entry(rt, count - 1)) && !has_entry(rt, count)
+}
+
+/// Whether there is an entry at this place.
+fn has_entry<E: Env>(rt: &E, i: usize) -> bool {
+    let mut start = [0u8; 1];
+    !matches!(rt.var_at(i, &mut start), Err(FillError::NotPresent))
 }
 
 /// The variables of entries that have a NUL behind each.

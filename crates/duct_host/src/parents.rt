@@ -13,8 +13,8 @@ pub trait Parents {
     /// One more descriptor of the parent's stderr.
     fn duplicate_stderr(&self) -> io::Result<OwnedFd>;
 
-    /// All entries of the parent's environment in their order, with a NUL behind each. A runtime that refuses is asked for
-    /// one entry after the other.
+    /// All entries that the parent's environment had at first, in their order, with a NUL behind each. A runtime that refuses, or
+    /// that has more entries or fewer by now, is asked for one after the other.
     fn environment(&self, _alloc: Global) -> io::Result<Vec<u8>> {
         Err(io::Error::from(io::ErrorKind::Unsupported))
     }
@@ -29,7 +29,7 @@ impl Parents for HostRuntime {
         self.stderr().as_fd().try_clone_to_owned()
     }
 
-    /// As the kernel keeps it, which is what the process has, since nothing changes it later.
+    /// As the kernel keeps it. From a program that has more rights than who started it, the loader has taken some entries away.
     fn environment(&self, alloc: Global) -> io::Result<Vec<u8>> {
         let mut entries = Vec::new(alloc);
         File::open(self, "/proc/self/environ")?.read_to_end(&mut entries)?;

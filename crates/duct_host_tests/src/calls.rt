@@ -1,11 +1,13 @@
 //! Each call of the host once, with its answer and its entry.
 use crate::asks::rows;
+use crate::odd::Odd;
 use crate::support::{Real, same};
 use duct_base::system::{Entry, System};
 use duct_host::host::Host;
 use std::alloc::{AllocError, Global};
 use std::fmt::Write;
 use std::fs;
+use std::sync::atomic::AtomicUsize;
 use std::test::Fail;
 
 /// The entries of an environment that are UTF-8, each ended by a NUL.
@@ -85,6 +87,15 @@ fn the_environment_is_the_parents(rt: HostRuntime) -> Result<(), Fail> {
     let expected = started_with(&rt)?;
     same(told_in_turn(&rt)?.as_str(), expected.as_str())?;
     let mut host = Host::new(rt.clone()?, rt.alloc());
+    has_environment(&mut host, expected.as_str())
+}
+
+/// An entry that the kernel goes on showing, and that the runtime has no more, is no variable.
+#[test]
+fn an_entry_that_was_taken_away(rt: HostRuntime) -> Result<(), Fail> {
+    let expected = told_in_turn(&rt)?;
+    let given = AtomicUsize::new(0);
+    let mut host = Host::new(Odd::new(rt.clone()?, "", &given), rt.alloc());
     has_environment(&mut host, expected.as_str())
 }
 

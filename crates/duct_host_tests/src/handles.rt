@@ -53,7 +53,7 @@ fn signals_and_ends(rt: HostRuntime) -> Result<(), Fail> {
 
         command sleep,1000
         .unchecked
-        start try, kill, ended, kill, signal 9, signal 15, ids, try
+        start try, kill, ended, kill, signal 9, ids, signal 15, try
         says nothing; done; done; done; done; Signal(9);
 
         command sleep,1000

@@ -188,7 +188,8 @@ pub fn taken(ends: &mut Vec<End>, number: u64) -> Result<End, Fail>
 
 /// A stream, `inherit`, `null` or an end by its number, which is taken out of others.
 fn stream(ends: &mut Vec<End>, word: Option<&str>) -> Result<Stdio<End>, Fail>
-    ensures taken { IfOk result (λ made. vec_len ends.old ≡ vec_len ends.new + length (ends_of (made ∷ []))) }
+    ensures taken { IfOk result (λ made.
+        vec_len ends.old ≡ vec_len ends.new + length (ends_of (made ∷ []))) }
     ensures left { OnErr result (vec_len ends.old ≡ vec_len ends.new) }
 {
     match word {
@@ -201,7 +202,8 @@ fn stream(ends: &mut Vec<End>, word: Option<&str>) -> Result<Stdio<End>, Fail>
 
 /// Three streams, whose ends are taken out of others.
 fn streams(ends: &mut Vec<End>, io: &str) -> Result<[Stdio<End>; 3], Fail>
-    ensures taken { IfOk result (λ made. vec_len ends.old ≡ vec_len ends.new + length (ends_of made)) }
+    ensures taken { IfOk result
+        (λ made. vec_len ends.old ≡ vec_len ends.new + length (ends_of made)) }
     ensures left { vec_len ends.new ≤ vec_len ends.old }
 {
     let mut words = io.split(' ');

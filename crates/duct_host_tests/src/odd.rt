@@ -81,7 +81,7 @@ impl<'a> OpenProcess for Script<'a> {
     }
 }
 
-/// A runtime with such answers. It doesn't give the environment at once, so that it is read entry by entry.
+/// A runtime with such answers. At once it shows one entry of the environment too many, as where the loader took one away.
 #[derive(Clone, Drop)]
 pub struct Odd<'a, R> {
     real: R,
@@ -135,6 +135,14 @@ impl<'a, R: Parents> Parents for Odd<'a, R> {
 
     fn duplicate_stderr(&self) -> io::Result<OwnedFd> {
         self.real.duplicate_stderr()
+    }
+
+    fn environment(&self, alloc: Global) -> io::Result<Vec<u8>> {
+        let mut entries = self.real.environment(alloc)?;
+        if entries.extend_from_slice(b"GONE=1\0").is_err() {
+            return Err(io::Error::from(ErrorKind::OutOfMemory));
+        }
+        Ok(entries)
     }
 }
 

@@ -35,7 +35,7 @@ fn polls(rt: HostRuntime) -> Result<(), Fail> {
     rows(
         &rt,
         r#"
-        child ok, PermissionDenied, ok, ok, ok, status 0, status 256
+        child ok, PermissionDenied, ok, ok, ok, ok, status 0, status 256
         spawn null null null (odd)
         poll
         signal 15
@@ -48,6 +48,17 @@ fn polls(rt: HostRuntime) -> Result<(), Fail> {
         kill
         says 1; PermissionDenied; Other; (); None; (); Some(Code(1)); Some(Code(1)); (); ();
 
+        child ok, WouldBlock
+        spawn null null null (odd)
+        signal 15
+        says 1; Other;
+
+        child ok, status 768
+        spawn null null null (odd)
+        signal 15
+        poll
+        says 1; (); Some(Code(3));
+
         child ok, status 4991
         spawn null null null (odd)
         poll
@@ -57,13 +68,13 @@ fn polls(rt: HostRuntime) -> Result<(), Fail> {
     )
 }
 
-/// What a signal interrupts is asked again: a start, a poll, a kill, and the start of the shell.
+/// What a signal interrupts is asked again: a start, a poll, a kill, the start of the shell and the wait for it.
 #[test]
 fn interrupted_questions(rt: HostRuntime) -> Result<(), Fail> {
     rows(
         &rt,
         r#"
-        child Interrupted, Interrupted, ok, Interrupted, ok, Interrupted, ok, Interrupted, ok, status 0, Interrupted, status 256
+        child Interrupted, Interrupted, ok, Interrupted, ok, Interrupted, ok, Interrupted, ok, Interrupted, ok, Interrupted, status 0, Interrupted, status 256
         spawn null null null (odd)
         poll
         kill
@@ -82,14 +93,14 @@ fn refusals(rt: HostRuntime) -> Result<(), Fail> {
     rows(
         &rt,
         r#"
-        child ok, PermissionDenied, NotFound, ok, status 0
+        child ok, PermissionDenied, NotFound, ok, ok, status 0
         spawn null null null (odd)
         kill
         signal 9
         signal 15
         says 1; PermissionDenied; NotFound; ();
 
-        child ok, NotFound, ok, status 256, ok, status 15, ok, status 0
+        child ok, ok, NotFound, ok, ok, status 256, ok, ok, status 15, ok, ok, status 0
         spawn null null null (odd)
         signal 15
         signal 15

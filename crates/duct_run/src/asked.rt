@@ -17,7 +17,7 @@ use duct_system::spec::{CommandSpec, spec_of};
 use std::alloc::Global;
 
 /// The folder of a command inside the scope of this index, the root's being 0: that of the nearest scope that sets one.
-pub fn folder_in<'a, E, H>(scopes: &[Scope<'a, E, H>], scope: usize) -> Option<&'a str>
+pub(crate) fn folder_in<'a, E, H>(scopes: &[Scope<'a, E, H>], scope: usize) -> Option<&'a str>
     requires within { scope ≤ length scopes.now }
     requires outwards { AreOutwards (scopes_view scopes.now) }
     ensures { option_copied result ≡ (scope_in (scopes_view scopes.now) scope).folder }
@@ -49,7 +49,7 @@ fn folder_of<'a, E, H>(setting: Setting<'a, E, H>) -> Option<&'a str>
 /// The spec of a command inside the scope of this index, the root's being 0, where these are the pairs of the system's
 /// environment: its words, with the canonical name of its program where one was asked, the folder and the variables of its
 /// scopes, and its ports. Refused, by `Error::Memory`, only for want of memory.
-pub fn asked_spec<E, H>(
+pub(crate) fn asked_spec<E, H>(
     alloc: Global,
     pairs: &[(String, String)],
     scopes: &[Scope<'_, E, H>],

@@ -6,7 +6,7 @@ ghost use Rattle.duct_run.specs.Places.{with_places_found};
 use duct_system::spec::{CommandSpec, Port, Stream, give};
 
 /// The first place of a spec that is not there among so many ends, in the order stdin, stdout, stderr.
-pub fn missing(count: usize, spec: &CommandSpec) -> Option<usize>
+pub(crate) fn missing(count: usize, spec: &CommandSpec) -> Option<usize>
     ensures { result ≡ missing count spec.now }
 {
     missing_at(count, spec.port(Stream::In))
@@ -25,7 +25,7 @@ fn missing_at(count: usize, port: Port) -> Option<usize>
 }
 
 /// Makes each stream `Given` whose place was found.
-pub fn find(spec: &mut CommandSpec)
+pub(crate) fn find(spec: &mut CommandSpec)
     ensures { spec.new ≡ with_places_found spec.old }
 {
     find_one(spec, Stream::In);

@@ -31,7 +31,7 @@ struct Gathered<'a> {
 /// The variables of a command inside the scope of this index, the root's being 0, where these are the pairs of the system's
 /// environment. Each name stands there once, in order. What stands outside of a scope that replaces all variables is not read.
 /// Refused, by `Error::Memory`, only for want of memory.
-pub fn variables_in<E, H>(
+pub(crate) fn variables_in<E, H>(
     alloc: Global,
     pairs: &[(String, String)],
     scopes: &[Scope<'_, E, H>],

@@ -17,14 +17,14 @@ module _ (may : ℕ → Order → Obeyed → Type 0) (order : Order) where
   -- an order changes no word
   word_kept : (before after : ChildView) (answer : Obeyed)
       → OrdersChild may order before answer after → said after ≡ said before
-  word_kept before after answer (inl given) = ap (λ (c : ChildView). said c) given.0
-  word_kept before after answer (inr unasked) = ap (λ (c : ChildView). said c) unasked.0
+  word_kept before after answer (heard, inl given) = ap (λ (c : ChildView). said c) given
+  word_kept before after answer (heard, inr unasked) = ap (λ (c : ChildView). said c) unasked.0
 
   -- and no id
   pub id_kept : (before after : ChildView) (answer : Obeyed)
       → OrdersChild may order before answer after → after.process ≡ before.process
-  id_kept before after answer (inl given) = ap (λ (c : ChildView). c.process) given.0
-  id_kept before after answer (inr unasked) = ap (λ (c : ChildView). c.process) unasked.0
+  id_kept before after answer (heard, inl given) = ap (λ (c : ChildView). c.process) given
+  id_kept before after answer (heard, inr unasked) = ap (λ (c : ChildView). c.process) unasked.0
 
   ordered_once : (before after : ChildView) (answer : Obeyed)
       → OrdersChild may order before answer after → before.ending ≡ None

@@ -35,10 +35,10 @@ told_after may before after answer polls told =
 told_ordered : (may : ℕ → Answer → Type 0) (obeys : ℕ → Order → Obeyed → Type 0) (order : Order)
     (before after : ChildView) (answer : Obeyed) →
     OrdersChild obeys order before answer after → IsTold may before → IsTold may after
-told_ordered may obeys order before after answer (inl given) told =
+told_ordered may obeys order before after answer (heard, inl given) told =
     let here : IsTold may (child_ordered order answer before) = record { answered = told.answered; ended = told.ended } in
-    subst (λ (c : ChildView). IsTold may c) (sym given.0) here
-told_ordered may obeys order before after answer (inr unasked) told = subst (λ (c : ChildView). IsTold may c) (sym unasked.0) told
+    subst (λ (c : ChildView). IsTold may c) (sym given) here
+told_ordered may obeys order before after answer (heard, inr unasked) told = subst (λ (c : ChildView). IsTold may c) (sym unasked.0) told
 
 -- a worker is told after a poll
 kept_told : {T : Type 0} (may : ℕ → Said T → Type 0) (number : ℕ) (kept heard : Said T)

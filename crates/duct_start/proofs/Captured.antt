@@ -12,12 +12,12 @@ use Rattle.duct_system.specs.declared.error.Error.TheVariants.{System}
 use Rattle.duct_system.specs.declared.system.Fault.{Fault}
 use Rattle.duct_system.specs.declared.system.Side.TheVariants as side
 use Rattle.duct_start.specs.Actions as action
-use Rattle.duct_start.specs.Actions.{State, advance, finished}
+use Rattle.duct_start.specs.Actions.{State, advance}
 use Rattle.duct_start.specs.Asked.{end_at}
 use Rattle.duct_start.specs.Chain.{Allows}
 use Rattle.duct_start.specs.Found.{ReaderAt}
 use Rattle.duct_start.specs.Holdings.{Holdings, pair_of}
-use Rattle.duct_start.specs.Plan.{Plan, drains}
+use Rattle.duct_start.specs.Plan.{drains}
 use Rattle.duct_start.specs.Standing.{Course, IsLater, IsPair, Stands, Stopped, Goes, Quits}
 use Rattle.duct_start.specs.Step.{Item, AskPipe, AskDrain}
 use Rattle.duct_start.proofs.Counts.{fresh_two, fresh_none, is_itself, other_than, count_other, count-cons, count-append}
@@ -101,18 +101,6 @@ module _ {E H : Type 0} (allows : Allows H) (number_of : E → ℕ) where
             (none_changes entry now next held adds refl refl refl refl refl) (few_now allows number_of course st now held stands) fault refl (λ more later. (tt, tt))
         | inr nothing ↦ stops_unasked allows number_of course st then_st.plan.items (AskPipe ∷ []) now next held (System fault) stands refl nothing.1 nothing.2
       ])
-
-  -- it was never opened
-  pub finish_out_same : (now : JournalView) (held : Holdings) → held.out ≡ None
-      → Goes allows number_of (action.finish side.Out) now now held held
-  finish_out_same now held is = λ course st ready stands.
-      let shut = shut_out course st now held is stands in
-      let nothing : Option ℕ = None in
-      let same : st ≡ advance st (action.finish side.Out) = (
-      let a : record { items = (drains nothing st.plan).items; out = None; err = st.plan.err } ≡ finished side.Out st.plan = ap (λ (o : Option ℕ). record { items = (drains o st.plan).items; out = None; err = st.plan.err }) (sym shut) in
-      let b : st.plan ≡ record { items = st.plan.items; out = None; err = st.plan.err } = ap (λ (o : Option ℕ). record { items = st.plan.items; out = o; err = st.plan.err }) shut in
-      ap (λ (p : Plan E H). record { stack = st.stack; plan = p }) (b ∙ a)) in
-      subst (λ (s : State E H). Stands allows number_of course s now held) same stands
 
   -- its write end is closed, and its read end stands on the stack for a moment
   abbrev pub mid_out : State E H → State E H
@@ -240,18 +228,6 @@ module _ {E H : Type 0} (allows : Allows H) (number_of : E → ℕ) where
             (none_changes entry now next held adds refl refl refl refl refl) (few_now allows number_of course st now held stands) fault refl (λ more later. (tt, tt))
         | inr nothing ↦ stops_unasked allows number_of course st then_st.plan.items (AskPipe ∷ []) now next held (System fault) stands refl nothing.1 nothing.2
       ])
-
-  -- it was never opened
-  pub finish_err_same : (now : JournalView) (held : Holdings) → held.err ≡ None
-      → Goes allows number_of (action.finish side.Err) now now held held
-  finish_err_same now held is = λ course st ready stands.
-      let shut = shut_err course st now held is stands in
-      let nothing : Option ℕ = None in
-      let same : st ≡ advance st (action.finish side.Err) = (
-      let a : record { items = (drains nothing st.plan).items; out = st.plan.out; err = None } ≡ finished side.Err st.plan = ap (λ (o : Option ℕ). record { items = (drains o st.plan).items; out = st.plan.out; err = None }) (sym shut) in
-      let b : st.plan ≡ record { items = st.plan.items; out = st.plan.out; err = None } = ap (λ (o : Option ℕ). record { items = st.plan.items; out = st.plan.out; err = o }) shut in
-      ap (λ (p : Plan E H). record { stack = st.stack; plan = p }) (b ∙ a)) in
-      subst (λ (s : State E H). Stands allows number_of course s now held) same stands
 
   -- its write end is closed, and its read end stands on the stack for a moment
   abbrev mid_err : State E H → State E H

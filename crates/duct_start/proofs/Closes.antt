@@ -27,15 +27,3 @@ closes_next numbers number old now then closes gives = record {
   next_grows = omega (arith, gives.next_grows, closes.next_grows);
   room_is = omega (arith, gives.room_is, closes.room_is, length-append numbers (number ∷ []));
 }
-
--- some ends, and then others
-pub closes_append : (numbers more : List ℕ) (old now then : JournalView)
-    → Closes numbers old now → Closes more now then → Closes (numbers ++ more) old then
-closes_append numbers more old now then closes others = record {
-  entries_are = others.entries_are ∙ ap (λ (l : List EntryView). l ++ map Close more) closes.entries_are
-      ∙ append_assoc old.entries (map Close numbers) (map Close more)
-      ∙ ap (λ (l : List EntryView). old.entries ++ l) (sym (map-append Close numbers more));
-  counted = omega (arith, others.counted, closes.counted, length-append numbers more);
-  next_grows = omega (arith, others.next_grows, closes.next_grows);
-  room_is = omega (arith, others.room_is, closes.room_is, length-append numbers more);
-}

@@ -48,19 +48,6 @@ module _ {E H : Type 0} (allows : Allows H) (number_of : E → ℕ) (scope : Sco
       named scope words state ≡ record { stack = state.stack; plan = if b then asks (AskCanonicalize (program_of words)) state.plan else state.plan }
   named_as b is state = ap (λ (c : Bool). record { stack = state.stack; plan = if c then asks (AskCanonicalize (program_of words)) state.plan else state.plan }) is
 
-  -- no canonical name is to be asked
-  pub names_none : (now : JournalView) → is_named scope words ≡ false
-      → Names {E = E} {H = H} allows number_of scope words now now (program_of words)
-  names_none now is = λ course state held stands.
-      none course state held stands (named scope words state) (sym (named_as false is state)) (is_named scope words) is
-    where
-      none : (course : Course) (state : State E H) (held : Holdings)
-          → Stands allows number_of course state now held → (other : State E H) → state ≡ other
-          → (b : Bool) → b ≡ false →
-          (stands : Stands allows number_of course other now held) × (program_in b (trace stands.added) words ≡ program_of words)
-      none course state held stands other same true is = absurd (cc)
-      none course state held stands other same false is = (subst (λ (s : State E H). Stands allows number_of course s now held) same stands, refl)
-
   named_answer : (course : Course) (more : State E H) (held : Holdings) (next : JournalView)
       (text : List ℕ) (stands : Stands allows number_of course more next held)
       (front : List EntryView) →

@@ -174,14 +174,6 @@ module _ {E H : Type 0} where
   adds_reads None plan = adds_none plan.items
   adds_reads (Some place) plan = adds_items plan.items _
 
-  -- a tree asks a spawn for each command, and a feed for each input
-  pub tree_counts : (up : Path E H) (tree : TreeView E H) (plan : Plan E H)
-      → (spawns_asked (planned up tree plan).items
-      ≡ spawns_asked plan.items + command_count (shape_of_tree tree))
-      × (feeds_asked (planned up tree plan).items
-      ≡ feeds_asked plan.items + input_count (shape_of_tree tree))
-  tree_counts up tree plan = let adds = adds_tree up tree plan in (adds.spawns, adds.feeds)
-
   -- the plan after a tree
   pub planned_counts : (tree : TreeView E H)
       → (spawns_asked (planned [] tree begun).items ≡ command_count (shape_of_tree tree))

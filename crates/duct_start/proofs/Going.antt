@@ -338,19 +338,6 @@ module _ {E H : Type 0} (allows : Allows H) (number_of : E → ℕ) where
       two_goes action.input n m n m (λ st. ReaderAt (length st.plan.items)) (λ st. WriterAt (length st.plan.items)) now next held (λ st. refl)
       (λ k. refl) (λ st L r w. (ap Some r, ap Some w)) gets
 
-  -- an entry that changed nothing of what is held, and answers one item
-  asked_goes : (act : Action E H) (item : Item E H) (entry : EntryView) (now next : JournalView)
-      (held : Holdings) → ((st : State E H) → advance st act ≡ action.gets [] item st) →
-      Asks entry now next → got_by entry ≡ [] → spent_by entry ≡ [] → child_by entry ≡ [] → feed_by entry ≡ [] → drain_by entry ≡ [] → fault_of entry ≡ None → map entry_kind (trace (entry ∷ [])) ≡ item_kind item ∷ [] →
-      ((place : ℕ) (L : List EntryView) → AnswersFrom allows number_of L place (item ∷ []) (trace (entry ∷ []))) → Goes allows number_of act now next held held
-  asked_goes act item entry now next held is asks no_end none no_child no_feed no_drain clean many matches = λ course st ready stands.
-      let then_st : State E H = action.gets [] item st in
-      let ch = none_changes entry now next held asks no_end none no_child no_feed no_drain in
-      subst (λ (s : State E H). Stands allows number_of course s next held) (sym (is st))
-      (stands_more allows number_of course st then_st (item ∷ []) now next held held entry stands refl ch (few_now allows number_of course st now held stands) (pushed_shape [] [] (item ∷ []) st held refl stands.shaped) clean many
-      (λ more later. matches (length st.plan.items) ((stands.added ++ entry ∷ []) ++ more))
-      (λ more later. let s = sources_now allows number_of course st then_st (item ∷ []) now next held held entry stands refl ch more later in record { stack = s.stack; out = s.out; err = s.err }))
-
   pub close_goes : (n : ℕ) (rest : List ℕ) (now next : JournalView) (held : Holdings)
       → held.stack ≡ n ∷ rest → GivesEnds (Close n) 1 now next
       → Goes allows number_of action.close now next held (holding rest held)

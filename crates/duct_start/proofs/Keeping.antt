@@ -18,9 +18,6 @@ module _ {E H : Type 0} where
       → Keeps plan next
   keeps_same plan next out err = record { out = λ p is. out ∙ is; err = λ p is. err ∙ is }
 
-  pub keeps_on : {plan mid next : Plan E H} → Keeps plan mid → Keeps mid next → Keeps plan next
-  keeps_on a b = record { out = λ p is. b.out p (a.out p is); err = λ p is. b.err p (a.err p is) }
-
   pub keeps_canonical : (b : Bool) (path : List ℕ) (plan : Plan E H)
       → Keeps plan (if b then asks (AskCanonicalize path) plan else plan)
   keeps_canonical true path plan = keeps_same plan _ refl refl

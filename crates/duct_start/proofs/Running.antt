@@ -7,7 +7,6 @@ use Rattle.duct_system.specs.EntryView.{EntryView, Environment}
 use Rattle.duct_system.specs.Journal.{JournalView, AddsNothing, Asks, IsRefused}
 use Rattle.duct_system.specs.Ledger.{got, spent, got_by, spent_by}
 use Rattle.duct_system.specs.Started.{child_by, feed_by, drain_by}
-use Rattle.duct_system.specs.Trace.{trace}
 use Rattle.duct_system.specs.declared.error.Error.{Error}
 use Rattle.duct_system.specs.declared.error.Error.TheVariants.{System}
 use Rattle.duct_system.specs.declared.system.Fault.{Fault}
@@ -15,14 +14,13 @@ use Rattle.duct_system.specs.declared.system.Side.TheVariants as side
 use Rattle.duct_start.specs.Actions as action
 use Rattle.duct_start.specs.Actions.{Action, State, IsReady, AreReady, after, advance, pops, with_plan}
 use Rattle.duct_start.specs.Chain.{Allows}
-use Rattle.duct_start.specs.Follows.{AnswersFrom}
 use Rattle.duct_start.specs.Holdings.{Holdings, empty}
 use Rattle.duct_start.specs.Plan.{Plan, begun, drains}
-use Rattle.duct_start.specs.Standing.{Books, Course, HeldFew, IsShaped, Stands, Stood, Stopped, Goes, Quits, IsWantOfMemory, CanDo, refused, unasked}
+use Rattle.duct_start.specs.Standing.{Books, Course, HeldFew, IsShaped, Stands, Stood, Stopped, Goes, IsWantOfMemory, CanDo, refused, unasked}
 use Rattle.duct_start.specs.Step.{Item, AskEnvironment, AskDrain, AskPipe}
 use Rattle.duct_start.proofs.Commanded.{items_of, commanded_is}
 use Rattle.duct_start.proofs.Going.{none_changes}
-use Rattle.duct_start.proofs.Standing.{answers_front, books_more, stops_unasked}
+use Rattle.duct_start.proofs.Standing.{books_more, stops_unasked}
 
 take_none : (count : ℕ) → length (got (take count [])) ≡ 0
 take_none zero = refl
@@ -182,22 +180,6 @@ module _ {E H : Type 0} (allows : Allows H) (number_of : E → ℕ) (course : Co
       ready = ready_now.1;
       goal_is = goal_now;
     }
-
-    pub quits_now : (next : JournalView) (other : Holdings) (error : Error)
-        → Quits allows number_of act now next kept other error
-        → Stopped allows number_of course goal.plan.items next other error
-    quits_now next other error quits =
-        let q = quits course stood.state ready_now.0 stood.stands in
-        let more = items_grow (advance stood.state act) rest in
-        let all : (advance stood.state act).plan.items ++ more.0 ≡ goal.plan.items = sym more.1 ∙ ap (λ (x : State E H). x.plan.items) goal_now in
-        record {
-          added = q.added;
-          books = q.books;
-          few = q.few;
-          answers = λ m later. subst (λ (w : List (Item E H)). AnswersFrom allows number_of (q.added ++ m) 0 w (trace q.added)) all
-              (answers_front allows number_of (q.added ++ m) 0 (advance stood.state act).plan.items more.0 (trace q.added) (q.answers m later));
-          ended = q.ended;
-        }
 
     pub memory_now : (next : JournalView) (error : Error) → AddsNothing now next → IsWantOfMemory error
         → Stopped allows number_of course goal.plan.items next kept error

@@ -117,37 +117,6 @@ module _ {E H : Type 0} (allows : Allows H) (number_of : E → ℕ) where
       close_goes allows number_of n (over ++ under) now then (holding (n ∷ (over ++ under)) held) refl gives course (with_stack (t ∷ (above ++ below)) state)
       (record { full = omega arith; needs = tt; low = omega (arith, low, length-append above (t ∷ below), length-append above below) }) first
 
-  -- a stream without an end needs nothing
-  pub lets_nothing : (stream : Stdio ℕ) (now : JournalView) → end_of stream ≡ []
-      → LetsGo {E = E} {H = H} allows number_of now now stream
-  lets_nothing Inherit now none course state held over under above below Inherit alike same stands low = stands
-  lets_nothing Inherit now none course state held over under above below Null alike same stands low = absurd alike
-  lets_nothing Inherit now none course state held over under above below (End t) alike same stands low = absurd alike
-  lets_nothing Null now none course state held over under above below Inherit alike same stands low = absurd alike
-  lets_nothing Null now none course state held over under above below Null alike same stands low = stands
-  lets_nothing Null now none course state held over under above below (End t) alike same stands low = absurd alike
-  lets_nothing (End n) now none course state held over under above below target alike same stands low = cc
-
-  -- a stream that goes to the parent's own or to nothing
-  pub settles_inherit : (ends : List E) (old : Stdio ℕ) (now then : JournalView)
-      → LetsGo {E = E} {H = H} allows number_of now then old
-      → Settles {E = E} {H = H} allows number_of ends port.Inherit now then old Inherit
-  settles_inherit ends old now then goes = λ course state held over under above below target alike same lower low stands.
-      let le : length (above ++ (end_of target ++ below)) ≤ course.bound = omega (arith, low) in
-      (tt, goes course state held over under above below target alike same stands le)
-
-  pub settles_null : (ends : List E) (old : Stdio ℕ) (now then : JournalView)
-      → LetsGo {E = E} {H = H} allows number_of now then old
-      → Settles {E = E} {H = H} allows number_of ends port.Null now then old Null
-  settles_null ends old now then goes = λ course state held over under above below target alike same lower low stands.
-      let le : length (above ++ (end_of target ++ below)) ≤ course.bound = omega (arith, low) in
-      (tt, goes course state held over under above below target alike same stands le)
-
-  -- a stream that stays as it is
-  pub settles_given : (ends : List E) (old : Stdio ℕ) (now : JournalView)
-      → Settles {E = E} {H = H} allows number_of ends port.Given now now old old
-  settles_given ends old now = λ course state held over under above below target alike same lower low stands. (alike, stands)
-
   lower_at : (base : ℕ) (ends : List E) (place : ℕ) (end : E) → All (λ e. number_of e < base) ends
       → slice_get ends place ≡ Some end → number_of end < base
   lower_at base [] place end all is = cc

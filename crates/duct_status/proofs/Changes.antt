@@ -1,4 +1,4 @@
--- A list with its k-th item changed: by a write at that index, past the end, and its length.
+-- A list with its k-th item changed: by a write at that index, and past the end.
 use Rattle.std.proofs.Common.{◌≡◌, ℕ, zero, suc, ◌<◌, ◌≤◌, List, [], ◌∷◌, length, get_or, set, refl, ap, ◌∙◌, arith}
 use Rattle.duct_status.specs.Latest.{change_at}
 
@@ -13,9 +13,3 @@ pub changed_past : {T : Type 0} (change : T → T) (k : ℕ) (xs : List T) → l
 changed_past change k [] past = refl
 changed_past change zero (w ∷ xs) past = absurd (omega arith)
 changed_past change (suc k) (w ∷ xs) past = ap (λ ys. w ∷ ys) (changed_past change k xs (omega arith))
-
-pub changed_length : {T : Type 0} (change : T → T) (k : ℕ) (xs : List T)
-    → length (change_at change k xs) ≡ length xs
-changed_length change k [] = refl
-changed_length change zero (w ∷ xs) = refl
-changed_length change (suc k) (w ∷ xs) = ap suc (changed_length change k xs)

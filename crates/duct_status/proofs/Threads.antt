@@ -1,5 +1,5 @@
--- What a shape and a core hold says the same to every thread: both may go to another thread, and be shared with it.
-use denote.Param.Send.{IsSend, IsSync, sendable, recorded_send, recorded_sync}
+-- What a shape and a core hold says the same to every thread, so that what has them may go to another, and be shared with it.
+use denote.Param.Send.{IsSend, IsSync, sendable}
 use Rattle.std.proofs.Crossing.{crosses, Box-send, Box-sync}
 use Rattle.duct_status.specs.contracts.status.Shape
 use Rattle.duct_status.specs.contracts.status.Core
@@ -11,14 +11,5 @@ shape_field_send = send-Shape (search (sendable, crosses) depth 30) Box-send
 pub shape_field_sync : IsSync (Shape.the_field).row
 shape_field_sync = sync-Shape (search (sendable, crosses) depth 30) Box-sync
 
-pub shape_send : IsSend Shape.the_row
-shape_send = recorded_send _ _ _ (Shape.the_type).to_one shape_field_send
-
-pub shape_sync : IsSync Shape.the_row
-shape_sync = recorded_sync _ _ _ (Shape.the_type).to_one shape_field_sync
-
 pub core_field_send : IsSend (Core.the_field).row
 core_field_send = search (shape_field_send, sendable, crosses) depth 40 fits 40000
-
-pub core_send : IsSend Core.the_row
-core_send = recorded_send _ _ _ (Core.the_type).to_one core_field_send

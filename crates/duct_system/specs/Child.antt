@@ -54,13 +54,14 @@ pub record PollsChild (may : ℕ → Answer → Type 0) (before : ChildView) (an
 abbrev pub child_ordered : Order → Obeyed → ChildView → ChildView
 child_ordered order answer child = record child { orders = child.orders ++ (order, answer) ∷ [] }
 
--- a child was given an order: it was noted with its answer, which such a child may give, or there was no memory to note it and
--- nobody was asked; nothing else has changed
+-- a child was given an order and answers what such a child may: the order was noted with its answer, or there was no memory
+-- to note it and nobody was asked; nothing else has changed
 abbrev pub OrdersChild : (ℕ → Order → Obeyed → Type 0) → Order → ChildView → Obeyed → ChildView
     → Type 0
 OrdersChild may order before answer after =
-    ((after ≡ child_ordered order answer before) × may before.number order answer)
-    ⊎ ((after ≡ before) × (answer ≡ Err (record { kind = OutOfMemory })))
+    may before.number order answer
+    × ((after ≡ child_ordered order answer before)
+    ⊎ ((after ≡ before) × (answer ≡ Err (record { kind = OutOfMemory }))))
 
 -- a child that nobody has polled or given an order
 pub record IsUnasked (child : ChildView) : Type 0 where

@@ -1,5 +1,5 @@
 -- The children and the workers that the entries of a journal started.
-use Rattle.std.specs.Prelude.{ℕ, List, [], ◌∷◌, ◌≡◌, Ok}
+use Rattle.std.specs.Prelude.{ℕ, List, [], ◌∷◌, Ok}
 use Rattle.std.specs.List.{flat_map}
 use Rattle.duct_system.specs.EntryView.{EntryView, Spawn, Feed, Drain}
 
@@ -29,15 +29,3 @@ feeds_in entries = flat_map feed_by entries
 -- the capture workers started, in order
 abbrev pub drains_in : List EntryView → List ℕ
 drains_in entries = flat_map drain_by entries
-
--- one child was started, and no worker
-pub record StartsOne (number : ℕ) (entries : List EntryView) : Type 0 where
-  pub child : children_in entries ≡ number ∷ []
-  pub no_feeds : feeds_in entries ≡ []
-  pub no_drains : drains_in entries ≡ []
-
--- no child was started, and no worker
-pub record StartsNone (entries : List EntryView) : Type 0 where
-  pub no_children : children_in entries ≡ []
-  pub no_feeds : feeds_in entries ≡ []
-  pub no_drains : drains_in entries ≡ []
