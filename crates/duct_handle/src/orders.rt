@@ -1,8 +1,7 @@
 //! The orders of a handle to its commands, and their ids.
-ghost use Rattle.std.specs.Prelude.{OnOk};
 ghost use Rattle.duct_system.specs.declared.system.Order.TheVariants.{Kill};
 ghost use Rattle.duct_running.specs.NumbersView.{numbers_view};
-ghost use Rattle.duct_handle.specs.Obeyed.{AllObeyed};
+ghost use Rattle.duct_handle.specs.Obeyed.{IsObeyed};
 
 use crate::handle::Handle;
 use crate::look::differs;
@@ -20,8 +19,8 @@ fn ordered<S: System>(
     numbers: &Numbers,
     order: Order,
 ) -> Result<(), Error>
-    ensures { OnOk result (∥ AllObeyed S.Child.may_answer S.Child.may_obey order
-        (numbers_view numbers.now).children ∥₁) }
+    ensures { IsObeyed S.Child.may_answer S.Child.may_obey order
+        (numbers_view numbers.now).children result }
 {
     running.are_told();
     if !running.is_of(shape, numbers) {
@@ -34,19 +33,19 @@ fn ordered<S: System>(
 }
 
 impl<S: System> Handle<S> {
-    /// Kills each command that is not known as ended, also behind one that refused, and answers the leftmost fault. It never waits
-    /// for a wait of another thread.
+    /// Kills each command that is not known as ended, also behind one that refused, and answers the leftmost fault as
+    /// `Error::System`. It never waits for a wait of another thread.
     pub fn kill(&self, rt: &impl Wait) -> Result<(), Error>
-        ensures { OnOk result (∥ AllObeyed S.Child.may_answer S.Child.may_obey Kill
-            self.now.numbers.children ∥₁) }
+        ensures { IsObeyed S.Child.may_answer S.Child.may_obey Kill
+            self.now.numbers.children result }
     {
         self.order(rt, Order::Kill)
     }
 
     // Gives an order under the lock.
     pub(crate) fn order(&self, rt: &impl Wait, order: Order) -> Result<(), Error>
-        ensures { OnOk result (∥ AllObeyed S.Child.may_answer S.Child.may_obey order
-            self.now.numbers.children ∥₁) }
+        ensures { IsObeyed S.Child.may_answer S.Child.may_obey order
+            self.now.numbers.children result }
     {
         let mut guard = self.lock.lock(rt);
         ordered(&mut guard.running, &self.shape, &self.numbers, order)

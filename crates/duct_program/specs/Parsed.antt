@@ -18,6 +18,6 @@ RefusesAs MissingText read = read ≡ Err MissingText
 RefusesAs MissingPath read = read ≡ Err MissingPath
 
 -- an answer, seen by a view, is what is read, or there was no memory
-abbrev pub ReadsAs : {A B : Type 0} → (A → B) → Result A Usage → Result B Usage → Type 0
-ReadsAs view (Ok value) read = read ≡ Ok (view value)
-ReadsAs view (Err usage) read = RefusesAs usage read
+abbrev pub ParsesAs : {A B : Type 0} → (A → B) → Result A Usage → Result B Usage → Type 0
+ParsesAs view (Ok value) read = read ≡ Ok (view value)
+ParsesAs view (Err usage) read = RefusesAs usage read

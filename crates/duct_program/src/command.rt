@@ -2,7 +2,7 @@
 ghost use Rattle.std.specs.Prelude.{◌≡◌, None, map, string_bytes};
 ghost use Rattle.duct_program.specs.Command.{parts_of, redirected};
 ghost use Rattle.duct_program.specs.CommandView.{command_view};
-ghost use Rattle.duct_program.specs.Parsed.{ReadsAs};
+ghost use Rattle.duct_program.specs.Parsed.{ParsesAs};
 
 use crate::usage::Usage;
 use duct_system::spec::Stream;
@@ -37,7 +37,7 @@ fn redirected(arg: &str) -> Option<Stream>
 
 /// Reads the arguments of one command.
 pub(crate) fn read_command<'a>(alloc: Global, args: &'a [String]) -> Result<Command<'a>, Usage>
-    ensures { ReadsAs command_view result (parts_of None (map string_bytes args.now)) }
+    ensures { ParsesAs command_view result (parts_of None (map string_bytes args.now)) }
 {
     let mut words = Vec::new(alloc);
     let mut redirections = Vec::new(alloc);

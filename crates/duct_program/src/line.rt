@@ -5,7 +5,7 @@ ghost use Rattle.duct.specs.TreeView.{tree_view};
 ghost use Rattle.duct_program.specs.CommandView.{redirection_view};
 ghost use Rattle.duct_program.specs.Line.{meant, piece_tree, pipeline_of, redirected_tree, redirects, with_options};
 ghost use Rattle.duct_program.specs.OptionsView.{options_view};
-ghost use Rattle.duct_program.specs.Parsed.{ReadsAs};
+ghost use Rattle.duct_program.specs.Parsed.{ParsesAs};
 ghost use Rattle.duct_program.specs.Pieces.{pieces};
 
 use crate::command::{Command, Redirection, read_command};
@@ -21,7 +21,7 @@ use std::alloc::Global;
 ///
 /// Refused with the first fault from left to right, and for want of memory.
 pub fn line<E: Drop, H: Drop>(alloc: Global, args: &[String]) -> Result<Expression<E, H>, Usage>
-    ensures { ReadsAs tree_view result (meant (map string_bytes args.now)) }
+    ensures { ParsesAs tree_view result (meant (map string_bytes args.now)) }
 {
     let (options, words) = read_options(args)?;
     let commands = pipeline(alloc, words)?;
@@ -30,7 +30,7 @@ pub fn line<E: Drop, H: Drop>(alloc: Global, args: &[String]) -> Result<Expressi
 
 // Commands piped from the left.
 fn pipeline<E: Drop, H: Drop>(alloc: Global, args: &[String]) -> Result<Expression<E, H>, Usage>
-    ensures { ReadsAs tree_view result (pipeline_of (pieces (map string_bytes args.now))) }
+    ensures { ParsesAs tree_view result (pipeline_of (pieces (map string_bytes args.now))) }
 {
     let (piece, mut rest) = first_piece(args);
     let mut left = redirected_command(alloc, piece)?;
@@ -48,7 +48,7 @@ fn redirected_command<E: Drop, H: Drop>(
     alloc: Global,
     piece: &[String],
 ) -> Result<Expression<E, H>, Usage>
-    ensures { ReadsAs tree_view result (piece_tree (map string_bytes piece.now)) }
+    ensures { ParsesAs tree_view result (piece_tree (map string_bytes piece.now)) }
 {
     let Command {
         words,
@@ -67,7 +67,7 @@ fn redirected_by<E: Drop, H: Drop>(
     command: Expression<E, H>,
     redirections: Vec<Redirection<'_>>,
 ) -> Result<Expression<E, H>, Usage>
-    ensures { ReadsAs tree_view result
+    ensures { ParsesAs tree_view result
         (Ok (redirected_tree (map redirection_view redirections.entry.items) (tree_view command))) }
 {
     let mut inner = command;
@@ -100,7 +100,7 @@ fn with_options<E: Drop, H: Drop>(
     line: Expression<E, H>,
     options: Options<'_>,
 ) -> Result<Expression<E, H>, Usage>
-    ensures { ReadsAs tree_view result
+    ensures { ParsesAs tree_view result
         (Ok (with_options (options_view options.entry) (tree_view line))) }
 {
     let mut whole = line;

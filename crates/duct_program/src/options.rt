@@ -1,7 +1,7 @@
 //! The options that stand before the first word.
 ghost use Rattle.std.specs.Prelude.{false, map, string_bytes};
 ghost use Rattle.duct_program.specs.Options.{no_options, options_from};
-ghost use Rattle.duct_program.specs.Parsed.{ReadsAs};
+ghost use Rattle.duct_program.specs.Parsed.{ParsesAs};
 ghost use Rattle.duct_program.specs.OptionsView.{options_view};
 
 use crate::usage::Usage;
@@ -17,7 +17,7 @@ pub(crate) struct Options<'a> {
 
 /// Reads the options in front of some arguments. Answers them, and the arguments behind them.
 pub(crate) fn read_options<'a>(args: &'a [String]) -> Result<(Options<'a>, &'a [String]), Usage>
-    ensures { ReadsAs (λ read. (options_view read.0, map string_bytes read.1.now)) result
+    ensures { ParsesAs (λ read. (options_view read.0, map string_bytes read.1.now)) result
         (options_from false no_options (map string_bytes args.now)) }
 {
     let mut options = Options {

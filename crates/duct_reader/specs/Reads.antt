@@ -30,7 +30,7 @@ abbrev pub ReadsAs : (ℕ → Answer → Type 0) → (ℕ → Said (Unit {0}) �
     → Result ℕ Error → Type 0
 ReadsAs answer feed drain handle room before after result =
     ((count : ℕ) × (result ≡ Ok count) × ((0 < count) ⊎ (room ≡ 0)) × (after ≡ before))
-    ⊎ ((fault : Fault) × (result ≡ Err (error.System fault)) × (after ≡ before))
+    ⊎ ((fault : Fault) × (0 < room) × (result ≡ Err (error.System fault)) × (after ≡ before))
     ⊎ ((waited : Result (Arc Output Global) Error) × (0 < room)
     × Waited answer feed drain handle before after (at_end waited)
     × (result ≡ at_close waited))

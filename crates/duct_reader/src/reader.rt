@@ -1,5 +1,5 @@
 //! The handle of an expression whose stdout is read from a pipe while it runs.
-ghost use Rattle.std.specs.Prelude.{◌≡◌, ◌<◌, ◌≤◌, List, length, IfOk, IfErr, OnOk, Ok, None};
+ghost use Rattle.std.specs.Prelude.{◌≡◌, ◌<◌, ◌≤◌, List, length, IfOk, IfErr, OnErr, Ok, None};
 ghost use Rattle.duct_base.specs.Pool.{IsGiven};
 ghost use Rattle.duct_system.specs.declared.error.Error.TheVariants as error;
 ghost use Rattle.duct_system.specs.declared.system.Fault.{Fault};
@@ -7,7 +7,7 @@ ghost use Rattle.duct_system.specs.declared.system.Order.TheVariants.{Kill};
 ghost use Rattle.duct_status.specs.ShapeView.{shape_view};
 ghost use Rattle.duct_running.specs.Answered.{IsAnswer};
 ghost use Rattle.duct_running.specs.Told.{OneRuns};
-ghost use Rattle.duct_handle.specs.Obeyed.{AllObeyed};
+ghost use Rattle.duct_handle.specs.Obeyed.{IsObeyed};
 ghost use Rattle.duct_reader.specs.Reads.{KnowsOutput, ReadsAs};
 
 use duct_base::error::Error;
@@ -84,11 +84,11 @@ impl<S: System, R: Wait> ReaderHandle<S, R> {
         self.handle.try_wait(&self.rt)
     }
 
-    /// Kills each command that is not known as ended, also behind one that refused, and answers the leftmost fault. It never waits
-    /// for a read.
+    /// Kills each command that is not known as ended, also behind one that refused, and answers the leftmost fault as
+    /// `Error::System`. It never waits for a read.
     pub fn kill(&self) -> Result<(), Error>
-        ensures { OnOk result (∥ AllObeyed S.Child.may_answer S.Child.may_obey Kill
-            self.now.numbers.children ∥₁) }
+        ensures { IsObeyed S.Child.may_answer S.Child.may_obey Kill
+            self.now.numbers.children result }
     {
         self.handle.kill(&self.rt)
     }
@@ -118,6 +118,7 @@ impl<S: System, R: Wait> ReaderHandle<S, R> {
         ensures bound { IfOk result (λ read. read ≤ length buf.new) }
         ensures room { length buf.new ≡ length buf.old }
         ensures err { IfErr result (λ e. (fault : Fault) × (e ≡ error.System fault)) }
+        ensures asked { OnErr result (0 < length buf.old) }
     {
         if buf.is_empty() {
             return Ok(0);

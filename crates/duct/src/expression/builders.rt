@@ -186,7 +186,8 @@ impl<E: Drop, H: Drop> Expression<E, H> {
         self.around(Modifier::StdoutStderrSwap)
     }
 
-    /// The commands start in this folder. Of two the inner one counts.
+    /// The commands start in this folder. Of two the inner one counts. A program that is a relative path with a slash is sought from
+    /// the parent's folder, not from this one.
     pub fn dir(&self, path: &str) -> Result<Expression<E, H>, Error>
         ensures tree { IfOk result
             (λ made. tree_view made ≡ around (dir path.now) (tree_view self.now)) }
@@ -238,7 +239,9 @@ impl<E: Drop, H: Drop> Expression<E, H> {
         self.around(Modifier::Unchecked)
     }
 
-    /// Before each command is started the hook changes its spec. A hook may name the ends beside it by their places.
+    /// Before each command is started the hook changes its spec, the outermost of several first. A hook may name the ends beside
+    /// it by their places. A start answers `Error::Hook` where the hook stops a command, and `Error::HookEnd` where it names a
+    /// place without an end.
     pub fn before_spawn(&self, hook: H, ends: Vec<E>) -> Result<Expression<E, H>, Error>
         ensures tree { IfOk result
             (λ made. tree_view made ≡ around (before_spawn hook ends.items) (tree_view self.now)) }

@@ -1,9 +1,9 @@
-use Rattle.std.proofs.Common.{◌≡◌, ◌∙◌, OnOk, ap, map, refl, rules, subst, sym, to_z, of_z, w32}
+use Rattle.std.proofs.Common.{◌≡◌, ◌∙◌, ap, map, refl, rules, subst, sym, to_z, of_z, w32}
 use mathlib.Core.Logic.{∥∥₁_map}
 use Rattle.duct_system.specs.declared.system.Order.TheVariants.{Signal}
 use Rattle.duct_running.specs.NumbersView.{NumbersView}
-use Rattle.duct_handle.specs.Obeyed.{AllObeyed}
-use Rattle.duct_handle.proofs.Obeying.{order_on_ok}
+use Rattle.duct_handle.specs.Obeyed.{IsObeyed}
+use Rattle.duct_handle.proofs.Obeying.{order_obeyed}
 use Rattle.duct_handle.proofs.orders.ordered.Goals as goal
 
 pub returns-in-Kill : goal.returns-in-Kill
@@ -12,8 +12,8 @@ returns-in-Kill g c =
     let obey = g.S.Child.Child.may_obey in
     let view = g.S.Child.Child.child_view in
     let numbers = ap (λ (n : NumbersView). n.children) (c.if-not-is_of.ensures.numbers refl) in
-    subst (λ order. OnOk c.kill.result (∥ AllObeyed may obey order c.args.numbers.now.children.items ∥₁)) (sym c.in-Kill.is)
-    (order_on_ok may obey _ (map view c.args.running.now.children) (map view c.kill.new.self.children) c.args.numbers.now.children.items c.kill.result c.kill.ensures.ordered
+    subst (λ order. IsObeyed may obey order c.args.numbers.now.children.items c.kill.result) (sym c.in-Kill.is)
+    (order_obeyed may obey _ (map view c.args.running.now.children) (map view c.kill.new.self.children) c.args.numbers.now.children.items c.kill.result c.kill.ensures.ordered
     (∥∥₁_map c.are_told.ensures (λ t. t.children_told)) numbers)
 
 pub returns-in-Signal : goal.returns-in-Signal
@@ -23,6 +23,6 @@ returns-in-Signal g c =
     let view = g.S.Child.Child.child_view in
     let numbers = ap (λ (n : NumbersView). n.children) (c.if-not-is_of.ensures.numbers refl) in
     let same : to_z w32 (of_z w32 c.in-Signal.signal) ≡ c.in-Signal.signal = search rules in
-    subst (λ order. OnOk c.signal.result (∥ AllObeyed may obey order c.args.numbers.now.children.items ∥₁)) (ap (λ s. Signal s) same ∙ sym c.in-Signal.is)
-    (order_on_ok may obey _ (map view c.args.running.now.children) (map view c.signal.new.self.children) c.args.numbers.now.children.items c.signal.result c.signal.ensures.ordered
+    subst (λ order. IsObeyed may obey order c.args.numbers.now.children.items c.signal.result) (ap (λ s. Signal s) same ∙ sym c.in-Signal.is)
+    (order_obeyed may obey _ (map view c.args.running.now.children) (map view c.signal.new.self.children) c.args.numbers.now.children.items c.signal.result c.signal.ensures.ordered
     (∥∥₁_map c.are_told.ensures (λ t. t.children_told)) numbers)
