@@ -15,7 +15,7 @@ ObeysIfServed Kill answer = Unit {0}
 ObeysIfServed (Signal number) answer =
     (Contains signals number → ⊥) → answer ≡ Err (record { kind = InvalidInput })
 
--- the same, unless there is no memory to note the order
+-- the same, or `OutOfMemory`, which an order answers that there is no memory to note
 abbrev pub MayObey : Order → Obeyed → Type 0
 MayObey order answer =
     (answer ≡ Err (record { kind = OutOfMemory })) ⊎ ObeysIfServed order answer

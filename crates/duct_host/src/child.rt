@@ -1,5 +1,5 @@
 //! A child process of the host.
-ghost use Rattle.std.specs.Prelude.{◌≡◌, ◌↔◌, Contains, IsTrue, IfSome, IfNone, IfErr, true};
+ghost use Rattle.std.specs.Prelude.{◌≡◌, ◌⊎◌, ◌↔◌, Contains, IsTrue, IfSome, IfNone, IfErr, true};
 ghost use Rattle.duct_system.specs.declared.system.Kind.TheVariants.{Other};
 ghost use Rattle.std.specs.Process.{exit_code, exit_signal};
 ghost use Rattle.duct_host.specs.Endings.{ending_said};
@@ -67,8 +67,8 @@ fn ending<P: OpenProcess>(started: &mut process::Child<P>) -> Result<Option<Exit
     }
 }
 
-/// Whether a child has ended, by what was seen of it, or else by what the machine says, since the id of one that has may be another
-/// process's. One whose last poll was a fault may be lost for the same reason: `Other`.
+/// Whether a child has ended: as a poll saw, or else as the machine says now. Where its last poll was a fault it may have been reaped,
+/// and its id be another process's: `Other`.
 fn has_ended<P: OpenProcess>(
     seen: Option<ExitStatus>,
     last: Option<Result<Option<ExitStatus>, Fault>>,
@@ -174,12 +174,14 @@ impl<R: Processes + Drop> system::Child for Child<R> {
 impl<R: Processes> Child<R> {
     ghost use Rattle.duct_system.specs.Child.{OrdersChild};
     ghost use Rattle.duct_host.specs.ChildView.{child_view};
-    ghost use Rattle.duct_host.specs.Signals.{MayObey};
+    ghost use Rattle.duct_host.specs.Signals.{MayObey, ObeysIfServed};
 
     /// Gives the child an order, and notes it with its answer. Where there is no memory for that, nobody is asked.
     fn order(&mut self, order: Order) -> Result<(), Fault>
-        ensures { OrdersChild (λ _ order answer. MayObey order answer) order
+        ensures ordered { OrdersChild (λ _ order answer. MayObey order answer) order
             (child_view self.old) result (child_view self.new) }
+        ensures served { ObeysIfServed order result
+            ⊎ (child_view self.new ≡ child_view self.old) }
     {
         if self.orders.reserve(1).is_err() {
             return Err(no_memory());
@@ -188,19 +190,21 @@ impl<R: Processes> Child<R> {
             Order::Signal(signal) if !is_served(signal) => Err(Fault::new(Kind::InvalidInput)),
             Order::Kill | Order::Signal(KILL) => kill_process(&mut self.started),
             Order::Signal(signal) => {
-                let ended = has_ended(self.ending, self.last, &mut self.started);
-                self.send(signal, ended)
+                let asked = has_ended(self.ending, self.last, &mut self.started);
+                self.send(signal, asked)
             }
         };
         self.orders.push_reserved((order, answer));
         answer
     }
 
-    /// Sends the child a signal, unless it has ended, which is answered `Ok`, as a kill is.
-    fn send(&self, signal: i32, ended: Result<bool, Fault>) -> Result<(), Fault>
-        ensures ended { ended ≡ Ok true → result ≡ Ok tt }
+    /// Sends the child a signal. Where it has ended nothing is sent and the answer is `Ok`, as a kill's; where that could not be told,
+    /// that fault.
+    fn send(&self, signal: i32, asked: Result<bool, Fault>) -> Result<(), Fault>
+        ensures ended { asked ≡ Ok true → result ≡ Ok tt }
+        ensures refused { IfErr asked (λ fault. result ≡ Err fault) }
     {
-        if ended? {
+        if asked? {
             Ok(())
         } else {
             self.send_by_shell(signal)

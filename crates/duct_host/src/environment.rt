@@ -1,4 +1,4 @@
-//! The parent's environment, read at once, or entry by entry where the runtime can't, or has changed it.
+//! The parent's environment, read at once, or entry by entry where the runtime can't, or has more entries or fewer by now.
 ghost use Rattle.std.specs.Prelude.{◌≡◌, [], ◌∷◌, ◌++◌, map, string_bytes, IfOk, IfSome, OnOk};
 ghost use Rattle.duct_system.specs.SpecView.{pair_text};
 

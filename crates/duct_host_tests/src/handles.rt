@@ -3,7 +3,8 @@ use crate::trees::rows;
 use std::test::Fail;
 
 /// A signal ends both sides of a pipe: the answer is the one that is not unchecked. A handle of children that have ended, which nobody
-/// has asked, is given up, and they are found ended then. A kill leaves the ending to a poll, and so do orders to a child that has ended.
+/// has asked, is given up, and they are found ended then. A kill leaves the ending to a poll;
+/// a signal asks for it, and the next poll tells it still.
 #[test]
 fn signals_and_ends(rt: HostRuntime) -> Result<(), Fail> {
     rows(

@@ -81,17 +81,33 @@ impl<'a> OpenProcess for Script<'a> {
     }
 }
 
-/// A runtime with such answers. At once it shows one entry of the environment too many, as where the loader took one away.
+/// What a runtime shows of the environment at once.
+#[derive(Clone, Copy, Drop)]
+pub enum Shown {
+    /// All of it. In turn it tells no entry then, only whether there is one.
+    All,
+    /// One entry too many, as where the loader has taken one away.
+    OneMore,
+    /// Nothing, as where all of it came later.
+    Nothing,
+}
+
+/// A runtime with such answers. A shell that would get the parent's variables isn't started.
 #[derive(Clone, Drop)]
 pub struct Odd<'a, R> {
     real: R,
+    shown: Shown,
     script: Script<'a>,
 }
 
 impl<'a, R> Odd<'a, R> {
-    pub fn new(real: R, answers: &'a str, given: &'a AtomicUsize) -> Odd<'a, R> {
+    pub fn new(real: R, shown: Shown, answers: &'a str, given: &'a AtomicUsize) -> Odd<'a, R> {
         let script = Script { answers, given };
-        Odd { real, script }
+        Odd {
+            real,
+            shown,
+            script,
+        }
     }
 
     /// Fails unless as many questions were asked as there are answers.
@@ -106,11 +122,14 @@ impl<'a, R> Processes for Odd<'a, R> {
 
     fn spawn<B: Allocator + Clone>(
         &self,
-        _command: &Command<B>,
+        command: &Command<B>,
         _stdin: &Stdio,
         _stdout: &Stdio,
         _stderr: &Stdio,
     ) -> io::Result<Child<Script<'a>>> {
+        if command.get_program() == "/bin/sh" && !command.get_env_clear() {
+            return Err(io::Error::from(ErrorKind::InvalidInput));
+        }
         self.script.next()?;
         Ok(Child::from_parts(self.script, None, None, None))
     }
@@ -128,6 +147,14 @@ impl<'a, R: AllocGlobal> Alloc for Odd<'a, R> {
     }
 }
 
+/// These entries of an environment and one more.
+fn with_one_more(mut entries: Vec<u8>) -> io::Result<Vec<u8>> {
+    match entries.extend_from_slice(b"GONE=1\0") {
+        Ok(()) => Ok(entries),
+        Err(_) => Err(io::Error::from(ErrorKind::OutOfMemory)),
+    }
+}
+
 impl<'a, R: Parents> Parents for Odd<'a, R> {
     fn duplicate_stdout(&self) -> io::Result<OwnedFd> {
         self.real.duplicate_stdout()
@@ -138,11 +165,11 @@ impl<'a, R: Parents> Parents for Odd<'a, R> {
     }
 
     fn environment(&self, alloc: Global) -> io::Result<Vec<u8>> {
-        let mut entries = self.real.environment(alloc)?;
-        if entries.extend_from_slice(b"GONE=1\0").is_err() {
-            return Err(io::Error::from(ErrorKind::OutOfMemory));
+        match self.shown {
+            Shown::All => self.real.environment(alloc),
+            Shown::OneMore => with_one_more(self.real.environment(alloc)?),
+            Shown::Nothing => Ok(Vec::new(alloc)),
         }
-        Ok(entries)
     }
 }
 
@@ -166,7 +193,10 @@ impl<'a, R: Env> Env for Odd<'a, R> {
     }
 
     fn var_at(&self, i: usize, buf: &mut [u8]) -> Result<usize, FillError> {
-        self.real.var_at(i, buf)
+        match self.shown {
+            Shown::All if buf.len() > 1 => Err(FillError::NotPresent),
+            _ => self.real.var_at(i, buf),
+        }
     }
 }
 

@@ -1,6 +1,6 @@
 //! What the machine rarely answers of a process: faults at polls, orders and starts, questions that a signal interrupts, and a shell
 //! that sends no signal. A row begins with `child` for requests, or with `expression`, and has the answers behind it.
-use crate::odd::Odd;
+use crate::odd::{Odd, Shown};
 use crate::support::Real;
 use crate::{asks, trees};
 use duct_words::words::first_word;
@@ -20,7 +20,7 @@ fn try_row<R: Real + Wait>(rt: &R, row: &str) -> Result<(), Fail> {
     let (first, lines) = row.split_once('\n').unwrap_or((row, ""));
     let (kind, answers) = first_word(first);
     let given = AtomicUsize::new(0);
-    let odd = Odd::new(rt.clone()?, answers, &given);
+    let odd = Odd::new(rt.clone()?, Shown::All, answers, &given);
     match kind {
         "child" => asks::rows(&odd, lines)?,
         _ => trees::rows(&odd, "rare-", lines)?,
@@ -29,7 +29,8 @@ fn try_row<R: Real + Wait>(rt: &R, row: &str) -> Result<(), Fail> {
 }
 
 /// A fault is the answer of its poll, and the child is asked again; until then it is sent no signal, and may be killed. A status
-/// that is neither a code nor a signal, as that of a stop, is a fault. Once the end was seen, nobody is asked.
+/// that is neither a code nor a signal, as that of a stop, is a fault. Once the end was seen, nobody is asked. A fault of the question
+/// before a signal is the signal's answer; a child that has ended unseen is sent nothing, and keeps its ending.
 #[test]
 fn polls(rt: HostRuntime) -> Result<(), Fail> {
     rows(
@@ -68,7 +69,8 @@ fn polls(rt: HostRuntime) -> Result<(), Fail> {
     )
 }
 
-/// What a signal interrupts is asked again: a start, a poll, a kill, the start of the shell and the wait for it.
+/// What a signal interrupts is asked again: a start, a poll, a kill, the question before a signal, the start of the shell and the wait
+/// for it.
 #[test]
 fn interrupted_questions(rt: HostRuntime) -> Result<(), Fail> {
     rows(
@@ -86,8 +88,8 @@ fn interrupted_questions(rt: HostRuntime) -> Result<(), Fail> {
     )
 }
 
-/// A kill that is refused answers its fault, and a signal is sent all the same. A shell that can't be started answers its fault, and
-/// one that fails `Other`. A start that is refused leaves no descriptor open, and one entry.
+/// A kill that is refused answers its fault, and a signal is sent all the same. A shell that can't be started or waited for answers
+/// that fault, and one that fails `Other`. A start that is refused leaves no descriptor open, and one entry.
 #[test]
 fn refusals(rt: HostRuntime) -> Result<(), Fail> {
     rows(
@@ -100,13 +102,14 @@ fn refusals(rt: HostRuntime) -> Result<(), Fail> {
         signal 15
         says 1; PermissionDenied; NotFound; ();
 
-        child ok, ok, NotFound, ok, ok, status 256, ok, ok, status 15, ok, ok, status 0
+        child ok, ok, NotFound, ok, ok, status 256, ok, ok, status 15, ok, ok, PermissionDenied, ok, ok, status 0
         spawn null null null (odd)
         signal 15
         signal 15
         signal 15
         signal 15
-        says 1; NotFound; Other; Other; ();
+        signal 15
+        says 1; NotFound; Other; Other; PermissionDenied; ();
 
         child WouldBlock
         pipe
