@@ -1,6 +1,6 @@
 //! Each call of the host once, with its answer and its entry.
 use crate::asks::rows;
-use crate::odd::{Odd, Shown};
+use crate::odd::Odd;
 use crate::support::{Real, same};
 use duct_base::system::{Entry, System};
 use duct_host::host::Host;
@@ -90,30 +90,28 @@ fn the_environment_is_the_parents(rt: HostRuntime) -> Result<(), Fail> {
     has_environment(&mut host, expected.as_str())
 }
 
-/// Fails unless a host answers the whole environment over a runtime that shows this of it.
-fn is_whole<R: Real>(rt: &R, shown: Shown) -> Result<(), Fail> {
-    let expected = told_in_turn(rt)?;
+/// Fails unless a host has this environment where the runtime shows some entries at once and has others.
+fn reads<R: Real>(rt: &R, shown: &str, entries: &str, expected: &str) -> Result<(), Fail> {
     let given = AtomicUsize::new(0);
-    let mut host = Host::new(Odd::new(rt.clone()?, shown, "", &given), rt.alloc());
-    has_environment(&mut host, expected.as_str())
+    let odd = Odd::new(rt.clone()?, "", &given).with_entries(shown, entries);
+    has_environment(&mut Host::new(odd, rt.alloc()), expected)
 }
 
-/// An environment that is shown as it is is read at once.
+/// As many entries as the runtime has are read at once.
 #[test]
-fn an_environment_that_is_shown(rt: HostRuntime) -> Result<(), Fail> {
-    is_whole(&rt, Shown::All)
+fn entries_at_once(rt: HostRuntime) -> Result<(), Fail> {
+    reads(&rt, "", "", "")?;
+    reads(&rt, "A=1\0", "A=2\0", "A=1\0")?;
+    reads(&rt, "A=1\0B=2\0", "A=3\0B=4\0", "A=1\0B=2\0")
 }
 
-/// An entry that the kernel goes on showing, and that the runtime has no more, is no variable.
+/// Where entries were taken away that are shown still, or came later, they are read in turn.
 #[test]
-fn an_entry_that_was_taken_away(rt: HostRuntime) -> Result<(), Fail> {
-    is_whole(&rt, Shown::OneMore)
-}
-
-/// Entries that the kernel doesn't show, and that the runtime has by now, are variables.
-#[test]
-fn entries_that_came_later(rt: HostRuntime) -> Result<(), Fail> {
-    is_whole(&rt, Shown::Nothing)
+fn entries_in_turn(rt: HostRuntime) -> Result<(), Fail> {
+    reads(&rt, "GONE=1\0", "", "")?;
+    reads(&rt, "A=1\0GONE=1\0", "A=1\0", "A=1\0")?;
+    reads(&rt, "", "A=1\0", "A=1\0")?;
+    reads(&rt, "A=1\0", "A=1\0B=2\0", "A=1\0B=2\0")
 }
 
 /// A pipe carries what a child writes, and a duplicate writes to the same pipe; a file is emptied, written and read; a canonical

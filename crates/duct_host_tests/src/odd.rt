@@ -1,8 +1,10 @@
-//! A runtime that stands in front of another one. What it answers of processes is written in a text; the rest it asks the other.
+//! A runtime that stands in front of another one. What it answers of processes and of its environment is written in texts; the rest it
+//! asks the other.
 //!
 //! Commas part the answers, and each question takes the next one: a start, a poll, a wait and a kill, of children and of the shell
 //! alike. `ok` is a process that starts, goes on, or takes a kill. `status 256` is an end, as the machine writes it. Another word is
 //! the kind of a fault.
+ghost use Rattle.std.specs.Io.{WritesAtMost};
 
 use crate::support::same;
 use duct_host::parents::Parents;
@@ -81,32 +83,34 @@ impl<'a> OpenProcess for Script<'a> {
     }
 }
 
-/// What a runtime shows of the environment at once.
-#[derive(Clone, Copy, Drop)]
-pub enum Shown {
-    /// All of it. In turn it tells no entry then, only whether there is one.
-    All,
-    /// One entry too many, as where the loader has taken one away.
-    OneMore,
-    /// Nothing, as where all of it came later.
-    Nothing,
-}
-
-/// A runtime with such answers. A shell that would get the parent's variables isn't started.
+/// A runtime with such answers, and with entries of an environment, each with a NUL behind it. A shell that would get the parent's
+/// variables isn't started.
 #[derive(Clone, Drop)]
 pub struct Odd<'a, R> {
     real: R,
-    shown: Shown,
     script: Script<'a>,
+    shown: &'a str,
+    entries: &'a str,
 }
 
 impl<'a, R> Odd<'a, R> {
-    pub fn new(real: R, shown: Shown, answers: &'a str, given: &'a AtomicUsize) -> Odd<'a, R> {
+    /// One whose environment has no entry.
+    pub fn new(real: R, answers: &'a str, given: &'a AtomicUsize) -> Odd<'a, R> {
         let script = Script { answers, given };
         Odd {
             real,
-            shown,
             script,
+            shown: "",
+            entries: "",
+        }
+    }
+
+    /// The same with these entries, and others that it shows at once.
+    pub fn with_entries(self, shown: &'a str, entries: &'a str) -> Odd<'a, R> {
+        Odd {
+            shown,
+            entries,
+            ..self
         }
     }
 
@@ -147,14 +151,6 @@ impl<'a, R: AllocGlobal> Alloc for Odd<'a, R> {
     }
 }
 
-/// These entries of an environment and one more.
-fn with_one_more(mut entries: Vec<u8>) -> io::Result<Vec<u8>> {
-    match entries.extend_from_slice(b"GONE=1\0") {
-        Ok(()) => Ok(entries),
-        Err(_) => Err(io::Error::from(ErrorKind::OutOfMemory)),
-    }
-}
-
 impl<'a, R: Parents> Parents for Odd<'a, R> {
     fn duplicate_stdout(&self) -> io::Result<OwnedFd> {
         self.real.duplicate_stdout()
@@ -165,10 +161,9 @@ impl<'a, R: Parents> Parents for Odd<'a, R> {
     }
 
     fn environment(&self, alloc: Global) -> io::Result<Vec<u8>> {
-        match self.shown {
-            Shown::All => self.real.environment(alloc),
-            Shown::OneMore => with_one_more(self.real.environment(alloc)?),
-            Shown::Nothing => Ok(Vec::new(alloc)),
+        match Vec::from_slice(alloc, self.shown.as_bytes()) {
+            Ok(bytes) => Ok(bytes),
+            Err(_) => Err(io::Error::from(ErrorKind::OutOfMemory)),
         }
     }
 }
@@ -183,6 +178,18 @@ impl<'a, R: Clock> Clock for Odd<'a, R> {
     }
 }
 
+/// Copies an entry to the start of a buffer that it fits in, and answers its length.
+fn fill(buf: &mut [u8], entry: &[u8]) -> Result<usize, FillError>
+    ensures { WritesAtMost result buf.new }
+{
+    let count = entry.len();
+    if count > buf.len() {
+        return Err(FillError::TooLong);
+    }
+    buf[..count].copy_from_slice(entry);
+    Ok(count)
+}
+
 impl<'a, R: Env> Env for Odd<'a, R> {
     fn arg(&self, i: usize, buf: &mut [u8]) -> Result<usize, FillError> {
         self.real.arg(i, buf)
@@ -193,9 +200,9 @@ impl<'a, R: Env> Env for Odd<'a, R> {
     }
 
     fn var_at(&self, i: usize, buf: &mut [u8]) -> Result<usize, FillError> {
-        match self.shown {
-            Shown::All if buf.len() > 1 => Err(FillError::NotPresent),
-            _ => self.real.var_at(i, buf),
+        match self.entries.split('\0').nth(i) {
+            Some(entry) if !entry.is_empty() => fill(buf, entry.as_bytes()),
+            _ => Err(FillError::NotPresent),
         }
     }
 }

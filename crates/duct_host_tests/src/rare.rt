@@ -1,6 +1,6 @@
 //! What the machine rarely answers of a process: faults at polls, orders and starts, questions that a signal interrupts, and a shell
 //! that sends no signal. A row begins with `child` for requests, or with `expression`, and has the answers behind it.
-use crate::odd::{Odd, Shown};
+use crate::odd::Odd;
 use crate::support::Real;
 use crate::{asks, trees};
 use duct_words::words::first_word;
@@ -20,7 +20,7 @@ fn try_row<R: Real + Wait>(rt: &R, row: &str) -> Result<(), Fail> {
     let (first, lines) = row.split_once('\n').unwrap_or((row, ""));
     let (kind, answers) = first_word(first);
     let given = AtomicUsize::new(0);
-    let odd = Odd::new(rt.clone()?, Shown::All, answers, &given);
+    let odd = Odd::new(rt.clone()?, answers, &given);
     match kind {
         "child" => asks::rows(&odd, lines)?,
         _ => trees::rows(&odd, "rare-", lines)?,
