@@ -210,8 +210,8 @@ impl<E: Drop, H: Hook> Expression<E, H> {
     ///
     /// Asks the system for the environment, then what the nodes ask, each before what it wraps and the left side of a pipe
     /// before the right, and at the end for the workers of the capture pipes. Before each command the pool is swept. The list of
-    /// all this, and the room for what runs, are made before the first request. What is promised of the requests holds where the
-    /// ends in the expression are of this system, so that their numbers are lower than the next one it gives.
+    /// all this, and the room for what runs, are made before the first request. That the requests follow the plan is promised
+    /// where the ends in the expression are of this system, so that their numbers are lower than the next one it gives.
     ///
     /// Refused by `Error::System` where the system refused a request, by `Error::Hook` and `Error::HookEnd` where a hook stopped
     /// a command, and by `Error::Memory`. Then nothing more is asked: each end that the start got is closed, each child that it

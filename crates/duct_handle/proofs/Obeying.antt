@@ -1,5 +1,5 @@
 -- An order to all commands that a handle holds: each that has ended answers Ok, each other what it may.
-use Rattle.std.specs.Prelude.{ℕ, List, [], ◌∷◌, All, IfSome, MatchOption, map, Ok, Some, None}
+use Rattle.std.specs.Prelude.{ℕ, Bool, List, [], ◌∷◌, All, IfSome, MatchOption, map, Ok, Some, None}
 use Rattle.std.specs.List.{AllZip}
 use Rattle.std.specs.declared.option.Option.{Option}
 use Rattle.std.specs.declared.result.Result.{Result}
@@ -14,14 +14,15 @@ use Rattle.duct_running.specs.Ordered.{AllOrdered, IsOrdered}
 use Rattle.duct_running.specs.Told.{IsTold}
 use Rattle.duct_handle.specs.Obeyed.{IsObeyed, CommandAnswers}
 
-module _ (answer : ℕ → Answer → Type 0) (obey : ℕ → Order → Obeyed → Type 0) (order : Order) where
+module _ (answer : ℕ → Answer → Type 0) (obey : ℕ → Order → Bool → Obeyed → Type 0) (order : Order) where
   -- one of them
   obeyed_by : (before after : ChildView) (heard : Obeyed) (ending : Option ExitStatus)
       → IfSome ending (λ status. answer before.number (Ok (Some status)))
       → MatchOption ending (OrdersChild obey order before heard after) (λ status. (heard ≡ Ok tt) × (after ≡ before))
       → CommandAnswers answer obey order before.number heard
   obeyed_by before after heard (Some status) told ordered = inl (status, told, ordered.0)
-  obeyed_by before after heard None told ordered = inr ordered.0
+  obeyed_by before after heard None told (inl (may, noted)) = inr (inl may)
+  obeyed_by before after heard None told (inr (may, unasked, none)) = inr (inr (may, none))
 
   all_obeyed : (befores : List ChildView) (answers : List Obeyed) (afters : List ChildView)
       → AllOrdered obey order befores answers afters → All (IsTold answer) befores

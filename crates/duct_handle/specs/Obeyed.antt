@@ -1,32 +1,34 @@
 -- An order to all commands of a handle, and what it answers.
-use Rattle.std.specs.Prelude.{ℕ, ◌≡◌, ◌⊎◌, List, Ok, Err, Some}
+use Rattle.std.specs.Prelude.{ℕ, Bool, true, false, ◌≡◌, ◌⊎◌, List, Ok, Err, Some}
 use Rattle.std.specs.List.{AllZip}
 use Rattle.std.specs.declared.result.Result.{Result}
 use Rattle.duct_system.specs.Child.{Answer, Obeyed}
 use Rattle.duct_system.specs.declared.error.Error.{Error}
 use Rattle.duct_system.specs.declared.error.Error.TheVariants as error
 use Rattle.duct_system.specs.declared.system.ExitStatus.{ExitStatus}
-use Rattle.duct_system.specs.declared.system.Kind.TheVariants.{Other}
+use Rattle.duct_system.specs.declared.system.Kind.TheVariants.{Other, OutOfMemory}
 use Rattle.duct_system.specs.declared.system.Order.{Order}
 use Rattle.duct_running.specs.Ordered.{OrderAnswers, leftmost}
 
--- what a command of this number answers to an order: what it may, or Ok where an ending of it was told
-abbrev pub CommandAnswers : (ℕ → Answer → Type 0) → (ℕ → Order → Obeyed → Type 0) → Order → ℕ
-    → Obeyed → Type 0
+-- what a command of this number answers to an order: Ok where an ending of it was told, or what it may where the order was noted,
+-- or OutOfMemory where there was no memory for that, if it may
+abbrev pub CommandAnswers : (ℕ → Answer → Type 0) → (ℕ → Order → Bool → Obeyed → Type 0) → Order
+    → ℕ → Obeyed → Type 0
 CommandAnswers answer obey order number heard =
     ((status : ExitStatus) × answer number (Ok (Some status)) × (heard ≡ Ok tt))
-    ⊎ obey number order heard
+    ⊎ obey number order true heard
+    ⊎ (obey number order false heard × (heard ≡ Err (record { kind = OutOfMemory })))
 
 -- each of these numbers answers, and the result is the leftmost fault of their answers
-abbrev pub AllObey : (ℕ → Answer → Type 0) → (ℕ → Order → Obeyed → Type 0) → Order → List ℕ
-    → Result (Unit {0}) Error → Type 0
+abbrev pub AllObey : (ℕ → Answer → Type 0) → (ℕ → Order → Bool → Obeyed → Type 0) → Order
+    → List ℕ → Result (Unit {0}) Error → Type 0
 AllObey answer obey order numbers result =
     (answers : List Obeyed) × AllZip (CommandAnswers answer obey order) numbers answers
     × OrderAnswers (leftmost answers) result
 
--- the same, or `Other` where the lock holds what differs from these numbers, which no start brings about
-abbrev pub IsObeyed : (ℕ → Answer → Type 0) → (ℕ → Order → Obeyed → Type 0) → Order → List ℕ
-    → Result (Unit {0}) Error → Type 0
+-- the same, or `Other`, which stands for what differs in the lock from these numbers; no start brings that about
+abbrev pub IsObeyed : (ℕ → Answer → Type 0) → (ℕ → Order → Bool → Obeyed → Type 0) → Order
+    → List ℕ → Result (Unit {0}) Error → Type 0
 IsObeyed answer obey order numbers result =
     (result ≡ Err (error.System (record { kind = Other })))
     ⊎ ∥ AllObey answer obey order numbers result ∥₁

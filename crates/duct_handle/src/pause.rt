@@ -29,7 +29,7 @@ pub(crate) struct Pause {
 
 impl Pause {
     pub(crate) fn new() -> Pause
-        ensures { result.yields ≡ 0 }
+        ensures { (result.yields ≡ 0) × (result.waited ≡ 0) × (result.park ≡ 20) }
     {
         Pause {
             parker: Parker::new(),
@@ -42,10 +42,13 @@ impl Pause {
     /// How long the next pause parks, in microseconds, or none for one that yields.
     fn next(&mut self) -> Option<u64>
         ensures yields { IfNone result ((self.old.yields < 64)
-            × (self.new.yields ≡ self.old.yields + 1)) }
-        ensures parks { IfSome result (λ park. (park ≤ 10000)
+            × (self.new.yields ≡ self.old.yields + 1)
+            × (self.new.waited ≡ self.old.waited) × (self.new.park ≡ self.old.park)) }
+        ensures parks { IfSome result (λ park. (park ≤ self.old.park) × (park ≤ 10000)
             × ((park ≤ 1000) ⊎ (100 * park ≤ self.old.waited))
             × (self.new.yields ≡ self.old.yields)) }
+        ensures waits { IfSome result (λ park.
+            self.new.waited ≡ min (self.old.waited + park) (2 ^ 64 - 1)) }
         ensures grows { IfSome result (λ park. ((park ≡ self.old.park) ⊎ (1000 ≤ park))
             × (self.new.park ≡ min (self.old.park * 2) (2 ^ 64 - 1))) }
     {

@@ -10,7 +10,7 @@ use std::sync::Wait;
 
 /// Signals to the commands of a handle.
 pub trait HandleExt {
-    /// What the commands may answer to a signal.
+    /// What `send_signal` may answer for a signal.
     ghost obeyed: { Self → ℤ → Result (Unit {0}) Error → Type 0 };
 
     /// Sends each command that is not known as ended a signal, by its number, also behind one that refused it, and answers the

@@ -1,7 +1,7 @@
 -- The signals that a child of a host can be sent.
-use Rattle.std.specs.Prelude.{◌≡◌, ◌⊎◌, ℤ, pos, List, [], ◌∷◌, Contains, Err}
+use Rattle.std.specs.Prelude.{◌≡◌, ℤ, Bool, true, false, pos, List, [], ◌∷◌, Contains, Err}
 use Rattle.duct_system.specs.Child.{Obeyed}
-use Rattle.duct_system.specs.declared.system.Kind.TheVariants.{InvalidInput, OutOfMemory}
+use Rattle.duct_system.specs.declared.system.Kind.TheVariants.{InvalidInput}
 use Rattle.duct_system.specs.declared.system.Order.{Order}
 use Rattle.duct_system.specs.declared.system.Order.TheVariants.{Kill, Signal}
 
@@ -15,7 +15,7 @@ ObeysIfServed Kill answer = Unit {0}
 ObeysIfServed (Signal number) answer =
     (Contains signals number → ⊥) → answer ≡ Err (record { kind = InvalidInput })
 
--- the same, or `OutOfMemory`, which an order answers that there is no memory to note
-abbrev pub MayObey : Order → Obeyed → Type 0
-MayObey order answer =
-    (answer ≡ Err (record { kind = OutOfMemory })) ⊎ ObeysIfServed order answer
+-- the same of an order that was noted; one that wasn't asked nobody
+abbrev pub MayObey : Order → Bool → Obeyed → Type 0
+MayObey order true answer = ObeysIfServed order answer
+MayObey order false answer = Unit {0}

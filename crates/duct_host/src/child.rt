@@ -1,5 +1,5 @@
 //! A child process of the host.
-ghost use Rattle.std.specs.Prelude.{◌≡◌, ◌⊎◌, ◌↔◌, Contains, IsTrue, IfSome, IfNone, IfErr, true};
+ghost use Rattle.std.specs.Prelude.{◌≡◌, ◌↔◌, Contains, IsTrue, IfSome, IfNone, IfErr, true};
 ghost use Rattle.duct_system.specs.declared.system.Kind.TheVariants.{Other};
 ghost use Rattle.std.specs.Process.{exit_code, exit_signal};
 ghost use Rattle.duct_host.specs.Endings.{ending_said};
@@ -131,7 +131,7 @@ impl<R: Processes + Drop> Numbered for Child<R> {
     }
 }
 
-/// What the machine may answer is left open. A signal that isn't served is answered `InvalidInput`, unless there is no memory to note it.
+/// What the machine may answer is left open, but that a signal that isn't served is answered `InvalidInput`, where it is noted.
 impl<R: Processes + Drop> system::Child for Child<R> {
     ghost use Rattle.std.proofs.Common.{refl};
     ghost use Rattle.duct_host.specs.ChildView.{child_view};
@@ -139,7 +139,7 @@ impl<R: Processes + Drop> system::Child for Child<R> {
 
     ghost may_answer = { λ _ _. Unit {0} };
 
-    ghost may_obey = { λ _ order answer. MayObey order answer };
+    ghost may_obey = { λ _ order noted answer. MayObey order noted answer };
 
     ghost child_view = { child_view };
 
@@ -174,14 +174,12 @@ impl<R: Processes + Drop> system::Child for Child<R> {
 impl<R: Processes> Child<R> {
     ghost use Rattle.duct_system.specs.Child.{OrdersChild};
     ghost use Rattle.duct_host.specs.ChildView.{child_view};
-    ghost use Rattle.duct_host.specs.Signals.{MayObey, ObeysIfServed};
+    ghost use Rattle.duct_host.specs.Signals.{MayObey};
 
     /// Gives the child an order, and notes it with its answer. Where there is no memory for that, nobody is asked.
     fn order(&mut self, order: Order) -> Result<(), Fault>
-        ensures ordered { OrdersChild (λ _ order answer. MayObey order answer) order
+        ensures { OrdersChild (λ _ order noted answer. MayObey order noted answer) order
             (child_view self.old) result (child_view self.new) }
-        ensures served { ObeysIfServed order result
-            ⊎ (child_view self.new ≡ child_view self.old) }
     {
         if self.orders.reserve(1).is_err() {
             return Err(no_memory());

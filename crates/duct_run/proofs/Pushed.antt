@@ -17,11 +17,10 @@ use Rattle.duct_system.specs.declared.spec.Port.{Port}
 use Rattle.duct_system.specs.declared.system.Stdio.{Stdio}
 use Rattle.duct_system.specs.declared.system.Stdio.TheVariants.{Inherit, Null, End}
 use Rattle.duct_start.specs.Actions.{Action, Three, left_by, level, many}
-use Rattle.duct_start.specs.Commands.{handed, taken_by}
+use Rattle.duct_start.specs.Commands.{handed, holding, taken_by}
 use Rattle.duct_start.specs.Chain.{Allows}
 use Rattle.duct_start.specs.Holdings.{Holdings}
 use Rattle.duct_start.specs.Standing.{Goes}
-use Rattle.duct_start.specs.Commands.{holding}
 use Rattle.duct_start.proofs.Changing.{handed_long}
 use Rattle.duct_start.proofs.Wires.{handed_taken}
 use Rattle.duct_run.specs.HeldView.{stack_view}

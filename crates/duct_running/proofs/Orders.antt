@@ -1,5 +1,5 @@
 -- One order to a child that is held, and the orders to all of them in turn.
-use Rattle.std.specs.Prelude.{ℕ, zero, true, false, List, [], ◌∷◌, ◌++◌, map, length, get_or, set, slice_get, MatchOption, Ok, Err, None}
+use Rattle.std.specs.Prelude.{ℕ, zero, Bool, true, false, List, [], ◌∷◌, ◌++◌, map, length, get_or, set, slice_get, MatchOption, Ok, Err, None}
 use Rattle.std.specs.declared.option.Option.{Option}
 use Rattle.std.specs.Result.{result_and}
 use Rattle.std.proofs.Common.{◌≡◌, ◌<◌, ◌≤◌, refl, ap, sym, ◌∙◌, subst, arith, inl, inr}
@@ -13,18 +13,18 @@ use Rattle.duct_running.specs.Polled.{ChangedAt}
 use Rattle.duct_running.specs.Stored.{Bytes, stored_latest}
 use Rattle.duct_running.proofs.Polls.{said, words, left_at, changed_at, same_at, within, no_ending, left_alone}
 
-module _ (may : ℕ → Order → Obeyed → Type 0) (order : Order) where
+module _ (may : ℕ → Order → Bool → Obeyed → Type 0) (order : Order) where
   -- an order changes no word
   word_kept : (before after : ChildView) (answer : Obeyed)
       → OrdersChild may order before answer after → said after ≡ said before
-  word_kept before after answer (heard, inl given) = ap (λ (c : ChildView). said c) given
-  word_kept before after answer (heard, inr unasked) = ap (λ (c : ChildView). said c) unasked.0
+  word_kept before after answer (inl (heard, given)) = ap (λ (c : ChildView). said c) given
+  word_kept before after answer (inr (heard, unasked, none)) = ap (λ (c : ChildView). said c) unasked
 
   -- and no id
   pub id_kept : (before after : ChildView) (answer : Obeyed)
       → OrdersChild may order before answer after → after.process ≡ before.process
-  id_kept before after answer (heard, inl given) = ap (λ (c : ChildView). c.process) given
-  id_kept before after answer (heard, inr unasked) = ap (λ (c : ChildView). c.process) unasked.0
+  id_kept before after answer (inl (heard, given)) = ap (λ (c : ChildView). c.process) given
+  id_kept before after answer (inr (heard, unasked, none)) = ap (λ (c : ChildView). c.process) unasked
 
   ordered_once : (before after : ChildView) (answer : Obeyed)
       → OrdersChild may order before answer after → before.ending ≡ None

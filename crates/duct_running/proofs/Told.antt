@@ -1,5 +1,5 @@
 -- One more answer that was told leaves all told.
-use Rattle.std.specs.Prelude.{ℕ, zero, suc, List, [], ◌∷◌, All, IfSome, map, length, get_or, set, Ok, Err, Some, None}
+use Rattle.std.specs.Prelude.{ℕ, zero, suc, Bool, List, [], ◌∷◌, All, IfSome, map, length, get_or, set, Ok, Err, Some, None}
 use Rattle.std.specs.Option.{option_map, option_to_list}
 use Rattle.std.specs.declared.option.Option.{Option}
 use Rattle.std.proofs.Common.{◌≡◌, ◌<◌, ap, sym, subst, arith, inl, inr}
@@ -32,13 +32,13 @@ told_after may before after answer polls told =
     subst (λ (c : ChildView). IsTold may c) (sym polls.after_is) here
 
 -- and after an order
-told_ordered : (may : ℕ → Answer → Type 0) (obeys : ℕ → Order → Obeyed → Type 0) (order : Order)
+told_ordered : (may : ℕ → Answer → Type 0) (obeys : ℕ → Order → Bool → Obeyed → Type 0) (order : Order)
     (before after : ChildView) (answer : Obeyed) →
     OrdersChild obeys order before answer after → IsTold may before → IsTold may after
-told_ordered may obeys order before after answer (heard, inl given) told =
+told_ordered may obeys order before after answer (inl (heard, given)) told =
     let here : IsTold may (child_ordered order answer before) = record { answered = told.answered; ended = told.ended } in
     subst (λ (c : ChildView). IsTold may c) (sym given) here
-told_ordered may obeys order before after answer (heard, inr unasked) told = subst (λ (c : ChildView). IsTold may c) (sym unasked.0) told
+told_ordered may obeys order before after answer (inr (heard, unasked, none)) told = subst (λ (c : ChildView). IsTold may c) (sym unasked) told
 
 -- a worker is told after a poll
 kept_told : {T : Type 0} (may : ℕ → Said T → Type 0) (number : ℕ) (kept heard : Said T)
@@ -88,7 +88,7 @@ module _ (answer : ℕ → Answer → Type 0) (feed : ℕ → Said (Unit {0}) �
     polled_told heard polls = child_told (told_after answer (view before) (view after) heard polls)
 
     -- where a child was given an order
-    pub ordered_told : (obeys : ℕ → Order → Obeyed → Type 0) (order : Order) (heard : Obeyed)
+    pub ordered_told : (obeys : ℕ → Order → Bool → Obeyed → Type 0) (order : Order) (heard : Obeyed)
         → OrdersChild obeys order (view before) heard (view after) →
         ∥ AreTold answer feed drain (map view items) feeds output error ∥₁ → ∥ AreTold answer feed drain (map view (set items at after)) feeds output error ∥₁
     ordered_told obeys order heard orders = child_told (told_ordered answer obeys order (view before) (view after) heard orders)

@@ -1,5 +1,5 @@
 -- An order to the commands of a start that have not ended, and the leftmost fault of their answers.
-use Rattle.std.specs.Prelude.{ℕ, List, [], ◌∷◌, ◌≡◌, MatchOption, Ok, Err}
+use Rattle.std.specs.Prelude.{ℕ, Bool, List, [], ◌∷◌, ◌≡◌, MatchOption, Ok, Err}
 use Rattle.std.specs.declared.result.Result.{Result}
 use Rattle.duct_system.specs.Child.{ChildView, Obeyed, OrdersChild}
 use Rattle.duct_system.specs.declared.error.Error.{Error}
@@ -7,15 +7,15 @@ use Rattle.duct_system.specs.declared.error.Error.TheVariants as error
 use Rattle.duct_system.specs.declared.system.Order.{Order}
 
 -- a child was given an order, or had ended, answers Ok and is as before
-abbrev pub OrderedIfDue : (ℕ → Order → Obeyed → Type 0) → Order → ChildView → Obeyed → ChildView
-    → Type 0
+abbrev pub OrderedIfDue : (ℕ → Order → Bool → Obeyed → Type 0) → Order → ChildView → Obeyed
+    → ChildView → Type 0
 OrderedIfDue may order before answer after =
     MatchOption before.ending (OrdersChild may order before answer after)
     (λ status. (answer ≡ Ok tt) × (after ≡ before))
 
 -- the same of each of them, with as many answers
-abbrev pub AllOrdered : (ℕ → Order → Obeyed → Type 0) → Order → List ChildView → List Obeyed
-    → List ChildView → Type 0
+abbrev pub AllOrdered : (ℕ → Order → Bool → Obeyed → Type 0) → Order → List ChildView
+    → List Obeyed → List ChildView → Type 0
 AllOrdered may order [] [] [] = Unit {0}
 AllOrdered may order [] [] (after ∷ afters) = ⊥
 AllOrdered may order [] (answer ∷ answers) afters = ⊥
@@ -36,7 +36,7 @@ OrderAnswers (Ok done) result = result ≡ Ok tt
 OrderAnswers (Err fault) result = result ≡ Err (error.System fault)
 
 -- each of them was given the order if it had not ended, and the result is the leftmost fault of their answers
-abbrev pub IsOrdered : (ℕ → Order → Obeyed → Type 0) → Order → List ChildView
+abbrev pub IsOrdered : (ℕ → Order → Bool → Obeyed → Type 0) → Order → List ChildView
     → Result (Unit {0}) Error → List ChildView → Type 0
 IsOrdered may order befores result afters =
     (answers : List Obeyed) × AllOrdered may order befores answers afters

@@ -99,7 +99,7 @@ impl ScriptChild {
     /// Notes an order with the answer that a list has for it, where there is memory.
     fn order(&mut self, order: Order) -> Result<(), Fault>
         ensures { OrdersChild
-            (λ _ _ _. Unit {0}) order (child_view self.old) result (child_view self.new) }
+            (λ _ _ _ _. Unit {0}) order (child_view self.old) result (child_view self.new) }
     {
         if self.orders.reserve(1).is_err() {
             return Err(Fault::new(Kind::OutOfMemory));
@@ -145,7 +145,7 @@ impl Child for ScriptChild {
 
     ghost may_answer = { λ _ _. Unit {0} };
 
-    ghost may_obey = { λ _ _ _. Unit {0} };
+    ghost may_obey = { λ _ _ _ _. Unit {0} };
 
     ghost child_view = { child_view };
 

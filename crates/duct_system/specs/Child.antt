@@ -1,5 +1,5 @@
 -- What contracts see of a child, and how a poll and an order change it.
-use Rattle.std.specs.Prelude.{ℕ, ◌+◌, ◌-◌, ◌^◌, min, List, [], ◌∷◌, ◌++◌, ◌≡◌, ◌⊎◌, Ok, Err, Some, None, IfSome}
+use Rattle.std.specs.Prelude.{ℕ, Bool, true, false, ◌+◌, ◌-◌, ◌^◌, min, List, [], ◌∷◌, ◌++◌, ◌≡◌, ◌⊎◌, Ok, Err, Some, None, IfSome}
 use Rattle.std.specs.declared.option.Option.{Option}
 use Rattle.std.specs.declared.result.Result.{Result}
 use Rattle.duct_system.specs.declared.system.Fault.{Fault}
@@ -54,14 +54,14 @@ pub record PollsChild (may : ℕ → Answer → Type 0) (before : ChildView) (an
 abbrev pub child_ordered : Order → Obeyed → ChildView → ChildView
 child_ordered order answer child = record child { orders = child.orders ++ (order, answer) ∷ [] }
 
--- a child was given an order and answers what such a child may: the order was noted with its answer, or there was no memory
--- to note it and nobody was asked; nothing else has changed
-abbrev pub OrdersChild : (ℕ → Order → Obeyed → Type 0) → Order → ChildView → Obeyed → ChildView
-    → Type 0
+-- a child was given an order: it was noted, with an answer that such a child may give to an order that is noted, or there was
+-- no memory to note it, nobody was asked, and the answer is one that it may give to an order that isn't; nothing else has changed
+abbrev pub OrdersChild : (ℕ → Order → Bool → Obeyed → Type 0) → Order → ChildView → Obeyed
+    → ChildView → Type 0
 OrdersChild may order before answer after =
-    may before.number order answer
-    × ((after ≡ child_ordered order answer before)
-    ⊎ ((after ≡ before) × (answer ≡ Err (record { kind = OutOfMemory }))))
+    (may before.number order true answer × (after ≡ child_ordered order answer before))
+    ⊎ (may before.number order false answer × (after ≡ before)
+    × (answer ≡ Err (record { kind = OutOfMemory })))
 
 -- a child that nobody has polled or given an order
 pub record IsUnasked (child : ChildView) : Type 0 where

@@ -1,5 +1,5 @@
 //! The interface to the operating system: what may be asked of it, what it answers, and the journal it keeps.
-ghost use Rattle.std.specs.Prelude.{◌≡◌, ℕ, ◌<◌, ◌≤◌, min, length, map, Some, None, Ok, Err, IfOk, IfErr, string_bytes};
+ghost use Rattle.std.specs.Prelude.{◌≡◌, ℕ, Bool, ◌<◌, ◌≤◌, min, length, map, Some, None, Ok, Err, IfOk, IfErr, string_bytes};
 ghost use Rattle.std.specs.declared.option.Option.{Option};
 ghost use Rattle.std.specs.declared.result.Result.{Result};
 ghost use Rattle.std.specs.declared.time.Duration.{Duration};
@@ -157,8 +157,8 @@ pub trait Child: Numbered {
     /// What a child of this number may answer to a poll.
     ghost may_answer: { ℕ → Answer → Type 0 };
 
-    /// What a child of this number may answer to an order.
-    ghost may_obey: { ℕ → Order → Obeyed → Type 0 };
+    /// What a child of this number may answer to an order that was noted, and to one that wasn't.
+    ghost may_obey: { ℕ → Order → Bool → Obeyed → Type 0 };
 
     /// Its number and `id`, and what it keeps of the polls and the orders so far.
     ghost child_view: { Self → ChildView };
