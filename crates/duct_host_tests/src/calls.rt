@@ -26,11 +26,11 @@ fn push_readable(text: &mut String, entry: &[u8]) -> Result<(), AllocError> {
     }
 }
 
-/// Variables as the entries of an environment, each ended by a NUL.
-fn entries_of(alloc: Global, pairs: &[(String, String)]) -> Result<String, AllocError> {
+/// Variables as the entries of an environment, each with this sign between its name and its value, and ended by a NUL.
+fn entries_of(alloc: Global, pairs: &[(String, String)], sign: &str) -> Result<String, AllocError> {
     let mut text = String::new(alloc);
     for pair in pairs {
-        write!(text, "{}={}\0", pair.0, pair.1)?;
+        write!(text, "{}{sign}{}\0", pair.0, pair.1)?;
     }
     Ok(text)
 }
@@ -62,16 +62,17 @@ fn told_in_turn<R: Real>(rt: &R) -> Result<String, Fail> {
 fn answers<R: Real>(
     host: &Host<R>,
     pairs: &[(String, String)],
+    sign: &str,
     expected: &str,
 ) -> Result<(), Fail> {
-    let text = entries_of(host.allocator(), pairs)?;
+    let text = entries_of(host.allocator(), pairs, sign)?;
     same((text.as_str(), noted(host)), (expected, Some(pairs)))
 }
 
-/// Fails unless a host answers these entries as its environment.
-fn has_environment<R: Real>(host: &mut Host<R>, expected: &str) -> Result<(), Fail> {
+/// Fails unless a host answers these entries as its environment, with this sign between a name and its value.
+fn has_environment<R: Real>(host: &mut Host<R>, sign: &str, expected: &str) -> Result<(), Fail> {
     let pairs = host.environment()?;
-    answers(host, pairs.as_slice(), expected)
+    answers(host, pairs.as_slice(), sign, expected)
 }
 
 /// The variables of a journal whose only entry has some.
@@ -87,31 +88,41 @@ fn the_environment_is_the_parents(rt: HostRuntime) -> Result<(), Fail> {
     let expected = started_with(&rt)?;
     same(told_in_turn(&rt)?.as_str(), expected.as_str())?;
     let mut host = Host::new(rt.clone()?, rt.alloc());
-    has_environment(&mut host, expected.as_str())
+    has_environment(&mut host, "=", expected.as_str())
 }
 
-/// Fails unless a host has this environment where the runtime shows some entries at once and has others.
+/// Fails unless a host has this environment, where `:` stands between a name and its value, and where the runtime shows some entries
+/// at once and has others.
 fn reads<R: Real>(rt: &R, shown: &str, entries: &str, expected: &str) -> Result<(), Fail> {
     let given = AtomicUsize::new(0);
     let odd = Odd::new(rt.clone()?, "", &given).with_entries(shown, entries);
-    has_environment(&mut Host::new(odd, rt.alloc()), expected)
+    has_environment(&mut Host::new(odd, rt.alloc()), ":", expected)
 }
 
 /// As many entries as the runtime has are read at once.
 #[test]
 fn entries_at_once(rt: HostRuntime) -> Result<(), Fail> {
     reads(&rt, "", "", "")?;
-    reads(&rt, "A=1\0", "A=2\0", "A=1\0")?;
-    reads(&rt, "A=1\0B=2\0", "A=3\0B=4\0", "A=1\0B=2\0")
+    reads(&rt, "A=1\0", "A=2\0", "A:1\0")?;
+    reads(&rt, "A=1\0B=2\0", "A=3\0B=4\0", "A:1\0B:2\0")
 }
 
 /// Where entries were taken away that are shown still, or came later, they are read in turn.
 #[test]
 fn entries_in_turn(rt: HostRuntime) -> Result<(), Fail> {
     reads(&rt, "GONE=1\0", "", "")?;
-    reads(&rt, "A=1\0GONE=1\0", "A=1\0", "A=1\0")?;
-    reads(&rt, "", "A=1\0", "A=1\0")?;
-    reads(&rt, "A=1\0", "A=1\0B=2\0", "A=1\0B=2\0")
+    reads(&rt, "A=1\0GONE=1\0", "A=1\0", "A:1\0")?;
+    reads(&rt, "", "A=1\0", "A:1\0")?;
+    reads(&rt, "A=1\0", "A=1\0B=2\0", "A:1\0B:2\0")
+}
+
+/// The first `=` behind an entry's first byte parts the name from the value; an entry without one is left out.
+#[test]
+fn entries_are_parted(rt: HostRuntime) -> Result<(), Fail> {
+    let entries = "A=x=y\0=B=1\0==2\0C=\0D==\0E\0=F\0=\0";
+    let parted = "A:x=y\0=B:1\0=:2\0C:\0D:=\0";
+    reads(&rt, entries, entries, parted)?;
+    reads(&rt, "", entries, parted)
 }
 
 /// A pipe carries what a child writes, and a duplicate writes to the same pipe; a file is emptied, written and read; a canonical

@@ -4,11 +4,13 @@ use crate::bench::Bench;
 use crate::children::start;
 use duct_base::system::{Child, Entry, System};
 use duct_plain::checker::{got, held, is_balanced, spent, trace};
+use duct_script::calls::CallLog;
 use duct_script::child::ScriptChild;
 use duct_script::system::Script;
 use duct_words::came::{Came, is_memory};
 use duct_words::stop::Stop;
 use std::alloc::{AllocError, Global};
+use std::sync::Arc;
 
 /// Each request, one after another, all of them Ok where there is memory.
 const ALL: &str =
@@ -56,23 +58,29 @@ fn memory_of_requests_is_refused_by_its_name(rt: HostRuntime) {
     assert_ne!(rt; requests(rt.alloc()), Came::Wrong);
 }
 
-/// How many orders a child keeps once it was killed, and whether it obeyed.
-fn killed(mut child: ScriptChild) -> (usize, bool) {
+/// How many orders a child keeps once it was killed, how many calls its log has, and whether it obeyed.
+fn killed(mut child: ScriptChild, log: &CallLog) -> (usize, u64, bool) {
     let obeyed = child.kill().is_ok();
-    (child.orders().len(), obeyed)
+    (child.orders().len(), log.noted(), obeyed)
 }
 
-/// Starts a child and kills it.
-fn started_and_killed(alloc: Global) -> Result<(usize, bool), Stop> {
-    let child = start(alloc, &mut Script::new(alloc)?)?;
-    Ok(killed(child))
+/// Starts a child, which is the first call of this log, and kills it.
+fn started_and_killed(alloc: Global, log: &Arc<CallLog>) -> Result<(usize, u64, bool), Stop> {
+    let mut sys = Script::new(alloc)?;
+    sys.note_in(Arc::try_clone(log)?);
+    let child = start(alloc, &mut sys)?;
+    Ok(killed(child, log))
 }
 
-/// Gives an order.
+fn logged_kill(alloc: Global) -> Result<(usize, u64, bool), Stop> {
+    started_and_killed(alloc, &Arc::new(alloc, CallLog::new(alloc, 2)?)?)
+}
+
+/// Gives an order. Where there is no memory to note it, nobody is asked.
 fn order(alloc: Global) -> Came {
-    match started_and_killed(alloc) {
-        Ok((1, true)) => Came::Whole,
-        Ok((0, false)) => Came::Refused,
+    match logged_kill(alloc) {
+        Ok((1, 2, true)) => Came::Whole,
+        Ok((0, 1, false)) => Came::Refused,
         Ok(_) => Came::Wrong,
         Err(stop) => stopped(&stop),
     }

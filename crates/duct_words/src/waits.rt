@@ -5,15 +5,20 @@ use std::test::Fail;
 use std::thread;
 use std::time::Duration;
 
-/// Looks again and again whether it is so, ten million times at most, and answers whether it was.
+/// How often a turn of a wait yields.
+const YIELDS: u32 = 10;
+
+/// Looks again and again whether it is so, for a million turns at most, and answers whether it was.
 pub fn until<F: Fn() -> bool>(is_so: F) -> bool
     requires { F.IsAlwaysCallable is_so }
 {
-    for _ in 0..10_000_000 {
+    for _ in 0..1_000_000 {
         if is_so() {
             return true;
         }
-        thread::yield_now();
+        for _ in 0..YIELDS {
+            thread::yield_now();
+        }
     }
     false
 }
