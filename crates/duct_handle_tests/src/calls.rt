@@ -111,7 +111,13 @@ pub fn duration(text: &str) -> Result<Duration, Fail> {
     Ok(Duration::from_secs(seconds.parse()?))
 }
 
-fn wait(rt: &impl Wait, handle: &Handle<Script>, clock: &ScriptClock, waiting: Waiting) -> Waited {
+/// A wait with a token of its own.
+pub fn wait(
+    rt: &impl Wait,
+    handle: &Handle<Script>,
+    clock: &ScriptClock,
+    waiting: Waiting,
+) -> Waited {
     match waiting {
         Waiting::Try => handle.try_wait(rt),
         Waiting::End => some(handle.wait(rt)),

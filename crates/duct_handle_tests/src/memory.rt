@@ -2,10 +2,12 @@
 //! or that a call was refused for want of memory and nothing was lost.
 ghost use Rattle.std.specs.Prelude.{◌≡◌};
 
-use crate::calls::{Waiting, wait_as};
-use duct::{Error, ExitStatus, Handle, Output, Pool, Said, Seen, cmd};
+use crate::calls::{Waiting, wait, wait_as};
+use duct::unix::HandleExt;
+use duct::{Error, ExitStatus, Fault, Handle, Kind, Order, Output, Pool, Said, Seen, cmd};
 use duct_rows::expressions::Tree;
 use duct_rows::told::counts;
+use duct_script::calls::CallLog;
 use duct_script::child::{PollAnswer, ScriptChild};
 use duct_script::clock::ScriptClock;
 use duct_script::job::DrainScript;
@@ -15,10 +17,10 @@ use std::alloc::Global;
 use std::sync::{Arc, Wait};
 use std::time::Duration;
 
-// A system in which a command ends, and its capture worker has `xy`.
+// A system in which a command runs and ends, and its capture worker has `xy`.
 fn system(alloc: Global) -> Result<Script, Error> {
     let mut sys = Script::new(alloc)?;
-    sys.polls(&[PollAnswer::Ended(ExitStatus::Code(0))])?;
+    sys.polls(&[PollAnswer::Running, PollAnswer::Ended(ExitStatus::Code(0))])?;
     let bytes = Arc::new(alloc, Vec::from_slice(alloc, b"xy")?)?;
     let mut drain = DrainScript::new(alloc);
     drain.push_back(Said::Done(bytes))?;
@@ -68,11 +70,19 @@ fn told_again(rt: &impl Wait, alloc: Global, handle: &Handle<Script>) -> Came {
     }
 }
 
-// A refused poll keeps what it heard, and the next one answers.
-fn tried_again(rt: &impl Wait, handle: &Handle<Script>) -> Came {
-    match handle.try_wait(rt) {
-        Ok(Some(output)) => Came::whole_if(is_xy(&output)),
-        Err(Error::Memory) => Came::refused_if(gives_xy(handle.try_wait(rt))),
+// Each wait is with a token of its own. While the command runs a wait needs no memory. One that is refused at the
+// end keeps what it heard, and the next one answers.
+fn waited_again(rt: &impl Wait, alloc: Global, handle: &Handle<Script>, waiting: Waiting) -> Came {
+    let clock = ScriptClock::new(Vec::new(alloc));
+    let runs = matches!(
+        wait(rt, handle, &clock, Waiting::Deadline(Duration::ZERO)),
+        Ok(None)
+    );
+    match wait(rt, handle, &clock, waiting) {
+        Ok(Some(output)) => Came::whole_if(runs && is_xy(&output)),
+        Err(Error::Memory) => {
+            Came::refused_if(runs && gives_xy(wait(rt, handle, &clock, waiting)))
+        }
         Ok(None) | Err(_) => Came::Wrong,
     }
 }
@@ -94,12 +104,79 @@ fn tokens_in(rt: &impl Wait, alloc: Global) -> Result<Came, Error> {
     Ok(left(handle, pool, came))
 }
 
-fn try_in(rt: &impl Wait, alloc: Global) -> Result<Came, Error> {
+fn wait_in(rt: &impl Wait, alloc: Global, waiting: Waiting) -> Result<Came, Error> {
     let mut sys = system(alloc)?;
     let mut pool = Pool::new(alloc);
     let handle = started(alloc, &mut sys, &mut pool)?;
-    let came = tried_again(rt, &handle);
+    let came = waited_again(rt, alloc, &handle, waiting);
     Ok(left(handle, pool, came))
+}
+
+// What came of a poll, and of the waits that end by a clock.
+fn waits(rt: &impl Wait, alloc: Global) -> Came {
+    let second = Duration::from_secs(1);
+    Came::of(wait_in(rt, alloc, Waiting::Try))
+        .then(Came::of(wait_in(rt, alloc, Waiting::Timeout(second))))
+        .then(Came::of(wait_in(rt, alloc, Waiting::Deadline(second))))
+}
+
+// One order to two commands that run. One that finds no memory to note it is not asked, and the other is ordered
+// all the same.
+fn ordered(rt: &impl Wait, handle: &Handle<Script>, log: &CallLog, order: Order) -> Came {
+    let before = log.noted();
+    let answer = match order {
+        Order::Kill => handle.kill(rt),
+        Order::Signal(signal) => handle.send_signal(rt, signal),
+    };
+    let orders = log.noted().saturating_sub(before);
+    match answer {
+        Ok(()) => Came::whole_if(orders == 2),
+        Err(Error::System(fault)) => {
+            Came::refused_if(fault.kind == Kind::OutOfMemory && orders == 1)
+        }
+        Err(_) => Came::Wrong,
+    }
+}
+
+// So many orders that the note of a kill needs memory, and that of a signal too. The ids need none.
+fn all_ordered(rt: &impl Wait, handle: &Handle<Script>, log: &CallLog) -> Came {
+    let mut came = Came::Whole;
+    for order in [
+        Order::Kill,
+        Order::Signal(15),
+        Order::Signal(15),
+        Order::Signal(15),
+        Order::Signal(15),
+    ] {
+        came = came.then(ordered(rt, handle, log, order));
+    }
+    came.then(Came::whole_if(matches!(handle.pids(), [one, other] if *one < *other)))
+}
+
+// A handle of two commands that run.
+fn started_pipe(
+    alloc: Global,
+    sys: &mut Script,
+    pool: &mut Pool<ScriptChild>,
+) -> Result<Handle<Script>, Error> {
+    let a: Tree = cmd!(in alloc; "a")?;
+    let tree = a.pipe(&a)?;
+    tree.start(sys, pool)
+}
+
+// Orders that this log counts.
+fn counted_in(rt: &impl Wait, alloc: Global, log: &Arc<CallLog>) -> Result<Came, Error> {
+    let mut sys = Script::new(alloc)?;
+    sys.note_in(Arc::try_clone(log)?);
+    let mut pool = Pool::new(alloc);
+    let handle = started_pipe(alloc, &mut sys, &mut pool)?;
+    let came = all_ordered(rt, &handle, log);
+    handle.give_up(&mut pool);
+    Ok(came.then(Came::whole_if(counts(&pool) == (2, 2, 0, 0))))
+}
+
+fn orders_in(rt: &impl Wait, alloc: Global) -> Result<Came, Error> {
+    counted_in(rt, alloc, &Arc::new(alloc, CallLog::new(alloc, 0)?)?)
 }
 
 // The output where another still shares it: copied, or refused, and then the child is given up.
@@ -132,9 +209,19 @@ fn own_output_in(rt: &impl Wait, alloc: Global) -> Result<Came, Error> {
     })
 }
 
-// Two handles of one child each that runs, given up to another pool than that of their starts.
-fn pools_in(alloc: Global) -> Result<Came, Error> {
+// A system in which two commands run, and then one ends and the other answers a fault.
+fn two_run(alloc: Global) -> Result<Script, Error> {
     let mut sys = Script::new(alloc)?;
+    sys.polls(&[PollAnswer::Running, PollAnswer::Ended(ExitStatus::Code(0))])?;
+    let fault = Fault::new(Kind::Other);
+    sys.polls(&[PollAnswer::Running, PollAnswer::Fault(fault)])?;
+    Ok(sys)
+}
+
+// Two handles of one child each that runs, given up to another pool than that of their starts, which is swept
+// then. Neither takes memory.
+fn pools_in(alloc: Global) -> Result<Came, Error> {
+    let mut sys = two_run(alloc)?;
     let mut pool = Pool::new(alloc);
     let one = started(alloc, &mut sys, &mut pool)?;
     let other = match started(alloc, &mut sys, &mut pool) {
@@ -147,7 +234,9 @@ fn pools_in(alloc: Global) -> Result<Came, Error> {
     let mut new = Pool::new(alloc);
     one.give_up(&mut new);
     other.give_up(&mut new);
-    Ok(Came::whole_if(counts(&new) == (2, 2, 0, 0) && counts(&pool) == (0, 0, 0, 0)))
+    let kept = counts(&new) == (2, 2, 0, 0) && counts(&pool) == (0, 0, 0, 0);
+    new.sweep();
+    Ok(Came::whole_if(kept && counts(&new) == (0, 2, 1, 1)))
 }
 
 /// Waits through a token that knows the answer.
@@ -156,10 +245,16 @@ fn memory_of_tokens(rt: HostRuntime) {
     assert_ne!(rt; Came::of(tokens_in(&rt, rt.alloc())), Came::Wrong);
 }
 
-/// A poll.
+/// A poll, and waits until a moment or for a while, with tokens that don't know the answer.
 #[test]
-fn memory_of_a_try(rt: HostRuntime) {
-    assert_ne!(rt; Came::of(try_in(&rt, rt.alloc())), Came::Wrong);
+fn memory_of_waits(rt: HostRuntime) {
+    assert_ne!(rt; waits(&rt, rt.alloc()), Came::Wrong);
+}
+
+/// Kills, signals and ids.
+#[test]
+fn memory_of_orders(rt: HostRuntime) {
+    assert_ne!(rt; Came::of(orders_in(&rt, rt.alloc())), Came::Wrong);
 }
 
 /// The output itself.
@@ -174,7 +269,7 @@ fn memory_of_an_own_output(rt: HostRuntime) {
     assert_ne!(rt; Came::of(own_output_in(&rt, rt.alloc())), Came::Wrong);
 }
 
-/// Handles that are given up.
+/// Handles that are given up, and a sweep of their pool.
 #[test]
 fn memory_of_pools(rt: HostRuntime) {
     assert_ne!(rt; Came::of(pools_in(rt.alloc())), Came::Wrong);
@@ -184,17 +279,12 @@ fn memory_of_pools(rt: HostRuntime) {
 #[test]
 fn all_memory_is_there(rt: HostRuntime) {
     let alloc = rt.alloc();
-    let waits = (
-        Came::of(tokens_in(&rt, alloc)),
-        Came::of(try_in(&rt, alloc)),
-    );
+    let waits = (Came::of(tokens_in(&rt, alloc)), waits(&rt, alloc));
     let outputs = (
         Came::of(output_in(&rt, alloc)),
         Came::of(own_output_in(&rt, alloc)),
     );
+    let others = (Came::of(orders_in(&rt, alloc)), Came::of(pools_in(alloc)));
     let all = (Came::Whole, Came::Whole);
-    assert_eq!(rt;
-        (waits, outputs, Came::of(pools_in(alloc))),
-        (all, all, Came::Whole)
-    );
+    assert_eq!(rt; (waits, outputs, others), (all, all, all));
 }

@@ -1,8 +1,10 @@
 //! Want of memory: whatever single request of the process is refused, each test of `memory_` either finds what comes of ample memory,
-//! or that the call was refused for want of memory and gave its child to the pool.
-use duct::{Error, ExitStatus, Pool, Said, System, cmd};
+//! or that a call was refused for want of memory and nothing was lost: a start gave its child to the pool, and the next call of a
+//! handle answers.
+use crate::bench::read_once;
+use duct::{Error, ExitStatus, Kind, Output, Pool, ReaderHandle, Said, System, cmd};
 use duct_rows::expressions::Tree;
-use duct_rows::told::children_started;
+use duct_rows::told::{children_started, counts};
 use duct_script::child::{PollAnswer, ScriptChild};
 use duct_script::job::DrainScript;
 use duct_script::reader::ReaderScript;
@@ -86,6 +88,79 @@ fn kind_of(read: io::Result<usize>) -> Option<ErrorKind> {
     }
 }
 
+// Whether an output came, with what stderr's capture worker has.
+fn gives_output(answer: Result<Option<Arc<Output>>, Error>) -> bool {
+    match answer {
+        Ok(Some(output)) => {
+            output.stdout.is_empty() && output.stderr.as_slice() == b"xy".as_slice()
+        }
+        Ok(None) | Err(_) => false,
+    }
+}
+
+// A refused poll keeps what it heard, and the next one answers.
+fn tried<R: Wait>(handle: &ReaderHandle<Script, R>) -> Came {
+    match handle.try_wait() {
+        Err(Error::Memory) => Came::refused_if(gives_output(handle.try_wait())),
+        answer => Came::whole_if(gives_output(answer)),
+    }
+}
+
+// A kill that finds no memory to note it is refused, and the next one is obeyed.
+fn killed<R: Wait>(handle: &ReaderHandle<Script, R>) -> Came {
+    match handle.kill() {
+        Ok(()) => Came::Whole,
+        Err(Error::System(fault)) => {
+            Came::refused_if(fault.kind == Kind::OutOfMemory && handle.kill().is_ok())
+        }
+        Err(_) => Came::Wrong,
+    }
+}
+
+// Whether a read of two bytes at most gives these.
+fn gives<R: Wait>(handle: &ReaderHandle<Script, R>, wanted: &[u8]) -> bool {
+    let mut buffer = [0; 2];
+    match read_once(handle, &mut buffer) {
+        Ok(count) => count == wanted.len() && buffer.as_slice().starts_with(wanted),
+        Err(_) => false,
+    }
+}
+
+// Reads to the end, and there once more. The first read at the end may be refused.
+fn read_through<R: Wait>(handle: &ReaderHandle<Script, R>) -> Came {
+    let bytes = gives(handle, b"xy") && gives(handle, b"\n");
+    match read_once(handle, &mut [0; 2]) {
+        Ok(0) => Came::whole_if(bytes && gives(handle, b"")),
+        Err(Error::Memory) => Came::refused_if(bytes && gives(handle, b"")),
+        Ok(_) | Err(_) => Came::Wrong,
+    }
+}
+
+// Each call of a handle whose command runs at first. A read hears of its end, or a poll. The id, and the poll
+// while it runs, need no memory.
+fn asked<R: Wait>(handle: &ReaderHandle<Script, R>, reads: bool) -> Came {
+    let runs = matches!(handle.try_wait(), Ok(None)) && handle.pids().len() == 1;
+    let killed = Came::whole_if(runs).then(killed(handle));
+    if reads {
+        return killed.then(read_through(handle)).then(tried(handle));
+    }
+    killed.then(tried(handle)).then(read_through(handle))
+}
+
+fn handle_in(rt: &impl Wait, alloc: Global, reads: bool) -> Result<Came, Error> {
+    let mut sys = system(alloc)?;
+    let mut pool = Pool::new(alloc);
+    let tree: Tree = cmd!(in alloc; "a")?.stderr_capture()?;
+    Ok(match tree.reader(rt, &mut sys, &mut pool) {
+        Ok(handle) => {
+            let came = asked(&handle, reads);
+            handle.give_up(&mut pool);
+            came.then(Came::whole_if(counts(&pool) == (0, 1, 1, 0)))
+        }
+        Err(error) => came_of_refusal(&error, &sys, &pool),
+    })
+}
+
 /// A run.
 #[test]
 fn memory_of_a_run(rt: HostRuntime) {
@@ -104,6 +179,18 @@ fn memory_of_a_read_of_std(rt: HostRuntime) {
     assert_ne!(rt; Came::of(read_once_in(&rt, rt.alloc())), Came::Wrong);
 }
 
+/// The calls of a reader handle, where a read hears of the end.
+#[test]
+fn memory_of_reads(rt: HostRuntime) {
+    assert_ne!(rt; Came::of(handle_in(&rt, rt.alloc(), true)), Came::Wrong);
+}
+
+/// The same where a poll hears of it.
+#[test]
+fn memory_of_a_poll(rt: HostRuntime) {
+    assert_ne!(rt; Came::of(handle_in(&rt, rt.alloc(), false)), Came::Wrong);
+}
+
 /// With ample memory all answer.
 #[test]
 fn all_memory_is_there(rt: HostRuntime) {
@@ -111,6 +198,8 @@ fn all_memory_is_there(rt: HostRuntime) {
         Came::of(run_in(&rt, rt.alloc())),
         Came::of(read_in(&rt, rt.alloc())),
         Came::of(read_once_in(&rt, rt.alloc())),
+        Came::of(handle_in(&rt, rt.alloc(), true)),
+        Came::of(handle_in(&rt, rt.alloc(), false)),
     ];
-    assert_eq!(rt; all, [Came::Whole; 3]);
+    assert_eq!(rt; all, [Came::Whole; 5]);
 }
