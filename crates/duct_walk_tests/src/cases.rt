@@ -1,4 +1,5 @@
-//! Random trees, as texts of the tables of rows, and random scenes for them.
+//! Random trees, as texts of the tables of rows, random scenes for them, and random requests that are refused.
+use duct::Entry;
 use duct_rows::dice::Dice;
 use duct_rows::expressions::{Tree, written};
 use duct_rows::scenes::{Bench, Scene};
@@ -76,7 +77,7 @@ const KEPT: &[&str] = &[
 ];
 
 /// One of these texts.
-fn one_of(dice: &mut Dice, texts: &[&'static str]) -> &'static str {
+pub(crate) fn one_of(dice: &mut Dice, texts: &[&'static str]) -> &'static str {
     let place = dice.roll(texts.len() as u64) as usize;
     texts.get(place).copied().unwrap_or("")
 }
@@ -108,6 +109,33 @@ pub(crate) fn case_with(
 /// The tree of a case, whose hooks note their calls where this bench does.
 pub(crate) fn noted_tree(alloc: Global, case: &Case, bench: &Bench) -> Result<Tree, Fail> {
     written(alloc, Some(&bench.calls), case.expression.as_str())
+}
+
+/// The entry of the request of this number, which counts all from 1, if that request can be refused.
+pub(crate) fn refusable(entries: &[Entry], number: u64) -> Option<&Entry> {
+    let place = number.checked_sub(1)?;
+    let entry = entries.get(place as usize)?;
+    if matches!(entry, Entry::Close(_) | Entry::Reader(_)) {
+        return None;
+    }
+    Some(entry)
+}
+
+/// The factor by which the seed of a drawn request stands apart from that of its case.
+const APART: u64 = 7919;
+
+/// The number of a request of a journal that can be refused: the first one from a drawn one on, or else the first of all, which
+/// asks for the environment.
+pub(crate) fn drawn(entries: &[Entry], seed: u64) -> u64 {
+    let requests = entries.len() as u64;
+    let first = Dice::new(seed.wrapping_mul(APART)).roll(requests);
+    for before in first..requests {
+        let number = before.saturating_add(1);
+        if refusable(entries, number).is_some() {
+            return number;
+        }
+    }
+    1
 }
 
 fn way(dice: &mut Dice) -> Way {

@@ -1,9 +1,9 @@
 //! Starts by the library go as every start has to, which the tables of rows check: on chosen trees with a fault at each request
 //! in turn, and on random trees, with one at a random request.
 use crate::agree::{LAUNCHED, READ};
-use crate::cases::{Case, case_of, case_with, noted_tree};
-use duct::{Error, Fault, Kind};
-use duct_rows::dice::Dice;
+use crate::cases::{Case, case_of, case_with, drawn, noted_tree, refusable};
+use duct::{Error, Fault, Kind, System};
+use duct_follows::stops::fault_of;
 use duct_rows::scenes::{Scene, bench_of};
 use duct_rows::starts::{Start, Way, started_tree};
 use std::alloc::Global;
@@ -20,8 +20,20 @@ fn wants_memory(start: &Start) -> bool {
     }
 }
 
-/// Starts a case where the request of this number is refused, which counts all. Answers how many requests there were.
-fn follows(alloc: Global, case: &Case, refused: u64) -> Result<u64, Fail> {
+/// Whether there was a request of this number, or it is 0, and the start answered its fault, if it can be refused.
+fn is_refused(start: &Start, refused: u64) -> bool {
+    let entries = start.bench.sys.journal();
+    match (refusable(entries, refused), &start.answer) {
+        (Some(entry), Err(Error::System(fault))) => {
+            fault_of(entry) == Some(*fault) && fault.kind == Kind::NotFound
+        }
+        (Some(_), _) => false,
+        (None, _) => refused <= entries.len() as u64,
+    }
+}
+
+/// Starts a case where the request of this number is refused, which counts all from 1. With 0 none is.
+pub(crate) fn follows(alloc: Global, case: &Case, refused: u64) -> Result<Start, Fail> {
     let mut bench = bench_of(alloc, case.scene)?;
     bench.sys.refuse(refused, Fault::new(Kind::NotFound))?;
     let tree = noted_tree(alloc, case, &bench)?;
@@ -29,7 +41,10 @@ fn follows(alloc: Global, case: &Case, refused: u64) -> Result<u64, Fail> {
     if wants_memory(&start) {
         return Err(Fail::from("there was no memory"));
     }
-    Ok(start.bench.sys.requests())
+    if !is_refused(&start, refused) {
+        return Err(Fail::from("the fault of the request is not the answer"));
+    }
+    Ok(start)
 }
 
 /// What children answer to the poll of a refused start: that they run, that they have ended, and faults.
@@ -46,8 +61,11 @@ fn follows_each(
         .with("children", children)
         .ok_or("no children")?;
     let case = case_with(alloc, expression, way, scene)?;
-    for refused in 0..follows(alloc, &case, 0)? {
-        let _ = follows(alloc, &case, refused.saturating_add(1))?;
+    let start = follows(alloc, &case, 0)?;
+    let requests = start.bench.sys.requests();
+    drop(start);
+    for refused in 0..requests {
+        drop(follows(alloc, &case, refused.saturating_add(1))?);
     }
     Ok(())
 }
@@ -64,15 +82,17 @@ fn follow_each(alloc: Global, expressions: &[&str], way: Way) -> Result<(), Fail
 #[test]
 fn each_request_is_refused_in_turn(rt: HostRuntime) -> Result<(), Fail> {
     follow_each(rt.alloc(), LAUNCHED, Way::Launched)?;
+    follow_each(rt.alloc(), LAUNCHED, Way::Read)?;
     follow_each(rt.alloc(), READ, Way::Read)
 }
 
-/// Starts the random case of a seed, without fault and with one at a random request.
+/// Starts the random case of a seed, without fault and with one at a random request that can be refused.
 fn follows_random(alloc: Global, seed: u64) -> Result<(), Fail> {
     let case = case_of(alloc, seed)?;
-    let requests = follows(alloc, &case, 0)?;
-    let refused = Dice::new(seed).roll(requests).saturating_add(1);
-    let _ = follows(alloc, &case, refused)?;
+    let start = follows(alloc, &case, 0)?;
+    let refused = drawn(start.bench.sys.journal(), seed);
+    drop(start);
+    drop(follows(alloc, &case, refused)?);
     Ok(())
 }
 
