@@ -65,15 +65,18 @@ impl Heard {
 
 /// What a child answers to the poll of this number, from 0: the last of its answers is repeated, and an ending stands.
 fn answer(child: &str, poll: usize) -> &str {
-    let mut answer = "running";
     let mut place = 0_usize;
     for next in child.split(',') {
-        if place <= poll && !answer.starts_with("code") {
-            answer = next.trim();
+        let answer = next.trim();
+        if place == poll || answer.starts_with("code") {
+            return answer;
         }
         place = place.saturating_add(1);
     }
-    answer
+    match child.rsplit_once(',') {
+        Some((_, last)) => last.trim(),
+        None => child.trim(),
+    }
 }
 
 /// What so many children answer to the poll of this number.
@@ -242,11 +245,11 @@ fn random_children(alloc: Global, seed: u64, count: u64) -> Result<String, Alloc
 }
 
 /// Runs or reads a random case, without fault and with one at a random request.
-fn waits_twice(
+fn waits_twice<'c>(
     rt: &impl Wait,
     alloc: Global,
-    case: &Case,
-    start: &Start,
+    case: &'c Case,
+    start: &'c Start,
     seed: u64,
 ) -> Result<(), Fail> {
     let entries = start.bench.sys.journal();
