@@ -244,16 +244,20 @@ fn random_children(alloc: Global, seed: u64, count: u64) -> Result<String, Alloc
     Ok(text)
 }
 
-/// Runs or reads a random case, without fault and with one at a random request.
-fn waits_twice<'c>(
-    rt: &impl Wait,
-    alloc: Global,
-    case: &'c Case,
-    start: &'c Start,
-    seed: u64,
-) -> Result<(), Fail> {
-    let entries = start.bench.sys.journal();
-    let children = random_children(alloc, seed, children_started(entries))?;
+/// Runs or reads it without fault, and with one at a random request.
+fn waits_twice(rt: &impl Wait, alloc: Global, waited: Waited, seed: u64) -> Result<(), Fail> {
+    waits(rt, alloc, waited, 0)?;
+    let refused = drawn(waited.start.bench.sys.journal(), seed);
+    waits(rt, alloc, waited, refused)
+}
+
+/// The same of a random case.
+fn waits_random(rt: &impl Wait, alloc: Global, seed: u64, way: Way) -> Result<(), Fail> {
+    let mut case = case_of(alloc, seed)?;
+    case.way = way;
+    let start = follows(alloc, &case, 0)?;
+    let started = children_started(start.bench.sys.journal());
+    let children = random_children(alloc, seed, started)?;
     let scene = Scene {
         parent: case.scene.parent,
         canonical: case.scene.canonical,
@@ -261,16 +265,12 @@ fn waits_twice<'c>(
         children: children.as_str(),
         kept: "",
     };
-    let waited = Waited { case, start, scene };
-    waits(rt, alloc, waited, 0)?;
-    waits(rt, alloc, waited, drawn(entries, seed))
-}
-
-fn waits_random(rt: &impl Wait, alloc: Global, seed: u64, way: Way) -> Result<(), Fail> {
-    let mut case = case_of(alloc, seed)?;
-    case.way = way;
-    let start = follows(alloc, &case, 0)?;
-    waits_twice(rt, alloc, &case, &start, seed)
+    let waited = Waited {
+        case: &case,
+        start: &start,
+        scene,
+    };
+    waits_twice(rt, alloc, waited, seed)
 }
 
 fn wait_random(rt: &impl Wait, alloc: Global, first: u64, way: Way) -> Result<(), Fail> {
