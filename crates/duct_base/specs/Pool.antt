@@ -30,8 +30,8 @@ counted count (suc more) = min (count + suc more) greatest
 abbrev pub AddsUp : {C : Type 0} → PoolView C → Type 0
 AddsUp pool = pool.given < greatest → pool.given ≡ length pool.children + pool.reaped + pool.lost
 
--- of some children, asked once each, those that are left as they are kept, and how many were found ended and how many lost, each by
--- an answer that it may give
+-- some children by one answer of each, which it may give: those that are left as they are kept, and how many were found ended and
+-- how many lost
 abbrev pub Sieves : {A B : Type 0} → (A → Answer → Type 0) → (A → B → Type 0) → List A → List B → ℕ
     → ℕ → Type 0
 Sieves may keeps [] left reaped lost = (left ≡ []) × (reaped ≡ 0) × (lost ≡ 0)
@@ -43,7 +43,7 @@ Sieves {A} {B} may keeps (child ∷ children) left reaped lost =
     ⊎ ((fault : Fault) × (fewer : ℕ) × may child (Err fault) × (lost ≡ fewer + 1)
     × Sieves may keeps children left reaped fewer)
 
--- some children were asked once each: those that said Running are left, with nothing else of them changed
+-- some children by one answer of each: those that said Running are left, with nothing else of them changed
 abbrev pub AsksAll : {C : Type 0} → (ℕ → Answer → Type 0) → (C → ChildView) → List C → List C → ℕ
     → ℕ → Type 0
 AsksAll may view =

@@ -26,7 +26,7 @@ AllObey answer obey order numbers result =
     (answers : List Obeyed) × AllZip (CommandAnswers answer obey order) numbers answers
     × OrderAnswers (leftmost answers) result
 
--- the same, or `Other`, which stands for what differs in the lock from these numbers; no start brings that about
+-- the same, or `Other`, which stands for what differs in the lock from these numbers
 abbrev pub IsObeyed : (ℕ → Answer → Type 0) → (ℕ → Order → Bool → Obeyed → Type 0) → Order
     → List ℕ → Result (Unit {0}) Error → Type 0
 IsObeyed answer obey order numbers result =

@@ -1,24 +1,22 @@
 //! What is done once a run has ended: the ends that it holds are closed, and its children are given to a pool.
-ghost use Rattle.std.specs.Prelude.{◌≡◌, ◌≤◌, [], length};
+ghost use Rattle.std.specs.Prelude.{◌≡◌, ◌≤◌, length, map};
 ghost use Rattle.std.specs.Option.{option_map};
 ghost use Rattle.duct_base.specs.Pool.{IsGiven};
 ghost use Rattle.duct_start.specs.Closes.{Closes};
 ghost use Rattle.duct_start.specs.Holdings.{pair_of};
 ghost use Rattle.duct_run.specs.HeldEnds.{held_ends};
-ghost use Rattle.duct_run.specs.HeldView.{stack_view};
 
 use crate::held::Held;
 use duct_base::pool::{Place, Pool, pool_take};
 use duct_system::system::{Child, System};
 
-// Closes each end of a stack, the top first.
-fn close_stack<S: System>(sys: &mut S, stack: &mut Vec<S::End>)
-    requires { length (stack_view S.End.number_of stack.old.items) ≤ (S.journal_view sys.old).room }
-    ensures closes { Closes (stack_view S.End.number_of stack.old.items) (S.journal_view sys.old)
+// Closes each end of a stack, in order of its places.
+fn close_stack<S: System>(sys: &mut S, stack: Vec<S::End>)
+    requires { length (map S.End.number_of stack.items) ≤ (S.journal_view sys.old).room }
+    ensures { Closes (map S.End.number_of stack.items) (S.journal_view sys.old)
         (S.journal_view sys.new) }
-    ensures empty { stack.new.items ≡ [] }
 {
-    while let Some(end) = stack.pop() {
+    for end in stack {
         sys.close(end);
     }
 }
@@ -36,22 +34,6 @@ fn close_pair<S: System>(sys: &mut S, pair: Option<(S::End, S::End)>)
     }
 }
 
-// Closes each end that a run holds: its stack, the top first, then the pipes of stdout and of stderr. Children and workers stay.
-pub(crate) fn close_all<S: System, C, F, D>(sys: &mut S, held: &mut Held<S::End, C, F, D>)
-    requires room { length (held_ends S.End.number_of held.old) ≤ (S.journal_view sys.old).room }
-    ensures closes { Closes (held_ends S.End.number_of held.old) (S.journal_view sys.old)
-        (S.journal_view sys.new) }
-    ensures empty { held_ends S.End.number_of held.new ≡ [] }
-    ensures children { held.new.children ≡ held.old.children }
-    ensures feeds { held.new.feeds ≡ held.old.feeds }
-    ensures output_worker { held.new.output_worker ≡ held.old.output_worker }
-    ensures error_worker { held.new.error_worker ≡ held.old.error_worker }
-{
-    close_stack(sys, &mut held.stack);
-    close_pair(sys, held.output.take());
-    close_pair(sys, held.error.take());
-}
-
 /// Gives these children to a pool, in order. Each is asked once: one that runs goes behind the others, one that ended counts
 /// as reaped, and one that answered a fault as lost. It takes no memory.
 pub fn give_all<C: Child>(pool: &mut Pool<C>, children: Vec<Place<C>>)
@@ -62,11 +44,12 @@ pub fn give_all<C: Child>(pool: &mut Pool<C>, children: Vec<Place<C>>)
     }
 }
 
-// Closes each end that a run holds, and gives its children to a pool. Its workers are let go.
+// Closes each end that a run holds, in order of place: its stack from the bottom, then the pipes of stdout and of stderr. Gives its
+// children to a pool, and lets its workers go.
 pub(crate) fn give_up<S: System>(
     sys: &mut S,
     pool: &mut Pool<S::Child>,
-    mut held: Held<S::End, Place<S::Child>, S::Feed, S::Drain>,
+    held: Held<S::End, Place<S::Child>, S::Feed, S::Drain>,
 )
     requires room { length (held_ends S.End.number_of held) ≤ (S.journal_view sys.old).room }
     ensures closes { Closes (held_ends S.End.number_of held) (S.journal_view sys.old)
@@ -74,6 +57,8 @@ pub(crate) fn give_up<S: System>(
     ensures given { IsGiven S.Child.may_answer S.Child.child_view held.children.items
         pool.old pool.new }
 {
-    close_all(sys, &mut held);
+    close_stack(sys, held.stack);
+    close_pair(sys, held.output);
+    close_pair(sys, held.error);
     give_all(pool, held.children);
 }

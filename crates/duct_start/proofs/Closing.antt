@@ -299,15 +299,16 @@ pub refused_room : {E H : Type 0} (allows : Allows H) (refuses : Refuses H) (num
     → length (ends held) ≤ now.room
 refused_room allows refuses number_of course items now held error run = omega (arith, run.stopped.books.room_is)
 
--- the same, where all that was held was closed in its order
+-- the same, where all that was held was closed in some order
 module _ {E H : Type 0} (allows : Allows H) (refuses : Refuses H) (number_of : E → ℕ) (course : Course) (items : List (Item E H)) (now then : JournalView) (held : Holdings) (error : Error)
-    (run : Refused allows refuses number_of course items now held error) (closes : Closes (ends held) now then) where
+    (run : Refused allows refuses number_of course items now held error) (numbers : List ℕ)
+    (same : (n : ℕ) → count_of n numbers ≡ count_of n (ends held)) (many : length numbers ≡ length (ends held)) (closes : Closes numbers now then) where
   pub refused_closed : (tree : TreeView E H) (plan : Plan E H)
       → course.base ≡ ceiling number_of tree → course.bound ≡ 2 * depth tree + 4
       → plan.items ≡ items
       → StartRefused allows refuses number_of tree plan course.old then error
   refused_closed tree plan base_is bound_is items_are =
-      refused_start allows refuses number_of tree plan course items now then held error run (ends held) base_is bound_is items_are (λ n. refl) refl
+      refused_start allows refuses number_of tree plan course items now then held error run numbers base_is bound_is items_are same many
       closes.entries_are closes.counted closes.next_grows closes.room_is
 
   -- the children that are held are those that were started
@@ -316,9 +317,9 @@ module _ {E H : Type 0} (allows : Allows H) (refuses : Refuses H) (number_of : E
   refused_children =
       let added = run.stopped.added in
       let books = run.stopped.books in
-      let entries_are : then.entries ≡ course.old.entries ++ (added ++ map Close (ends held)) =
-      closes.entries_are ∙ ap (λ (l : List EntryView). l ++ map Close (ends held)) books.entries_are ∙ append_assoc course.old.entries added (map Close (ends held)) in
+      let entries_are : then.entries ≡ course.old.entries ++ (added ++ map Close numbers) =
+      closes.entries_are ∙ ap (λ (l : List EntryView). l ++ map Close numbers) books.entries_are ∙ append_assoc course.old.entries added (map Close numbers) in
       sym
-      (ap (λ (l : List EntryView). children_in l) (segment_is course.old.entries then.entries (added ++ map Close (ends held)) entries_are)
-      ∙ flat_map-append child_by added (map Close (ends held)) ∙ ap (λ (l : List ℕ). children_in added ++ l) (closes_children (ends held)) ∙ append-nil (children_in added)
+      (ap (λ (l : List EntryView). children_in l) (segment_is course.old.entries then.entries (added ++ map Close numbers) entries_are)
+      ∙ flat_map-append child_by added (map Close numbers) ∙ ap (λ (l : List ℕ). children_in added ++ l) (closes_children numbers) ∙ append-nil (children_in added)
       ∙ sym books.children_are)

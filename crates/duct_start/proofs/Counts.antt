@@ -1,9 +1,10 @@
 -- Counts of numbers in lists.
-use Rattle.std.proofs.Common.{◌≡◌, ◌≢◌, ℕ, ◌+◌, ◌<◌, ◌≤◌, List, [], ◌∷◌, ◌++◌, refl, arith, inl, inr}
+use Rattle.std.proofs.Common.{◌≡◌, ◌≢◌, ℕ, ◌+◌, ◌<◌, ◌≤◌, List, [], ◌∷◌, ◌++◌, refl, ap, arith, inl, inr}
 use Rattle.std.proofs.lemmas.Bool.{cases_lt}
 use Rattle.std.proofs.lemmas.Grind.{common_steps}
+use Rattle.std.proofs.lemmas.List.{reverse-append}
 use Rattle.std.proofs.lemmas.Bool.Decides.{nat_tests}
-use Rattle.std.specs.Prelude.{◌==◌, true, false}
+use Rattle.std.specs.Prelude.{◌==◌, true, false, reverse}
 use Rattle.duct_system.specs.Ledger.{count_of}
 use Rattle.duct_start.specs.Standing.{AreFresh}
 
@@ -25,6 +26,11 @@ count_le n m = grind (arith, nat_tests)
 
 pub count-cons : (n m : ℕ) (xs : List ℕ) → count_of n (m ∷ xs) ≡ count_of n (m ∷ []) + count_of n xs
 count-cons n m xs = count-append n (m ∷ []) xs
+
+pub count-reverse : (m : ℕ) (xs : List ℕ) → count_of m (reverse xs) ≡ count_of m xs
+count-reverse m [] = refl
+count-reverse m (x ∷ xs) =
+    omega (arith, ap (λ l. count_of m l) (reverse-append (x ∷ []) xs), count-append m (reverse xs) (x ∷ []), count-cons m x xs, count-reverse m xs)
 
 -- a number that does not stand in a list is another than its first
 pub other_than : (n m : ℕ) → count_of n (m ∷ []) ≡ 0 → (n == m) ≡ false

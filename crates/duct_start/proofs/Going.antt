@@ -30,7 +30,7 @@ use Rattle.duct_start.specs.Holdings.{Holdings, ends, pair_of}
 use Rattle.duct_start.specs.Kinds.{entry_kind, item_kind}
 use Rattle.duct_start.specs.Standing.{AreFresh, Course, IsLater, IsShaped, IsPair, Sourced, Stands, IsWantOfMemory, Goes, Quits, origin_to}
 use Rattle.duct_start.specs.Step.{Item, AskPipe, AskOpenRead, AskCreate, AskFeed}
-use Rattle.duct_start.proofs.Counts.{fresh_one, fresh_two, fresh_none, is_itself, other_than, count_other, count_same, count-cons, count-append}
+use Rattle.duct_start.proofs.Counts.{fresh_one, fresh_two, fresh_none, is_itself, other_than, count_other, count_same, count-cons, count-append, count-reverse}
 use Rattle.duct_start.proofs.Origins.{later_more, origin_stays, origin-more, origin_lent, end_at_seam}
 use Rattle.duct_start.proofs.Standing.{Changes, as_many, stands_more, stops_more, stops_unasked, sources_now, few_now, few_of}
 
@@ -131,11 +131,6 @@ get_counts : (xs : List ℕ) (d m : ℕ) → slice_get xs d ≡ Some m → 1 ≤
 get_counts [] d m is = cc
 get_counts (x ∷ xs) zero m is = let same : x ≡ m = cc in omega (arith, count-cons m x xs, ap (λ k. count_of m (k ∷ [])) same, count_same m)
 get_counts (x ∷ xs) (suc d) m is = omega (arith, count-cons m x xs, get_counts xs d m is)
-
-count-reverse : (m : ℕ) (xs : List ℕ) → count_of m (reverse xs) ≡ count_of m xs
-count-reverse m [] = refl
-count-reverse m (x ∷ xs) =
-    omega (arith, ap (λ l. count_of m l) (reverse-append (x ∷ []) xs), count-append m (reverse xs) (x ∷ []), count-cons m x xs, count-reverse m xs)
 
 -- what stands at a depth is held
 level_counts : (stack : List ℕ) (d m : ℕ) → level stack d ≡ Some m → 1 ≤ count_of m stack

@@ -152,4 +152,4 @@ unasked_launch allows refuses number_of tree plan old =
     let course = course_of old (ceiling number_of tree) (2 * depth tree + 4) [] in
     let nothing = stopped_unasked course old allows number_of plan.items Memory (record { entries_are = refl; added_is = refl; next_grows = omega arith; room_grows = omega arith }) tt in
     refused_closed allows refuses number_of course plan.items old old empty Memory
-    (plain_refused allows refuses number_of course plan.items old empty Memory (λ no. no) nothing) (closes_none old) tree plan refl refl refl
+    (plain_refused allows refuses number_of course plan.items old empty Memory (λ no. no) nothing) [] (λ n. refl) refl (closes_none old) tree plan refl refl refl

@@ -1,19 +1,20 @@
 -- One end more is closed.
-use Rattle.std.proofs.Common.{◌++◌, ◌∷◌, [], ℕ, List, ap, sym, ◌∙◌, append_assoc}
+use Rattle.std.proofs.Common.{◌∷◌, [], ℕ, List, arith, sym, subst}
+use Rattle.std.proofs.lemmas.Grind.{common_steps}
+use Rattle.std.proofs.lemmas.List.{map-append}
+use Rattle.std.specs.Prelude.{map}
+use Rattle.duct_start.specs.Closes.{Closes}
 use Rattle.duct_start.proofs.Closes.{closes_next}
-use Rattle.duct_run.specs.HeldView.{stack_view}
-use Rattle.duct_run.proofs.Pushed.{pushed}
 use Rattle.duct_run.proofs.ending.close_stack.Goals as goal
 
 pub loop-end-preserved : goal.loop-end-preserved
 loop-end-preserved g c =
     let number_of = g.S.End.Numbered.number_of in
-    let done = c.loop-end.invariant.0 in
-    let number = number_of c.in-Some.end in
     let journal = g.S.System.journal_view in
-    let left = stack_view number_of c.pop.new.self.items in (
-      done ++ number ∷ [],
-      closes_next done number (journal c.args.sys.now) (journal c.loop-end.sys) (journal c.close.new.self) c.loop-end.invariant.1 c.close.ensures,
-      c.loop-end.invariant.2 ∙ ap (λ (l : List ℕ). done ++ l) (pushed number_of c.pop.new.self.items c.loop-end.stack.items c.in-Some.end c.in-Some.ensures.items)
-          ∙ sym (append_assoc done (number ∷ []) left),
-    )
+    let done = c.loop-end.yielded in
+    let then = journal c.close.new.self in record {
+      closed = subst (λ (l : List ℕ). Closes l (journal c.args.sys.now) then) (sym (map-append number_of done (c.in-Some.end ∷ [])))
+          (closes_next (map number_of done) (number_of c.in-Some.end) (journal c.args.sys.now) (journal c.loop-end.sys) then c.loop-end.invariant.closed c.close.ensures);
+      whole = grind (arith, common_steps);
+      many = grind (arith, common_steps);
+    }

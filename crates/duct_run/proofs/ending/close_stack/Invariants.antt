@@ -1,14 +1,13 @@
--- What was closed so far, and what is left, is the stack.
-use Rattle.std.proofs.Common.{◌≡◌, ◌++◌, ℕ, List, vec_len}
+-- The ends that were closed so far, and those that are left, are the stack.
+use Rattle.std.proofs.Common.{◌≡◌, ◌++◌, length}
+use Rattle.std.specs.Prelude.{map}
+use Rattle.std.specs.Vec.Iter.{into_iter_items, into_iter_len}
 use Rattle.duct_start.specs.Closes.{Closes}
-use Rattle.duct_run.specs.HeldView.{stack_view}
 use Rattle.duct_run.proofs.ending.close_stack.Given as goal
 
 abbrev pub invariant-loop-end : goal.invariant-loop-end
-invariant-loop-end g l =
-    let number_of = g.S.End.Numbered.number_of in
-    (done : List ℕ) × Closes done (g.S.System.journal_view l.fn.sys) (g.S.System.journal_view l.sys)
-    × (stack_view number_of l.fn.stack.items ≡ done ++ stack_view number_of l.stack.items)
-
-abbrev pub decreases-loop-end : goal.decreases-loop-end
-decreases-loop-end g l = vec_len l.stack
+invariant-loop-end g l = record {
+  closed : Closes (map g.S.End.Numbered.number_of l.yielded) (g.S.System.journal_view l.fn.sys) (g.S.System.journal_view l.sys);
+  whole : l.fn.stack.items ≡ l.yielded ++ into_iter_items l.end-iterator;
+  many : into_iter_len l.end-iterator ≡ length (into_iter_items l.end-iterator);
+}
