@@ -1,5 +1,5 @@
 //! Tests of starts by a second body, the plain walk: over chosen trees and random ones, with a fault at each entry. Random trees
-//! beside the definitions of a start, too, and chosen ones without memory.
+//! beside the definitions of a start, too, chosen ones without memory, and what a refused one closes.
 #![tactic(auto)]
 
 #[cfg(test)]
@@ -8,6 +8,8 @@ mod agree;
 mod bodies;
 #[cfg(test)]
 mod cases;
+#[cfg(test)]
+mod closed;
 #[cfg(test)]
 mod follow;
 #[cfg(test)]
