@@ -1,5 +1,6 @@
 pub mod ChildView
 pub mod Endings
+pub mod Entries
 pub mod Signals
 pub mod Steps
 pub mod Variables

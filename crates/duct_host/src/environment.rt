@@ -1,6 +1,8 @@
 //! The parent's environment, read at once, or entry by entry where the runtime can't, or has more entries or fewer by now.
-ghost use Rattle.std.specs.Prelude.{◌≡◌, [], ◌∷◌, ◌++◌, map, string_bytes, IfOk, IfSome, OnOk};
+ghost use Rattle.std.specs.Prelude.{◌≡◌, [], ◌∷◌, ◌++◌, map, IfOk, OnOk};
+ghost use Rattle.std.specs.Option.{option_map};
 ghost use Rattle.duct_system.specs.SpecView.{pair_text};
+ghost use Rattle.duct_host.specs.Entries.{AddsVariable, parts_at_sign, variable_of, with_front};
 
 use crate::parents::Parents;
 use std::alloc::{AllocError, Global};
@@ -59,7 +61,10 @@ fn push_variable(
     pairs: &mut Vec<(String, String)>,
     alloc: Global,
     entry: &[u8],
-) -> Result<(), AllocError> {
+) -> Result<(), AllocError>
+    ensures { OnOk result (AddsVariable entry.now (map pair_text pairs.old.items)
+        (map pair_text pairs.new.items)) }
+{
     let Ok(text) = str::from_utf8(entry) else {
         return Ok(());
     };
@@ -93,14 +98,23 @@ fn entry_at<E: Env>(rt: &E, alloc: Global, i: usize) -> Result<Option<Vec<u8>>, 
 /// The name and the value of an entry. The name has at least one byte, so that an entry's first byte is the name's, also
 /// where it is a `=`.
 fn split_entry(alloc: Global, entry: &str) -> Result<Option<(String, String)>, AllocError>
-    ensures { IfOk result
-        (λ found. IfSome found
-        (λ pair. entry.now ≡ string_bytes pair.0 ++ 61 ∷ string_bytes pair.1)) }
+    ensures { IfOk result (λ found. option_map pair_text found ≡ variable_of entry.now) }
 {
-    let (front, text) = match entry.strip_prefix('=') {
-        Some(text) => ("=", text),
-        None => ("", entry),
-    };
+    match entry.strip_prefix('=') {
+        Some(rest) => split_behind(alloc, "=", rest),
+        None => split_behind(alloc, "", entry),
+    }
+}
+
+/// The parts of a text before its first `=` and behind it, the first one behind `front`.
+fn split_behind(
+    alloc: Global,
+    front: &str,
+    text: &str,
+) -> Result<Option<(String, String)>, AllocError>
+    ensures { IfOk result (λ found. option_map pair_text found
+        ≡ option_map (with_front front.now) (parts_at_sign text.now)) }
+{
     let Some((back, value)) = text.split_once('=') else {
         return Ok(None);
     };

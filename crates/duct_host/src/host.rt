@@ -1,5 +1,5 @@
 //! The host: a system over the real machine.
-ghost use Rattle.std.specs.Prelude.{◌≡◌, ◌≢◌, ◌+◌, ◌-◌, ◌^◌, ◌<◌, ◌≤◌, [], map, min, string_bytes, Ok, Err, IfOk, IfErr, OnOk, OnErr};
+ghost use Rattle.std.specs.Prelude.{◌≡◌, ◌≢◌, ◌⊎◌, ◌+◌, ◌-◌, ◌^◌, ◌<◌, ◌≤◌, [], map, min, string_bytes, Ok, Err, IfOk, IfErr, OnOk, OnErr};
 ghost use Rattle.duct_system.specs.Journal.{IsNew};
 ghost use Rattle.duct_system.specs.SpecView.{pair_text};
 ghost use Rattle.duct_system.specs.declared.system.Kind.TheVariants.{Other, OutOfMemory};
@@ -221,7 +221,9 @@ impl<R: Threads> Host<R> {
     /// Starts a worker that writes the bytes to the end and closes it. Where it is refused the end is closed, and nothing was
     /// written.
     fn new_feed(&self, end: End, bytes: &Arc<Vec<u8>>) -> Result<Worker<()>, Fault>
-        ensures { IfOk result (λ worker. worker_view worker ≡ unpolled_job end) }
+        ensures ok { IfOk result (λ worker. worker_view worker ≡ unpolled_job end) }
+        ensures err { IfErr result
+            (λ fault. (fault.kind ≡ OutOfMemory) ⊎ (fault.kind ≡ Other)) }
     {
         let number = end.number();
         let Ok(theirs) = Arc::try_clone(bytes) else {
@@ -233,7 +235,9 @@ impl<R: Threads> Host<R> {
 
     /// Starts a worker that reads the end to its end and closes it. Where it is refused the end is closed, and nothing was read.
     fn new_drain(&self, end: End) -> Result<Worker<Arc<Vec<u8>>>, Fault>
-        ensures { IfOk result (λ worker. worker_view worker ≡ unpolled_job end) }
+        ensures ok { IfOk result (λ worker. worker_view worker ≡ unpolled_job end) }
+        ensures err { IfErr result
+            (λ fault. (fault.kind ≡ OutOfMemory) ⊎ (fault.kind ≡ Other)) }
     {
         let number = end.number();
         let reader = ChildStdout::from(end.into_descriptor());

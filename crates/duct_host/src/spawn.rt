@@ -1,8 +1,8 @@
 //! From the spec of a command to a process.
-ghost use Rattle.std.specs.Prelude.{◌≡◌, [], ◌∷◌, ◌++◌, length, map, string_bytes, IfOk, IfErr, OnOk};
+ghost use Rattle.std.specs.Prelude.{◌≡◌, ◌⊎◌, [], ◌∷◌, ◌++◌, length, map, string_bytes, IfOk, IfErr, OnOk};
 ghost use Rattle.std.specs.Process.{command_program, command_args, command_dir, SameProgramAndArgs, SameEnv, SameDir};
 ghost use Rattle.duct_system.specs.Streams.{stream_of, ends_of};
-ghost use Rattle.duct_system.specs.declared.system.Kind.TheVariants.{InvalidInput};
+ghost use Rattle.duct_system.specs.declared.system.Kind.TheVariants.{InvalidInput, OutOfMemory};
 ghost use Rattle.duct_host.specs.Variables.{IsWholeEnvironment, Sets};
 
 use crate::end::End;
@@ -43,6 +43,8 @@ fn command_of(alloc: Global, spec: &CommandSpec) -> Result<Command, Fault>
     ensures folder { IfOk result (λ c. command_dir c ≡ spec.now.folder) }
     ensures vars { IfOk result (IsWholeEnvironment spec.now.vars) }
     ensures empty { spec.now.words ≡ [] → IfErr result (λ fault. fault.kind ≡ InvalidInput) }
+    ensures memory { IfErr result
+        (λ fault. (fault.kind ≡ OutOfMemory) ⊎ (spec.now.words ≡ [])) }
 {
     let Some((program, arguments)) = spec.words().split_first() else {
         return Err(Fault::new(Kind::InvalidInput));
