@@ -107,8 +107,9 @@ impl<S: System> Handle<S> {
 
     /// Polls, unless the answer is published already, and answers how the expression ended; `None` while it runs.
     ///
-    /// A checked failure is `Error::Checked`, a fault of a command or a worker `Error::System`. `Error::Memory` comes only for
-    /// want of memory, and the next wait tries again.
+    /// A checked failure is `Error::Checked`, a fault of a command or a worker `Error::System`, and so is, as `Other`, a lock that
+    /// holds something else than the handle was made of, which no start brings about. `Error::Memory` comes only for want of memory,
+    /// and the next wait tries again.
     pub fn try_wait_as(
         &self,
         rt: &impl Wait,

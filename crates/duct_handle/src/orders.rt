@@ -34,7 +34,8 @@ fn ordered<S: System>(
 
 impl<S: System> Handle<S> {
     /// Kills each command that is not known as ended, also behind one that refused, and answers the leftmost fault as
-    /// `Error::System`. It never waits for a wait of another thread.
+    /// `Error::System`. It never waits for a wait of another thread, only for a program that the system has send another thread's
+    /// signal.
     pub fn kill(&self, rt: &impl Wait) -> Result<(), Error>
         ensures { IsObeyed S.Child.may_answer S.Child.may_obey Kill
             self.now.numbers.children result }

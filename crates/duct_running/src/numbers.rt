@@ -73,7 +73,7 @@ fn number_of<N: Numbered>(item: &Option<N>) -> Option<u64>
 
 // Whether these have these numbers, in order.
 fn have_numbers<N: Numbered>(items: &[N], numbers: &[u64]) -> bool
-    ensures { IsTrue result → map N.number_of items.now ≡ numbers.now }
+    ensures { IsTrue result ↔ (map N.number_of items.now ≡ numbers.now) }
 {
     if items.len() != numbers.len() {
         return false;
@@ -84,6 +84,27 @@ fn have_numbers<N: Numbered>(items: &[N], numbers: &[u64]) -> bool
         }
     }
     true
+}
+
+// Whether these children and workers have these numbers.
+fn are_numbered<C: Numbered, F: Numbered, D: Numbered>(
+    children: &[C],
+    feeds: &[F],
+    output: &Option<D>,
+    error: &Option<D>,
+    numbers: &Numbers,
+) -> bool
+    ensures { IsTrue result ↔ (numbers_view numbers.now ≡ record {
+      children = map C.number_of children.now;
+      feeds = map F.number_of feeds.now;
+      output = option_map D.number_of output.now;
+      error = option_map D.number_of error.now;
+    }) }
+{
+    have_numbers(children, &numbers.children)
+        && have_numbers(feeds, &numbers.feeds)
+        && number_of(output) == numbers.output
+        && number_of(error) == numbers.error
 }
 
 impl<S: System> Running<S> {
@@ -101,22 +122,17 @@ impl<S: System> Running<S> {
 
     /// Whether it has this shape, and children and workers of these numbers.
     pub fn is_of(&self, shape: &Shape, numbers: &Numbers) -> bool
-        ensures shape { IsTrue result → shape_view self.now.shape ≡ shape_view shape.now }
-        ensures numbers { IsTrue result → numbers_in S.Child.child_view S.Feed.job_view
-            S.Drain.job_view self.now ≡ numbers_view numbers.now }
+        ensures { IsTrue result ↔ ((shape_view self.now.shape ≡ shape_view shape.now)
+            × (numbers_in S.Child.child_view S.Feed.job_view S.Drain.job_view self.now
+            ≡ numbers_view numbers.now)) }
     {
-        if !self.core.shape().is_same(shape) {
-            return false;
-        }
-        if !have_numbers(&self.children, &numbers.children) {
-            return false;
-        }
-        if !have_numbers(&self.feeds, &numbers.feeds) {
-            return false;
-        }
-        if number_of(&self.output) != numbers.output {
-            return false;
-        }
-        number_of(&self.error) == numbers.error
+        let numbered = are_numbered(
+            &self.children,
+            &self.feeds,
+            &self.output,
+            &self.error,
+            numbers,
+        );
+        numbered && self.core.shape().is_same(shape)
     }
 }

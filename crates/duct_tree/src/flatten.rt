@@ -23,7 +23,7 @@ use duct_run::scope::Setting;
 pub use listing::Listing;
 use std::alloc::Global;
 
-/// The list of the tree of a node.
+/// The list of the tree of a node. Refused, by `Error::Memory`, only for want of memory.
 pub fn flatten<'a, E, H>(alloc: Global, root: &'a Node<E, H>) -> Result<Listing<'a, E, H>, Error>
     ensures actions { IfOk result (λ list.
         actions_view list.actions.items ≡ (listed_of (node_view root.now)).actions) }
@@ -36,7 +36,7 @@ pub fn flatten<'a, E, H>(alloc: Global, root: &'a Node<E, H>) -> Result<Listing<
     Ok(list)
 }
 
-/// The list of the tree of a node, as if a capture of stdout stood round it.
+/// The list of the tree of a node, as if a capture of stdout stood round it. Refused as `flatten` is.
 pub fn flatten_captured<'a, E, H>(
     alloc: Global,
     root: &'a Node<E, H>,

@@ -9,7 +9,7 @@ use duct_base::error::Error;
 use duct_base::status::Shape;
 use std::alloc::Global;
 
-/// The shape of the tree of a node. It shares the words of the commands.
+/// The shape of the tree of a node. It shares the words of the commands. Refused, by `Error::Memory`, only for want of memory.
 pub fn shape_of<E, H>(alloc: Global, node: &Node<E, H>) -> Result<Shape, Error>
     ensures shape { IfOk result (λ shape. shape_view shape ≡ shape_of_tree (node_view node.now)) }
     ensures memory { IsOkUnless result Error.Memory }

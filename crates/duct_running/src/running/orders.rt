@@ -32,7 +32,7 @@ fn result_of(answer: Result<(), Fault>) -> Result<(), Error>
 
 impl<S: System> Running<S> {
     /// Kills each command that is not known as ended, once and from left to right, also behind one that refused. Answers the
-    /// leftmost fault. A command that had no memory to note the order was not asked, and answered `OutOfMemory`.
+    /// leftmost fault as `Error::System`. A command that had no memory to note the order was not asked, and answered `OutOfMemory`.
     pub fn kill(&mut self) -> Result<(), Error>
         ensures shape { self.new.shape ≡ self.old.shape }
         ensures ordered { IsOrdered S.Child.may_obey Kill

@@ -11,7 +11,7 @@ returns-in-Kill g c =
     let may = g.S.Child.Child.may_answer in
     let obey = g.S.Child.Child.may_obey in
     let view = g.S.Child.Child.child_view in
-    let numbers = ap (λ (n : NumbersView). n.children) (c.if-not-is_of.ensures.numbers refl) in
+    let numbers = ap (λ (n : NumbersView). n.children) (c.if-not-is_of.ensures.0 refl).1 in
     subst (λ order. IsObeyed may obey order c.args.numbers.now.children.items c.kill.result) (sym c.in-Kill.is)
     (order_obeyed may obey _ (map view c.args.running.now.children) (map view c.kill.new.self.children) c.args.numbers.now.children.items c.kill.result c.kill.ensures.ordered
     (∥∥₁_map c.are_told.ensures (λ t. t.children_told)) numbers)
@@ -21,7 +21,7 @@ returns-in-Signal g c =
     let may = g.S.Child.Child.may_answer in
     let obey = g.S.Child.Child.may_obey in
     let view = g.S.Child.Child.child_view in
-    let numbers = ap (λ (n : NumbersView). n.children) (c.if-not-is_of.ensures.numbers refl) in
+    let numbers = ap (λ (n : NumbersView). n.children) (c.if-not-is_of.ensures.0 refl).1 in
     let same : to_z w32 (of_z w32 c.in-Signal.signal) ≡ c.in-Signal.signal = search rules in
     subst (λ order. IsObeyed may obey order c.args.numbers.now.children.items c.signal.result) (ap (λ s. Signal s) same ∙ sym c.in-Signal.is)
     (order_obeyed may obey _ (map view c.args.running.now.children) (map view c.signal.new.self.children) c.args.numbers.now.children.items c.signal.result c.signal.ensures.ordered
