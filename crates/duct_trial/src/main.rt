@@ -7,6 +7,8 @@
 
 mod left;
 #[cfg(test)]
+mod pauses;
+#[cfg(test)]
 mod pools;
 #[cfg(test)]
 mod stubborn;

@@ -86,6 +86,11 @@ fn streams<E: Drop>(alloc: Global) -> Result<Tree<E>, Error> {
     left.pipe(&right)
 }
 
+// A command that writes to both streams as they are inherited.
+fn inherited<E: Drop>(alloc: Global) -> Result<Tree<E>, Error> {
+    shell(alloc, "echo hi; echo b >&2")
+}
+
 // Variables set, removed and whole, and a stderr that nobody reads.
 fn surrounded<E: Drop>(alloc: Global) -> Result<Tree<E>, Error> {
     let script = "echo $A $B $C; echo lost >&2";
@@ -98,7 +103,7 @@ fn surrounded<E: Drop>(alloc: Global) -> Result<Tree<E>, Error> {
 /// The trees that take two ends.
 pub const TREES_WITH_ENDS: [u32; 2] = [9, 10];
 
-/// The tree of a number from 1 to 12; of any other number a command that does nothing.
+/// The tree of a number from 1 to 13; of any other number a command that does nothing.
 pub fn tree<E: Drop>(alloc: Global, number: u32, ends: Vec<E>) -> Result<Tree<E>, Error> {
     match number {
         1 => cat(alloc),
@@ -113,6 +118,7 @@ pub fn tree<E: Drop>(alloc: Global, number: u32, ends: Vec<E>) -> Result<Tree<E>
         10 => lent(alloc, ends),
         11 => surrounded(alloc),
         12 => streams(alloc),
+        13 => inherited(alloc),
         _ => shell(alloc, "exit 0"),
     }
 }

@@ -3,8 +3,8 @@ use duct::{Clock, Error, Expression, Output, Pool, System};
 use std::sync::Wait;
 use std::time::Duration;
 
-/// Runs a step for at most this long. Answers its output, or nothing where it took longer: then its commands were killed, and
-/// their children are left to the pool.
+/// Runs a step for at most this long. Answers its output, or nothing where it took longer. Where a step that was started gives no
+/// output, those of its commands that may run yet are killed, and their children are left to the pool.
 pub fn build<S: System, C: Clock>(
     rt: &impl Wait,
     system: &mut S,
@@ -14,17 +14,13 @@ pub fn build<S: System, C: Clock>(
     limit: Duration,
 ) -> Result<Option<Output>, Error> {
     let handle = step.start(system, pool)?;
-    match handle.wait_timeout(rt, clock, limit) {
-        Ok(Some(_)) => Ok(Some(handle.into_output(rt, pool)?)),
-        Ok(None) => {
-            let killed = handle.kill(rt);
-            handle.give_up(pool);
-            killed?;
-            Ok(None)
-        }
-        Err(error) => {
-            handle.give_up(pool);
-            Err(error)
-        }
+    let waited = handle.wait_timeout(rt, clock, limit);
+    if matches!(waited, Ok(Some(_))) {
+        return Ok(Some(handle.into_output(rt, pool)?));
     }
+    let killed = handle.kill(rt);
+    handle.give_up(pool);
+    waited?;
+    killed?;
+    Ok(None)
 }

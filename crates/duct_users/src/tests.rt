@@ -5,14 +5,16 @@ use crate::hello::hello;
 use crate::kinds::{echoed, shown};
 use crate::script::run_script;
 use crate::supervisor::supervise;
-use duct::{Error, ExitStatus, Expression, Pool, cmd};
+use duct::{Error, ExitStatus, Expression, Fault, Kind, Pool, cmd};
 use duct_host::host::Host;
+use duct_script::calls::{Call, CallLog};
 use duct_script::child::PollAnswer;
 use duct_script::clock::ScriptClock;
 use duct_script::reader::ReaderScript;
 use duct_script::system::{Script, ScriptEnd};
 use std::alloc::Global;
-use std::sync::Wait;
+use std::sync::{Arc, Wait};
+use std::test::Fail;
 use std::time::Duration;
 
 type Tree = Expression<ScriptEnd>;
@@ -37,16 +39,43 @@ fn a_script(rt: HostRuntime) -> Result<(), Error> {
     Ok(())
 }
 
-// Whether a step that runs on was stopped, and how many of its children the pool was given.
-fn built(rt: &impl Wait, alloc: Global, answer: PollAnswer) -> Result<(bool, u64), Error> {
+// What a command with this word answers to its first poll.
+fn answer_of(word: &str) -> PollAnswer {
+    match word {
+        "ends" => PollAnswer::Ended(ExitStatus::Code(0)),
+        "fails" => PollAnswer::Ended(ExitStatus::Code(1)),
+        "faults" => PollAnswer::Fault(Fault::new(Kind::Other)),
+        _ => PollAnswer::Running,
+    }
+}
+
+// How many orders were noted.
+fn orders(calls: &CallLog) -> u32 {
+    let mut orders = 0_u32;
+    for place in 0..calls.noted() {
+        if let Some(Call::Order(_)) = calls.get(place as usize) {
+            orders = orders.saturating_add(1);
+        }
+    }
+    orders
+}
+
+// What a step of two commands comes to whose time has passed at its first poll, how many of them were killed, and how many the pool
+// was given.
+fn built(rt: &impl Wait, alloc: Global, words: &str) -> Result<String, Error> {
+    let calls = Arc::new(alloc, CallLog::new(alloc, 100)?)?;
     let mut system = Script::new(alloc)?;
-    system.polls(&[answer])?;
+    system.note_in(Arc::try_clone(&calls)?);
+    for word in words.split(' ') {
+        system.polls(&[answer_of(word)])?;
+    }
     let mut pool = Pool::new(alloc);
     let mut moments = Vec::new(alloc);
     moments.push(Duration::from_secs(1))?;
     moments.push(Duration::from_secs(9))?;
     let clock = ScriptClock::new(moments);
-    let step: Tree = cmd!(in alloc; "make")?;
+    let make: Tree = cmd!(in alloc; "make")?;
+    let step = make.pipe(&cmd!(in alloc; "tee", "log")?)?;
     let output = build(
         rt,
         &mut system,
@@ -54,20 +83,35 @@ fn built(rt: &impl Wait, alloc: Global, answer: PollAnswer) -> Result<(bool, u64
         &clock,
         &step,
         Duration::from_secs(5),
-    )?;
-    Ok((output.is_none(), pool.given()))
+    );
+    let (killed, given) = (orders(&calls), pool.given());
+    match output {
+        Ok(Some(_)) => Ok(format!(in alloc; "output, {killed} killed, {given} given")?),
+        Ok(None) => Ok(format!(in alloc; "nothing, {killed} killed, {given} given")?),
+        Err(error) => Ok(format!(in alloc; "{error}, {killed} killed, {given} given")?),
+    }
 }
 
-#[test]
-fn a_step_that_runs_on(rt: HostRuntime) -> Result<(), Error> {
-    assert_eq!(rt; built(&rt, rt.alloc(), PollAnswer::Running)?, (true, 1));
-    Ok(())
-}
+/// What two commands answer, and what comes of their step.
+const STEPS: &str = "
+    ends ends => output, 0 killed, 0 given
+    runs runs => nothing, 2 killed, 2 given
+    ends runs => nothing, 1 killed, 2 given
+    fails ends => command [\"make\"] exited with code 1, 0 killed, 2 given
+    ends faults => system: Other, 1 killed, 2 given
+    faults runs => system: Other, 2 killed, 2 given
+    runs faults => system: Other, 2 killed, 2 given";
 
+/// Whatever comes of a step that was started, none of its commands runs on behind it.
 #[test]
-fn a_step_that_ends(rt: HostRuntime) -> Result<(), Error> {
-    let ended = PollAnswer::Ended(ExitStatus::Code(0));
-    assert_eq!(rt; built(&rt, rt.alloc(), ended)?, (false, 0));
+fn steps_with_a_time_limit(rt: HostRuntime) -> Result<(), Fail> {
+    for row in STEPS.trim().lines() {
+        let (words, wanted) = row.trim().split_once(" => ").unwrap_or((row, ""));
+        let found = built(&rt, rt.alloc(), words)?;
+        if found.as_str() != wanted {
+            return Err(Fail::new(format_args!("{words}: {found}, not {wanted}")));
+        }
+    }
     Ok(())
 }
 

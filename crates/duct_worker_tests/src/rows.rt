@@ -67,7 +67,7 @@ fn drains(alloc: Global, table: &str) -> Result<(), Fail> {
 }
 
 /// A writer takes what it takes; an interruption is tried again; a broken pipe ends a feed well; a write of nothing, and any other
-/// error, is the fault.
+/// error, is the fault, with the kind `Other` where a fault has none of its name.
 #[test]
 fn feeds_of_abc(rt: HostRuntime) -> Result<(), Fail> {
     feeds(
@@ -90,12 +90,17 @@ fn feeds_of_abc(rt: HostRuntime) -> Result<(), Fail> {
         Unsupported => Unsupported
         Interrupted OutOfMemory => OutOfMemory
         1 TimedOut => Other a
+        1 WouldBlock 2 => Other a
+        Interrupted WouldBlock Interrupted 3 => Other
+        1 ConnectionReset 2 => Other a
+        2 NotConnected 1 => Other ab
+        UnexpectedEof => Other
         ",
     )
 }
 
 /// A reader gives what it gives; an interruption is tried again; a read of nothing is the end, whatever comes after it; any error
-/// is the fault.
+/// is the fault, as it is for a feed.
 #[test]
 fn drains_of_abc(rt: HostRuntime) -> Result<(), Fail> {
     drains(
@@ -115,6 +120,11 @@ fn drains_of_abc(rt: HostRuntime) -> Result<(), Fail> {
         InvalidInput => InvalidInput
         Unsupported => Unsupported
         TimedOut => Other
+        1 WouldBlock 2 => Other
+        Interrupted WouldBlock Interrupted 3 => Other
+        1 ConnectionReset 2 => Other
+        2 NotConnected 1 => Other
+        3 UnexpectedEof => Other
         ",
     )
 }

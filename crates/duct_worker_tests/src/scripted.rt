@@ -27,6 +27,10 @@ fn step_of(word: &str) -> Step {
         "OutOfMemory" => ErrorKind::OutOfMemory,
         "Interrupted" => ErrorKind::Interrupted,
         "TimedOut" => ErrorKind::TimedOut,
+        "WouldBlock" => ErrorKind::WouldBlock,
+        "ConnectionReset" => ErrorKind::ConnectionReset,
+        "NotConnected" => ErrorKind::NotConnected,
+        "UnexpectedEof" => ErrorKind::UnexpectedEof,
         _ => ErrorKind::Other,
     })
 }
