@@ -1,4 +1,5 @@
-//! Tests of the plans of expressions, and of what each command of an expression finds on its way outwards.
+//! Tests of the plans of expressions, of what each command of an expression finds on its way outwards, and of where in its plan a start
+//! may find no memory.
 #![tactic(auto)]
 
 #[cfg(test)]
@@ -7,6 +8,8 @@ mod asked;
 mod folders;
 #[cfg(test)]
 mod hooks;
+#[cfg(test)]
+mod memory;
 #[cfg(test)]
 mod plans;
 #[cfg(test)]

@@ -1,18 +1,22 @@
-//! Want of memory in starts of the chosen trees: whatever single request of the process is refused, a start answers as with ample
-//! memory, or that there was none; then each end that was got is spent, and each child that was started is the pool's.
+//! Want of memory in starts of chosen trees: whatever single request of the process is refused, a start answers as with ample memory,
+//! or that there was none, before its first request or at a command; then each end that was got is spent, and each child that was started
+//! is the pool's.
 use duct::{Error, Pool, Stream, System, cmd};
-use duct_plain::checker::is_balanced;
+use duct_plain::checker::{is_balanced, trace};
+use duct_plan::items::Item;
 use duct_rows::expressions::Tree;
 use duct_rows::scenes::FIRST;
-use duct_rows::starts::Way;
+use duct_rows::starts::{Way, planned};
 use duct_rows::told::{children_started, counts};
 use duct_script::child::ScriptChild;
 use duct_script::hook::{Change, ScriptHook, Target};
 use duct_script::system::{Script, ScriptEnd};
 use duct_words::came::{Came, is_memory};
 use std::alloc::{AllocError, Global};
+use std::sync::Wait;
 
-/// The trees of `agree` whose hooks refuse nothing, and one whose hook writes a word and a variable.
+/// Trees of each kind of node whose hooks refuse nothing, one whose hook writes a word and a variable, and one with more commands and
+/// inputs than a list has room for at first.
 #[derive(Clone, Copy)]
 enum Chosen {
     Plain,
@@ -26,6 +30,34 @@ enum Chosen {
     Connected,
     Lent,
     Written,
+    Many,
+}
+
+/// How a tree is started.
+#[derive(Clone, Copy)]
+enum Started {
+    Launched,
+    Read,
+    Handle,
+    ReaderHandle,
+}
+
+impl Started {
+    /// By which plan.
+    fn way(self) -> Way {
+        match self {
+            Started::Launched | Started::Handle => Way::Launched,
+            Started::Read | Started::ReaderHandle => Way::Read,
+        }
+    }
+
+    /// Whether what runs is given up, so that the pool has its children.
+    fn is_given_up(self) -> bool {
+        match self {
+            Started::Launched | Started::Read => false,
+            Started::Handle | Started::ReaderHandle => true,
+        }
+    }
 }
 
 /// All of them.
@@ -41,6 +73,7 @@ const ALL: &[Chosen] = &[
     Chosen::Connected,
     Chosen::Lent,
     Chosen::Written,
+    Chosen::Many,
 ];
 
 /// A chosen tree, whose ends are of a system of their own.
@@ -70,7 +103,19 @@ fn made(
         Chosen::Connected => connected(alloc, sys, b),
         Chosen::Lent => lent(sys, a, b),
         Chosen::Written => written(alloc, b),
+        Chosen::Many => many(alloc, a, b),
     }
+}
+
+/// Five commands, the first inside of three inputs.
+fn many(alloc: Global, a: &Tree, b: &Tree) -> Result<Tree, Error> {
+    let first = input(alloc, &input(alloc, &input(alloc, a)?)?)?;
+    let right = a.pipe(&b.pipe(a)?)?;
+    first.pipe(b)?.pipe(&right)
+}
+
+fn input(alloc: Global, tree: &Tree) -> Result<Tree, Error> {
+    tree.stdin_bytes(Vec::from_slice(alloc, b"xyz")?)
 }
 
 fn three(alloc: Global, a: &Tree, b: &Tree) -> Result<Tree, Error> {
@@ -79,8 +124,7 @@ fn three(alloc: Global, a: &Tree, b: &Tree) -> Result<Tree, Error> {
 }
 
 fn with_input(alloc: Global, a: &Tree, b: &Tree) -> Result<Tree, Error> {
-    let input = Vec::from_slice(alloc, b"xyz")?;
-    a.stdin_bytes(input)?.pipe(b)?.stdout_capture()
+    input(alloc, a)?.pipe(b)?.stdout_capture()
 }
 
 fn redirected(a: &Tree, b: &Tree) -> Result<Tree, Error> {
@@ -144,21 +188,34 @@ fn variable(alloc: Global) -> Result<Change, AllocError> {
     Ok(Change::Var(name, String::from_str(alloc, "1")?))
 }
 
-/// Starts an expression, and lets go what runs.
+/// Starts a tree, and lets go what runs.
 fn start(
+    rt: &impl Wait,
     tree: &Tree,
     sys: &mut Script,
     pool: &mut Pool<ScriptChild>,
-    way: Way,
+    started: Started,
 ) -> Result<(), Error> {
-    match way {
-        Way::Launched => drop(tree.launch(sys, pool)?.into_parts()),
-        Way::Read => {
+    match started {
+        Started::Launched => drop(tree.launch(sys, pool)?.into_parts()),
+        Started::Read => {
             let (running, reader) = tree.launch_reader(sys, pool)?;
             drop((running.into_parts(), reader));
         }
+        Started::Handle => tree.start(sys, pool)?.give_up(pool),
+        Started::ReaderHandle => tree.reader(rt, sys, pool)?.give_up(pool),
     }
     Ok(())
+}
+
+/// Whether a start may find no memory behind what it asked: before its first request, or at a command, whose spec, hooks and places
+/// take memory.
+fn may_stop(alloc: Global, sys: &Script, tree: &Tree, way: Way) -> Result<bool, Error> {
+    let asked = trace(alloc, sys.journal())?.len();
+    let plan = planned(alloc, tree, way)?;
+    let next = plan.items.get(asked);
+    let command = matches!(next, Some(Item::Canonicalize(_) | Item::Spawn(_, _)));
+    Ok(asked == 0 || command)
 }
 
 /// What came of a start, by its answer, the ledger of its journal, and what the pool has. All children say that they run.
@@ -166,50 +223,76 @@ fn came_of(
     alloc: Global,
     sys: &Script,
     pool: &Pool<ScriptChild>,
-    answer: Result<(), Error>,
+    given_up: bool,
+    refused: Option<(Error, bool)>,
 ) -> Result<Came, Error> {
     let balanced = is_balanced(alloc, sys.journal())?;
-    let started = children_started(sys.journal());
-    Ok(match answer {
-        Ok(()) => Came::whole_if(balanced && counts(pool) == (0, 0, 0, 0)),
-        Err(error) => {
-            let kept = counts(pool) == (started as usize, started, 0, 0);
-            Came::refused_if(balanced && kept && is_memory(&error))
+    let begun = children_started(sys.journal());
+    let given = counts(pool) == (begun as usize, begun, 0, 0);
+    Ok(match refused {
+        None if given_up => Came::whole_if(balanced && given),
+        None => Came::whole_if(balanced && counts(pool) == (0, 0, 0, 0)),
+        Some((error, stops)) => {
+            Came::refused_if(balanced && given && stops && is_memory(&error))
         }
     })
 }
 
-fn tried(alloc: Global, tree: &Tree, way: Way) -> Result<Came, Error> {
+/// The error of a start, and whether it may stop there.
+fn refused(
+    alloc: Global,
+    sys: &Script,
+    tree: &Tree,
+    way: Way,
+    answer: Result<(), Error>,
+) -> Result<Option<(Error, bool)>, Error> {
+    Ok(match answer {
+        Ok(()) => None,
+        Err(Error::Memory) => Some((Error::Memory, may_stop(alloc, sys, tree, way)?)),
+        Err(error) => Some((error, true)),
+    })
+}
+
+fn tried(rt: &impl Wait, alloc: Global, tree: &Tree, started: Started) -> Result<Came, Error> {
     let mut sys = Script::new(alloc)?;
     let mut pool = Pool::new(alloc);
     sys.skip_numbers_below(FIRST);
-    let answer = start(tree, &mut sys, &mut pool, way);
-    came_of(alloc, &sys, &pool, answer)
+    let answer = start(rt, tree, &mut sys, &mut pool, started);
+    let refused = refused(alloc, &sys, tree, started.way(), answer)?;
+    came_of(alloc, &sys, &pool, started.is_given_up(), refused)
 }
 
-/// What came of both starts of a tree.
-fn both(alloc: Global, chosen: Chosen) -> Result<Came, Error> {
+/// What came of each start of a tree.
+fn each(rt: &impl Wait, alloc: Global, chosen: Chosen) -> Result<Came, Error> {
     let tree = tree(alloc, chosen)?;
-    let launched = Came::of(tried(alloc, &tree, Way::Launched));
-    Ok(launched.then(Came::of(tried(alloc, &tree, Way::Read))))
+    let mut came = Came::Whole;
+    for started in [
+        Started::Launched,
+        Started::Read,
+        Started::Handle,
+        Started::ReaderHandle,
+    ] {
+        came = came.then(Came::of(tried(rt, alloc, &tree, started)));
+    }
+    Ok(came)
 }
 
-/// What came of both starts of each tree.
-fn all(alloc: Global) -> Came {
+/// What came of each start of each tree.
+fn all(rt: &impl Wait, alloc: Global) -> Came {
     let mut came = Came::Whole;
     for chosen in ALL {
-        came = came.then(Came::of(both(alloc, *chosen)));
+        came = came.then(Came::of(each(rt, alloc, *chosen)));
     }
     came
 }
 
 #[test]
 fn memory_of_starts(rt: HostRuntime) {
-    assert!(rt; all(rt.alloc()) != Came::Wrong);
+    assert!(rt; all(&rt, rt.alloc()) != Came::Wrong);
 }
 
-/// With ample memory each is started both ways.
+/// With ample memory each is started each way.
 #[test]
 fn all_memory_is_there(rt: HostRuntime) {
-    assert_eq!(rt; all(rt.alloc()), Came::Whole);
+    assert_eq!(rt; all(&rt, rt.alloc()), Came::Whole);
 }

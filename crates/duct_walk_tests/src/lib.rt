@@ -1,5 +1,5 @@
 //! Tests of starts by a second body, the plain walk: over chosen trees and random ones, with a fault at each entry. Random trees
-//! beside the definitions of a start, too, chosen ones without memory, and what a refused one closes.
+//! beside the definitions of a start, too, and what a refused one closes.
 #![tactic(auto)]
 
 #[cfg(test)]
@@ -12,7 +12,5 @@ mod cases;
 mod closed;
 #[cfg(test)]
 mod follow;
-#[cfg(test)]
-mod memory;
 #[cfg(test)]
 mod waited;
