@@ -2,7 +2,7 @@
 ghost use Rattle.std.specs.Prelude.{◌≡◌};
 
 use crate::bench::started;
-use crate::calls::{Waiting, wait_as};
+use crate::calls::{Waiting, wait, wait_as};
 use duct::unix::HandleExt;
 use duct::{Error, ExitStatus, Handle, Output, Pool, Said, Seen, cmd};
 use duct_rows::expressions::{Tree, written};
@@ -89,14 +89,24 @@ fn spent(rt: &impl Wait, handle: Handle<Script>, pool: &mut Pool<ScriptChild>) -
     }
 }
 
-// Whether a thread that waits is greeted.
-fn is_greeted(rt: &impl Wait, handle: &Handle<Script>) -> bool {
-    greets(handle.wait(rt))
+// Whether a thread that waits so is greeted. No moment passes on its clock.
+fn is_greeted(rt: &impl Wait, alloc: Global, handle: &Handle<Script>, waiting: Waiting) -> bool {
+    let clock = ScriptClock::new(Vec::new(alloc));
+    gives_greeting(wait(rt, handle, &clock, waiting))
 }
 
-// Whether two threads that wait are greeted.
-fn both_greet<R: Wait + Threads + Sync>(rt: &R, handle: &Handle<Script>) -> (bool, bool) {
-    thread::join(rt, || is_greeted(rt, handle), || is_greeted(rt, handle))
+// Whether two threads that wait so are greeted.
+fn both_greet<R: Wait + Threads + Sync>(
+    rt: &R,
+    alloc: Global,
+    handle: &Handle<Script>,
+    waiting: Waiting,
+) -> (bool, bool) {
+    thread::join(
+        rt,
+        || is_greeted(rt, alloc, handle, waiting),
+        || is_greeted(rt, alloc, handle, waiting),
+    )
 }
 
 /// Two threads wait and get one output, and so do a third wait and the one that spends the handle.
@@ -106,7 +116,7 @@ fn two_threads_wait(rt: HostRuntime) -> Result<(), Fail> {
     let gate = Gate::new(alloc)?;
     let mut bench = greeting_bench(alloc, 100, &gate)?;
     let handle = handle_of(alloc, &mut bench, "a stdout_capture")?;
-    let waited = both_greet(&rt, &handle);
+    let waited = both_greet(&rt, alloc, &handle, Waiting::End);
     let spent = spent(&rt, handle, &mut bench.pool);
     assert_eq!(rt; (waited, spent), ((true, true), (true, true)));
     Ok(())
@@ -138,32 +148,47 @@ fn polls_round_order(log: &CallLog) -> (u32, u32) {
     (before, behind)
 }
 
-// Whether two threads that wait are greeted, and whether a third one's kill went well.
+// Whether two threads that wait so are greeted, and whether a third one's kill went well.
 fn greet_and_kill<R: Wait + Threads + Sync>(
     rt: &R,
+    alloc: Global,
     handle: &Handle<Script>,
     gate: &Gate,
+    waiting: Waiting,
 ) -> ((bool, bool), bool) {
     thread::join(
         rt,
-        || both_greet(rt, handle),
+        || both_greet(rt, alloc, handle, waiting),
         || kill_a_wait(rt, handle, gate),
     )
 }
 
-/// A kill passes two threads that wait: they poll before it and after it.
-#[test]
-fn a_kill_passes_two_waits(rt: HostRuntime) -> Result<(), Fail> {
-    let alloc = rt.alloc();
+// Whether a kill passes two threads that wait so: they are greeted, the kill goes well, and they poll before it and after it.
+fn is_passed<R: Wait + Threads + Sync>(
+    rt: &R,
+    alloc: Global,
+    waiting: Waiting,
+) -> Result<bool, Fail> {
     let gate = Gate::new(alloc)?;
     let mut bench = greeting_bench(alloc, 400, &gate)?;
     let handle = handle_of(alloc, &mut bench, "a stdout_capture")?;
     gate.shut();
-    let (waited, killed) = greet_and_kill(&rt, &handle, &gate);
+    let told = greet_and_kill(rt, alloc, &handle, &gate, waiting);
     handle.give_up(&mut bench.pool);
     let (before, behind) = polls_round_order(&bench.calls);
-    let told = (waited, killed, before > 0, behind > 0);
-    assert_eq!(rt; told, ((true, true), true, true, true));
+    Ok(told == ((true, true), true) && before > 0 && behind > 0)
+}
+
+/// A kill passes two threads that wait, to the end or with a deadline.
+#[test]
+fn a_kill_passes_two_waits(rt: HostRuntime) -> Result<(), Fail> {
+    for waiting in [
+        Waiting::End,
+        Waiting::Deadline(Duration::MAX),
+        Waiting::Timeout(Duration::MAX),
+    ] {
+        assert!(rt; is_passed(&rt, rt.alloc(), waiting)?);
+    }
     Ok(())
 }
 

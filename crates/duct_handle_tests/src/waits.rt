@@ -10,6 +10,7 @@ fn ends(rt: HostRuntime) -> Result<(), Fail> {
         a | running | | | | try, give -> nothing. | poll a | 0 | 1 1 0 0
         a stdout_capture | running,code 0 | | done hi | | wait, wait, try, into -> Code(0) out=hi err=. Code(0) out=hi err=. Code(0) out=hi err=. Code(0) out=hi err=. | poll a, poll a | 0 | 0 0 0 0
         a b c d pipe pipe pipe | code 0; code 0; code 0; code 0 | | | | wait, kill, give -> Code(0) out= err=. done. | poll a, poll b, poll c, poll d | 0 | 0 4 4 0
+        a b c d e f pipe pipe pipe pipe pipe | code 0; code 0; code 0; code 0; code 0; code 0 | | | | wait, kill, into -> Code(0) out= err=. done. Code(0) out= err=. | poll a, poll b, poll c, poll d, poll e, poll f | 0 | 0 0 0 0
         a stdin_bytes=p stdin_bytes=q stdout_capture stderr_capture | code 0 | done; done | done x; done y | | wait, kill, into -> Code(0) out=x err=y. done. Code(0) out=x err=y. | poll a | 0 | 0 0 0 0
         a b pipe | running,code 1; code 0 | | | | wait, wait, try, give -> command [\"a\"] exited with code 1. command [\"a\"] exited with code 1. command [\"a\"] exited with code 1. | poll a, poll b, poll a | 0 | 0 2 2 0
         a unchecked b pipe | running,signal 6; code 0 | | | | wait, give -> Signal(6) out= err=. | poll a, poll b, poll a | 0 | 0 2 2 0
@@ -31,6 +32,11 @@ fn faults(rt: HostRuntime) -> Result<(), Fail> {
         a b pipe | Other,NotFound; running,code 0 | | | | wait, give -> system: NotFound. | poll a, poll b, poll a, poll b | 0 | 0 2 1 1
         a b pipe | Other,NotFound; running | | | 0,1s | deadline 1s, give -> system: NotFound. | poll a, poll b, poll a, poll b | 2 | 1 2 0 1
         a b pipe | Other,running; running | | | 0,1s | deadline 1s, give -> nothing. | poll a, poll b, poll a, poll b | 2 | 2 2 0 0
+        a b pipe | running,Other; running | | | 0,1s | deadline 1s, give -> system: Other. | poll a, poll b, poll a, poll b | 2 | 1 2 0 1
+        a b pipe | running,Other; running | | | 0,1s | deadline 1s as, give -> system: Other. | poll a, poll b, poll a, poll b | 2 | 1 2 0 1
+        a b pipe | running,Other; running | | | 0,1s | deadline 1s new, give -> system: Other. | poll a, poll b, poll a, poll b | 2 | 1 2 0 1
+        a b pipe | running,Other; running | | | 0,0,1s | timeout 1s, give -> system: Other. | poll a, poll b, poll a, poll b | 3 | 1 2 0 1
+        a b pipe | running,Other; running | | | 0,0,1s | timeout 1s as, give -> system: Other. | poll a, poll b, poll a, poll b | 3 | 1 2 0 1
         a b pipe | Other; running | | | 0 | deadline 0, give -> system: Other. | poll a, poll b | 1 | 1 2 0 1
         a b pipe | Other; running | | | 0,1s | deadline 1s new, give -> system: Other. | poll a, poll b, poll a, poll b | 2 | 1 2 0 1
         a | NotFound | | | 0 | deadline 0, timeout 0, give -> system: NotFound. system: NotFound. | poll a, poll a | 1 | 0 1 0 1

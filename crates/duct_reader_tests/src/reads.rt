@@ -15,6 +15,7 @@ fn reads(rt: HostRuntime) -> Result<(), Fail> {
         a | running,running,code 0 | | | abcde | read 3, read 3, read 3, try -> 3 abc. 2 de. 0. Code(0) out= err=. | 4 0 | 0 1 1 0
         a b pipe | code 0; signal 9 | | | a,Interrupted,b | read 4, read 4, read 4 -> 1 a. 1 b. command [\"b\"] exited with code <signal 9>. | 4 0 | 0 2 2 0
         a | Other | | | a | read 4, read 4 -> 1 a. system: Other. | 2 0 | 0 1 0 1
+        a | Other,code 0 | | | | read 4, read 4 -> system: Other. 0. | 3 0 | 0 1 1 0
         a stderr_capture | code 0 | | running,done e | | read 4, try -> 0. Code(0) out= err=e. | 2 0 | 0 1 1 0";
     rows(&rt, rt.alloc(), table)
 }
