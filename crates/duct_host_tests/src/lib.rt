@@ -20,6 +20,8 @@ mod held;
 #[cfg(test)]
 mod leftovers;
 #[cfg(test)]
+mod memory;
+#[cfg(test)]
 mod odd;
 #[cfg(test)]
 mod rare;

@@ -2,8 +2,9 @@
 //! asks the other.
 //!
 //! Commas part the answers, and each question takes the next one: a start, a poll, a wait and a kill, of children and of the shell
-//! alike. `ok` is a process that starts, goes on, or takes a kill. `status 256` is an end, as the machine writes it. Another word is
-//! the kind of a fault.
+//! alike, a pipe, a duplicate of a stream of the parent's, and what is asked of `/dev/zero`. `ok` is a process that starts, goes on, or
+//! takes a kill, and else has the other runtime asked. `status 256` is an end, as the machine writes it. Another word is the kind of a
+//! fault.
 ghost use Rattle.std.specs.Io.{WritesAtMost};
 
 use crate::support::same;
@@ -84,7 +85,7 @@ impl<'a> OpenProcess for Script<'a> {
 }
 
 /// A runtime with such answers, and with entries of an environment, each with a NUL behind it. A shell that would get the parent's
-/// variables isn't started.
+/// variables isn't started, nor is one whose streams aren't all null.
 #[derive(Clone, Drop)]
 pub struct Odd<'a, R> {
     real: R,
@@ -114,6 +115,14 @@ impl<'a, R> Odd<'a, R> {
         }
     }
 
+    /// Takes an answer where `/dev/zero` is asked for.
+    fn named(&self, path: &str) -> io::Result<()> {
+        if path == "/dev/zero" {
+            self.script.next()?;
+        }
+        Ok(())
+    }
+
     /// Fails unless as many questions were asked as there are answers.
     pub fn is_spent(&self) -> Result<(), Fail> {
         let given = self.script.given.load(Ordering::SeqCst);
@@ -121,17 +130,44 @@ impl<'a, R> Odd<'a, R> {
     }
 }
 
-impl<'a, R> Processes for Odd<'a, R> {
+/// Whether all that is written to each of these streams is gone.
+fn are_null<R: Processes, B: Allocator + Clone>(
+    rt: &R,
+    alloc: &B,
+    streams: [&Stdio; 3],
+) -> io::Result<bool> {
+    let [stdin, stdout, stderr] = streams;
+    let mut looks = Command::new(alloc.clone()?, "/usr/bin/test")?;
+    looks.arg("/proc/self/fd/1")?.arg("-ef")?.arg("/dev/null")?;
+    looks.env_clear();
+    Ok(is_null(rt, &looks, stdin)? && is_null(rt, &looks, stdout)? && is_null(rt, &looks, stderr)?)
+}
+
+/// Whether a program that has this stream for its stdout sees there what it looks for.
+fn is_null<R: Processes, B: Allocator + Clone>(
+    rt: &R,
+    looks: &Command<B>,
+    stream: &Stdio,
+) -> io::Result<bool> {
+    let null = Stdio::null();
+    let mut looking = rt.spawn(looks, &null, stream, &null)?;
+    Ok(looking.wait()?.success())
+}
+
+impl<'a, R: Processes> Processes for Odd<'a, R> {
     type Started = Script<'a>;
 
     fn spawn<B: Allocator + Clone>(
         &self,
         command: &Command<B>,
-        _stdin: &Stdio,
-        _stdout: &Stdio,
-        _stderr: &Stdio,
+        stdin: &Stdio,
+        stdout: &Stdio,
+        stderr: &Stdio,
     ) -> io::Result<Child<Script<'a>>> {
-        if command.get_program() == "/bin/sh" && !command.get_env_clear() {
+        let is_apart = command.get_program() != "/bin/sh"
+            || command.get_env_clear()
+                && are_null(&self.real, command.allocator(), [stdin, stdout, stderr])?;
+        if !is_apart {
             return Err(io::Error::from(ErrorKind::InvalidInput));
         }
         self.script.next()?;
@@ -153,10 +189,12 @@ impl<'a, R: AllocGlobal> Alloc for Odd<'a, R> {
 
 impl<'a, R: Parents> Parents for Odd<'a, R> {
     fn duplicate_stdout(&self) -> io::Result<OwnedFd> {
+        self.script.next()?;
         self.real.duplicate_stdout()
     }
 
     fn duplicate_stderr(&self) -> io::Result<OwnedFd> {
+        self.script.next()?;
         self.real.duplicate_stderr()
     }
 
@@ -213,6 +251,7 @@ impl<'a, R: Files> Files for Odd<'a, R> {
     type Dir = R::Dir;
 
     fn open_file(&self, how: &OpenOptions, path: &str) -> io::Result<R::File> {
+        self.named(path)?;
         self.real.open_file(how, path)
     }
 
@@ -253,10 +292,12 @@ impl<'a, R: Files> Files for Odd<'a, R> {
     }
 
     fn canonicalize<B: Allocator>(&self, alloc: B, path: &str) -> io::Result<PathBuf<B>> {
+        self.named(path)?;
         self.real.canonicalize(alloc, path)
     }
 
     fn pipe(&self) -> io::Result<(PipeReader, PipeWriter)> {
+        self.script.next()?;
         self.real.pipe()
     }
 }

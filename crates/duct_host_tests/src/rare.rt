@@ -70,7 +70,7 @@ fn polls(rt: HostRuntime) -> Result<(), Fail> {
 }
 
 /// What a signal interrupts is asked again: a start, a poll, a kill, the question before a signal, the start of the shell and the wait
-/// for it.
+/// for it; a file, a pipe, a stream of the parent's and a canonical name.
 #[test]
 fn interrupted_questions(rt: HostRuntime) -> Result<(), Fail> {
     rows(
@@ -84,6 +84,36 @@ fn interrupted_questions(rt: HostRuntime) -> Result<(), Fail> {
         poll
         journal
         says 1; None; (); (); Some(Code(1)); Spawn [Null, Null, Null] Ok(1);
+
+        child Interrupted, ok, Interrupted, Interrupted, ok
+        open_read /dev/zero
+        open_read /dev/zero
+        says 1; 2;
+
+        child Interrupted, ok, Interrupted, Interrupted, ok
+        create /dev/zero
+        create /dev/zero
+        says 1; 2;
+
+        child Interrupted, ok, Interrupted, Interrupted, ok
+        pipe
+        pipe
+        says (1, 2); (3, 4);
+
+        child Interrupted, ok, Interrupted, Interrupted, ok
+        parent out
+        parent out
+        says 1; 2;
+
+        child Interrupted, ok, Interrupted, Interrupted, ok
+        parent err
+        parent err
+        says 1; 2;
+
+        child Interrupted, ok, Interrupted, Interrupted, ok
+        canonicalize /dev/zero
+        canonicalize /dev/zero
+        says "/dev/zero"; "/dev/zero";
         "#,
     )
 }
@@ -111,7 +141,7 @@ fn refusals(rt: HostRuntime) -> Result<(), Fail> {
         signal 15
         says 1; NotFound; Other; Other; PermissionDenied; ();
 
-        child WouldBlock
+        child ok, WouldBlock
         pipe
         spawn 1 2 null (odd)
         opened
@@ -141,7 +171,7 @@ fn expressions(rt: HostRuntime) -> Result<(), Fail> {
         pool
         says system: PermissionDenied; system: Other; Code(0); (0, 1, 1, 0);
 
-        expression ok, ok, PermissionDenied, ok, status 0, status 0
+        expression ok, ok, ok, PermissionDenied, ok, status 0, status 0
         command odd
         command odd
         pipe

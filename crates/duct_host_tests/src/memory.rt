@@ -1,0 +1,148 @@
+//! Want of memory: whatever single request of the process is refused, each test of `memory_` finds what there is with ample memory, or the
+//! fault `OutOfMemory`, and then a file is as it was, a child goes on, and no descriptor stays open.
+use crate::odd::Odd;
+use crate::support::{Real, command};
+use duct::{Error, Worker};
+use duct_base::system::{Child, ExitStatus, Fault, Job, Kind, Stdio, System};
+use duct_host::host::Host;
+use duct_words::came::Came;
+use duct_words::waits::heard;
+use std::os::fd::AsRawFd;
+use std::rt::{Clock, Files};
+use std::sync::Arc;
+use std::sync::atomic::{AtomicUsize, Ordering};
+use std::test::Fail;
+use std::{fs, io};
+
+/// The path of a file that has a text.
+fn written<R: Real>(rt: &R) -> io::Result<String> {
+    let own = fs::canonicalize(rt, "/proc/self")?.into_string();
+    let path = own.replace(rt.alloc(), "/proc/", "/tmp/duct_host-memory-")?;
+    fs::write(rt, path.as_str(), "text")?;
+    Ok(path)
+}
+
+/// A new file is empty, and where it is refused the old one has its text.
+fn created<R: Real>(rt: &R) -> Result<Came, Error> {
+    let path = written(rt).map_err(Fault::from)?;
+    let answer = Host::new(rt.clone()?, rt.alloc()).create(path.as_str());
+    let length = fs::metadata(rt, path.as_str()).map(|found| found.len());
+    fs::remove_file(rt, path.as_str()).map_err(Fault::from)?;
+    Ok(match (answer, length) {
+        (Ok(_), Ok(length)) => Came::whole_if(length == 0),
+        (Err(fault), Ok(length)) => Came::refused_if(
+            fault.kind == Kind::OutOfMemory && length == 4,
+        ),
+        _ => Came::Wrong,
+    })
+}
+
+/// A kill of a child that goes on. One that is refused is not asked of the machine.
+fn killed<R: Real>(rt: &R) -> Result<Came, Error> {
+    let given = AtomicUsize::new(0);
+    let odd = Odd::new(rt.clone()?, "ok, ok, ok, status 9", &given);
+    let spec = command(rt.alloc(), Some("odd"), "", "")?;
+    let null = [Stdio::Null, Stdio::Null, Stdio::Null];
+    let mut child = Host::new(odd, rt.alloc()).spawn(spec, null)?;
+    Ok(match child.kill() {
+        Ok(()) => Came::whole_if(given.load(Ordering::SeqCst) == 2),
+        Err(fault) => Came::refused_if(fault.kind == Kind::OutOfMemory && is_killed(&mut child)),
+    })
+}
+
+/// Whether a child goes on, and then a kill ends it.
+fn is_killed(child: &mut impl Child) -> bool {
+    child.poll() == Ok(None)
+        && child.kill() == Ok(())
+        && child.poll() == Ok(Some(ExitStatus::Signal(9)))
+}
+
+/// The descriptors that a pipe gets.
+fn free<R: Files>(rt: &R) -> Result<(i32, i32), Error> {
+    let (read, write) = io::pipe(rt).map_err(Fault::from)?;
+    Ok((read.as_raw_fd(), write.as_raw_fd()))
+}
+
+/// A start that gets both ends of a pipe.
+fn spawned<R: Real>(rt: &R) -> Result<Came, Error> {
+    let spec = command(rt.alloc(), Some("/bin/true"), "", "")?;
+    let mut host = Host::new(rt.clone()?, rt.alloc());
+    let before = free(rt)?;
+    let (read, write) = host.pipe()?;
+    let answer = host.spawn(spec, [Stdio::End(read), Stdio::End(write), Stdio::Null]);
+    let are_closed = free(rt)? == before;
+    Ok(match answer {
+        Ok(_) => Came::whole_if(are_closed),
+        Err(fault) => Came::refused_if(fault.kind == Kind::OutOfMemory && are_closed),
+    })
+}
+
+/// A worker that writes nothing.
+fn feeding<R: Real>(rt: &R) -> Result<Worker<()>, Error> {
+    let alloc = rt.alloc();
+    let bytes = Arc::new(alloc, Vec::new(alloc))?;
+    let mut host = Host::new(rt.clone()?, alloc);
+    let (_read, write) = host.pipe()?;
+    Ok(host.start_feed(write, bytes)?)
+}
+
+/// A worker that finds nothing to read.
+fn draining<R: Real>(rt: &R) -> Result<Worker<Arc<Vec<u8>>>, Error> {
+    let mut host = Host::new(rt.clone()?, rt.alloc());
+    let (read, write) = host.pipe()?;
+    drop(write);
+    Ok(host.start_drain(read)?)
+}
+
+/// What a worker comes to.
+fn worked<J: Job + Drop>(rt: &impl Clock, started: Result<J, Error>) -> Result<Came, Fail> {
+    let mut worker = match started {
+        Ok(worker) => worker,
+        Err(error) => return Ok(Came::of(Err(error))),
+    };
+    match heard(rt, &mut worker)? {
+        Ok(_) => Ok(Came::Whole),
+        Err(fault) => Ok(Came::of(Err(Error::System(fault)))),
+    }
+}
+
+fn workers<R: Real>(rt: &R) -> Result<Came, Fail> {
+    let fed = worked(rt, feeding(rt))?;
+    Ok(fed.then(worked(rt, draining(rt))?))
+}
+
+#[test]
+fn memory_of_a_create(rt: HostRuntime) {
+    assert_ne!(rt; Came::of(created(&rt)), Came::Wrong);
+}
+
+#[test]
+fn memory_of_a_kill(rt: HostRuntime) {
+    assert_ne!(rt; Came::of(killed(&rt)), Came::Wrong);
+}
+
+#[test]
+fn memory_of_a_spawn(rt: HostRuntime) {
+    assert_ne!(rt; Came::of(spawned(&rt)), Came::Wrong);
+}
+
+/// A feed and a drain.
+#[test]
+fn memory_of_workers(rt: HostRuntime) -> Result<(), Fail> {
+    let came = workers(&rt)?;
+    assert_ne!(rt; came, Came::Wrong);
+    Ok(())
+}
+
+/// Whether no request was refused.
+#[test]
+fn all_memory_is_there(rt: HostRuntime) -> Result<(), Fail> {
+    let came = (
+        Came::of(created(&rt)),
+        Came::of(killed(&rt)),
+        Came::of(spawned(&rt)),
+        workers(&rt)?,
+    );
+    assert_eq!(rt; came, (Came::Whole, Came::Whole, Came::Whole, Came::Whole));
+    Ok(())
+}
