@@ -3,7 +3,7 @@
 ghost use Rattle.std.specs.Prelude.{◌≡◌};
 
 use duct::unix::HandleExt;
-use duct::{Error, Handle, Output, Seen, System};
+use duct::{Clock, Error, Handle, Output, Seen, System};
 use duct_rows::scenes::Bench;
 use duct_rows::told::program;
 use duct_rows::workers::push_polled;
@@ -112,10 +112,10 @@ pub fn duration(text: &str) -> Result<Duration, Fail> {
 }
 
 /// A wait with a token of its own.
-pub fn wait(
+pub fn wait<C: Clock>(
     rt: &impl Wait,
     handle: &Handle<Script>,
-    clock: &ScriptClock,
+    clock: &C,
     waiting: Waiting,
 ) -> Waited {
     match waiting {

@@ -4,7 +4,7 @@ ghost use Rattle.std.specs.Prelude.{◌≡◌};
 use crate::bench::started;
 use crate::calls::{Waiting, wait, wait_as};
 use duct::unix::HandleExt;
-use duct::{Error, ExitStatus, Handle, Output, Pool, Said, Seen, cmd};
+use duct::{Clock, Error, ExitStatus, Handle, Output, Pool, Said, Seen, cmd};
 use duct_rows::expressions::{Tree, written};
 use duct_rows::scenes::{Bench, Scene, bench_of};
 use duct_rows::told::counts;
@@ -89,23 +89,33 @@ fn spent(rt: &impl Wait, handle: Handle<Script>, pool: &mut Pool<ScriptChild>) -
     }
 }
 
-// Whether a thread that waits so is greeted. No moment passes on its clock.
-fn is_greeted(rt: &impl Wait, alloc: Global, handle: &Handle<Script>, waiting: Waiting) -> bool {
-    let clock = ScriptClock::new(Vec::new(alloc));
-    gives_greeting(wait(rt, handle, &clock, waiting))
+/// A clock on which no moment passes.
+#[derive(Drop)]
+struct Still;
+
+impl Clock for Still {
+    ghost may_show = { λ _ _. Unit {0} };
+
+    fn now(&self) -> Duration {
+        Duration::ZERO
+    }
+}
+
+// Whether a thread that waits so is greeted.
+fn is_greeted(rt: &impl Wait, handle: &Handle<Script>, waiting: Waiting) -> bool {
+    gives_greeting(wait(rt, handle, &Still, waiting))
 }
 
 // Whether two threads that wait so are greeted.
 fn both_greet<R: Wait + Threads + Sync>(
     rt: &R,
-    alloc: Global,
     handle: &Handle<Script>,
     waiting: Waiting,
 ) -> (bool, bool) {
     thread::join(
         rt,
-        || is_greeted(rt, alloc, handle, waiting),
-        || is_greeted(rt, alloc, handle, waiting),
+        || is_greeted(rt, handle, waiting),
+        || is_greeted(rt, handle, waiting),
     )
 }
 
@@ -116,7 +126,7 @@ fn two_threads_wait(rt: HostRuntime) -> Result<(), Fail> {
     let gate = Gate::new(alloc)?;
     let mut bench = greeting_bench(alloc, 100, &gate)?;
     let handle = handle_of(alloc, &mut bench, "a stdout_capture")?;
-    let waited = both_greet(&rt, alloc, &handle, Waiting::End);
+    let waited = both_greet(&rt, &handle, Waiting::End);
     let spent = spent(&rt, handle, &mut bench.pool);
     assert_eq!(rt; (waited, spent), ((true, true), (true, true)));
     Ok(())
@@ -151,14 +161,13 @@ fn polls_round_order(log: &CallLog) -> (u32, u32) {
 // Whether two threads that wait so are greeted, and whether a third one's kill went well.
 fn greet_and_kill<R: Wait + Threads + Sync>(
     rt: &R,
-    alloc: Global,
     handle: &Handle<Script>,
     gate: &Gate,
     waiting: Waiting,
 ) -> ((bool, bool), bool) {
     thread::join(
         rt,
-        || both_greet(rt, alloc, handle, waiting),
+        || both_greet(rt, handle, waiting),
         || kill_a_wait(rt, handle, gate),
     )
 }
@@ -173,7 +182,7 @@ fn is_passed<R: Wait + Threads + Sync>(
     let mut bench = greeting_bench(alloc, 400, &gate)?;
     let handle = handle_of(alloc, &mut bench, "a stdout_capture")?;
     gate.shut();
-    let told = greet_and_kill(rt, alloc, &handle, &gate, waiting);
+    let told = greet_and_kill(rt, &handle, &gate, waiting);
     handle.give_up(&mut bench.pool);
     let (before, behind) = polls_round_order(&bench.calls);
     Ok(told == ((true, true), true) && before > 0 && behind > 0)
