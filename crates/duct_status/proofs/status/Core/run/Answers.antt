@@ -1,4 +1,5 @@
-use Rattle.std.proofs.Common.{◌∙◌}
+use Rattle.std.proofs.Common.{◌∙◌, arith}
+use Rattle.std.proofs.lemmas.Grind.{common_steps}
 use Rattle.duct_status.specs.ShapeView.{shape_view}
 use Rattle.duct_status.specs.CoreView.{shape_in, latest_in, standing_in}
 use Rattle.duct_status.proofs.Ran.{ran_none, ran_next}
@@ -19,3 +20,9 @@ loop-event-preserved c =
       shape = c.step.ensures.shape ∙ l.invariant.shape;
       ran = rw c.in_ok-push.ensures.items (ran_next (shape_view c.args.shape) (shape_in l.core) c.args.drains (latest_in l.core) (latest_in c.step.new.self) (standing_in l.core) (standing_in c.step.new.self) c.args.events.now l.event-index c.event-item.result l.replies.items c.in_ok-event.event c.step.result c.loop-event-test.true c.event-item.is l.invariant.shape c.in_ok-event.ensures l.invariant.ran c.step.ensures.words c.step.ensures.reply c.step.ensures.repeats c.step.ensures.standing);
     }
+
+pub returns-clause-replies : goal.returns-clause-replies
+returns-clause-replies c = grind (arith, common_steps)
+
+pub returns-clause-repeated : goal.returns-clause-repeated
+returns-clause-repeated c = grind (arith, common_steps)
