@@ -2,7 +2,7 @@
 use Rattle.std.specs.Prelude.{ℕ, IfSome, Ok, Err, Some, None}
 use Rattle.std.specs.Option.{option_map}
 use Rattle.std.specs.declared.option.Option.{Option}
-use Rattle.std.proofs.Common.{◌≡◌, ap, subst, sym, ◌∙◌}
+use Rattle.std.proofs.Common.{◌≡◌, ap, refl, subst, sym, ◌∙◌}
 use mathlib.Core.Logic.{∥∥₁_map}
 use Rattle.duct_system.specs.Child as child
 use Rattle.duct_system.specs.declared.system.Said.{Said}
@@ -102,3 +102,30 @@ module _ (answer : ℕ → child.Answer → Type 0) (feed : ℕ → Said (Unit {
       → Waited answer feed drain handle (record { cell = before; known = option_map view old }) (record { cell = cell; known = option_map view new }) (Err e)
   refused before cell old new e none same told fault =
       unknown before cell old new (Err e) none same told (λ is. absurd (cc)) (unended (record { cell = cell; known = option_map view new }) e fault)
+
+  -- a wait by a token that knows nothing and learns nothing
+  pub still_unknown : (seen : SeenView) (polled : Polled) → seen.known ≡ None
+      → seen.cell ≡ handle.cell
+      → IsAnswer answer feed drain (shape_view handle.shape) handle.numbers polled
+      → (polled ≡ Ok None → OneRuns answer feed drain handle.numbers)
+      → KnowsIfEnded handle seen polled → Waited answer feed drain handle seen seen polled
+  still_unknown seen polled none same told pending knows = record {
+    cell = same;
+    told = told;
+    pending = pending;
+    knows = knows;
+    kept = subst (λ o. IfSome o (λ known. seen.known ≡ Some known)) (sym none) tt;
+    again = subst (λ o. IfSome o (λ known. GivesAgain handle known polled)) (sym none) tt;
+  }
+
+  pub still_refused : (seen : SeenView) (e : Error) → seen.known ≡ None → seen.cell ≡ handle.cell
+      → IsAnswer answer feed drain (shape_view handle.shape) handle.numbers (Err e)
+      → IsNoEnding e → Waited answer feed drain handle seen seen (Err e)
+  still_refused seen e none same told fault =
+      still_unknown seen (Err e) none same told (λ is. absurd (cc)) (unended seen e fault)
+
+-- nothing is known within where nothing is seen
+pub none_within : {X : Type 0} (view : X → PublishedView) (o : Option X)
+    → option_map view o ≡ None → o ≡ None
+none_within view None is = refl
+none_within view (Some x) is = absurd (cc)

@@ -1,5 +1,5 @@
 //! The handle: a lock round what runs, and beside it the shape, the numbers, the ids and the answer.
-ghost use Rattle.std.specs.Prelude.{◌≡◌, IfSome, Ok, Some, None};
+ghost use Rattle.std.specs.Prelude.{◌≡◌, IfNone, IfSome, Ok, Some, None};
 ghost use Rattle.duct_status.specs.ShapeView.{shape_view};
 ghost use Rattle.duct_running.specs.Answered.{IsAnswer};
 ghost use Rattle.duct_running.specs.NumbersView.{numbers_view};
@@ -145,17 +145,44 @@ impl<S: System> Handle<S> {
         ensures { Waited S.Child.may_answer S.Feed.may_say S.Drain.may_say self.now
             seen.old seen.new result }
     {
-        if let Some(published) = self.cell.get_as(&mut seen.note) {
-            seen.knows = true;
-            return self.share(published);
+        if let Some(answer) = self.recall(seen) {
+            return answer;
         }
         let mut guard = self.lock.lock(rt);
+        if let Some(answer) = self.recall(seen) {
+            return answer;
+        }
+        self.poll_locked(&mut *guard, seen, busy)
+    }
+
+    // The answer, where it is published already.
+    fn recall(&self, seen: &mut Seen<S>) -> Option<Result<Option<Arc<Output>>, Error>>
+        requires { seen.old.cell ≡ self.now.cell }
+        ensures known { IfSome result (Waited S.Child.may_answer S.Feed.may_say S.Drain.may_say
+            self.now seen.old seen.new) }
+        ensures unknown { IfNone result ((seen.old.known ≡ None) × (seen.new ≡ seen.old)) }
+    {
         if let Some(published) = self.cell.get_as(&mut seen.note) {
             seen.knows = true;
-            return self.share(published);
+            return Some(self.share(published));
         }
-        let looked = look(&mut *guard, &self.shape, &self.numbers);
-        *busy = guard.running.is_busy();
+        None
+    }
+
+    // Polls what stands in the lock, and publishes how it ended.
+    fn poll_locked(
+        &self,
+        locked: &mut Locked<S>,
+        seen: &mut Seen<S>,
+        busy: &mut bool,
+    ) -> Result<Option<Arc<Output>>, Error>
+        requires cell { seen.old.cell ≡ self.now.cell }
+        requires unknown { seen.old.known ≡ None }
+        ensures { Waited S.Child.may_answer S.Feed.may_say S.Drain.may_say self.now
+            seen.old seen.new result }
+    {
+        let looked = look(locked, &self.shape, &self.numbers);
+        *busy = locked.running.is_busy();
         let Some(published) = looked? else {
             return Ok(None);
         };

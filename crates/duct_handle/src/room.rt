@@ -28,6 +28,28 @@ pub struct HandleRoom<S: System> {
     pub spare: Box<Published<S>>,
 }
 
+// Empty lists for the numbers of what has this shape, twice, and for its ids.
+fn lists(
+    alloc: Global,
+    shape: &Shape,
+    commands: usize,
+    inputs: usize,
+) -> Result<(Numbers, Numbers, Vec<u32>), Error>
+    requires commands { commands ≡ command_count (shape_view shape.now) }
+    requires inputs { inputs ≡ input_count (shape_view shape.now) }
+    ensures numbers { IfOk result (λ made. HaveRoom (shape_view shape.now) made.0) }
+    ensures spare { IfOk result (λ made. HaveRoom (shape_view shape.now) made.1) }
+    ensures empty { IfOk result (λ made. made.2.items ≡ []) }
+    ensures ids { IfOk result
+        (λ made. command_count (shape_view shape.now) ≤ vec_capacity made.2) }
+    ensures memory { IsOkUnless result Error.Memory }
+{
+    let numbers = Numbers::with_room(alloc, commands, inputs)?;
+    let spare = Numbers::with_room(alloc, commands, inputs)?;
+    let ids = Vec::with_capacity(alloc, commands)?;
+    Ok((numbers, spare, ids))
+}
+
 /// Room for a handle of a tree with so many commands and inputs. Refused, by `Error::Memory`, only for want of memory.
 pub fn handle_room<S: System>(
     alloc: Global,
@@ -46,15 +68,14 @@ pub fn handle_room<S: System>(
     ensures silent { IfOk result (λ room. room.spare.value.answer ≡ None) }
     ensures memory { IsOkUnless result Error.Memory }
 {
+    let (numbers, spare, ids) = lists(alloc, &shape, commands, inputs)?;
     let published = Published {
         shape: again,
-        numbers: Numbers::with_room(alloc, commands, inputs)?,
+        numbers: spare,
         answer: None,
         of: PhantomData,
     };
     let spare = Box::new(alloc, published)?;
-    let numbers = Numbers::with_room(alloc, commands, inputs)?;
-    let ids = Vec::with_capacity(alloc, commands)?;
     Ok(HandleRoom {
         shape,
         numbers,

@@ -1,5 +1,5 @@
 //! The waits of a handle. A wait polls again and again, with pauses in between, and holds the lock for no more than a poll.
-ghost use Rattle.std.specs.Prelude.{◌≡◌, ◌⊎◌, is_some, true, Ok, Err, None};
+ghost use Rattle.std.specs.Prelude.{◌≡◌, ◌⊎◌, is_some, true, IfSome, Ok, Err, Some, None};
 ghost use Rattle.duct_status.specs.ShapeView.{shape_view};
 ghost use Rattle.duct_running.specs.Answered.{IsAnswer};
 ghost use Rattle.duct_running.specs.Told.{OneRuns};
@@ -60,14 +60,34 @@ impl<S: System> Handle<S> {
     {
         let mut pause = Pause::new();
         for _ in rt.forever() {
-            let mut busy = false;
-            let polled = self.poll_as(rt, seen, &mut busy);
-            if !waits_on(&polled, busy) || moment <= clock.now() {
+            if let Some(polled) = self.poll_until(rt, clock, moment, seen) {
                 return polled;
             }
             pause.rest(rt);
         }
         unreachable!()
+    }
+
+    // One poll of a wait until this moment. It returns nothing where the wait goes on.
+    fn poll_until<C: Clock>(
+        &self,
+        rt: &impl Wait,
+        clock: &C,
+        moment: Duration,
+        seen: &mut Seen<S>,
+    ) -> Option<Result<Option<Arc<Output>>, Error>>
+        requires { seen.old.cell ≡ self.now.cell }
+        ensures ends { IfSome result (Waited S.Child.may_answer S.Feed.may_say S.Drain.may_say
+            self.now seen.old seen.new) }
+        ensures cell { seen.new.cell ≡ self.now.cell }
+        ensures kept { IfSome seen.old.known (λ known. seen.new.known ≡ Some known) }
+    {
+        let mut busy = false;
+        let polled = self.poll_as(rt, seen, &mut busy);
+        if !waits_on(&polled, busy) || moment <= clock.now() {
+            return Some(polled);
+        }
+        None
     }
 
     /// Waits as `wait_deadline_as` does, with a token of its own.

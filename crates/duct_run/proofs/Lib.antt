@@ -3,6 +3,7 @@ pub mod Gathering
 pub mod GivenUp
 pub mod Made
 pub mod New
+pub mod OutputRead
 pub mod Outwards
 pub mod Pushed
 pub mod Saying

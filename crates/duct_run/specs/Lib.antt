@@ -5,6 +5,7 @@ pub mod HeldEnds
 pub mod HeldView
 pub mod Made
 pub mod NameRefused
+pub mod OutputRead
 pub mod Places
 pub mod ScopeView
 pub mod StreamsView

@@ -2,11 +2,14 @@
 use Rattle.std.specs.Prelude.{ℕ, List, ◌≡◌, string_bytes, Some, None}
 use Rattle.std.specs.declared.option.Option.{Option}
 use Rattle.std.specs.declared.string.String.{String}
+use Rattle.duct_system.specs.Journal.{JournalView}
 use Rattle.duct_system.specs.SpecView.{SpecView, Vars, AreOrdered, variable_in, port_of}
 use Rattle.duct_system.specs.declared.spec.Port.{Port}
 use Rattle.duct_system.specs.declared.spec.Stream.{Stream}
 use Rattle.duct_start.specs.Actions.{Scope, Three, port_in}
 use Rattle.duct_start.specs.Asked.{with_program}
+use Rattle.duct_start.specs.Chain.{Allows}
+use Rattle.duct_start.specs.Commands.{Names}
 use Rattle.duct_start.specs.Found.{variable}
 use Rattle.duct_start.specs.Plan.{program_of}
 
@@ -24,3 +27,11 @@ pub record IsMade {E H : Type 0} (pairs : Vars) (program : List ℕ) (scope : Sc
   pub vars_are : (name : List ℕ) → variable_in name spec.vars ≡ variable pairs scope.changes name
   pub vars_ordered : AreOrdered spec.vars
   pub ports_are : (stream : Stream) → port_of stream spec ≡ port_in ports stream
+
+-- the spec is made with the name that was found for the program, where one was asked
+pub record IsPrepared {E H : Type 0} (allows : Allows H) (number_of : E → ℕ) (pairs : Vars)
+    (scope : Scope E H) (words : List (List ℕ)) (ports : Three Port) (now next : JournalView)
+    (spec : SpecView) : Type 0 where
+  pub program : List ℕ
+  pub names : Names {E = E} {H = H} allows number_of scope words now next program
+  pub made : IsMade pairs program scope words ports spec

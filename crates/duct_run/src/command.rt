@@ -5,13 +5,13 @@ ghost use Rattle.duct_system.specs.SpecView.{pair_text};
 ghost use Rattle.duct_system.specs.Streams.{end_of, stream_of};
 ghost use Rattle.duct_start.specs.Actions as action;
 ghost use Rattle.duct_start.specs.Actions.{left_by, less, many};
-ghost use Rattle.duct_start.specs.Commands.{Names, handed, taken, taken_by};
-ghost use Rattle.duct_start.specs.Holdings.{ends};
+ghost use Rattle.duct_start.specs.Commands.{Names, RefusedSaying, handed, taken, taken_by};
+ghost use Rattle.duct_start.specs.Holdings.{Holdings, ends};
 ghost use Rattle.duct_start.specs.Listed.{AreOutwards, scope_in};
 ghost use Rattle.duct_start.specs.Plan.{program_of};
 ghost use Rattle.duct_run.specs.ActionView.{ports_view};
 ghost use Rattle.duct_run.specs.HeldView.{AreNew, HasRoom, HasSameWorkers, SpawnGoes, SpawnRefused, held_view, stack_view};
-ghost use Rattle.duct_run.specs.Made.{program_text};
+ghost use Rattle.duct_run.specs.Made.{IsPrepared, program_text};
 ghost use Rattle.duct_run.specs.NameRefused.{NameRefused};
 ghost use Rattle.duct_run.specs.ScopeView.{scopes_view};
 ghost use Rattle.duct_run.specs.StreamsView.{streams_view};
@@ -23,9 +23,9 @@ use crate::held::{Held, top};
 use crate::scope::Scope;
 use crate::streams::Streams;
 use duct_base::exe::asks_canonical;
-use duct_base::pool::{Place, place_new, seat_new};
+use duct_base::pool::{Place, Seat, place_new, seat_new};
 use duct_system::error::Error;
-use duct_system::spec::{Hook, Port};
+use duct_system::spec::{CommandSpec, Hook, Port};
 use duct_system::system::{Numbered, Stdio, System};
 
 // The program of some words.
@@ -123,6 +123,34 @@ fn put_all<E: Numbered>(stack: &mut Vec<E>, streams: Streams<E>)
     put(stack, streams.error);
 }
 
+// The place of a command's child, and the spec that is asked of the system, with the canonical name of its program where that is due.
+fn prepared<S: System, H: Hook>(
+    sys: &mut S,
+    pairs: &Vec<(String, String)>,
+    scopes: &[Scope<'_, S::End, H>],
+    scope: usize,
+    words: &[String],
+    ports: Ports,
+) -> Result<(Seat<S::Child>, CommandSpec), Error>
+    requires within { scope ≤ length scopes.now }
+    requires outwards { AreOutwards (scopes_view scopes.now) }
+    ensures ok { IfOk result (λ made. IsPrepared {E = S.End} {H = H} H.allows S.End.number_of
+        (map pair_text pairs.now.items) (scope_in (scopes_view scopes.now) scope)
+        (map string_bytes words.now) (ports_view ports) (S.journal_view sys.old)
+        (S.journal_view sys.new) made.1) }
+    ensures err { IfErr result (λ error. (held : Holdings) → RefusedSaying H.allows H.refuses
+        S.End.number_of (map pair_text pairs.now.items)
+        (action.spawn (scope_in (scopes_view scopes.now) scope) (map string_bytes words.now)
+        (ports_view ports)) (S.journal_view sys.old) (S.journal_view sys.new) held held error) }
+    ensures left { OnOk result ((S.journal_view sys.old).room ≤ (S.journal_view sys.new).room) }
+{
+    let alloc = *pairs.allocator();
+    let seat = seat_new(alloc)?;
+    let name = canonical(sys, scopes, scope, words)?;
+    let spec = asked_spec(alloc, pairs, scopes, scope, name, words, ports)?;
+    Ok((seat, spec))
+}
+
 // Starts the command of these words inside the scope of this index, with the ends that its ports take off the stack.
 pub(crate) fn command<S: System, H: Hook>(
     sys: &mut S,
@@ -152,10 +180,7 @@ pub(crate) fn command<S: System, H: Hook>(
         → AreNew S.Child.child_view S.Feed.job_view S.Drain.job_view held.new }
     ensures workers { HasSameWorkers held.old held.new }
 {
-    let alloc = *pairs.allocator();
-    let seat = seat_new(alloc)?;
-    let name = canonical(sys, scopes, scope, words)?;
-    let mut spec = asked_spec(alloc, pairs, scopes, scope, name, words, ports)?;
+    let (seat, mut spec) = prepared(sys, pairs, scopes, scope, words, ports)?;
     let mut streams = take_all(&mut held.stack, ports);
     if let Err(error) = change_all(sys, scopes, scope, &mut spec, &mut streams) {
         put_all(&mut held.stack, streams);

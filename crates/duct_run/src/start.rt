@@ -1,5 +1,5 @@
 //! A start: its actions are run, and what a refusal leaves is given up.
-ghost use Rattle.std.specs.Prelude.{◌≡◌, [], All, length, is_some, true, None, OnOk, IfOk, IfErr};
+ghost use Rattle.std.specs.Prelude.{◌≡◌, ◌≤◌, [], All, length, is_some, true, None, OnOk, IfOk, IfErr, IsSome};
 ghost use Rattle.duct_system.specs.Trace.{segment};
 ghost use Rattle.duct_start.specs.Holdings.{empty};
 ghost use Rattle.duct_start.specs.Left.{Leaves, pool_view};
@@ -8,6 +8,7 @@ ghost use Rattle.duct_start.specs.Ran.{HavePipes, MadeReader, OpensOut, Runs, Ru
 ghost use Rattle.duct_run.specs.ActionView.{actions_view};
 ghost use Rattle.duct_run.specs.GivesUp.{GivesUp};
 ghost use Rattle.duct_run.specs.HeldView.{AreNew, HasSameWorkers, held_view};
+ghost use Rattle.duct_run.specs.OutputRead.{IsRead, pipe_view};
 ghost use Rattle.duct_run.specs.ScopeView.{all_scopes, scopes_view};
 
 use crate::action::Action;
@@ -88,6 +89,23 @@ fn run<S: System, H: Hook>(
     finish_err::<S, H>(sys, held)
 }
 
+// Closes the write end of stdout's capture pipe, and makes a reader of its read end.
+fn read_output<S: System>(sys: &mut S, output: &mut Option<(S::End, S::End)>) -> S::Reader
+    requires open { IsSome output.old }
+    requires room { 2 ≤ (S.journal_view sys.old).room }
+    ensures read { IsRead S.may_read (pipe_view S.End.number_of output.old)
+        (S.journal_view sys.old) (S.journal_view sys.new) result }
+    ensures output { output.new ≡ None }
+{
+    match output.take() {
+        Some((reader, writer)) => {
+            sys.close(writer);
+            sys.reader(reader)
+        }
+        None => unreachable!(),
+    }
+}
+
 // The environment, the actions, stderr's capture worker, and the reader of stdout's capture pipe.
 fn run_reader<S: System, H: Hook>(
     sys: &mut S,
@@ -125,13 +143,7 @@ fn run_reader<S: System, H: Hook>(
 {
     run_actions(sys, pool, scopes, actions, held)?;
     finish_err::<S, H>(sys, held)?;
-    match held.output.take() {
-        Some((reader, writer)) => {
-            sys.close(writer);
-            Ok(sys.reader(reader))
-        }
-        None => unreachable!(),
-    }
+    Ok(read_output(sys, &mut held.output))
 }
 
 /// Runs the actions of a start, where nothing is held yet, and answers what they leave. Before each command the pool is swept.

@@ -1,12 +1,12 @@
 //! The first pass of a start: from a tree to a flat list of actions, and the scopes that they name. It asks nothing of any system.
-ghost use Rattle.std.specs.Prelude.{◌≡◌, ◌++◌, map, string_bytes, IfOk, OnOk, IsOkUnless};
+ghost use Rattle.std.specs.Prelude.{◌≡◌, ◌+◌, ◌++◌, [], ◌∷◌, map, string_bytes, IfOk, OnOk, IsOkUnless};
 ghost use Rattle.duct_start.specs.Flat.{commands, fetches, port_at};
 ghost use Rattle.duct_start.specs.Listed.{listed_of};
 ghost use Rattle.duct_start.specs.TreeView.{TreeView, around, stdout_capture};
-ghost use Rattle.duct_run.specs.ActionView.{actions_view};
+ghost use Rattle.duct_run.specs.ActionView.{action_view, actions_view};
 ghost use Rattle.duct_run.specs.ScopeView.{scopes_view, setting_view};
 ghost use Rattle.duct_tree.specs.InsideView.{wire_view, wires_view};
-ghost use Rattle.duct_tree.specs.ListingView.{listing_view, with_ending, with_tree};
+ghost use Rattle.duct_tree.specs.ListingView.{listing_view, with_actions, with_ending, with_tree};
 ghost use Rattle.duct_tree.specs.NodeView.{modifier_view, node_view};
 
 mod inside;
@@ -100,19 +100,19 @@ fn enter<'a, E, H>(
     let depth = inside.depth;
     match modifier {
         Modifier::StdinBytes(_) => {
+            let over = opened(Action::Input, 2, inside, list)?;
             let reader = more(depth, 1)?;
-            list.add(Action::Input)?;
-            Ok(inside.deeper(2)?.with_input(Wire::Slot(reader)))
+            Ok(over.with_input(Wire::Slot(reader)))
         }
         Modifier::StdinPath(path) => {
-            list.add(Action::OpenRead(path.as_str()))?;
-            Ok(inside.deeper(1)?.with_input(Wire::Slot(depth)))
+            let over = opened(Action::OpenRead(path.as_str()), 1, inside, list)?;
+            Ok(over.with_input(Wire::Slot(depth)))
         }
         Modifier::StdinFile(end) => Ok(inside.with_input(Wire::Lent(end))),
         Modifier::StdinNull => Ok(inside.with_input(Wire::Nothing)),
         Modifier::StdoutPath(path) => {
-            list.add(Action::Create(path.as_str()))?;
-            Ok(inside.deeper(1)?.with_output(Wire::Slot(depth)))
+            let over = opened(Action::Create(path.as_str()), 1, inside, list)?;
+            Ok(over.with_output(Wire::Slot(depth)))
         }
         Modifier::StdoutFile(end) => Ok(inside.with_output(Wire::Lent(end))),
         Modifier::StdoutNull => Ok(inside.with_output(Wire::Nothing)),
@@ -122,8 +122,8 @@ fn enter<'a, E, H>(
         }
         Modifier::StdoutToStderr => Ok(inside.with_output(inside.error)),
         Modifier::StderrPath(path) => {
-            list.add(Action::Create(path.as_str()))?;
-            Ok(inside.deeper(1)?.with_error(Wire::Slot(depth)))
+            let over = opened(Action::Create(path.as_str()), 1, inside, list)?;
+            Ok(over.with_error(Wire::Slot(depth)))
         }
         Modifier::StderrFile(end) => Ok(inside.with_error(Wire::Lent(end))),
         Modifier::StderrNull => Ok(inside.with_error(Wire::Nothing)),
@@ -144,6 +144,23 @@ fn enter<'a, E, H>(
             scoped(Setting::BeforeSpawn(hook, ends.as_slice()), inside, list)
         }
     }
+}
+
+// Adds an action that leaves so many ends on the stack, and returns the same over them.
+fn opened<'a, E, H>(
+    action: Action<'a, E>,
+    ends: usize,
+    inside: Inside<'a, E>,
+    list: &mut Listing<'a, E, H>,
+) -> Result<Inside<'a, E>, Error>
+    ensures inside { IfOk result
+        (λ over. over ≡ record inside.entry { depth = inside.entry.depth + ends }) }
+    ensures list { OnOk result (listing_view list.new
+        ≡ with_actions (action_view action.entry ∷ []) (listing_view list.old)) }
+    ensures memory { IsOkUnless result Error.Memory }
+{
+    list.add(action)?;
+    inside.deeper(ends)
 }
 
 // Adds a scope inside of this, and answers what stands inside of it.

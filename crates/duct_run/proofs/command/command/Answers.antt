@@ -7,55 +7,19 @@ use Rattle.duct_start.specs.Actions.{many}
 use Rattle.duct_start.specs.Commands.{Alters, Breaks}
 use Rattle.duct_start.specs.Holdings.{pair_of}
 use Rattle.duct_start.specs.Listed.{scope_in}
-use Rattle.duct_start.proofs.Commanding.{hooks_refused, name_refused, spawn_refused, spawned, spec_refused, unasked_refused}
+use Rattle.duct_start.proofs.Commanding.{hooks_refused, spawn_refused, spawned}
 use Rattle.duct_run.specs.ActionView.{ports_view}
 use Rattle.duct_run.specs.HeldView.{held_view}
-use Rattle.duct_run.specs.Made.{IsMade, program_text}
 use Rattle.duct_run.specs.ScopeView.{scopes_view}
 use Rattle.duct_run.specs.StreamsView.{many_ends, streams_view}
 use Rattle.duct_run.proofs.Made.{made_is_asked}
-use Rattle.duct_run.proofs.Pushed.{all_pushed, hand_fits, length_stack, many_given, many_spent, min_fits, pushed_number, still}
+use Rattle.duct_run.proofs.Pushed.{all_pushed, hand_fits, length_stack, many_given, many_spent, min_fits, pushed_number}
 use Rattle.duct_run.proofs.command.command.Goals as goal
 
 pub returns-in_err-seat-clause-err : goal.returns-in_err-seat-clause-err
 returns-in_err-seat-clause-err g c =
     let p = err_from_is_err_and c.from_residual.result c.from_residual.ensures.1 in
-    let num = g.S.End.Numbered.number_of in
-    let allows = g.H.Hook.allows in
-    let h = held_view num g.S.Child.Child.child_view g.S.Feed.Job.job_view g.S.Drain.Job.job_view c.args.held.now in
-    let pairs = map pair_text c.args.pairs.now.items in
-    let scope = scope_in (scopes_view c.args.scopes.now) c.args.scope in
-    let texts = map string_bytes c.args.words.now in
-    let ports = ports_view c.args.ports in
-    let start = g.S.System.journal_view c.args.sys.now in
-    rw (p.1, p.2) (unasked_refused allows num scope texts g.H.Hook.refuses pairs ports start h start _ (still start) tt)
-
-pub returns-in_err-name-clause-err : goal.returns-in_err-name-clause-err
-returns-in_err-name-clause-err g c =
-    let p = err_from_is_err_and c.from_residual-in_err-name.result c.from_residual-in_err-name.ensures.1 in
-    let num = g.S.End.Numbered.number_of in
-    let allows = g.H.Hook.allows in
-    let h = held_view num g.S.Child.Child.child_view g.S.Feed.Job.job_view g.S.Drain.Job.job_view c.args.held.now in
-    let pairs = map pair_text c.args.pairs.now.items in
-    let scope = scope_in (scopes_view c.args.scopes.now) c.args.scope in
-    let texts = map string_bytes c.args.words.now in
-    let ports = ports_view c.args.ports in
-    let start = g.S.System.journal_view c.args.sys.now in
-    let e = c.in_err-name.ensures.err in
-    rw (p.1, p.2, e.error_is) (name_refused allows num scope texts g.H.Hook.refuses pairs ports start h (g.S.System.journal_view c.canonical.new.sys) e.fault e.asked e.refused)
-
-pub returns-in_err-spec-clause-err : goal.returns-in_err-spec-clause-err
-returns-in_err-spec-clause-err g c =
-    let p = err_from_is_err_and c.from_residual-in_err-spec.result c.from_residual-in_err-spec.ensures.1 in
-    let num = g.S.End.Numbered.number_of in
-    let allows = g.H.Hook.allows in
-    let h = held_view num g.S.Child.Child.child_view g.S.Feed.Job.job_view g.S.Drain.Job.job_view c.args.held.now in
-    let pairs = map pair_text c.args.pairs.now.items in
-    let scope = scope_in (scopes_view c.args.scopes.now) c.args.scope in
-    let texts = map string_bytes c.args.words.now in
-    let ports = ports_view c.args.ports in
-    let start = g.S.System.journal_view c.args.sys.now in
-    rw (p.1, p.2, c.in_err-spec.ensures.memory) (spec_refused allows num scope texts g.H.Hook.refuses pairs ports start h (g.S.System.journal_view c.canonical.new.sys) (program_text c.in_ok-name.name texts) c.in_ok-name.ensures.ok _ tt)
+    rw (p.1, p.2) (c.in_err-seat.ensures.err (held_view g.S.End.Numbered.number_of g.S.Child.Child.child_view g.S.Feed.Job.job_view g.S.Drain.Job.job_view c.args.held.now))
 
 pub change_all-requires-clause-room : goal.change_all-requires-clause-room
 change_all-requires-clause-room g c =
@@ -71,7 +35,7 @@ change_all-requires-clause-room g c =
     let items : many ports.input + (many ports.output + many ports.error) ≤ length c.args.held.now.stack.items = search rules in
     let full : many ports.input + (many ports.output + many ports.error) ≤ length h.stack = omega (arith, items, long) in
     let fits = hand_fits num c.take_all-streams.result ports h.stack full c.take_all-streams.ensures.streams in
-    omega (arith, fits, c.requires.room, c.in_ok-name.ensures.left, length-append h.stack (pair_of h.out ++ pair_of h.err))
+    omega (arith, fits, c.requires.room, c.in_ok-seat.ensures.left, length-append h.stack (pair_of h.out ++ pair_of h.err))
 
 pub returns-in-Err-clause-err : goal.returns-in-Err-clause-err
 returns-in-Err-clause-err g c =
@@ -83,13 +47,12 @@ returns-in-Err-clause-err g c =
     let texts = map string_bytes c.args.words.now in
     let ports = ports_view c.args.ports in
     let start = g.S.System.journal_view c.args.sys.now in
-    let one = g.S.System.journal_view c.canonical.new.sys in
-    let program = program_text c.in_ok-name.name texts in
-    let asked = c.in_ok-spec.spec in
-    let is = subst (λ l. IsMade (map pair_text l) program scope texts ports asked) c.deref.ensures.value c.in_ok-spec.ensures.asked in
-    let made = made_is_asked pairs program scope texts ports asked is in
+    let one = g.S.System.journal_view c.prepared.new.sys in
+    let asked = c.in_ok-seat.spec in
+    let ready = c.in_ok-seat.ensures.ok in
+    let made = made_is_asked pairs ready.program scope texts ports asked ready.made in
     let breaks = subst (λ s. Breaks allows g.H.Hook.refuses num scope.hooks one (g.S.System.journal_view c.change_all.new.sys) asked s (streams_view num c.change_all.new.streams) c.in-Err.error) c.take_all-streams.ensures.streams c.in-Err.ensures.err in
-    rw (c.put_all.ensures, c.take_all-streams.ensures.left) (hooks_refused allows num scope texts g.H.Hook.refuses pairs ports start h one program c.in_ok-name.ensures.ok asked made
+    rw (c.put_all.ensures, c.take_all-streams.ensures.left) (hooks_refused allows num scope texts g.H.Hook.refuses pairs ports start h one ready.program ready.names asked made
     (g.S.System.journal_view c.change_all.new.sys) (streams_view num c.change_all.new.streams) c.in-Err.error breaks)
 
 pub spawn-requires : goal.spawn-requires
@@ -101,7 +64,7 @@ spawn-requires g c =
     let full : many ports.input + (many ports.output + many ports.error) ≤ length h.stack = omega (arith, items, length_stack num c.args.held.now.stack.items) in
     let fits = hand_fits num c.take_all-streams.result ports h.stack full c.take_all-streams.ensures.streams in
     let room : many_ends c.change_all.new.streams ≤ (g.S.System.journal_view c.change_all.new.sys).room =
-    omega (arith, fits, c.requires.room, c.in_ok-name.ensures.left, c.in_default.ensures.left, length-append h.stack (pair_of h.out ++ pair_of h.err)) in
+    omega (arith, fits, c.requires.room, c.in_ok-seat.ensures.left, c.in_default.ensures.left, length-append h.stack (pair_of h.out ++ pair_of h.err)) in
     (g.met.S.System.streams_fit, min_fits _ _ (omega (arith, many_given num c.change_all.new.streams, room)))
 
 pub returns-in_err-child-clause-err : goal.returns-in_err-child-clause-err
@@ -115,15 +78,14 @@ returns-in_err-child-clause-err g c =
     let texts = map string_bytes c.args.words.now in
     let ports = ports_view c.args.ports in
     let start = g.S.System.journal_view c.args.sys.now in
-    let one = g.S.System.journal_view c.canonical.new.sys in
-    let program = program_text c.in_ok-name.name texts in
-    let asked = c.in_ok-spec.spec in
-    let is = subst (λ l. IsMade (map pair_text l) program scope texts ports asked) c.deref.ensures.value c.in_ok-spec.ensures.asked in
-    let made = made_is_asked pairs program scope texts ports asked is in
+    let one = g.S.System.journal_view c.prepared.new.sys in
+    let asked = c.in_ok-seat.spec in
+    let ready = c.in_ok-seat.ensures.ok in
+    let made = made_is_asked pairs ready.program scope texts ports asked ready.made in
     let two = g.S.System.journal_view c.change_all.new.sys in
     let t = c.change_all.new.streams in
     let alters = subst (λ s. Alters allows num scope.hooks one two asked c.change_all.new.spec s (streams_view num t)) c.take_all-streams.ensures.streams c.in_default.ensures.ok in
-    rw (p.1, p.2, c.take_all-streams.ensures.left) (spawn_refused allows num scope texts g.H.Hook.refuses pairs ports start h one program c.in_ok-name.ensures.ok asked made
+    rw (p.1, p.2, c.take_all-streams.ensures.left) (spawn_refused allows num scope texts g.H.Hook.refuses pairs ports start h one ready.program ready.names asked made
     (g.S.System.journal_view c.spawn.new.self) c.change_all.new.spec (streams_view num t) two _ _ alters c.in_err-child.ensures.err (many_spent num t))
 
 pub returns-clause-ok : goal.returns-clause-ok
@@ -136,11 +98,10 @@ returns-clause-ok g c =
     let texts = map string_bytes c.args.words.now in
     let ports = ports_view c.args.ports in
     let start = g.S.System.journal_view c.args.sys.now in
-    let one = g.S.System.journal_view c.canonical.new.sys in
-    let program = program_text c.in_ok-name.name texts in
-    let asked = c.in_ok-spec.spec in
-    let is = subst (λ l. IsMade (map pair_text l) program scope texts ports asked) c.deref.ensures.value c.in_ok-spec.ensures.asked in
-    let made = made_is_asked pairs program scope texts ports asked is in
+    let one = g.S.System.journal_view c.prepared.new.sys in
+    let asked = c.in_ok-seat.spec in
+    let ready = c.in_ok-seat.ensures.ok in
+    let made = made_is_asked pairs ready.program scope texts ports asked ready.made in
     let two = g.S.System.journal_view c.change_all.new.sys in
     let t = c.change_all.new.streams in
     let alters = subst (λ s. Alters allows num scope.hooks one two asked c.change_all.new.spec s (streams_view num t)) c.take_all-streams.ensures.streams c.in_default.ensures.ok in
@@ -148,7 +109,7 @@ returns-clause-ok g c =
     let child = c.in_ok-child.child in
     let number : (view c.place_new.result).number ≡ g.S.Child.Numbered.number_of child = ap (λ x. (view x).number) c.place_new.ensures ∙ g.met.S.Child.Child.has_number child in
     let children = pushed_number (λ x. (view x).number) c.args.held.now.children.items c.push_reserved.new.self.items c.place_new.result c.push_reserved.ensures.items ∙ ap (λ n. h.children ++ n ∷ []) number in
-    rw (c.take_all-streams.ensures.left, children) (spawned allows num scope texts g.H.Hook.refuses pairs ports start h one program c.in_ok-name.ensures.ok asked made
+    rw (c.take_all-streams.ensures.left, children) (spawned allows num scope texts g.H.Hook.refuses pairs ports start h one ready.program ready.names asked made
     (g.S.System.journal_view c.spawn.new.self) c.change_all.new.spec (streams_view num t) two (g.S.Child.Numbered.number_of child) _ alters c.in_ok-child.ensures.ok.0 (many_spent num t))
 
 pub returns-clause-new : goal.returns-clause-new

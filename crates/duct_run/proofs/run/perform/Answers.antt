@@ -104,3 +104,69 @@ returns-in-Spawn-clause-err g c = rw c.in-Spawn.is c.command.ensures.err
 
 pub returns-in-Spawn-clause-pool : goal.returns-in-Spawn-clause-pool
 returns-in-Spawn-clause-pool g c = leaves_swept _ _ _ _ c.sweep.ensures
+
+pub returns-in-OpenRead-clause-new : goal.returns-in-OpenRead-clause-new
+returns-in-OpenRead-clause-new g c = c.open_read.ensures.new
+
+pub returns-in-OpenRead-clause-workers : goal.returns-in-OpenRead-clause-workers
+returns-in-OpenRead-clause-workers g c = c.open_read.ensures.workers
+
+pub returns-in-Create-clause-new : goal.returns-in-Create-clause-new
+returns-in-Create-clause-new g c = c.create.ensures.new
+
+pub returns-in-Create-clause-workers : goal.returns-in-Create-clause-workers
+returns-in-Create-clause-workers g c = c.create.ensures.workers
+
+pub returns-in-Pipe-clause-new : goal.returns-in-Pipe-clause-new
+returns-in-Pipe-clause-new g c = c.open_pipe.ensures.new
+
+pub returns-in-Pipe-clause-workers : goal.returns-in-Pipe-clause-workers
+returns-in-Pipe-clause-workers g c = c.open_pipe.ensures.workers
+
+pub returns-in-Input-clause-new : goal.returns-in-Input-clause-new
+returns-in-Input-clause-new g c = c.open_input.ensures.new
+
+pub returns-in-Input-clause-workers : goal.returns-in-Input-clause-workers
+returns-in-Input-clause-workers g c = c.open_input.ensures.workers
+
+pub returns-in-Capture-clause-new : goal.returns-in-Capture-clause-new
+returns-in-Capture-clause-new g c = c.capture.ensures.new
+
+pub returns-in-Capture-clause-workers : goal.returns-in-Capture-clause-workers
+returns-in-Capture-clause-workers g c = c.capture.ensures.workers
+
+pub returns-in-Duplicate-clause-new : goal.returns-in-Duplicate-clause-new
+returns-in-Duplicate-clause-new g c = c.duplicate.ensures.new
+
+pub returns-in-Duplicate-clause-workers : goal.returns-in-Duplicate-clause-workers
+returns-in-Duplicate-clause-workers g c = c.duplicate.ensures.workers
+
+pub returns-in-Tap-clause-new : goal.returns-in-Tap-clause-new
+returns-in-Tap-clause-new g c = c.tap.ensures.new
+
+pub returns-in-Tap-clause-workers : goal.returns-in-Tap-clause-workers
+returns-in-Tap-clause-workers g c = c.tap.ensures.workers
+
+pub returns-in-Lend-clause-new : goal.returns-in-Lend-clause-new
+returns-in-Lend-clause-new g c = c.lend.ensures.new
+
+pub returns-in-Lend-clause-workers : goal.returns-in-Lend-clause-workers
+returns-in-Lend-clause-workers g c = c.lend.ensures.workers
+
+pub returns-in-Parent-clause-new : goal.returns-in-Parent-clause-new
+returns-in-Parent-clause-new g c = c.parent.ensures.new
+
+pub returns-in-Parent-clause-workers : goal.returns-in-Parent-clause-workers
+returns-in-Parent-clause-workers g c = c.parent.ensures.workers
+
+pub returns-in-Feed-clause-new : goal.returns-in-Feed-clause-new
+returns-in-Feed-clause-new g c = c.feed.ensures.new
+
+pub returns-in-Feed-clause-workers : goal.returns-in-Feed-clause-workers
+returns-in-Feed-clause-workers g c = c.feed.ensures.workers
+
+pub returns-in-Spawn-clause-new : goal.returns-in-Spawn-clause-new
+returns-in-Spawn-clause-new g c = c.command.ensures.new
+
+pub returns-in-Spawn-clause-workers : goal.returns-in-Spawn-clause-workers
+returns-in-Spawn-clause-workers g c = c.command.ensures.workers

@@ -1,11 +1,8 @@
 -- From the environment to the reader.
-use Rattle.std.proofs.Common.{ap, ◌∙◌, ◌≡◌, ℕ, sym, arith, length, length-append, ◌++◌}
+use Rattle.std.proofs.Common.{◌∙◌, ℕ, sym}
 use Rattle.std.proofs.lemmas.Result.{err_from_is_err_and}
-use Rattle.std.specs.Option.{option_map}
-use Rattle.std.specs.Prelude.{Some, false, is_some, true}
 use Rattle.duct_system.specs.declared.system.Side.TheVariants as side
 use Rattle.duct_start.specs.Actions.{finished}
-use Rattle.duct_start.specs.Holdings.{pair_of}
 use Rattle.duct_start.specs.Listed.{resolved_all}
 use Rattle.duct_start.specs.Ran.{nothing_more, read}
 use Rattle.duct_start.proofs.Ran.{finished_more, read_more, refused_before, run_goes, run_pipes, run_quits, run_room}
@@ -13,6 +10,7 @@ use Rattle.duct_start.proofs.Reading.{reader_last, run_reads}
 use Rattle.duct_run.specs.ActionView.{actions_view}
 use Rattle.duct_run.specs.HeldView.{held_view}
 use Rattle.duct_run.specs.ScopeView.{all_scopes}
+use Rattle.duct_run.proofs.OutputRead.{two_spent}
 use Rattle.duct_run.proofs.Turns.{some_mapped}
 use Rattle.duct_run.proofs.start.run_reader.Goals as goal
 
@@ -46,45 +44,28 @@ returns-in_err-finish_err-clause-err g c =
     let once = run_quits allows num acts old nothing_more _ _ c.in_ok-run_actions.ensures.ok g.H.Hook.refuses side.Err _ _ _ e.0 e.1 in
     rw (p.1, p.2) (refused_before allows num acts old g.H.Hook.refuses (λ plan. finished side.Err plan) (λ plan. read plan) (λ plan. read_more plan) _ _ _ once)
 
-pub unreachable-requires : goal.unreachable-requires
-unreachable-requires g c =
+pub read_output-requires-clause-open : goal.read_output-requires-clause-open
+read_output-requires-clause-open g c =
     let num = g.S.End.Numbered.number_of in
     let allows = g.H.Hook.allows in
     let acts = resolved_all (all_scopes c.args.scopes.now) (actions_view c.args.actions.now) in
     let old = g.S.System.journal_view c.args.sys.now in
     let once = run_goes allows num acts old nothing_more _ _ c.in_ok-run_actions.ensures.ok side.Err _ _ c.in_ok-finish_err.ensures.ok in
-    let pair : g.row.S-End.Denot × g.row.S-End.Denot → ℕ × ℕ = λ ends. (num ends.0, num ends.1) in
     let l = c.requires.leads in
     let stands = once.1 l.0 l.1 l.2 l.3 in
-    let open' : is_some l.2.out ≡ true = c.requires.opens l.0 l.1 l.2 l.3 in
-    let shut : is_some l.2.out ≡ false = sym stands.shaped.out ∙ ap (λ o. is_some (option_map pair o)) (sym c.take.ensures.value ∙ c.in-None.is) in
-    absurd (cc)
+    sym (some_mapped (λ ends. (num ends.0, num ends.1)) c.finish_err.new.held.output) ∙ stands.shaped.out ∙ c.requires.opens l.0 l.1 l.2 l.3
 
-pub close-requires : goal.close-requires
-close-requires g c =
+pub read_output-requires-clause-room : goal.read_output-requires-clause-room
+read_output-requires-clause-room g c =
     let num = g.S.End.Numbered.number_of in
     let allows = g.H.Hook.allows in
     let acts = resolved_all (all_scopes c.args.scopes.now) (actions_view c.args.actions.now) in
     let old = g.S.System.journal_view c.args.sys.now in
     let once = run_goes allows num acts old nothing_more _ _ c.in_ok-run_actions.ensures.ok side.Err _ _ c.in_ok-finish_err.ensures.ok in
-    let pair : g.row.S-End.Denot × g.row.S-End.Denot → ℕ × ℕ = λ ends. (num ends.0, num ends.1) in
     let h = held_view num g.S.Child.Child.child_view g.S.Feed.Job.job_view g.S.Drain.Job.job_view c.finish_err.new.held in
-    let was : h.out ≡ Some (num c.in-Some.reader, num c.in-Some.writer) = ap (λ o. option_map pair o) (sym c.take.ensures.value ∙ c.in-Some.is) in
-    let room = run_room allows num acts old (λ plan. finished side.Err plan) _ h once c.requires.leads in
-    omega (arith, room, ap (λ o. length (pair_of o)) was, length-append h.stack (pair_of h.out ++ pair_of h.err), length-append (pair_of h.out) (pair_of h.err))
-
-pub reader-requires : goal.reader-requires
-reader-requires g c =
-    let num = g.S.End.Numbered.number_of in
-    let allows = g.H.Hook.allows in
-    let acts = resolved_all (all_scopes c.args.scopes.now) (actions_view c.args.actions.now) in
-    let old = g.S.System.journal_view c.args.sys.now in
-    let once = run_goes allows num acts old nothing_more _ _ c.in_ok-run_actions.ensures.ok side.Err _ _ c.in_ok-finish_err.ensures.ok in
-    let pair : g.row.S-End.Denot × g.row.S-End.Denot → ℕ × ℕ = λ ends. (num ends.0, num ends.1) in
-    let h = held_view num g.S.Child.Child.child_view g.S.Feed.Job.job_view g.S.Drain.Job.job_view c.finish_err.new.held in
-    let was : h.out ≡ Some (num c.in-Some.reader, num c.in-Some.writer) = ap (λ o. option_map pair o) (sym c.take.ensures.value ∙ c.in-Some.is) in
-    let room = run_room allows num acts old (λ plan. finished side.Err plan) _ h once c.requires.leads in
-    omega (arith, room, c.close.ensures.room_is, ap (λ o. length (pair_of o)) was, length-append h.stack (pair_of h.out ++ pair_of h.err), length-append (pair_of h.out) (pair_of h.err))
+    let l = c.requires.leads in
+    let stands = once.1 l.0 l.1 l.2 l.3 in
+    two_spent h (stands.shaped.out ∙ c.requires.opens l.0 l.1 l.2 l.3) _ (run_room allows num acts old (λ plan. finished side.Err plan) _ h once l)
 
 pub returns-clause-ok : goal.returns-clause-ok
 returns-clause-ok g c =
@@ -93,10 +74,9 @@ returns-clause-ok g c =
     let acts = resolved_all (all_scopes c.args.scopes.now) (actions_view c.args.actions.now) in
     let old = g.S.System.journal_view c.args.sys.now in
     let once = run_goes allows num acts old nothing_more _ _ c.in_ok-run_actions.ensures.ok side.Err _ _ c.in_ok-finish_err.ensures.ok in
-    let pair : g.row.S-End.Denot × g.row.S-End.Denot → ℕ × ℕ = λ ends. (num ends.0, num ends.1) in
+    let r = c.read_output.ensures.read in
     let h = held_view num g.S.Child.Child.child_view g.S.Feed.Job.job_view g.S.Drain.Job.job_view c.finish_err.new.held in
-    let was : h.out ≡ Some (num c.in-Some.reader, num c.in-Some.writer) = ap (λ o. option_map pair o) (sym c.take.ensures.value ∙ c.in-Some.is) in
-    rw (c.take.ensures.after) (run_reads allows num _ _ _ _ _ h was c.close.ensures c.reader.ensures.added (λ plan. finished side.Err plan) acts old once)
+    rw (c.read_output.ensures.output) (run_reads allows num _ _ _ _ _ h r.pipe_is r.closed r.made (λ plan. finished side.Err plan) acts old once)
 
 pub returns-clause-reader : goal.returns-clause-reader
 returns-clause-reader g c =
@@ -105,10 +85,9 @@ returns-clause-reader g c =
     let acts = resolved_all (all_scopes c.args.scopes.now) (actions_view c.args.actions.now) in
     let old = g.S.System.journal_view c.args.sys.now in
     let once = run_goes allows num acts old nothing_more _ _ c.in_ok-run_actions.ensures.ok side.Err _ _ c.in_ok-finish_err.ensures.ok in
-    let pair : g.row.S-End.Denot × g.row.S-End.Denot → ℕ × ℕ = λ ends. (num ends.0, num ends.1) in
+    let r = c.read_output.ensures.read in
     let h = held_view num g.S.Child.Child.child_view g.S.Feed.Job.job_view g.S.Drain.Job.job_view c.finish_err.new.held in
-    let was : h.out ≡ Some (num c.in-Some.reader, num c.in-Some.writer) = ap (λ o. option_map pair o) (sym c.take.ensures.value ∙ c.in-Some.is) in
-    reader_last allows num _ _ _ _ _ h was c.close.ensures c.reader.ensures.added (λ plan. finished side.Err plan) acts old once g.S.System.may_read _ c.reader.ensures.told c.requires.leads
+    reader_last allows num _ _ _ _ _ h r.pipe_is r.closed r.made (λ plan. finished side.Err plan) acts old once g.S.System.may_read _ r.told c.requires.leads
 
 pub returns-clause-workers : goal.returns-clause-workers
 returns-clause-workers g c =

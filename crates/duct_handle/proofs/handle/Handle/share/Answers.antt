@@ -27,3 +27,9 @@ returns-in_ok-try_clone-in-Some-Failed-clause-told g c =
       concluded g.S.Child.Child.may_answer g.S.Feed.Job.may_say g.S.Drain.Job.may_say _ _ _ _ c.args.published.now.answer c.in-Some-Failed.field-0 c.in-Some-Failed.is numbers shape c.args.published.now.told,
       search rules,
     ))
+
+pub returns-in_ok-try_clone-in-Some-Output-clause-knows : goal.returns-in_ok-try_clone-in-Some-Output-clause-knows
+returns-in_ok-try_clone-in-Some-Output-clause-knows g c = search rules
+
+pub returns-in_ok-try_clone-in-Some-Output-clause-again : goal.returns-in_ok-try_clone-in-Some-Output-clause-again
+returns-in_ok-try_clone-in-Some-Output-clause-again g c = search rules
