@@ -1,9 +1,12 @@
-//! Tests of statuses: rows of events with their replies, and want of memory.
+//! Tests of what stands below `duct`, where no row can say them: threads of workers, and the gates, the log and the clock of the scripted
+//! system.
 #![tactic(auto)]
 
 #[cfg(test)]
-mod build;
+mod bench;
 #[cfg(test)]
-mod memory;
+mod calls;
 #[cfg(test)]
-mod rows;
+mod gates;
+#[cfg(test)]
+mod workers;

@@ -14,12 +14,12 @@ ghost use Rattle.duct_plan.specs.PlanView.{item_of, plan_view};
 
 use crate::chain::wired;
 use crate::follows::found_no_memory;
-use crate::stops::{fault_of, is_close};
+use crate::stops::is_close;
 use crate::untold::Untold;
 use duct_base::error::Error;
 use duct_base::spec::Hook;
 use duct_base::system::{Entry, Fault, Kind, Numbered};
-use duct_plain::checker::trace;
+use duct_plain::checker::{fault_of, trace};
 use duct_plan::asked::{Wired, asked_at};
 use duct_plan::found::Found;
 use duct_plan::items::{Item, Plan};

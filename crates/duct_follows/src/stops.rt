@@ -1,9 +1,10 @@
 //! Whether entries of a journal have a fault, and whether only closes come after it.
 ghost use Rattle.std.specs.Prelude.{◌≡◌, ◌↔◌, map, IsTrue};
 ghost use Rattle.duct_system.specs.EntryView.{entry_view};
-ghost use Rattle.duct_system.specs.Trace.{is_close, fault_of, IsClean, OnlyCloses, StopsAtFault};
+ghost use Rattle.duct_system.specs.Trace.{is_close, IsClean, OnlyCloses, StopsAtFault};
 
-use duct_base::system::{Entry, Fault};
+use duct_base::system::Entry;
+use duct_plain::checker::fault_of;
 
 /// Whether no entry has a fault.
 pub fn is_clean(entries: &[Entry]) -> bool
@@ -29,25 +30,6 @@ pub fn stops_at_fault(entries: &[Entry]) -> bool
         left = rest;
     }
     true
-}
-
-/// The fault that an entry answered, if it was refused.
-pub fn fault_of(entry: &Entry) -> Option<Fault>
-    ensures { result ≡ fault_of (entry_view entry.now) }
-{
-    match entry {
-        Entry::Environment(Err(fault)) => Some(*fault),
-        Entry::Pipe(Err(fault)) => Some(*fault),
-        Entry::OpenRead(_, Err(fault)) => Some(*fault),
-        Entry::Create(_, Err(fault)) => Some(*fault),
-        Entry::Duplicate(_, Err(fault)) => Some(*fault),
-        Entry::Parent(_, Err(fault)) => Some(*fault),
-        Entry::Canonicalize(_, Err(fault)) => Some(*fault),
-        Entry::Spawn(_, _, Err(fault)) => Some(*fault),
-        Entry::Feed(_, _, Err(fault)) => Some(*fault),
-        Entry::Drain(_, Err(fault)) => Some(*fault),
-        _ => None,
-    }
 }
 
 /// Whether each entry is a close.

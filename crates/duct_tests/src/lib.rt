@@ -1,11 +1,11 @@
-//! Tests of duct that stand over several of its crates: expressions, and starts of small ones over the scripted system.
+//! Tests of duct over the scripted system that are no rows of data: threads that share handles and pools, and what refused memory leaves.
 #![tactic(auto)]
 
 #[cfg(test)]
-mod command;
+mod bench;
 #[cfg(test)]
-mod expression;
+mod gates;
 #[cfg(test)]
 mod memory;
 #[cfg(test)]
-mod writes;
+mod threads;

@@ -5,51 +5,38 @@ use crate::hello::hello;
 use crate::kinds::{echoed, shown};
 use crate::script::run_script;
 use crate::supervisor::supervise;
-use duct::{Error, ExitStatus, Expression, Fault, Kind, Pool, cmd};
+use duct::{Error, Expression, Output, cmd};
 use duct_host::host::Host;
 use duct_script::calls::{Call, CallLog};
-use duct_script::child::PollAnswer;
 use duct_script::clock::ScriptClock;
-use duct_script::reader::ReaderScript;
-use duct_script::system::{Script, ScriptEnd};
-use std::alloc::Global;
-use std::sync::{Arc, Wait};
+use duct_script::system::ScriptEnd;
+use duct_table::scenes::{Bench, Scene, bench_of};
+use duct_table::stop::Stop;
+use duct_table::workers::set_reader;
+use std::alloc::{AllocError, Global};
+use std::sync::Wait;
 use std::test::Fail;
 use std::time::Duration;
 
 type Tree = Expression<ScriptEnd>;
 
-// A script of two lines, and what was started.
-fn scripted(rt: &impl Wait, alloc: Global) -> Result<String, Error> {
-    let mut system = Script::new(alloc)?;
-    let mut reader = ReaderScript::empty(alloc);
-    reader.bytes = Vec::from_slice(alloc, b"hi\n")?;
-    system.bytes(reader)?;
-    system.polls(&[PollAnswer::Ended(ExitStatus::Code(0))])?;
-    system.polls(&[PollAnswer::Ended(ExitStatus::Code(0))])?;
-    let mut text = run_script(rt, alloc, &mut system, "echo hi\nmake all")?;
-    text.push_str(started(alloc, &system)?.as_str())?;
+/// What a script of two lines prints, and what was started.
+fn scripted(rt: &impl Wait, alloc: Global, bench: &mut Bench) -> Result<String, Error> {
+    let mut text = run_script(rt, alloc, &mut bench.sys, "echo hi\nmake all")?;
+    text.push_str(started(alloc, &bench.sys)?.as_str())?;
     Ok(text)
 }
 
 #[test]
-fn a_script(rt: HostRuntime) -> Result<(), Error> {
-    let text = scripted(&rt, rt.alloc())?;
+fn a_script(rt: HostRuntime) -> Result<(), Fail> {
+    let mut bench = bench_of(rt.alloc(), Scene::of("code 0; code 0"))?;
+    set_reader(rt.alloc(), &mut bench.sys, "hi$")?;
+    let text = scripted(&rt, rt.alloc(), &mut bench)?;
     assert_eq!(rt; text.as_str(), "hi\n\necho hi \nmake all \n");
     Ok(())
 }
 
-// What a command with this word answers to its first poll.
-fn answer_of(word: &str) -> PollAnswer {
-    match word {
-        "ends" => PollAnswer::Ended(ExitStatus::Code(0)),
-        "fails" => PollAnswer::Ended(ExitStatus::Code(1)),
-        "faults" => PollAnswer::Fault(Fault::new(Kind::Other)),
-        _ => PollAnswer::Running,
-    }
-}
-
-// How many orders were noted.
+/// How many orders were noted.
 fn orders(calls: &CallLog) -> u32 {
     let mut orders = 0_u32;
     for place in 0..calls.noted() {
@@ -60,76 +47,93 @@ fn orders(calls: &CallLog) -> u32 {
     orders
 }
 
-// What a step of two commands comes to whose time has passed at its first poll, how many of them were killed, and how many the pool
-// was given.
-fn built(rt: &impl Wait, alloc: Global, words: &str) -> Result<String, Error> {
-    let calls = Arc::new(alloc, CallLog::new(alloc, 100)?)?;
-    let mut system = Script::new(alloc)?;
-    system.note_in(Arc::try_clone(&calls)?);
-    for word in words.split(' ') {
-        system.polls(&[answer_of(word)])?;
-    }
-    let mut pool = Pool::new(alloc);
+/// A clock that shows these seconds.
+fn clock(alloc: Global, seconds: [u64; 2]) -> Result<ScriptClock, AllocError> {
     let mut moments = Vec::new(alloc);
-    moments.push(Duration::from_secs(1))?;
-    moments.push(Duration::from_secs(9))?;
-    let clock = ScriptClock::new(moments);
+    for second in seconds {
+        moments.push(Duration::from_secs(second))?;
+    }
+    Ok(ScriptClock::new(moments))
+}
+
+/// A step of two commands.
+fn step(alloc: Global) -> Result<Tree, Error> {
     let make: Tree = cmd!(in alloc; "make")?;
-    let step = make.pipe(&cmd!(in alloc; "tee", "log")?)?;
-    let output = build(
-        rt,
-        &mut system,
-        &mut pool,
-        &clock,
-        &step,
-        Duration::from_secs(5),
-    );
-    let (killed, given) = (orders(&calls), pool.given());
-    match output {
-        Ok(Some(_)) => Ok(format!(in alloc; "output, {killed} killed, {given} given")?),
-        Ok(None) => Ok(format!(in alloc; "nothing, {killed} killed, {given} given")?),
-        Err(error) => Ok(format!(in alloc; "{error}, {killed} killed, {given} given")?),
+    make.pipe(&cmd!(in alloc; "tee", "log")?)
+}
+
+/// What comes of a step whose time has passed at its first poll.
+fn built(
+    rt: &impl Wait,
+    bench: &mut Bench,
+    clock: &ScriptClock,
+    step: &Tree,
+) -> Result<Option<Output>, Error> {
+    let limit = Duration::from_secs(5);
+    build(rt, &mut bench.sys, &mut bench.pool, clock, step, limit)
+}
+
+/// What came of a step, in words.
+fn told(alloc: Global, built: &Result<Option<Output>, Error>) -> Result<String, AllocError> {
+    match built {
+        Ok(Some(_)) => String::from_str(alloc, "output"),
+        Ok(None) => String::from_str(alloc, "nothing"),
+        Err(error) => format!(in alloc; "{error}"),
     }
 }
 
+/// The same of a step of two commands.
+fn built_text(rt: &impl Wait, alloc: Global, bench: &mut Bench) -> Result<String, Error> {
+    let clock = clock(alloc, [1, 9])?;
+    let step = step(alloc)?;
+    let built = built(rt, bench, &clock, &step);
+    Ok(told(alloc, &built)?)
+}
+
+/// What comes of a step whose commands answer so, how many of them were killed, and how many the pool was given.
+fn step_text(rt: &impl Wait, alloc: Global, children: &str) -> Result<String, Stop> {
+    let mut bench = bench_of(alloc, Scene::of(children))?;
+    let mut text = built_text(rt, alloc, &mut bench)?;
+    let (killed, given) = (orders(&bench.calls), bench.pool.given());
+    write!(text, ", {killed} killed, {given} given")?;
+    Ok(text)
+}
+
 /// What two commands answer, and what comes of their step.
-const STEPS: &str = "
-    ends ends => output, 0 killed, 0 given
-    runs runs => nothing, 2 killed, 2 given
-    ends runs => nothing, 1 killed, 2 given
-    fails ends => command [\"make\"] exited with code 1, 0 killed, 2 given
-    ends faults => system: Other, 1 killed, 2 given
-    faults runs => system: Other, 2 killed, 2 given
-    runs faults => system: Other, 2 killed, 2 given";
+const STEPS: [(&str, &str); 7] = [
+    ("code 0; code 0", "output, 0 killed, 0 given"),
+    ("running; running", "nothing, 2 killed, 2 given"),
+    ("code 0; running", "nothing, 1 killed, 2 given"),
+    (
+        "code 1; code 0",
+        "command [\"make\"] exited with code 1, 0 killed, 2 given",
+    ),
+    ("code 0; Other", "system: Other, 1 killed, 2 given"),
+    ("Other; running", "system: Other, 2 killed, 2 given"),
+    ("running; Other", "system: Other, 2 killed, 2 given"),
+];
 
 /// Whatever comes of a step that was started, none of its commands runs on behind it.
 #[test]
 fn steps_with_a_time_limit(rt: HostRuntime) -> Result<(), Fail> {
-    for row in STEPS.trim().lines() {
-        let row = row.trim();
-        let (words, wanted) = row.split_once(" => ").ok_or("no text")?;
-        let found = built(&rt, rt.alloc(), words)?;
-        if found.as_str() != wanted {
-            return Err(Fail::new(format_args!("{row}: {found}")));
-        }
+    for (children, wanted) in STEPS {
+        let found = step_text(&rt, rt.alloc(), children)?;
+        assert_eq!(rt; found.as_str(), wanted, "{children}");
     }
     Ok(())
 }
 
-// How often a service that fails twice was started again.
-fn supervised(rt: &impl Wait, alloc: Global) -> Result<u32, Error> {
-    let mut system = Script::new(alloc)?;
-    system.polls(&[PollAnswer::Ended(ExitStatus::Code(1))])?;
-    system.polls(&[PollAnswer::Ended(ExitStatus::Signal(9))])?;
-    system.polls(&[PollAnswer::Running, PollAnswer::Ended(ExitStatus::Code(0))])?;
-    let mut pool = Pool::new(alloc);
+/// How often a service was started again.
+fn supervised(rt: &impl Wait, alloc: Global, bench: &mut Bench) -> Result<u32, Error> {
     let service: Tree = cmd!(in alloc; "server")?;
-    supervise(rt, &mut system, &mut pool, &service, 5)
+    supervise(rt, &mut bench.sys, &mut bench.pool, &service, 5)
 }
 
+/// A service that fails twice and ends well then.
 #[test]
-fn a_service(rt: HostRuntime) -> Result<(), Error> {
-    assert_eq!(rt; supervised(&rt, rt.alloc())?, 2);
+fn a_service(rt: HostRuntime) -> Result<(), Fail> {
+    let mut bench = bench_of(rt.alloc(), Scene::of("code 1; signal 9; running, code 0"))?;
+    assert_eq!(rt; supervised(&rt, rt.alloc(), &mut bench)?, 2);
     Ok(())
 }
 

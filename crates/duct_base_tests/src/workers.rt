@@ -1,0 +1,144 @@
+//! Workers on their threads: they run beside their caller, and what they said is said again.
+use duct_base::system::{Fault, Job, Numbered, Said};
+use duct_script::gate::Gate;
+use duct_script::gated::Gated;
+use duct_table::waits::{heard, until};
+use duct_worker::spawn::{spawn_drain, spawn_feed};
+use duct_worker::worker::Worker;
+use std::alloc::Global;
+use std::io::{self, Read, Write};
+use std::rt::{Clock, Files};
+use std::sync::Arc;
+use std::test::Fail;
+use std::thread::Threads;
+
+/// How many bytes go through a pipe, which is more than it holds.
+const MANY: usize = 1_000_000;
+
+/// So many bytes that many may own.
+fn shared(alloc: Global, count: usize) -> Result<Arc<Vec<u8>>, Fail> {
+    Ok(Arc::new(alloc, vec![in alloc; 7; count]?)?)
+}
+
+/// A gated one of these.
+fn gated<T: Drop>(gate: &Gate, inner: T) -> Result<Gated<T>, Fail> {
+    let gate = gate.share()?;
+    Ok(Gated { gate, inner })
+}
+
+/// A feed of a writer that stands at a gate, which is opened once the feed was started.
+fn feed_at_a_gate<R: Threads + Clock>(rt: &R, alloc: Global, gate: &Gate) -> Result<(), Fail> {
+    gate.shut();
+    let writer = gated(gate, Vec::<u8>::new(alloc))?;
+    let mut worker = spawn_feed(rt, alloc, writer, shared(alloc, 100)?)?;
+    let stands = until(|| gate.standing() > 0);
+    let first = stands && matches!(worker.poll(), Said::Running);
+    gate.open();
+    let done = heard(rt, &mut worker)?.is_ok() && worker.poll() == Said::Done(());
+    if first && done && worker.number() == 0 {
+        return Ok(());
+    }
+    Err(Fail::new("the feed is not done after the gate was opened"))
+}
+
+/// The caller goes on while its worker stands in a write.
+#[test]
+fn a_feed_runs_beside_its_caller(rt: HostRuntime) -> Result<(), Fail> {
+    let gate = Gate::new(rt.alloc())?;
+    feed_at_a_gate(&rt, rt.alloc(), &gate)
+}
+
+/// Both workers of a pipe, of which the writer stands at a gate first.
+fn workers_of_a_pipe<R: Threads + Files>(
+    rt: &R,
+    alloc: Global,
+    gate: &Gate,
+) -> Result<(Worker<()>, Worker<Arc<Vec<u8>>>), Fail> {
+    let (reader, writer) = io::pipe(rt)?;
+    let drain = spawn_drain(rt, alloc, reader)?;
+    let writer = gated(gate, writer)?;
+    let feed = spawn_feed(rt, alloc, writer, shared(alloc, MANY)?)?;
+    Ok((feed, drain))
+}
+
+/// How many bytes a drain gave, twice.
+fn lengths(rt: &impl Clock, drain: &mut Worker<Arc<Vec<u8>>>) -> Result<(usize, usize), Fail> {
+    let first = heard(rt, drain)??;
+    let again = heard(rt, drain)??;
+    if first.iter().all(|byte| *byte == 7) {
+        return Ok((first.len(), again.len()));
+    }
+    Err(Fail::new("other bytes were read"))
+}
+
+fn through_a_pipe<R: Threads + Files + Clock>(
+    rt: &R,
+    alloc: Global,
+    gate: &Gate,
+) -> Result<(), Fail> {
+    gate.shut();
+    let (mut feed, mut drain) = workers_of_a_pipe(rt, alloc, gate)?;
+    let stands = until(|| gate.standing() > 0);
+    gate.open();
+    let lengths = lengths(rt, &mut drain)?;
+    if stands && lengths == (MANY, MANY) && heard(rt, &mut feed)?.is_ok() {
+        return Ok(());
+    }
+    Err(Fail::new(format_args!("{lengths:?}")))
+}
+
+/// A feed and a drain of one pipe, which holds less than they move, wait for nobody else.
+#[test]
+fn two_workers_of_a_pipe(rt: HostRuntime) -> Result<(), Fail> {
+    let gate = Gate::new(rt.alloc())?;
+    through_a_pipe(&rt, rt.alloc(), &gate)
+}
+
+/// A writer and a reader that fail.
+#[derive(Drop)]
+struct Broken;
+
+impl Write for Broken {
+    fn write(&mut self, _buf: &[u8]) -> io::Result<usize> {
+        Err(io::Error::from(io::ErrorKind::PermissionDenied))
+    }
+
+    fn flush(&mut self) -> io::Result<()> {
+        Ok(())
+    }
+}
+
+impl Read for Broken {
+    fn read(&mut self, _buf: &mut [u8]) -> io::Result<usize> {
+        Err(io::Error::from(io::ErrorKind::NotFound))
+    }
+}
+
+/// The kinds of the faults that a worker says, one after the other.
+fn faults<J: Job>(rt: &impl Clock, worker: &mut J, said: &mut String) -> Result<(), Fail> {
+    use std::fmt::Write;
+    for _ in 0..2 {
+        if let Err(fault) = heard(rt, worker)? {
+            write!(said, "{:?} ", fault.kind)?;
+        }
+    }
+    Ok(())
+}
+
+fn fail_twice<R: Threads + Clock>(rt: &R, alloc: Global, said: &mut String) -> Result<(), Fail> {
+    let mut feed = spawn_feed(rt, alloc, Broken, shared(alloc, 1)?)?;
+    faults(rt, &mut feed, said)?;
+    let mut drain = spawn_drain(rt, alloc, Broken)?;
+    faults(rt, &mut drain, said)
+}
+
+/// A fault is said again.
+#[test]
+fn faults_are_kept(rt: HostRuntime) -> Result<(), Fail> {
+    let mut said = String::new(rt.alloc());
+    fail_twice(&rt, rt.alloc(), &mut said)?;
+    if said.as_str() == "PermissionDenied PermissionDenied NotFound NotFound " {
+        return Ok(());
+    }
+    Err(Fail::new(said.as_str()))
+}

@@ -1,0 +1,224 @@
+//! The calls of a handle.
+ghost use Rattle.std.specs.Prelude.{◌≡◌};
+
+use crate::calls::{Calls, Refusal, marked, split_last};
+use crate::machine::Machine;
+use crate::texts::{push_done, push_polled, push_run};
+use duct::unix::HandleExt;
+use duct::{Clock, Error, Handle, Output, Seen, System};
+use duct_table::stop::Stop;
+use duct_table::words::first_word;
+use std::sync::{Arc, Wait};
+use std::time::Duration;
+
+/// A wait of a handle.
+#[derive(Clone, Copy)]
+enum Waiting {
+    Try,
+    End,
+    Timeout(Duration),
+    Deadline(Duration),
+}
+
+/// What a wait answers.
+type Waited = Result<Option<Arc<Output>>, Error>;
+
+impl<R: Wait, M: Machine> Calls<'_, '_, R, M> {
+    /// Starts the expression of the row, and makes these calls of its handle.
+    pub(crate) fn handle(&mut self, calls: &str) -> Result<(), Stop> {
+        let (calls, end) = split_last(calls);
+        let (refusal, end) = marked(end);
+        if !matches!(end, "give" | "leave" | "into" | "share") {
+            return Err(Stop::Text("no call that spends a handle"));
+        }
+        match self.started()? {
+            Ok(handle) => self.call_handle(handle, calls, end, refusal),
+            Err(error) => self.refused(&error),
+        }
+    }
+
+    fn started(&mut self) -> Result<Result<Handle<M::System>, Error>, Stop> {
+        let tree = self.tree()?;
+        let (system, pool) = self.machine.stage();
+        Ok(tree.start(system, pool))
+    }
+
+    fn call_handle(
+        &mut self,
+        handle: Handle<M::System>,
+        calls: &str,
+        end: &str,
+        refusal: Refusal,
+    ) -> Result<(), Stop> {
+        self.machine.note_start();
+        let made = each_of_handle(self, &handle, calls);
+        self.machine.note_calls();
+        match end {
+            "give" | "leave" => {
+                self.give_up(handle, end);
+                made
+            }
+            "share" => self.share(handle, made, refusal),
+            _ => self.into_output(handle, made, refusal),
+        }
+    }
+
+    /// Gives a handle up, of which `calls` tells only where it is left.
+    fn give_up(&mut self, handle: Handle<M::System>, end: &str) {
+        handle.give_up(self.machine.stage().1);
+        self.settle(true);
+        if end == "leave" {
+            self.machine.note_calls();
+        }
+    }
+
+    fn into_output(
+        &mut self,
+        handle: Handle<M::System>,
+        made: Result<(), Stop>,
+        refusal: Refusal,
+    ) -> Result<(), Stop> {
+        let output = handle.into_output(self.rt, self.machine.stage().1);
+        self.settle(output.is_err());
+        self.machine.note_calls();
+        made?;
+        let mut answer = String::new(self.alloc);
+        push_run(&mut answer, &output)?;
+        self.add(refusal, answer.as_str())
+    }
+
+    /// The output while another keeps it, too.
+    fn share(
+        &mut self,
+        handle: Handle<M::System>,
+        made: Result<(), Stop>,
+        refusal: Refusal,
+    ) -> Result<(), Stop> {
+        let kept = handle.wait(self.rt);
+        let told = self.into_output(handle, made, refusal);
+        drop(kept);
+        told
+    }
+}
+
+/// Makes the calls that commas part, all through one token.
+fn each_of_handle<R: Wait, M: Machine>(
+    table: &mut Calls<'_, '_, R, M>,
+    handle: &Handle<M::System>,
+    calls: &str,
+) -> Result<(), Stop> {
+    let mut seen = handle.seen();
+    for call in calls.split(',') {
+        let (refusal, call) = marked(call);
+        let mut answer = String::new(table.alloc);
+        of_handle(table, handle, &mut seen, call, &mut answer)?;
+        table.add(refusal, answer.as_str())?;
+    }
+    Ok(())
+}
+
+fn of_handle<R: Wait, M: Machine>(
+    table: &mut Calls<'_, '_, R, M>,
+    handle: &Handle<M::System>,
+    seen: &mut Seen<M::System>,
+    call: &str,
+    answer: &mut String,
+) -> Result<(), Stop>
+    requires { seen.old.cell ≡ handle.now.cell }
+    ensures { seen.new.cell ≡ handle.now.cell }
+{
+    match first_word(call) {
+        ("", _) => (),
+        ("kill", _) => push_done(answer, &handle.kill(table.rt))?,
+        ("signal", number) => push_done(answer, &handle.send_signal(table.rt, number.parse()?))?,
+        ("pids", _) => write!(answer, "{} ids. ", handle.pids().len())?,
+        ("try" | "wait" | "timeout" | "deadline", _) => {
+            let clock = table.machine.clock();
+            push_polled(answer, &waited(table.rt, handle, clock, seen, call)?)?
+        }
+        _ => table.machine.call(answer, handle.pids(), call)?,
+    }
+    Ok(())
+}
+
+/// What a wait answers: through the token of the line, a new one, or none.
+fn waited<S: System, C: Clock>(
+    rt: &impl Wait,
+    handle: &Handle<S>,
+    clock: &C,
+    seen: &mut Seen<S>,
+    call: &str,
+) -> Result<Waited, Stop>
+    requires { seen.old.cell ≡ handle.now.cell }
+    ensures { seen.new.cell ≡ handle.now.cell }
+{
+    if let Some(call) = call.strip_suffix(" as") {
+        return Ok(wait_as(rt, handle, clock, seen, wait_of(call)?));
+    }
+    if let Some(call) = call.strip_suffix(" new") {
+        return Ok(wait_as(rt, handle, clock, &mut handle.seen(), wait_of(call)?));
+    }
+    Ok(wait(rt, handle, clock, wait_of(call)?))
+}
+
+fn wait_of(call: &str) -> Result<Waiting, Stop> {
+    match first_word(call) {
+        ("try", _) => Ok(Waiting::Try),
+        ("wait", _) => Ok(Waiting::End),
+        ("timeout", length) => Ok(Waiting::Timeout(duration(length)?)),
+        (_, moment) => Ok(Waiting::Deadline(duration(moment)?)),
+    }
+}
+
+/// `0`, `5s`, `1ns`, or `most` for the greatest.
+pub(crate) fn duration(text: &str) -> Result<Duration, Stop> {
+    if text == "most" {
+        return Ok(Duration::MAX);
+    }
+    if let Some(count) = text.strip_suffix("ns") {
+        return Ok(Duration::from_nanos(count.parse()?));
+    }
+    let seconds = text.strip_suffix('s').unwrap_or(text);
+    Ok(Duration::from_secs(seconds.parse()?))
+}
+
+/// A wait with a token of its own.
+fn wait<S: System, C: Clock>(
+    rt: &impl Wait,
+    handle: &Handle<S>,
+    clock: &C,
+    waiting: Waiting,
+) -> Waited {
+    match waiting {
+        Waiting::Try => handle.try_wait(rt),
+        Waiting::End => some(handle.wait(rt)),
+        Waiting::Timeout(length) => handle.wait_timeout(rt, clock, length),
+        Waiting::Deadline(moment) => handle.wait_deadline(rt, clock, moment),
+    }
+}
+
+/// A wait through a token.
+fn wait_as<S: System, C: Clock>(
+    rt: &impl Wait,
+    handle: &Handle<S>,
+    clock: &C,
+    seen: &mut Seen<S>,
+    waiting: Waiting,
+) -> Waited
+    requires { seen.old.cell ≡ handle.now.cell }
+    ensures { seen.new.cell ≡ handle.now.cell }
+{
+    match waiting {
+        Waiting::Try => handle.try_wait_as(rt, seen),
+        Waiting::End => some(handle.wait_as(rt, seen)),
+        Waiting::Timeout(length) => handle.wait_timeout_as(rt, clock, length, seen),
+        Waiting::Deadline(moment) => handle.wait_deadline_as(rt, clock, moment, seen),
+    }
+}
+
+fn some(answer: Result<Arc<Output>, Error>) -> Waited {
+    match answer {
+        Ok(output) => Ok(Some(output)),
+        Err(error) => Err(error),
+    }
+}

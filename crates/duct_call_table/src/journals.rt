@@ -1,0 +1,33 @@
+//! What was asked of the system, entry by entry.
+use duct::{CommandSpec, Entry, Error, Stream};
+use duct_script::text::Words;
+use duct_table::stop::Stop;
+use std::alloc::{AllocError, Global};
+
+/// The entries in words.
+pub fn journal_text(alloc: Global, journal: &[Entry]) -> Result<String, AllocError> {
+    let mut text = String::new(alloc);
+    for entry in journal {
+        write!(text, "{}. ", Words(entry))?;
+    }
+    Ok(text)
+}
+
+/// What stands in the spec of the last entry.
+pub fn last_spec(alloc: Global, journal: &[Entry]) -> Result<String, Stop> {
+    match journal.last() {
+        Some(Entry::Spawn(spec, _, _)) => Ok(spec_text(alloc, spec)?),
+        _ => Err(Stop::Text("no child was started last")),
+    }
+}
+
+/// The words of a spec, its folder, its variables, and where its streams go.
+fn spec_text(alloc: Global, spec: &CommandSpec) -> Result<String, Error> {
+    let mut text = format!(in alloc; "{:?} {:?}", spec.words(), spec.folder())?;
+    for (name, value) in spec.vars()?.iter() {
+        write!(text, " {name}={value}")?;
+    }
+    let ports = [Stream::In, Stream::Out, Stream::Err].map(|stream| spec.port(stream));
+    write!(text, " {ports:?}")?;
+    Ok(text)
+}

@@ -1,0 +1,93 @@
+//! The calls of what a launch started.
+use crate::calls::{Calls, TURNS, marked, split_last};
+use crate::machine::Machine;
+use crate::texts::{push_done, push_polled};
+use duct::{Error, Output, Running};
+use duct_table::stop::Stop;
+use duct_table::words::first_word;
+use std::sync::{Arc, Wait};
+
+impl<R: Wait, M: Machine> Calls<'_, '_, R, M> {
+    /// Launches the expression of the row, and makes these calls.
+    pub(crate) fn launch(&mut self, calls: &str) -> Result<(), Stop> {
+        let (calls, end) = split_last(calls);
+        if !matches!(end, "parts" | "give") {
+            return Err(Stop::Text("no call that spends what runs"));
+        }
+        match self.launched()? {
+            Ok(running) => self.call_running(running, calls, end),
+            Err(error) => self.refused(&error),
+        }
+    }
+
+    fn launched(&mut self) -> Result<Result<Running<M::System>, Error>, Stop> {
+        let tree = self.tree()?;
+        let (system, pool) = self.machine.stage();
+        Ok(tree.launch(system, pool))
+    }
+
+    fn call_running(
+        &mut self,
+        mut running: Running<M::System>,
+        calls: &str,
+        end: &str,
+    ) -> Result<(), Stop> {
+        self.machine.note_start();
+        let made = self.each_of_running(&mut running, calls);
+        self.machine.note_calls();
+        let spent = if end == "parts" {
+            self.machine.spend(running.into_parts())
+        } else {
+            running.give_up(self.machine.stage().1);
+            Ok(())
+        };
+        self.settle(end == "give");
+        made?;
+        spent
+    }
+
+    fn each_of_running(
+        &mut self,
+        running: &mut Running<M::System>,
+        calls: &str,
+    ) -> Result<(), Stop> {
+        for call in calls.split(',') {
+            let (refusal, call) = marked(call);
+            let mut answer = String::new(self.alloc);
+            self.of_running(running, call, &mut answer)?;
+            self.add(refusal, answer.as_str())?;
+        }
+        Ok(())
+    }
+
+    fn of_running(
+        &mut self,
+        running: &mut Running<M::System>,
+        call: &str,
+        answer: &mut String,
+    ) -> Result<(), Stop> {
+        match first_word(call) {
+            ("", _) => (),
+            ("poll", _) => push_polled(answer, &running.poll())?,
+            ("finish", _) => push_polled(answer, &self.finished(running))?,
+            ("kill", _) => push_done(answer, &running.kill())?,
+            ("signal", number) => push_done(answer, &running.signal(number.parse()?))?,
+            ("pids", _) => write!(answer, "{} ids. ", running.pids().len())?,
+            _ => self.machine.call(answer, running.pids(), call)?,
+        }
+        Ok(())
+    }
+
+    /// The answer of what runs, which is polled until there is one.
+    fn finished(&self, running: &mut Running<M::System>) -> Result<Option<Arc<Output>>, Error> {
+        let mut answer = running.poll();
+        for _ in 0..TURNS {
+            if !matches!(answer, Ok(None)) {
+                return answer;
+            }
+            self.machine.pause();
+            answer = running.poll();
+        }
+        answer
+    }
+}

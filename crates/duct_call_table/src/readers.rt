@@ -1,0 +1,181 @@
+//! The calls of a reader handle.
+use crate::calls::{Calls, marked, split_last};
+use crate::machine::Machine;
+use crate::texts::{push_bytes, push_done, push_error, push_polled};
+use duct::{Error, ReaderHandle, System};
+use duct_table::stop::Stop;
+use duct_table::words::first_word;
+use std::alloc::{AllocError, Global};
+use std::io::{self, Read};
+use std::sync::Wait;
+
+impl<'r, R: Wait, M: Machine> Calls<'_, 'r, R, M> {
+    /// Starts the expression of the row with a reader, and makes these calls of its reader handle.
+    pub(crate) fn reader(&mut self, calls: &str) -> Result<(), Stop> {
+        let (calls, end) = split_last(calls);
+        if end != "give" {
+            return Err(Stop::Text("no call that spends a reader handle"));
+        }
+        match self.started_reader()? {
+            Ok(handle) => self.call_reader(handle, calls),
+            Err(error) => self.refused(&error),
+        }
+    }
+
+    fn started_reader(&mut self) -> Result<Result<ReaderHandle<M::System, &'r R>, Error>, Stop> {
+        let tree = self.tree()?;
+        let (system, pool) = self.machine.stage();
+        Ok(tree.reader(self.rt, system, pool))
+    }
+
+    fn call_reader(
+        &mut self,
+        mut handle: ReaderHandle<M::System, &'r R>,
+        calls: &str,
+    ) -> Result<(), Stop> {
+        self.machine.note_start();
+        let made = self.each_of_reader(&mut handle, calls);
+        self.machine.note_calls();
+        handle.give_up(self.machine.stage().1);
+        self.settle(true);
+        made
+    }
+
+    fn each_of_reader(
+        &mut self,
+        handle: &mut ReaderHandle<M::System, &'r R>,
+        calls: &str,
+    ) -> Result<(), Stop> {
+        for call in calls.split(',') {
+            let (refusal, call) = marked(call);
+            let mut answer = String::new(self.alloc);
+            self.of_reader(handle, call, &mut answer)?;
+            self.add(refusal, answer.as_str())?;
+        }
+        Ok(())
+    }
+
+    fn of_reader(
+        &mut self,
+        handle: &mut ReaderHandle<M::System, &'r R>,
+        call: &str,
+        answer: &mut String,
+    ) -> Result<(), Stop> {
+        match first_word(call) {
+            ("", _) => (),
+            ("try", _) => push_polled(answer, &handle.try_wait())?,
+            ("kill", _) => push_done(answer, &handle.kill())?,
+            ("pids", _) => write!(answer, "{} ids. ", handle.pids().len())?,
+            ("read", length) => push_own(answer, self.alloc, handle, length.parse()?)?,
+            ("all", _) => push_all(answer, self.alloc, handle)?,
+            ("std" | "own" | "exact" | "own_exact", _) => push_std(
+                answer, self.alloc, handle, call,
+            )?,
+            _ => self.machine.call(answer, handle.pids(), call)?,
+        }
+        Ok(())
+    }
+}
+
+/// A read by a new token.
+fn read_once<S: System, R: Wait>(
+    handle: &ReaderHandle<S, R>,
+    buffer: &mut [u8],
+) -> Result<usize, Error> {
+    let mut seen = handle.seen();
+    handle.read_as(buffer, &mut seen)
+}
+
+/// Adds what a read into so many bytes answered.
+fn push_own<S: System, R: Wait>(
+    text: &mut String,
+    alloc: Global,
+    handle: &ReaderHandle<S, R>,
+    length: usize,
+) -> Result<(), AllocError> {
+    let mut buffer = vec![in alloc; 0; length]?;
+    match read_once(handle, buffer.as_mut_slice()) {
+        Ok(count) => push_prefix(text, buffer.as_slice(), count),
+        Err(error) => push_error(text, &error),
+    }
+}
+
+/// Adds a count, and so many bytes of the buffer, if there are some.
+fn push_prefix(text: &mut String, buffer: &[u8], count: usize) -> Result<(), AllocError> {
+    let (prefix, _) = buffer.split_at(count.min(buffer.len()));
+    write!(text, "{count}")?;
+    if !prefix.is_empty() {
+        text.push(' ')?;
+        push_bytes(text, prefix)?;
+    }
+    text.push_str(". ")
+}
+
+/// Adds what a read of std into so many bytes answered, an error by its kind.
+fn push_std<S: System, R: Wait>(
+    text: &mut String,
+    alloc: Global,
+    handle: &mut ReaderHandle<S, R>,
+    call: &str,
+) -> Result<(), Stop> {
+    let (call, length) = first_word(call);
+    let mut buffer = vec![in alloc; 0; length.parse()?]?;
+    match read_of_std(handle, call, buffer.as_mut_slice()) {
+        Ok(count) => push_prefix(text, buffer.as_slice(), count)?,
+        Err(error) => write!(text, "{:?}. ", error.kind())?,
+    }
+    Ok(())
+}
+
+fn read_of_std<S: System, R: Wait>(
+    handle: &mut ReaderHandle<S, R>,
+    call: &str,
+    buffer: &mut [u8],
+) -> io::Result<usize> {
+    match call {
+        "std" => shared(handle, buffer),
+        "own" => handle.read(buffer),
+        "exact" => exact(handle, buffer),
+        _ => own_exact(handle, buffer),
+    }
+}
+
+/// A read through a handle that others may share.
+fn shared<S: System, R: Wait>(
+    mut handle: &ReaderHandle<S, R>,
+    buffer: &mut [u8],
+) -> io::Result<usize> {
+    handle.read(buffer)
+}
+
+/// A read of the whole buffer, and its length.
+fn exact<S: System, R: Wait>(
+    mut handle: &ReaderHandle<S, R>,
+    buffer: &mut [u8],
+) -> io::Result<usize> {
+    handle.read_exact(buffer)?;
+    Ok(buffer.len())
+}
+
+/// The same by the handle itself.
+fn own_exact<S: System, R: Wait>(
+    handle: &mut ReaderHandle<S, R>,
+    buffer: &mut [u8],
+) -> io::Result<usize> {
+    handle.read_exact(buffer)?;
+    Ok(buffer.len())
+}
+
+/// Adds all bytes that there are, or the kind of the error.
+fn push_all<S: System, R: Wait>(
+    text: &mut String,
+    alloc: Global,
+    mut handle: &ReaderHandle<S, R>,
+) -> Result<(), AllocError> {
+    let mut bytes = Vec::new(alloc);
+    match handle.read_to_end(&mut bytes) {
+        Ok(_) => push_bytes(text, bytes.as_slice())?,
+        Err(error) => write!(text, "{:?}", error.kind())?,
+    }
+    text.push_str(". ")
+}

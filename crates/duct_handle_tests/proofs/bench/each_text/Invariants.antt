@@ -1,6 +1,0 @@
--- The token is one of the handle.
-use Rattle.std.specs.Prelude.{◌≡◌}
-use Rattle.duct_handle_tests.proofs.bench.each_text.Given as goal
-
-abbrev pub invariant-loop-call : goal.invariant-loop-call
-invariant-loop-call g l = l.seen.cell ≡ l.handle.cell

@@ -1,0 +1,61 @@
+//! The table `expressions`: the debug texts of expressions.
+//!
+//! `expression` begins a row, with steps as `duct_table::expressions` writes them, which may leave several expressions. Each other line is
+//! compared.
+//! - `shows`: the debug texts of all of them, in order.
+//! - `first`: the debug text of the first, once the others were dropped.
+use duct_script::system::ScriptEnd;
+use duct_table::expressions::{Strangers, Tree, written_all};
+use duct_table::stop::Stop;
+use duct_table::table::Table;
+use std::alloc::{AllocError, Global};
+
+/// The table of expressions.
+#[derive(Drop)]
+pub struct Expressions<'t> {
+    alloc: Global,
+    expression: &'t str,
+}
+
+impl Expressions<'_> {
+    pub fn new(alloc: Global) -> Expressions<'static> {
+        Expressions {
+            alloc,
+            expression: "",
+        }
+    }
+}
+
+impl<'t> Table<'t> for Expressions<'t> {
+    fn line(&mut self, key: &'t str, text: &'t str) -> Result<Option<String>, Stop> {
+        if key == "expression" {
+            self.expression = text;
+            return Ok(None);
+        }
+        Ok(Some(shown(self.alloc, self.expression, key)?))
+    }
+
+    fn end(&mut self) -> Result<(), Stop> {
+        self.expression = "";
+        Ok(())
+    }
+}
+
+/// What is compared, as it is.
+fn shown(alloc: Global, expression: &str, key: &str) -> Result<String, Stop> {
+    let mut made = written_all(alloc, &mut Strangers { alloc }, None, expression)?;
+    match key {
+        "shows" => (),
+        "first" => made.truncate(1),
+        _ => return Err(Stop::Text("no such key")),
+    }
+    Ok(texts(alloc, made.as_slice())?)
+}
+
+fn texts(alloc: Global, made: &[Tree<ScriptEnd>]) -> Result<String, AllocError> {
+    let mut text = String::new(alloc);
+    for tree in made {
+        write!(text, "{tree:?}; ")?;
+    }
+    Ok(text)
+}

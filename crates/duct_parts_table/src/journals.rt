@@ -1,0 +1,86 @@
+//! The table `journals`: what the checker says of a journal.
+//!
+//! `journal` begins a row, with entries as `duct_table::journals` writes them. Each other line is compared.
+//! - `says`: the numbers that were got and spent, whether they balance, how many are held, and how long the trace is.
+//! - `trace`: the entries of the trace, in words.
+//! - `origin 3`: where the end of this number comes from.
+use duct::Entry;
+use duct_plain::checker::{got, held, is_balanced, origin, spent, trace};
+use duct_script::text::Words;
+use duct_table::journals::journal;
+use duct_table::stop::Stop;
+use duct_table::streams::push_source;
+use duct_table::table::Table;
+use duct_table::words::first_word;
+use std::alloc::{AllocError, Global};
+
+/// The table of journals.
+#[derive(Drop)]
+pub struct Journals<'t> {
+    alloc: Global,
+    journal: &'t str,
+}
+
+impl Journals<'_> {
+    pub fn new(alloc: Global) -> Journals<'static> {
+        Journals { alloc, journal: "" }
+    }
+}
+
+impl<'t> Table<'t> for Journals<'t> {
+    fn line(&mut self, key: &'t str, text: &'t str) -> Result<Option<String>, Stop> {
+        if key == "journal" {
+            self.journal = text;
+            return Ok(None);
+        }
+        let entries = journal(self.alloc, self.journal)?;
+        Ok(Some(checked(self.alloc, entries.as_slice(), key)?))
+    }
+
+    fn end(&mut self) -> Result<(), Stop> {
+        self.journal = "";
+        Ok(())
+    }
+}
+
+/// What is compared, as it is.
+fn checked(alloc: Global, entries: &[Entry], key: &str) -> Result<String, Stop> {
+    match first_word(key) {
+        ("says", _) => Ok(numbers(alloc, entries)?),
+        ("trace", _) => Ok(traced(alloc, entries)?),
+        ("origin", number) => {
+            let mut text = String::new(alloc);
+            push_source(&mut text, origin(entries, number.parse()?))?;
+            Ok(text)
+        }
+        _ => Err(Stop::Text("no such key")),
+    }
+}
+
+fn numbers(alloc: Global, entries: &[Entry]) -> Result<String, AllocError> {
+    let got = got(alloc, entries)?;
+    let spent = spent(alloc, entries)?;
+    let mut text = format!(in alloc; "got {got:?} spent {spent:?}")?;
+    push_counts(alloc, entries, &mut text)?;
+    Ok(text)
+}
+
+fn push_counts(alloc: Global, entries: &[Entry], text: &mut String) -> Result<(), AllocError> {
+    let balanced = is_balanced(alloc, entries)?;
+    let held = held(alloc, entries)?;
+    let traced = trace(alloc, entries)?.len();
+    write!(text, " balanced {balanced} held {held} trace {traced}")
+}
+
+fn traced(alloc: Global, entries: &[Entry]) -> Result<String, AllocError> {
+    let trace = trace(alloc, entries)?;
+    let mut text = String::new(alloc);
+    for entry in trace.iter() {
+        push_words(&mut text, entry)?;
+    }
+    Ok(text)
+}
+
+fn push_words(text: &mut String, entry: &Entry) -> Result<(), AllocError> {
+    write!(text, "{} | ", Words(entry))
+}

@@ -1,0 +1,16 @@
+//! The tables of single parts, each by itself: statuses, the transfers of workers, the checker of journals, specs, names and expressions; and
+//! random comparisons of the core and of polls with the reference programs.
+//! Test support: nothing here is proved but that it is safe and ends.
+#![tactic(auto)]
+
+mod cores;
+pub mod expressions;
+pub mod journals;
+pub mod names;
+mod polls;
+pub mod random;
+mod scripted;
+pub mod specs;
+pub mod statuses;
+pub mod transfers;
+mod trees;

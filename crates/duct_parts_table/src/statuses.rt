@@ -1,0 +1,299 @@
+//! The table `statuses`: what a core replies to what it is told.
+//!
+//! These lines say what the next ones speak of. `shape` begins a row. It has each node after what it stands on: `one two pipe unchecked` is
+//! an unchecked pipe of the commands `one` and `two`, and `a,b input` a command of two words with input. `captured` has the streams that
+//! are captured, `stdout` or `both`; without it none is. `events` has what the core is told, parted by `;`: `0 code 1` and `1 signal 6` are
+//! endings of commands, `1 Other` and `1 running` other words of them, `input 0 done` and `input 0 Other` words of an input worker, `out done xy`
+//! the bytes of stdout, `err Other` the fault of stderr, and `conclude` asks.
+//!
+//! Each other line is compared.
+//! - `replies`: what the core replies to the events, told one by one and in one run over a copy of the shape. An answer stands with its
+//!   status and the bytes of stdout and of stderr, a failure with its message. Where a reply is that there was no memory, and each other one
+//!   is as it is to be, `out of memory` is found.
+//! - `due`: the numbers of the first eight commands that are due after the events.
+use duct_base::status::{Core, Drains, Event, Reply, Shape, Word};
+use duct_base::system::{ExitStatus, Side};
+use duct_table::stop::Stop;
+use duct_table::table::Table;
+use duct_table::words::{fault, first_word, pieces};
+use duct_table::workers::{drain_word, feed_word};
+use std::alloc::{AllocError, Global};
+use std::sync::Arc;
+
+/// What the lines of a row speak of.
+#[derive(Clone, Copy)]
+struct Row<'t> {
+    shape: &'t str,
+    captured: &'t str,
+    events: &'t str,
+}
+
+/// The table of statuses.
+#[derive(Drop)]
+pub struct Statuses<'t> {
+    alloc: Global,
+    row: Row<'t>,
+}
+
+impl Statuses<'_> {
+    pub fn new(alloc: Global) -> Statuses<'static> {
+        Statuses {
+            alloc,
+            row: begun(""),
+        }
+    }
+}
+
+impl<'t> Table<'t> for Statuses<'t> {
+    fn line(&mut self, key: &'t str, text: &'t str) -> Result<Option<String>, Stop> {
+        match key {
+            "shape" => self.row = begun(text),
+            "captured" => self.row.captured = text,
+            "events" => self.row.events = text,
+            "replies" => return Ok(Some(replies(self.alloc, self.row, text)?)),
+            "due" => return Ok(Some(due(self.alloc, self.row)?)),
+            _ => return Err(Stop::Text("no such key")),
+        }
+        Ok(None)
+    }
+
+    fn end(&mut self) -> Result<(), Stop> {
+        self.row = begun("");
+        Ok(())
+    }
+}
+
+fn begun(shape: &str) -> Row<'_> {
+    Row {
+        shape,
+        captured: "",
+        events: "",
+    }
+}
+
+/// The replies to the events of a row, where they are the same in both ways.
+fn replies(alloc: Global, row: Row, wanted: &str) -> Result<String, Stop> {
+    let steps = in_steps(alloc, row)?;
+    let run = in_one_run(alloc, row)?;
+    if steps.as_str() == run.as_str() {
+        return Ok(steps);
+    }
+    if is_but_for_memory(steps.as_str(), wanted) && is_but_for_memory(run.as_str(), wanted) {
+        return Ok(String::from_str(alloc, MEMORY)?);
+    }
+    Ok(format!(in alloc; "{steps} one by one, {run} in one run")?)
+}
+
+/// The reply that there was no memory.
+const MEMORY: &str = "out of memory";
+
+/// Whether replies are those that are wanted, but for some in whose place there was no memory.
+fn is_but_for_memory(found: &str, wanted: &str) -> bool {
+    let mut wanted = wanted.split(';');
+    for reply in found.split(';') {
+        let is_same = wanted
+            .next()
+            .is_some_and(|other| other.trim() == reply.trim());
+        if !is_same && reply.trim() != MEMORY {
+            return false;
+        }
+    }
+    wanted.next().is_none()
+}
+
+fn in_steps(alloc: Global, row: Row) -> Result<String, Stop> {
+    let mut text = String::new(alloc);
+    push_steps(alloc, &mut core(alloc, row)?, row.events, &mut text)?;
+    Ok(text)
+}
+
+/// A core of the row, which was told nothing.
+fn core(alloc: Global, row: Row) -> Result<Core, Stop> {
+    let shape = shape(alloc, row.shape)?;
+    Ok(Core::new(alloc, shape, captured(row.captured)?)?)
+}
+
+/// Tells the events one by one, and adds the replies.
+fn push_steps(alloc: Global, core: &mut Core, told: &str, text: &mut String) -> Result<(), Stop> {
+    for event in events(alloc, told)? {
+        push_reply(text, &core.step(event))?;
+    }
+    Ok(())
+}
+
+fn in_one_run(alloc: Global, row: Row) -> Result<String, Stop> {
+    let shape = shape(alloc, row.shape)?.try_clone(alloc)?;
+    let events = events(alloc, row.events)?;
+    let replies = Core::run(alloc, shape, captured(row.captured)?, events.as_slice())?;
+    Ok(replies_text(alloc, replies.as_slice())?)
+}
+
+fn replies_text(alloc: Global, replies: &[Reply]) -> Result<String, AllocError> {
+    let mut text = String::new(alloc);
+    for reply in replies {
+        push_reply(&mut text, reply)?;
+    }
+    Ok(text)
+}
+
+/// The commands that are due after the events of a row.
+fn due(alloc: Global, row: Row) -> Result<String, Stop> {
+    let mut text = String::new(alloc);
+    let mut core = core(alloc, row)?;
+    push_steps(alloc, &mut core, row.events, &mut text)?;
+    text.clear();
+    push_due(&core, &mut text)?;
+    Ok(text)
+}
+
+fn push_due(core: &Core, text: &mut String) -> Result<(), AllocError> {
+    for command in 0..8_usize {
+        if core.is_due(command) {
+            write!(text, "{command} ")?;
+        }
+    }
+    Ok(())
+}
+
+/// The shape of a text.
+pub fn shape(alloc: Global, text: &str) -> Result<Shape, Stop> {
+    let mut shapes = Vec::new(alloc);
+    for word in text.split_whitespace() {
+        add_node(alloc, &mut shapes, word)?;
+    }
+    last(&mut shapes)
+}
+
+fn last(shapes: &mut Vec<Shape>) -> Result<Shape, Stop> {
+    match shapes.pop() {
+        Some(shape) => Ok(shape),
+        None => Err(Stop::Text("no shape")),
+    }
+}
+
+/// Adds the node that a word makes of the last shapes, in their place.
+fn add_node(alloc: Global, shapes: &mut Vec<Shape>, word: &str) -> Result<(), Stop> {
+    let node = match word {
+        "input" => Shape::Input(Box::new(alloc, last(shapes)?)?),
+        "unchecked" => Shape::Unchecked(Box::new(alloc, last(shapes)?)?),
+        "pipe" => pipe(alloc, last(shapes)?, shapes)?,
+        words => command(alloc, words)?,
+    };
+    Ok(shapes.push(node)?)
+}
+
+/// A pipe of the last shape into this one.
+fn pipe(alloc: Global, right: Shape, shapes: &mut Vec<Shape>) -> Result<Shape, Stop> {
+    let right = Box::new(alloc, right)?;
+    let left = Box::new(alloc, last(shapes)?)?;
+    Ok(Shape::Pipe(left, right))
+}
+
+/// A command of the words that commas part.
+fn command(alloc: Global, words: &str) -> Result<Shape, AllocError> {
+    let mut texts = Vec::new(alloc);
+    for word in pieces(alloc, words)? {
+        texts.push(String::from_str(alloc, word)?)?;
+    }
+    Ok(Shape::Command(Arc::new(alloc, texts)?))
+}
+
+/// Which streams are captured.
+fn captured(text: &str) -> Result<Drains, Stop> {
+    match text {
+        "" => Ok(Drains {
+            out: false,
+            err: false,
+        }),
+        "stdout" => Ok(Drains {
+            out: true,
+            err: false,
+        }),
+        "both" => Ok(Drains {
+            out: true,
+            err: true,
+        }),
+        _ => Err(Stop::Text("no such streams")),
+    }
+}
+
+/// The events of a text.
+pub fn events(alloc: Global, text: &str) -> Result<Vec<Event>, Stop> {
+    let mut events = Vec::new(alloc);
+    for part in text.split(';') {
+        let part = part.trim();
+        if !part.is_empty() {
+            events.push(event(alloc, part)?)?;
+        }
+    }
+    Ok(events)
+}
+
+fn event(alloc: Global, text: &str) -> Result<Event, Stop> {
+    let (first, rest) = first_word(text);
+    match first {
+        "conclude" => Ok(Event::Conclude),
+        "out" => said(alloc, Who::Drain(Side::Out), rest),
+        "err" => said(alloc, Who::Drain(Side::Err), rest),
+        "input" => {
+            let (at, word) = first_word(rest);
+            said(alloc, Who::Input(at.parse()?), word)
+        }
+        at => said(alloc, Who::Command(at.parse()?), rest),
+    }
+}
+
+/// Who says a word: a command or an input worker of this number, or the capture worker of a stream.
+#[derive(Clone, Copy, Debug, PartialEq, Eq)]
+pub enum Who {
+    Command(usize),
+    Input(usize),
+    Drain(Side),
+}
+
+/// What somebody says.
+pub fn said(alloc: Global, who: Who, word: &str) -> Result<Event, Stop> {
+    match who {
+        Who::Command(at) => Ok(Event::Command(at, command_word(word)?)),
+        Who::Input(at) => Ok(Event::Input(at, feed_word(word)?)),
+        Who::Drain(side) => Ok(Event::Drain(side, drain_word(alloc, word)?)),
+    }
+}
+
+fn command_word(text: &str) -> Result<Word, Stop> {
+    match first_word(text) {
+        ("running", _) => Ok(Word::Running),
+        ("code", code) => Ok(Word::Ended(ExitStatus::Code(code.parse()?))),
+        ("signal", signal) => Ok(Word::Ended(ExitStatus::Signal(signal.parse()?))),
+        (kind, _) => Ok(Word::Fault(fault(kind)?)),
+    }
+}
+
+/// Adds a reply.
+pub fn push_reply(text: &mut String, reply: &Reply) -> Result<(), AllocError> {
+    match reply {
+        Reply::Noted => text.push_str("Noted")?,
+        Reply::Unknown => text.push_str("Unknown")?,
+        Reply::Pending => text.push_str("Pending")?,
+        Reply::Memory => text.push_str(MEMORY)?,
+        Reply::Fault(fault) => write!(text, "Fault {:?}", fault.kind)?,
+        Reply::Answer(output) => push_answer(
+            text,
+            output.status,
+            output.stdout.as_slice(),
+            output.stderr.as_slice(),
+        )?,
+        Reply::Failed(message) => write!(text, "Failed {message}")?,
+    }
+    text.push_str("; ")
+}
+
+/// Adds a status with the bytes of stdout and of stderr.
+pub fn push_answer(
+    text: &mut String,
+    status: ExitStatus,
+    stdout: &[u8],
+    stderr: &[u8],
+) -> Result<(), AllocError> {
+    write!(text, "Answer {status:?} {stdout:?} {stderr:?}")
+}

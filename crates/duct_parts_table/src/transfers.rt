@@ -1,0 +1,160 @@
+//! The table `transfers`: what feeds and drains come to, over a writer and a reader whose calls go by the words of a script, as `scripted` says.
+//! A script whose last words are `times 9` is its other words nine times.
+//!
+//! The bytes that are moved are `abc`, or so many, each of which tells its place, as a line `bytes` says before. A feed's writer keeps what it
+//! takes in a list; behind a line `room: yes` that list has room for all, so that no feed wants memory.
+//!
+//! Each other line is compared.
+//! - `fed SCRIPT`: `Ok` or the kind of the fault, and what was written, or how many bytes where they are more than ten.
+//! - `drained SCRIPT`: the same of what was read. Each read may give 64 KiB.
+use crate::scripted::{Sink, Source};
+use duct_base::system::{Fault, Kind};
+use duct_table::stop::Stop;
+use duct_table::table::Table;
+use duct_table::words::first_word;
+use duct_worker::transfer::{drain, feed};
+use std::alloc::{AllocError, Global};
+
+/// The table of transfers.
+#[derive(Drop)]
+pub struct Transfers {
+    alloc: Global,
+    bytes: Option<usize>,
+    has_room: bool,
+}
+
+impl Transfers {
+    pub fn new(alloc: Global) -> Transfers {
+        Transfers {
+            alloc,
+            bytes: None,
+            has_room: false,
+        }
+    }
+
+    /// The bytes that the row moves.
+    fn all(&self) -> Result<Vec<u8>, AllocError> {
+        match self.bytes {
+            Some(count) => places(self.alloc, count),
+            None => Vec::from_slice(self.alloc, b"abc"),
+        }
+    }
+}
+
+impl<'t> Table<'t> for Transfers {
+    fn line(&mut self, key: &'t str, text: &'t str) -> Result<Option<String>, Stop> {
+        match first_word(key) {
+            ("bytes", _) => self.bytes = Some(text.parse()?),
+            ("room", _) => self.has_room = text == "yes",
+            ("fed", script) => {
+                let script = repeated(self.alloc, script)?;
+                return Ok(Some(fed(
+                    self.alloc,
+                    self.all()?.as_slice(),
+                    script.as_str(),
+                    self.has_room,
+                )?));
+            }
+            ("drained", script) => {
+                let script = repeated(self.alloc, script)?;
+                return Ok(Some(drained(self.alloc, self.all()?.as_slice(), script.as_str())?));
+            }
+            _ => return Err(Stop::Text("no such key")),
+        }
+        Ok(None)
+    }
+
+    fn end(&mut self) -> Result<(), Stop> {
+        self.bytes = None;
+        self.has_room = false;
+        Ok(())
+    }
+}
+
+/// So many bytes, each of which tells its place.
+fn places(alloc: Global, count: usize) -> Result<Vec<u8>, AllocError> {
+    let mut bytes = Vec::with_capacity(alloc, count)?;
+    for place in 0..count {
+        bytes.push((place % 251) as u8)?;
+    }
+    Ok(bytes)
+}
+
+/// A script, as often as its last words say.
+fn repeated(alloc: Global, script: &str) -> Result<String, Stop> {
+    match script.rsplit_once(" times ") {
+        Some((words, times)) => {
+            let words = format!(in alloc; "{words} ")?;
+            Ok(words.repeat(alloc, times.parse()?)?)
+        }
+        None => Ok(String::from_str(alloc, script)?),
+    }
+}
+
+/// What a feed comes to.
+fn fed(alloc: Global, all: &[u8], script: &str, has_room: bool) -> Result<String, Stop> {
+    let room = if has_room { all.len() } else { 0 };
+    let taken = Vec::with_capacity(alloc, room)?;
+    let mut sink = Sink { script, taken };
+    let answer = feed(&mut sink, all);
+    if has_room && answer == Err(Fault::new(Kind::OutOfMemory)) {
+        return Err(Stop::Text("a feed wants memory"));
+    }
+    refused(answer, script)?;
+    came_to(alloc, answer, all, sink.taken.as_slice())
+}
+
+/// Stops where memory was refused, and not by the script.
+fn refused(answer: Result<(), Fault>, script: &str) -> Result<(), Fault> {
+    match answer {
+        Err(fault) if fault.kind == Kind::OutOfMemory && !script.contains("OutOfMemory") => Err(
+            fault,
+        ),
+        _ => Ok(()),
+    }
+}
+
+/// What a drain comes to.
+fn drained(alloc: Global, all: &[u8], script: &str) -> Result<String, Stop> {
+    let mut source = Source {
+        script,
+        left: all,
+        least: usize::MAX,
+    };
+    let found = drain(alloc, &mut source);
+    if source.least < BLOCK {
+        return Err(Stop::Text("a read with less room than 64 KiB"));
+    }
+    match found {
+        Ok(bytes) => came_to(alloc, Ok(()), all, bytes.as_slice()),
+        Err(fault) => {
+            refused(Err(fault), script)?;
+            came_to(alloc, Err(fault), all, &[])
+        }
+    }
+}
+
+/// How many bytes each read of a drain may give.
+const BLOCK: usize = 64 * 1024;
+
+/// An answer, and what was moved, which has to be a prefix of all.
+fn came_to(
+    alloc: Global,
+    answer: Result<(), Fault>,
+    all: &[u8],
+    moved: &[u8],
+) -> Result<String, Stop> {
+    if !all.starts_with(moved) {
+        return Err(Stop::Text("other bytes were moved"));
+    }
+    let mut text = String::new(alloc);
+    match answer {
+        Ok(()) => text.push_str("Ok ")?,
+        Err(fault) => write!(text, "{:?} ", fault.kind)?,
+    }
+    match str::from_utf8(moved) {
+        Ok(few) if few.len() <= 10 => text.push_str(few)?,
+        _ => write!(text, "{} bytes", moved.len())?,
+    }
+    Ok(text)
+}

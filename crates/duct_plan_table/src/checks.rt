@@ -1,0 +1,66 @@
+//! What is said of a journal beside a plan, and of an error beside a journal, in words.
+use crate::texts::TestPlan;
+use duct::{Entry, Error};
+use duct_follows::causes::{answers_last_fault, has_cause};
+use duct_follows::follows::{follows, follows_whole};
+use duct_follows::untold::Untold;
+use duct_table::stop::Stop;
+use duct_table::words::{fault, first_word};
+use std::alloc::Global;
+
+/// `whole` where a journal follows the whole plan, `prefix` where it follows the plan so far as it goes, `neither`, or `no memory`
+/// where a hook found none, so that it isn't told.
+pub fn followed(alloc: Global, plan: &TestPlan, entries: &[Entry]) -> Result<&'static str, Stop> {
+    match told(alloc, plan, entries) {
+        Ok(told) => Ok(told),
+        Err(Untold::HookOutOfMemory) => Ok("no memory"),
+        Err(untold) => Err(stopped(untold)),
+    }
+}
+
+fn told(alloc: Global, plan: &TestPlan, entries: &[Entry]) -> Result<&'static str, Untold> {
+    if follows_whole(alloc, plan, entries)? {
+        return Ok("whole");
+    }
+    if follows(alloc, plan, entries)? {
+        Ok("prefix")
+    } else {
+        Ok("neither")
+    }
+}
+
+/// Whether the error of this text has a cause in a journal beside the plan.
+pub fn is_caused(
+    alloc: Global,
+    plan: &TestPlan,
+    entries: &[Entry],
+    text: &str,
+) -> Result<bool, Stop> {
+    has_cause(alloc, plan, entries, &error(text)?).map_err(stopped)
+}
+
+/// Whether the error of this text is that of the last fault of a journal, if there is one.
+pub fn is_last(entries: &[Entry], text: &str) -> Result<bool, Stop> {
+    Ok(answers_last_fault(entries, &error(text)?))
+}
+
+/// The error of a text: `system Other`, `hook Other`, `hook_end 1`, `not_utf8` or `memory`.
+fn error(text: &str) -> Result<Error, Stop> {
+    let (sort, rest) = first_word(text);
+    match sort {
+        "system" => Ok(Error::System(fault(rest)?)),
+        "hook" => Ok(Error::Hook(fault(rest)?)),
+        "hook_end" => Ok(Error::HookEnd(rest.parse::<usize>()?)),
+        "not_utf8" => Ok(Error::NotUtf8),
+        "memory" => Ok(Error::Memory),
+        _ => Err(Stop::Text("no such error")),
+    }
+}
+
+/// Why it is not told whether a journal follows.
+pub fn stopped(untold: Untold) -> Stop {
+    match untold {
+        Untold::HookOutOfMemory => Stop::Text("a hook found no memory"),
+        Untold::Memory => Stop::Error(Error::Memory),
+    }
+}

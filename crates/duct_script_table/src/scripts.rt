@@ -1,0 +1,289 @@
+//! The table `scripts`: the scripted system, asked directly. Each row has a system of its own.
+//!
+//! A line `asks` has requests that `; ` part, which name an end by its number; one of an end that isn't there is not asked: `environment`,
+//! `pipe`, `open_read f`, `create f`, `duplicate 3`, `parent out`, `canonicalize ./x`, `spawn 1 null inherit`, `feed 2`, `drain 1`, `reader 1`,
+//! `close 1`. Beside them `adopt` gets an end of somebody else, and `clear` clears the journal. The others set what the system answers:
+//!
+//! - `variable A 1`, `canonical ./x /x`, `refuse 2 Other`, `refuse_sort pipe 2 Other`, `starve`, `nourish`, `skip 3`;
+//! - `child running,Other,code 3,signal 9`: the polls of the next child; `orders done,Other Other`: its kills and its signals;
+//! - `feeds running,Other,done`, `drains running,done xy`: the next feed and the next drain; `bytes xyz 2,Interrupted`: what the
+//!   next reader gives, and by which pieces and errors.
+//!
+//! Each other line is compared.
+//! - `says`: what was answered so far, which ends aren't spent, how many requests were asked, and the room. Where a row wants each answer to be
+//!   Ok and memory was refused, it stops by that.
+//! - `journal`: its entries.
+//! - What a new child, feed, drain or reader says: `polls 5`, `ordered`, `fed`, `drained`, `reads 4 2`.
+use crate::answers::{push_drain, push_feed, push_orders, push_polls, push_reads};
+use crate::ends::{duplicate, give, pipe, push_numbers, read, spawn, taken};
+use duct_base::system::{Fault, Kind, System};
+use duct_script::answers::Answers;
+use duct_script::child::ChildScript;
+use duct_script::reader::{ReadStep, ReaderScript};
+use duct_script::requests::Sort;
+use duct_script::system::{Script, ScriptEnd};
+use duct_script::text::Words;
+use duct_table::scenes::{order_answers, set_children};
+use duct_table::stop::Stop;
+use duct_table::table::Table;
+use duct_table::words::{fault, first_word, side};
+use duct_table::workers::{set_drains, set_feeds};
+use std::alloc::Global;
+use std::collections::VecDeque;
+use std::io::ErrorKind;
+
+/// The table of the scripted system.
+#[derive(Drop)]
+pub struct Scripts {
+    alloc: Global,
+    bench: Option<Bench>,
+}
+
+impl Scripts {
+    pub fn new(alloc: Global) -> Scripts {
+        Scripts { alloc, bench: None }
+    }
+}
+
+impl<'t> Table<'t> for Scripts {
+    fn line(&mut self, key: &'t str, text: &'t str) -> Result<Option<String>, Stop> {
+        if self.bench.is_none() {
+            self.bench = Some(Bench::new(self.alloc)?);
+        }
+        match &mut self.bench {
+            Some(bench) if key == "asks" => {
+                bench.ask_all(text)?;
+                Ok(None)
+            }
+            Some(bench) => Ok(Some(bench.found(key, text)?)),
+            None => Err(Stop::Text("no system")),
+        }
+    }
+
+    fn end(&mut self) -> Result<(), Stop> {
+        self.bench = None;
+        Ok(())
+    }
+}
+
+/// A system, the ends that it gave and that aren't spent, and the answers so far.
+#[derive(Drop)]
+struct Bench {
+    alloc: Global,
+    sys: Script,
+    ends: Vec<ScriptEnd>,
+    answers: String,
+}
+
+impl Bench {
+    fn new(alloc: Global) -> Result<Bench, Stop> {
+        Ok(Bench {
+            alloc,
+            sys: Script::new(alloc)?,
+            ends: Vec::new(alloc),
+            answers: String::new(alloc),
+        })
+    }
+
+    /// What is compared, as it is.
+    fn found(&mut self, key: &str, wanted: &str) -> Result<String, Stop> {
+        let mut text = String::new(self.alloc);
+        match first_word(key) {
+            ("says", _) => self.push_answers(wanted, &mut text)?,
+            ("journal", _) => self.push_journal(&mut text)?,
+            ("polls", times) => push_polls(self.alloc, &mut self.sys, times.parse()?, &mut text)?,
+            ("ordered", _) => push_orders(self.alloc, &mut self.sys, &mut text)?,
+            ("fed", _) => push_feed(self.alloc, &mut self.sys, &mut text)?,
+            ("drained", _) => push_drain(&mut self.sys, &mut text)?,
+            ("reads", lengths) => push_reads(&mut self.sys, lengths, &mut text)?,
+            _ => return Err(Stop::Text("no such key")),
+        }
+        Ok(text)
+    }
+
+    fn push_answers(&self, wanted: &str, text: &mut String) -> Result<(), Stop> {
+        refusal(self.answers.as_str(), wanted)?;
+        text.push_str(self.answers.as_str())?;
+        text.push_str("| held")?;
+        push_numbers(text, self.ends.as_slice())?;
+        write!(
+            text,
+            " | asked {} | room {}",
+            self.sys.requests(),
+            self.sys.room()
+        )?;
+        Ok(())
+    }
+
+    fn push_journal(&self, text: &mut String) -> Result<(), Stop> {
+        for entry in self.sys.journal() {
+            write!(text, "{}; ", Words(entry))?;
+        }
+        Ok(())
+    }
+
+    fn ask_all(&mut self, text: &str) -> Result<(), Stop> {
+        for ask in text.split(';') {
+            self.ask(ask.trim())?;
+        }
+        Ok(())
+    }
+
+    fn ask(&mut self, ask: &str) -> Result<(), Stop> {
+        let (word, rest) = first_word(ask);
+        let answer = match word {
+            "environment" => self.sys.environment().err(),
+            "canonicalize" => self.sys.canonicalize(rest).err(),
+            "pipe" => pipe(&mut self.sys, &mut self.ends)?,
+            "open_read" | "create" | "parent" | "adopt" | "duplicate" => {
+                return self.get(word, rest);
+            }
+            "spawn" => spawn(self.alloc, &mut self.sys, &mut self.ends, rest)?,
+            "feed" | "drain" | "reader" | "close" => return self.spend(word, rest.parse()?),
+            _ => return set(self.alloc, &mut self.sys, word, rest),
+        };
+        self.note(answer)
+    }
+
+    /// Notes an answer: `ok`, or the fault's kind.
+    fn note(&mut self, answer: Option<Fault>) -> Result<(), Stop> {
+        match answer {
+            None => self.answers.push_str("ok ")?,
+            Some(fault) => write!(self.answers, "{:?} ", fault.kind)?,
+        }
+        Ok(())
+    }
+
+    /// Asks for one end, and keeps it.
+    fn get(&mut self, word: &str, rest: &str) -> Result<(), Stop> {
+        let got = match word {
+            "open_read" => self.sys.open_read(rest),
+            "create" => self.sys.create(rest),
+            "parent" => self.sys.parent(side(rest)?),
+            "adopt" => self.sys.adopt(),
+            _ => match duplicate(&mut self.sys, self.ends.as_slice(), rest.parse()?) {
+                Some(got) => got,
+                None => return Ok(()),
+            },
+        };
+        match got {
+            Ok(end) => {
+                self.ends.push(end)?;
+                self.note(None)
+            }
+            Err(fault) => self.note(Some(fault)),
+        }
+    }
+
+    /// Asks a request that is given one end.
+    fn spend(&mut self, word: &str, number: u64) -> Result<(), Stop> {
+        let Some(end) = taken(&mut self.ends, number) else {
+            return Ok(());
+        };
+        if word == "reader" {
+            let number = read(&mut self.sys, end)?;
+            return Ok(write!(self.answers, "reader-{number} ")?);
+        }
+        let answer = give(self.alloc, &mut self.sys, word, end)?;
+        if word == "close" {
+            return Ok(());
+        }
+        self.note(answer)
+    }
+}
+
+/// Stops where memory was refused and not by the row: by that, or, where a row that wants each answer to be Ok got another one, by this.
+fn refusal(answers: &str, wanted: &str) -> Result<(), Stop> {
+    let (wanted, _) = wanted.split_once('|').unwrap_or((wanted, ""));
+    if !answers.contains(REFUSED) || wanted.contains(REFUSED) || !are_ok(wanted) {
+        return Ok(());
+    }
+    if are_ok(answers) {
+        return Err(Stop::from(Fault::new(Kind::OutOfMemory)));
+    }
+    Err(Stop::Text("another answer"))
+}
+
+/// The answer of what was refused memory.
+const REFUSED: &str = "OutOfMemory";
+
+/// Whether each answer is Ok, but for want of memory.
+fn are_ok(answers: &str) -> bool {
+    let mut are_ok = true;
+    for word in answers.split_whitespace() {
+        are_ok = are_ok && (word == "ok" || word == REFUSED || word.starts_with("reader-"));
+    }
+    are_ok
+}
+
+/// Sets what the system is to answer.
+fn set(alloc: Global, sys: &mut Script, word: &str, rest: &str) -> Result<(), Stop> {
+    let (first, second) = first_word(rest);
+    match word {
+        "variable" => sys.variable(first, second)?,
+        "canonical" => sys.canonical(first, second)?,
+        "refuse" => sys.refuse(first.parse()?, fault(second)?)?,
+        "refuse_sort" => {
+            let (place, kind) = first_word(second);
+            sys.refuse_sort(sort(first)?, place.parse()?, fault(kind)?)?
+        }
+        "clear" => sys.clear_journal(),
+        "starve" => sys.starve(true),
+        "nourish" => sys.starve(false),
+        "skip" => sys.skip_numbers_below(rest.parse()?),
+        _ => set_lists(alloc, sys, word, rest)?,
+    }
+    Ok(())
+}
+
+/// The sort of requests of this name.
+fn sort(name: &str) -> Result<Sort, Stop> {
+    match name {
+        "pipe" => Ok(Sort::Pipe),
+        "spawn" => Ok(Sort::Spawn),
+        "close" => Ok(Sort::Close),
+        _ => Err(Stop::Text("no such request")),
+    }
+}
+
+/// Sets what the next child, feed, drain or reader says.
+fn set_lists(alloc: Global, sys: &mut Script, word: &str, rest: &str) -> Result<(), Stop> {
+    match word {
+        "child" => set_children(alloc, sys, rest),
+        "orders" => set_orders(alloc, sys, rest),
+        "feeds" => set_feeds(alloc, sys, rest),
+        "drains" => set_drains(alloc, sys, rest),
+        "bytes" => set_bytes(alloc, sys, rest),
+        _ => Err(Stop::Text("no such request")),
+    }
+}
+
+/// Sets what the next child answers to kills and to signals.
+fn set_orders(alloc: Global, sys: &mut Script, rest: &str) -> Result<(), Stop> {
+    let (kills, signals) = first_word(rest);
+    let mut script = ChildScript::running(alloc);
+    script.kills = Answers::of(order_answers(alloc, kills)?);
+    script.signals = Answers::of(order_answers(alloc, signals)?);
+    Ok(sys.child(script)?)
+}
+
+/// Sets what the next reader gives, and by which steps.
+fn set_bytes(alloc: Global, sys: &mut Script, rest: &str) -> Result<(), Stop> {
+    let (bytes, steps) = first_word(rest);
+    let mut script = ReaderScript::empty(alloc);
+    script.bytes = Vec::from_slice(alloc, bytes.as_bytes())?;
+    script.steps = read_steps(alloc, steps)?;
+    Ok(sys.bytes(script)?)
+}
+
+fn read_steps(alloc: Global, words: &str) -> Result<VecDeque<ReadStep>, Stop> {
+    let mut steps = VecDeque::new(alloc);
+    for word in words.split(',') {
+        steps.push_back(match word {
+            "Interrupted" => ReadStep::Fault(ErrorKind::Interrupted),
+            "Other" => ReadStep::Fault(ErrorKind::Other),
+            length => ReadStep::Piece(length.parse()?),
+        })?;
+    }
+    Ok(steps)
+}

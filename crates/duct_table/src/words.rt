@@ -1,0 +1,89 @@
+//! Parts of the lines of tables, and the names of streams and of kinds of faults.
+use crate::stop::Stop;
+use duct_system::spec::Stream;
+use duct_system::system::{Fault, Kind, Side};
+use std::alloc::{AllocError, Global};
+
+/// The text before the first space, and the text after it.
+pub fn first_word(text: &str) -> (&str, &str) {
+    text.split_once(' ').unwrap_or((text, ""))
+}
+
+/// The texts that commas part. There is none in an empty text.
+pub fn pieces(alloc: Global, text: &str) -> Result<Vec<&str>, AllocError> {
+    let mut pieces = Vec::new(alloc);
+    if !text.is_empty() {
+        for piece in text.split(',') {
+            pieces.push(piece)?;
+        }
+    }
+    Ok(pieces)
+}
+
+/// The pairs of names and values of a text: `A:1,B:2`.
+pub fn pairs(alloc: Global, text: &str) -> Result<Vec<(&str, &str)>, AllocError> {
+    let mut pairs = Vec::new(alloc);
+    for piece in text.split(',') {
+        if let Some(pair) = piece.split_once(':') {
+            pairs.push(pair)?;
+        }
+    }
+    Ok(pairs)
+}
+
+/// The stream of this name: `in`, `out` or `err`.
+pub fn stream(name: &str) -> Result<Stream, Stop> {
+    match name {
+        "in" => Ok(Stream::In),
+        "out" => Ok(Stream::Out),
+        "err" => Ok(Stream::Err),
+        _ => Err(Stop::Text("no such stream")),
+    }
+}
+
+/// The output stream of the parent of this name: `out` or `err`.
+pub fn side(name: &str) -> Result<Side, Stop> {
+    match name {
+        "out" => Ok(Side::Out),
+        "err" => Ok(Side::Err),
+        _ => Err(Stop::Text("no such stream")),
+    }
+}
+
+/// The fault of the kind of this name.
+pub fn fault(kind: &str) -> Result<Fault, Stop> {
+    let kind = match kind {
+        "NotFound" => Kind::NotFound,
+        "PermissionDenied" => Kind::PermissionDenied,
+        "BrokenPipe" => Kind::BrokenPipe,
+        "WriteZero" => Kind::WriteZero,
+        "InvalidInput" => Kind::InvalidInput,
+        "Unsupported" => Kind::Unsupported,
+        "OutOfMemory" => Kind::OutOfMemory,
+        "Other" => Kind::Other,
+        _ => return Err(Stop::Text("no kind of fault")),
+    };
+    Ok(Fault::new(kind))
+}
+
+/// The pairs of names and values of a text, owned: `A:1,B:2`.
+pub fn owned_pairs(alloc: Global, text: &str) -> Result<Vec<(String, String)>, AllocError> {
+    let mut pairs = Vec::new(alloc);
+    for piece in text.split(',') {
+        if let Some((name, value)) = piece.split_once(':') {
+            pairs.push(owned_pair(alloc, name, value)?)?;
+        }
+    }
+    Ok(pairs)
+}
+
+fn owned_pair(alloc: Global, name: &str, value: &str) -> Result<(String, String), AllocError> {
+    let name = String::from_str(alloc, name)?;
+    Ok((name, String::from_str(alloc, value)?))
+}
+
+/// The text before the first bar, and the text after it.
+pub fn part(row: &str) -> (&str, &str) {
+    let (part, rest) = row.split_once('|').unwrap_or((row, ""));
+    (part.trim(), rest.trim())
+}

@@ -1,0 +1,116 @@
+//! What a row says of the workers and readers of a start.
+use crate::stop::Stop;
+use crate::words::{fault, first_word};
+use duct::Said;
+use duct_script::answers::Answers;
+use duct_script::job::{DrainScript, FeedScript};
+use duct_script::reader::{ReadStep, ReaderScript};
+use duct_script::system::Script;
+use std::alloc::{AllocError, Global};
+use std::io::ErrorKind;
+use std::sync::Arc;
+
+/// Sets what the input workers say, in the order of their starts: `running, done; Other`.
+pub fn set_feeds(alloc: Global, sys: &mut Script, feeds: &str) -> Result<(), Stop> {
+    if !feeds.is_empty() {
+        for said in feeds.split(';') {
+            sys.feed(feed(alloc, said)?)?;
+        }
+    }
+    Ok(())
+}
+
+fn feed(alloc: Global, said: &str) -> Result<FeedScript, Stop> {
+    let mut script = Vec::new(alloc);
+    for word in said.split(',') {
+        script.push(feed_word(word.trim())?)?;
+    }
+    Ok(Answers::of(script))
+}
+
+/// What an input worker says: `running`, `done`, or the kind of a fault.
+pub fn feed_word(word: &str) -> Result<Said<()>, Stop> {
+    match word {
+        "running" => Ok(Said::Running),
+        "done" => Ok(Said::Done(())),
+        kind => Ok(Said::Fault(fault(kind)?)),
+    }
+}
+
+/// Sets what the capture workers say, in the order of their starts: `running, done abc; Other`.
+pub fn set_drains(alloc: Global, sys: &mut Script, drains: &str) -> Result<(), Stop> {
+    if !drains.is_empty() {
+        for said in drains.split(';') {
+            sys.drain(drain(alloc, said)?)?;
+        }
+    }
+    Ok(())
+}
+
+fn drain(alloc: Global, said: &str) -> Result<DrainScript, Stop> {
+    let mut script = DrainScript::new(alloc);
+    for word in said.split(',') {
+        script.push_back(drain_word(alloc, word.trim())?)?;
+    }
+    Ok(script)
+}
+
+/// What a capture worker says: `running`, `done abc`, or the kind of a fault.
+pub fn drain_word(alloc: Global, word: &str) -> Result<Said<Arc<Vec<u8>>>, Stop> {
+    match first_word(word) {
+        ("running", _) => Ok(Said::Running),
+        ("done", bytes) => Ok(Said::Done(shared(alloc, bytes)?)),
+        (kind, _) => Ok(Said::Fault(fault(kind)?)),
+    }
+}
+
+fn shared(alloc: Global, bytes: &str) -> Result<Arc<Vec<u8>>, AllocError> {
+    Ok(Arc::new(alloc, Vec::from_slice(alloc, bytes.as_bytes())?)?)
+}
+
+/// Sets what the next reader gives, in pieces and with faults between them: `abc, Interrupted, d`. In a piece `_` stands for a space,
+/// `$` for a newline, `^` for a carriage return, and `?` for a byte that is no text.
+pub fn set_reader(alloc: Global, sys: &mut Script, pieces: &str) -> Result<(), Stop> {
+    let mut script = ReaderScript::empty(alloc);
+    if !pieces.is_empty() {
+        for piece in pieces.split(',') {
+            add_piece(&mut script, piece.trim())?;
+        }
+    }
+    Ok(sys.bytes(script)?)
+}
+
+fn add_piece(script: &mut ReaderScript, piece: &str) -> Result<(), AllocError> {
+    match piece {
+        "Interrupted" => script
+            .steps
+            .push_back(ReadStep::Fault(ErrorKind::Interrupted))?,
+        "NotFound" => script
+            .steps
+            .push_back(ReadStep::Fault(ErrorKind::NotFound))?,
+        "Other" => script.steps.push_back(ReadStep::Fault(ErrorKind::Other))?,
+        bytes => add_bytes(script, bytes)?,
+    }
+    Ok(())
+}
+
+// Adds a piece of bytes.
+fn add_bytes(script: &mut ReaderScript, bytes: &str) -> Result<(), AllocError> {
+    let before = script.bytes.len();
+    for byte in bytes.bytes() {
+        script.bytes.push(byte_of(byte))?;
+    }
+    let length = script.bytes.len().saturating_sub(before);
+    script.steps.push_back(ReadStep::Piece(length))?;
+    Ok(())
+}
+
+fn byte_of(byte: u8) -> u8 {
+    match byte {
+        b'_' => b' ',
+        b'$' => b'\n',
+        b'^' => b'\r',
+        b'?' => 255,
+        byte => byte,
+    }
+}

@@ -1,0 +1,85 @@
+//! What the tests of threads and of refused memory share: a handle of an expression, its waits by their names, and a read of a reader handle.
+ghost use Rattle.std.specs.Prelude.{◌≡◌};
+
+use duct::{Clock, Error, Handle, Output, ReaderHandle, Seen};
+use duct_script::system::Script;
+use duct_table::expressions::written;
+use duct_table::scenes::Bench;
+use duct_table::stop::Stop;
+use std::alloc::Global;
+use std::sync::{Arc, Wait};
+use std::time::Duration;
+
+/// A handle of the expression of a text.
+pub fn handle_of(alloc: Global, bench: &mut Bench, text: &str) -> Result<Handle<Script>, Stop> {
+    let tree = written(alloc, None, text)?;
+    Ok(tree.start(&mut bench.sys, &mut bench.pool)?)
+}
+
+/// A clock on which no moment passes.
+#[derive(Drop)]
+pub struct Still;
+
+impl Clock for Still {
+    ghost may_show = { λ _ _. Unit {0} };
+
+    fn now(&self) -> Duration {
+        Duration::ZERO
+    }
+}
+
+/// A wait of a handle.
+#[derive(Clone, Copy)]
+pub enum Waiting {
+    Try,
+    End,
+    Timeout(Duration),
+    Deadline(Duration),
+}
+
+/// What a wait returns.
+pub type Waited = Result<Option<Arc<Output>>, Error>;
+
+/// A wait with a token of its own.
+pub fn wait(rt: &impl Wait, handle: &Handle<Script>, waiting: Waiting) -> Waited {
+    match waiting {
+        Waiting::Try => handle.try_wait(rt),
+        Waiting::End => some(handle.wait(rt)),
+        Waiting::Timeout(length) => handle.wait_timeout(rt, &Still, length),
+        Waiting::Deadline(moment) => handle.wait_deadline(rt, &Still, moment),
+    }
+}
+
+/// A wait through a token.
+pub fn wait_as(
+    rt: &impl Wait,
+    handle: &Handle<Script>,
+    seen: &mut Seen<Script>,
+    waiting: Waiting,
+) -> Waited
+    requires { seen.old.cell ≡ handle.now.cell }
+    ensures { seen.new.cell ≡ handle.now.cell }
+{
+    match waiting {
+        Waiting::Try => handle.try_wait_as(rt, seen),
+        Waiting::End => some(handle.wait_as(rt, seen)),
+        Waiting::Timeout(length) => handle.wait_timeout_as(rt, &Still, length, seen),
+        Waiting::Deadline(moment) => handle.wait_deadline_as(rt, &Still, moment, seen),
+    }
+}
+
+fn some(waited: Result<Arc<Output>, Error>) -> Waited {
+    match waited {
+        Ok(output) => Ok(Some(output)),
+        Err(error) => Err(error),
+    }
+}
+
+/// A read of a reader handle, by a new token.
+pub fn read_once<R: Wait>(
+    handle: &ReaderHandle<Script, R>,
+    buffer: &mut [u8],
+) -> Result<usize, Error> {
+    let mut seen = handle.seen();
+    handle.read_as(buffer, &mut seen)
+}

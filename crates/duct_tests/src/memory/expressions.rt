@@ -1,0 +1,120 @@
+//! Refused memory at the builders of expressions: the expressions that a builder is called on stay as they were.
+use super::outcome;
+use duct::{Error, cmd};
+use duct_script::system::ScriptEnd;
+use duct_table::expressions::{Lender, Strangers, Tree, redirected, with_end, with_texts};
+use duct_table::hooks::hook;
+use duct_table::memory::MemoryOutcome;
+use duct_table::stop::Stop;
+use std::alloc::Global;
+
+/// A builder of each kind.
+const BUILDERS: [&str; 22] = [
+    "stdin_bytes=xy",
+    "stdin_path=f",
+    "stdin_file=7",
+    "stdin_null",
+    "stdout_path=f",
+    "stdout_file=7",
+    "stdout_null",
+    "stdout_capture",
+    "stdout_to_stderr",
+    "stdout_stderr_swap",
+    "stderr_path=f",
+    "stderr_file=7",
+    "stderr_null",
+    "stderr_capture",
+    "stderr_to_stdout",
+    "dir=/in",
+    "env=A,2",
+    "env_remove=A",
+    "full_env=B:x,A:1,B:y",
+    "unchecked=1",
+    "before_spawn=x",
+    "pipe=b",
+];
+
+/// What a builder makes of two commands.
+fn built(
+    alloc: Global,
+    a: &Tree<ScriptEnd>,
+    b: &Tree<ScriptEnd>,
+    text: &str,
+) -> Result<Tree<ScriptEnd>, Stop> {
+    let (call, values) = text.split_once('=').unwrap_or((text, ""));
+    match call {
+        "pipe" => Ok(a.pipe(b)?),
+        "before_spawn" => Ok(a.before_spawn(hook(alloc, None, values)?, Vec::new(alloc))?),
+        "stdin_file" | "stdout_file" | "stderr_file" => {
+            let end = Strangers { alloc }.lend(values.parse()?)?;
+            Ok(with_end(a, call, end)?)
+        }
+        _ if values.is_empty() => redirected(a, call),
+        _ => with_texts(alloc, a, call, values),
+    }
+}
+
+/// Fails unless an expression has this debug text.
+fn shows(alloc: Global, tree: &Tree<ScriptEnd>, text: &str) -> Result<(), Stop> {
+    let found = format!(in alloc; "{tree:?}")?;
+    if found.as_str() == text {
+        return Ok(());
+    }
+    Err(Stop::Found(found))
+}
+
+/// What came of a builder. Whether or not it was refused, the commands stay as they were.
+fn kept(
+    alloc: Global,
+    a: &Tree<ScriptEnd>,
+    b: &Tree<ScriptEnd>,
+    text: &str,
+) -> Result<MemoryOutcome, Stop> {
+    let came = match built(alloc, a, b, text) {
+        Ok(_) => MemoryOutcome::Whole,
+        Err(stop) => outcome(Err(stop)),
+    };
+    shows(alloc, a, "Cmd([\"a\"])")?;
+    shows(alloc, b, "Cmd([\"b\"])")?;
+    Ok(came)
+}
+
+/// What came of each builder.
+fn builders(alloc: Global) -> Result<MemoryOutcome, Stop> {
+    let a: Tree<ScriptEnd> = cmd!(in alloc; "a")?;
+    let b: Tree<ScriptEnd> = cmd!(in alloc; "b")?;
+    let mut came = MemoryOutcome::Whole;
+    for text in BUILDERS {
+        came = came.then(kept(alloc, &a, &b, text)?);
+    }
+    Ok(came)
+}
+
+/// A clone takes no memory, and is the same expression.
+fn cloned(alloc: Global) -> Result<MemoryOutcome, Stop> {
+    let a: Tree<ScriptEnd> = cmd!(in alloc; "a")?;
+    match a.clone() {
+        Ok(copy) => shows(alloc, &copy, "Cmd([\"a\"])")?,
+        Err(_) => return Ok(MemoryOutcome::Wrong),
+    }
+    Ok(MemoryOutcome::Whole)
+}
+
+/// Builders, and what they are called on.
+#[test]
+fn memory_of_builders(rt: HostRuntime) {
+    assert_ne!(rt; outcome(builders(rt.alloc())), MemoryOutcome::Wrong);
+}
+
+/// A clone.
+#[test]
+fn memory_of_a_clone(rt: HostRuntime) {
+    assert_ne!(rt; outcome(cloned(rt.alloc())), MemoryOutcome::Wrong);
+}
+
+/// With ample memory all go well.
+#[test]
+fn all_memory_is_there(rt: HostRuntime) {
+    let came = outcome(builders(rt.alloc())).then(outcome(cloned(rt.alloc())));
+    assert_eq!(rt; came, MemoryOutcome::Whole);
+}

@@ -1,0 +1,191 @@
+//! Cases of trees: random trees, written as those of rows, random scenes for them, and random requests that are refused.
+use duct::Entry;
+use duct_plan_table::starts::Way;
+use duct_script::system::ScriptEnd;
+use duct_table::dice::Dice;
+use duct_table::expressions::{Tree, written};
+use duct_table::scenes::{Bench, Scene};
+use duct_table::stop::Stop;
+use std::alloc::{AllocError, Global};
+
+/// What is started, how, and what stands round the start.
+#[derive(Clone, Copy)]
+pub(crate) struct Case<'t> {
+    pub expression: &'t str,
+    pub way: Way,
+    pub scene: Scene<'t>,
+}
+
+impl<'t> Case<'t> {
+    /// The same, started in another way.
+    pub fn by(self, way: Way) -> Case<'t> {
+        let mut case = self;
+        case.way = way;
+        case
+    }
+
+    /// Its tree.
+    pub fn tree(self, alloc: Global) -> Result<Tree<ScriptEnd>, Stop> {
+        written(alloc, None, self.expression)
+    }
+
+    /// Its tree, whose hooks note their calls where this bench does.
+    pub fn noted_tree(self, alloc: Global, bench: &Bench) -> Result<Tree<ScriptEnd>, Stop> {
+        written(alloc, Some(&bench.calls), self.expression)
+    }
+}
+
+const COMMANDS: &[&str] = &["a", "b", "c,d", "./x", "/y", "e/f,g"];
+
+/// Each call of an expression, and hooks that refuse nothing.
+const CALLS: &[&str] = &[
+    "stdin_bytes=xyz",
+    "stdin_path=i",
+    "stdin_file=1",
+    "stdin_null",
+    "stdout_path=o",
+    "stdout_file=2",
+    "stdout_null",
+    "stdout_capture",
+    "stdout_to_stderr",
+    "stderr_path=e",
+    "stderr_file=3",
+    "stderr_null",
+    "stderr_capture",
+    "stderr_to_stdout",
+    "stdout_stderr_swap",
+    "dir=/in",
+    "dir=/out",
+    "env=A,1",
+    "env=a,2",
+    "env=C,3",
+    "env_remove=A",
+    "full_env=A:4,B:5",
+    "unchecked",
+    "before_spawn=x",
+    "before_spawn=in>0+out>1,4,5",
+    "before_spawn=err>0+out>inherit,6",
+    "before_spawn=in>null+err>null",
+    "before_spawn=set:A:6+unset:B+dir:/hook",
+];
+
+/// Hooks that refuse a command, or name an end that isn't there.
+const REFUSING: &[&str] = &[
+    "before_spawn=out>0+refuse:Other,7",
+    "before_spawn=refuse_word:b:PermissionDenied",
+    "before_spawn=in>0+err>2,8,9",
+];
+
+const PARENTS: &[&str] = &["", "A:0,c:7", "b:1,A:2,a:3"];
+
+const CANONICAL: &[&str] = &["", "./x:/real/x,e/f:/real/f"];
+
+/// What children answer to polls.
+const CHILDREN: &[&str] = &[
+    "",
+    "running, code 0; Other; code 1",
+    "code 0; running",
+    "Other; signal 9; running; code 0",
+];
+
+/// What the children of the pool answer.
+const KEPT: &[&str] = &[
+    "",
+    "running, code 0",
+    "running, running, Other; running; code 0",
+];
+
+/// One of these texts.
+pub(crate) fn one_of(dice: &mut Dice, texts: &[&'static str]) -> &'static str {
+    let place = dice.roll(texts.len() as u64) as usize;
+    texts.get(place).copied().unwrap_or("")
+}
+
+/// The random case of a seed, whose expression is written into an empty text.
+pub(crate) fn random_case(seed: u64, expression: &mut String) -> Result<Case<'_>, AllocError> {
+    let mut dice = Dice::new(seed);
+    let way = way(&mut dice);
+    let scene = scene(&mut dice);
+    push_expression(expression, &mut dice)?;
+    Ok(Case {
+        expression: expression.as_str(),
+        way,
+        scene,
+    })
+}
+
+/// The entry of the request of this number, which counts all from 1, if that request can be refused.
+pub(crate) fn refusable(entries: &[Entry], number: u64) -> Option<&Entry> {
+    let place = number.checked_sub(1)?;
+    let entry = entries.get(place as usize)?;
+    if matches!(entry, Entry::Close(_) | Entry::Reader(_)) {
+        return None;
+    }
+    Some(entry)
+}
+
+/// The factor by which the seed of a drawn request stands apart from that of its case.
+const APART: u64 = 7919;
+
+/// The number of a request of a journal that can be refused: the first one from a drawn one on, or else the first of all, which
+/// asks for the environment.
+pub(crate) fn drawn(entries: &[Entry], seed: u64) -> u64 {
+    let requests = entries.len() as u64;
+    let first = Dice::new(seed.wrapping_mul(APART)).roll(requests);
+    for before in first..requests {
+        let number = before.saturating_add(1);
+        if refusable(entries, number).is_some() {
+            return number;
+        }
+    }
+    1
+}
+
+fn way(dice: &mut Dice) -> Way {
+    match dice.roll(3) {
+        0 => Way::Read,
+        _ => Way::Launched,
+    }
+}
+
+fn scene(dice: &mut Dice) -> Scene<'static> {
+    Scene {
+        parent: one_of(dice, PARENTS),
+        canonical: one_of(dice, CANONICAL),
+        refuse: "",
+        children: one_of(dice, CHILDREN),
+        kept: one_of(dice, KEPT),
+    }
+}
+
+/// Adds an expression, which is built as its text is read: some steps, and pipes that join what is left.
+fn push_expression(text: &mut String, dice: &mut Dice) -> Result<(), AllocError> {
+    text.push_str(one_of(dice, COMMANDS))?;
+    let mut built = 1;
+    for _ in 0..dice.roll(16) {
+        built = push_step(text, dice, built)?;
+    }
+    for _ in 1..built {
+        text.push_str(" pipe")?;
+    }
+    Ok(())
+}
+
+/// Adds a step where so many expressions are built. Returns how many there are then.
+fn push_step(text: &mut String, dice: &mut Dice, built: u64) -> Result<u64, AllocError> {
+    let (step, after) = match dice.roll(10) {
+        0 | 1 => (one_of(dice, COMMANDS), built.saturating_add(1)),
+        2 => ("again", built.saturating_add(1)),
+        3 | 4 if built > 1 => ("pipe", built.saturating_sub(1)),
+        _ => (call(dice), built),
+    };
+    write!(text, " {step}")?;
+    Ok(after)
+}
+
+fn call(dice: &mut Dice) -> &'static str {
+    match dice.roll(25) {
+        0 => one_of(dice, REFUSING),
+        _ => one_of(dice, CALLS),
+    }
+}

@@ -1,0 +1,137 @@
+//! The program `rows`: reads the files of rows that its arguments name, and tries each row. Prints a line for each file with how many texts were
+//! compared, and one for each row that differs: its file and line, what was found and what was wanted. Ends with status 1 where one differs or a
+//! file can't be read, and where nothing was compared. Before the files may stand `--quiet`, by which only rows that differ are printed, and
+//! `--refused`, by which requests for memory may be refused: a row that says so is passed over, and counted.
+#![tactic(auto)]
+
+use duct_call_table::calls::Calls;
+use duct_call_table::scripted::Scripted;
+use duct_host_table::machine::Real;
+use duct_host_table::tables;
+use duct_parts_table::expressions::Expressions;
+use duct_parts_table::journals::Journals;
+use duct_parts_table::names::Names;
+use duct_parts_table::random::Random;
+use duct_parts_table::specs::Specs;
+use duct_parts_table::statuses::Statuses;
+use duct_parts_table::transfers::Transfers;
+use duct_plan_table::plans::Plans;
+use duct_script_table::scripts::Scripts;
+use duct_table::stop::Stop;
+use duct_table::table::{Counts, File, Memory, compare, untried};
+use duct_walk_table::starts::Starts;
+use std::alloc::Global;
+use std::io::{self, Write};
+use std::process::ExitCode;
+use std::sync::Wait;
+use std::{env, fs};
+
+// Each of these tables begins with no text, and then has texts of its file.
+
+fn new_expressions<'t>(alloc: Global) -> Expressions<'t> {
+    Expressions::new(alloc)
+}
+
+fn new_journals<'t>(alloc: Global) -> Journals<'t> {
+    Journals::new(alloc)
+}
+
+fn new_plans<'t>(alloc: Global) -> Plans<'t> {
+    Plans::new(alloc)
+}
+
+fn new_specs<'t>(alloc: Global) -> Specs<'t> {
+    Specs::new(alloc)
+}
+
+fn new_statuses<'t>(alloc: Global) -> Statuses<'t> {
+    Statuses::new(alloc)
+}
+
+/// Tries the rows of a file over the scripted system, or of parts, by its table.
+fn tried<W: Write>(
+    rt: &impl Wait,
+    alloc: Global,
+    table: &str,
+    file: File,
+    out: &mut W,
+) -> io::Result<Counts> {
+    match table {
+        "calls" => match Scripted::new(alloc) {
+            Ok(machine) => compare(&mut Calls::new(rt, alloc, machine), file, out),
+            Err(stop) => untried(file, &stop, out),
+        },
+        "expressions" => compare(&mut new_expressions(alloc), file, out),
+        "journals" => compare(&mut new_journals(alloc), file, out),
+        "names" => compare(&mut Names::new(alloc), file, out),
+        "plans" => compare(&mut new_plans(alloc), file, out),
+        "random" => compare(&mut Random::new(alloc), file, out),
+        "scripts" => compare(&mut Scripts::new(alloc), file, out),
+        "specs" => compare(&mut new_specs(alloc), file, out),
+        "starts" => compare(&mut Starts::new(rt, alloc), file, out),
+        "statuses" => compare(&mut new_statuses(alloc), file, out),
+        "transfers" => compare(&mut Transfers::new(alloc), file, out),
+        _ => untried(file, &Stop::Text("no such table"), out),
+    }
+}
+
+/// Tries the rows of a file by its table, which the first line names.
+fn tried_by_table<R: Real + Wait, W: Write>(rt: &R, file: File, out: &mut W) -> io::Result<Counts> {
+    let first = file.text.lines().next().unwrap_or("");
+    match first.strip_prefix("table: ").unwrap_or("") {
+        "host calls" => tables::calls(rt, file, out),
+        "host rare" => tables::rare(rt, file, out),
+        "host requests" => tables::requests(rt, file, out),
+        table => tried(rt, rt.alloc(), table, file, out),
+    }
+}
+
+/// How files are tried.
+#[derive(Clone, Copy)]
+struct Options {
+    memory: Memory,
+    is_quiet: bool,
+}
+
+/// Tries a file, and prints how many texts were compared. Returns whether all of its rows hold.
+fn file<R: Real + Wait, W: Write>(
+    rt: &R,
+    name: &str,
+    options: Options,
+    out: &mut W,
+) -> io::Result<bool> {
+    let text = fs::read_to_string(rt, name)?;
+    let file = File {
+        name,
+        text: text.as_str(),
+        memory: options.memory,
+    };
+    let counts = tried_by_table(rt, file, out)?;
+    if !options.is_quiet {
+        counts.tell(file, out)?;
+    }
+    Ok(counts.differing == 0 && (counts.compared > 0 || counts.refused > 0))
+}
+
+/// Tries the files that the arguments name. Returns whether all of their rows hold.
+fn files<R: Real + Wait, W: Write>(rt: &R, out: &mut W) -> io::Result<bool> {
+    let mut options = Options {
+        memory: Memory::Ample,
+        is_quiet: false,
+    };
+    let mut holds = true;
+    for name in env::args(rt)?.skip(1) {
+        match name.as_str() {
+            "--refused" => options.memory = Memory::Refused,
+            "--quiet" => options.is_quiet = true,
+            name => holds = file(rt, name, options, out)? && holds,
+        }
+    }
+    Ok(holds)
+}
+
+fn main(rt: HostRuntime) -> io::Result<ExitCode> {
+    let mut out = io::writer(&rt);
+    let holds = files(&rt, &mut out)?;
+    Ok(ExitCode::from(u8::from(!holds)))
+}
