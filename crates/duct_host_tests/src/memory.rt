@@ -1,17 +1,19 @@
-//! Want of memory: whatever single request of the process is refused, each test of `memory_` finds what there is with ample memory, or the
+//! Refused memory: whatever single request of the process is refused, each test of `memory_` finds what there is with ample memory, or the
 //! fault `OutOfMemory`, and then a file is as it was, a child goes on, and no descriptor stays open.
-use crate::odd::Odd;
-use crate::support::{Real, command};
 use duct::{Error, Worker};
 use duct_base::system::{Child, ExitStatus, Fault, Job, Kind, Stdio, System};
+use duct_host::child;
 use duct_host::host::Host;
-use duct_words::came::Came;
-use duct_words::waits::heard;
+use duct_host_table::machine::Real;
+use duct_host_table::odd::Odd;
+use duct_request_table::specs::spec;
+use duct_table::memory::MemoryOutcome;
+use duct_table::stop::Stop;
+use duct_table::waits::heard;
 use std::os::fd::AsRawFd;
 use std::rt::{Clock, Files};
 use std::sync::Arc;
 use std::sync::atomic::{AtomicUsize, Ordering};
-use std::test::Fail;
 use std::{fs, io};
 
 /// The path of a file that has a text.
@@ -23,31 +25,42 @@ fn written<R: Real>(rt: &R) -> io::Result<String> {
 }
 
 /// A new file is empty, and where it is refused the old one has its text.
-fn created<R: Real>(rt: &R) -> Result<Came, Error> {
+fn created<R: Real>(rt: &R) -> Result<MemoryOutcome, Error> {
     let path = written(rt).map_err(Fault::from)?;
     let answer = Host::new(rt.clone()?, rt.alloc()).create(path.as_str());
     let length = fs::metadata(rt, path.as_str()).map(|found| found.len());
     fs::remove_file(rt, path.as_str()).map_err(Fault::from)?;
     Ok(match (answer, length) {
-        (Ok(_), Ok(length)) => Came::whole_if(length == 0),
-        (Err(fault), Ok(length)) => Came::refused_if(
+        (Ok(_), Ok(length)) => MemoryOutcome::whole_if(length == 0),
+        (Err(fault), Ok(length)) => MemoryOutcome::refused_if(
             fault.kind == Kind::OutOfMemory && length == 4,
         ),
-        _ => Came::Wrong,
+        _ => MemoryOutcome::Wrong,
     })
 }
 
-/// A kill of a child that goes on. One that is refused is not asked of the machine.
-fn killed<R: Real>(rt: &R) -> Result<Came, Error> {
-    let given = AtomicUsize::new(0);
-    let odd = Odd::new(rt.clone()?, "ok, ok, ok, status 9", &given);
-    let spec = command(rt.alloc(), Some("odd"), "", "")?;
+/// A child that goes on until it is killed.
+fn lasting<'a, R: Real>(rt: &R, given: &'a AtomicUsize) -> Result<child::Child<Odd<'a, R>>, Error> {
+    let odd = Odd::new(rt.clone()?, "ok, ok, ok, status 9", given);
+    let spec = spec(rt.alloc(), Some("odd"), "", "")?;
     let null = [Stdio::Null, Stdio::Null, Stdio::Null];
-    let mut child = Host::new(odd, rt.alloc()).spawn(spec, null)?;
-    Ok(match child.kill() {
-        Ok(()) => Came::whole_if(given.load(Ordering::SeqCst) == 2),
-        Err(fault) => Came::refused_if(fault.kind == Kind::OutOfMemory && is_killed(&mut child)),
-    })
+    Ok(Host::new(odd, rt.alloc()).spawn(spec, null)?)
+}
+
+/// A kill of a child that goes on. One that is refused is not asked of the machine.
+fn killed<R: Real>(rt: &R) -> Result<MemoryOutcome, Error> {
+    let given = AtomicUsize::new(0);
+    let mut child = lasting(rt, &given)?;
+    Ok(kill_of(&mut child, &given))
+}
+
+fn kill_of(child: &mut impl Child, given: &AtomicUsize) -> MemoryOutcome {
+    match child.kill() {
+        Ok(()) => MemoryOutcome::whole_if(given.load(Ordering::SeqCst) == 2),
+        Err(fault) => MemoryOutcome::refused_if(
+            fault.kind == Kind::OutOfMemory && is_killed(child),
+        ),
+    }
 }
 
 /// Whether a child goes on, and then a kill ends it.
@@ -64,16 +77,16 @@ fn free<R: Files>(rt: &R) -> Result<(i32, i32), Error> {
 }
 
 /// A start that gets both ends of a pipe.
-fn spawned<R: Real>(rt: &R) -> Result<Came, Error> {
-    let spec = command(rt.alloc(), Some("/bin/true"), "", "")?;
+fn spawned<R: Real>(rt: &R) -> Result<MemoryOutcome, Error> {
+    let spec = spec(rt.alloc(), Some("/bin/true"), "", "")?;
     let mut host = Host::new(rt.clone()?, rt.alloc());
     let before = free(rt)?;
     let (read, write) = host.pipe()?;
     let answer = host.spawn(spec, [Stdio::End(read), Stdio::End(write), Stdio::Null]);
     let are_closed = free(rt)? == before;
     Ok(match answer {
-        Ok(_) => Came::whole_if(are_closed),
-        Err(fault) => Came::refused_if(fault.kind == Kind::OutOfMemory && are_closed),
+        Ok(_) => MemoryOutcome::whole_if(are_closed),
+        Err(fault) => MemoryOutcome::refused_if(fault.kind == Kind::OutOfMemory && are_closed),
     })
 }
 
@@ -95,54 +108,54 @@ fn draining<R: Real>(rt: &R) -> Result<Worker<Arc<Vec<u8>>>, Error> {
 }
 
 /// What a worker comes to.
-fn worked<J: Job + Drop>(rt: &impl Clock, started: Result<J, Error>) -> Result<Came, Fail> {
+fn worked<J: Job + Drop>(
+    rt: &impl Clock,
+    started: Result<J, Error>,
+) -> Result<MemoryOutcome, Stop> {
     let mut worker = match started {
         Ok(worker) => worker,
-        Err(error) => return Ok(Came::of(Err(error))),
+        Err(error) => return Ok(MemoryOutcome::of(Err(error))),
     };
     match heard(rt, &mut worker)? {
-        Ok(_) => Ok(Came::Whole),
-        Err(fault) => Ok(Came::of(Err(Error::System(fault)))),
+        Ok(_) => Ok(MemoryOutcome::Whole),
+        Err(fault) => Ok(MemoryOutcome::of(Err(Error::System(fault)))),
     }
 }
 
-fn workers<R: Real>(rt: &R) -> Result<Came, Fail> {
-    let fed = worked(rt, feeding(rt))?;
-    Ok(fed.then(worked(rt, draining(rt))?))
+/// A feed and a drain. A worker that goes on is wrong.
+fn workers<R: Real>(rt: &R) -> MemoryOutcome {
+    let fed = worked(rt, feeding(rt)).unwrap_or(MemoryOutcome::Wrong);
+    fed.then(worked(rt, draining(rt)).unwrap_or(MemoryOutcome::Wrong))
 }
 
 #[test]
 fn memory_of_a_create(rt: HostRuntime) {
-    assert_ne!(rt; Came::of(created(&rt)), Came::Wrong);
+    assert_ne!(rt; MemoryOutcome::of(created(&rt)), MemoryOutcome::Wrong);
 }
 
 #[test]
 fn memory_of_a_kill(rt: HostRuntime) {
-    assert_ne!(rt; Came::of(killed(&rt)), Came::Wrong);
+    assert_ne!(rt; MemoryOutcome::of(killed(&rt)), MemoryOutcome::Wrong);
 }
 
 #[test]
 fn memory_of_a_spawn(rt: HostRuntime) {
-    assert_ne!(rt; Came::of(spawned(&rt)), Came::Wrong);
+    assert_ne!(rt; MemoryOutcome::of(spawned(&rt)), MemoryOutcome::Wrong);
 }
 
 /// A feed and a drain.
 #[test]
-fn memory_of_workers(rt: HostRuntime) -> Result<(), Fail> {
-    let came = workers(&rt)?;
-    assert_ne!(rt; came, Came::Wrong);
-    Ok(())
+fn memory_of_workers(rt: HostRuntime) {
+    assert_ne!(rt; workers(&rt), MemoryOutcome::Wrong);
 }
 
 /// Whether no request was refused.
 #[test]
-fn all_memory_is_there(rt: HostRuntime) -> Result<(), Fail> {
-    let came = (
-        Came::of(created(&rt)),
-        Came::of(killed(&rt)),
-        Came::of(spawned(&rt)),
-        workers(&rt)?,
-    );
-    assert_eq!(rt; came, (Came::Whole, Came::Whole, Came::Whole, Came::Whole));
-    Ok(())
+fn all_memory_is_there(rt: HostRuntime) {
+    let created = MemoryOutcome::of(created(&rt));
+    let killed = MemoryOutcome::of(killed(&rt));
+    let spawned = MemoryOutcome::of(spawned(&rt));
+    let came = (created, killed, spawned, workers(&rt));
+    let whole = MemoryOutcome::Whole;
+    assert_eq!(rt; came, (whole, whole, whole, whole));
 }

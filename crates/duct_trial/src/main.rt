@@ -5,23 +5,14 @@
 //! A line has the arguments of the program `host`, with blanks between them, and is read. `= 4` runs one of the trees of `trees`.
 #![tactic(auto)]
 
-mod left;
-#[cfg(test)]
-mod pauses;
-#[cfg(test)]
-mod pools;
-#[cfg(test)]
-mod stubborn;
-#[cfg(test)]
-mod threads;
 mod trees;
 
-use crate::left::{Left, count_left};
 use crate::trees::{TREES_WITH_ENDS, Wires, tree};
 use duct::{Error, Expression, Fault, Pool, System};
 use duct_host::child::Child;
 use duct_host::end::End;
 use duct_host::host::Host;
+use duct_host_table::left::{Left, count_left};
 use duct_program::line::line;
 use std::alloc::{AllocError, Global};
 use std::fs::File;

@@ -6,6 +6,8 @@
 
 use duct_call_table::calls::Calls;
 use duct_call_table::scripted::Scripted;
+use duct_host_table::machine::Real;
+use duct_host_table::tables;
 use duct_parts_table::expressions::Expressions;
 use duct_parts_table::journals::Journals;
 use duct_parts_table::names::Names;
@@ -21,7 +23,6 @@ use duct_walk_table::starts::Starts;
 use std::alloc::Global;
 use std::io::{self, Write};
 use std::process::ExitCode;
-use std::rt::{Env, Files};
 use std::sync::Wait;
 use std::{env, fs};
 
@@ -47,7 +48,7 @@ fn new_statuses<'t>(alloc: Global) -> Statuses<'t> {
     Statuses::new(alloc)
 }
 
-/// Tries the rows of a file by this table.
+/// Tries the rows of a file over the scripted system, or of parts, by its table.
 fn tried<W: Write>(
     rt: &impl Wait,
     alloc: Global,
@@ -75,15 +76,14 @@ fn tried<W: Write>(
 }
 
 /// Tries the rows of a file by its table, which the first line names.
-fn tried_by_table<W: Write>(
-    rt: &impl Wait,
-    alloc: Global,
-    file: File,
-    out: &mut W,
-) -> io::Result<Counts> {
+fn tried_by_table<R: Real + Wait, W: Write>(rt: &R, file: File, out: &mut W) -> io::Result<Counts> {
     let first = file.text.lines().next().unwrap_or("");
-    let table = first.strip_prefix("table: ").unwrap_or("");
-    tried(rt, alloc, table, file, out)
+    match first.strip_prefix("table: ").unwrap_or("") {
+        "host calls" => tables::calls(rt, file, out),
+        "host rare" => tables::rare(rt, file, out),
+        "host requests" => tables::requests(rt, file, out),
+        table => tried(rt, rt.alloc(), table, file, out),
+    }
 }
 
 /// How files are tried.
@@ -94,7 +94,7 @@ struct Options {
 }
 
 /// Tries a file, and prints how many texts were compared. Returns whether all of its rows hold.
-fn file<R: Files + Env + AllocGlobal + Wait, W: Write>(
+fn file<R: Real + Wait, W: Write>(
     rt: &R,
     name: &str,
     options: Options,
@@ -106,7 +106,7 @@ fn file<R: Files + Env + AllocGlobal + Wait, W: Write>(
         text: text.as_str(),
         memory: options.memory,
     };
-    let counts = tried_by_table(rt, rt.alloc(), file, out)?;
+    let counts = tried_by_table(rt, file, out)?;
     if !options.is_quiet {
         counts.tell(file, out)?;
     }
@@ -114,7 +114,7 @@ fn file<R: Files + Env + AllocGlobal + Wait, W: Write>(
 }
 
 /// Tries the files that the arguments name. Returns whether all of their rows hold.
-fn files<R: Files + Env + AllocGlobal + Wait, W: Write>(rt: &R, out: &mut W) -> io::Result<bool> {
+fn files<R: Real + Wait, W: Write>(rt: &R, out: &mut W) -> io::Result<bool> {
     let mut options = Options {
         memory: Memory::Ample,
         is_quiet: false,

@@ -1,0 +1,57 @@
+//! The real machine as tables look at it: its runtime, and the descriptors and children of this process.
+use duct_host::parents::Parents;
+use std::fs::File;
+use std::process::Processes;
+use std::rt::{Clock, Env, Files};
+use std::thread::Threads;
+use std::{env, fs, io};
+
+/// A runtime, as what a host and the tables beside it ask of it.
+pub trait Real: Processes
+    + Files<File = File>
+    + Env
+    + Parents
+    + Threads
+    + Clock
+    + AllocGlobal
+    + Clone
+    + Drop {}
+
+impl<R> Real for R
+where
+    R: Processes
+        + Files<File = File>
+        + Env
+        + Parents
+        + Threads
+        + Clock
+        + AllocGlobal
+        + Clone
+        + Drop,
+{}
+
+/// How many descriptors this process has open.
+pub fn open_descriptors<R: Files + Alloc + Clone>(rt: &R) -> io::Result<usize> {
+    let mut count = 0usize;
+    for entry in fs::read_dir(rt, "/proc/self/fd")? {
+        entry?;
+        count = count.saturating_add(1);
+    }
+    Ok(count)
+}
+
+/// The ids of the children of this thread in the order of their starts, also of those that ended and that nobody has asked since.
+pub fn children_text<R: Files + AllocGlobal>(rt: &R) -> io::Result<String> {
+    fs::read_to_string(rt, "/proc/thread-self/children")
+}
+
+/// The text of a file of rows: `{place}` begins the path of a file of this process, and `{id}` is the number of this process.
+pub fn filled<R: Files + Env + AllocGlobal>(rt: &R, text: &str) -> io::Result<String> {
+    let alloc = rt.alloc();
+    let folder = env::temp_dir(rt)?.into_string();
+    let process = fs::canonicalize(rt, "/proc/self")?.into_string();
+    let (_, id) = process.as_str().rsplit_once('/').unwrap_or(("", ""));
+    let place = format!(in alloc; "{folder}/duct_host-{id}-")?;
+    let text = text.replace(alloc, "{place}", place.as_str())?;
+    Ok(text.as_str().replace(alloc, "{id}", id)?)
+}
