@@ -17,8 +17,8 @@ pub struct Expressions<'t> {
     expression: &'t str,
 }
 
-impl Expressions<'_> {
-    pub fn new(alloc: Global) -> Expressions<'static> {
+impl<'t> Expressions<'t> {
+    pub fn new(alloc: Global) -> Expressions<'t> {
         Expressions {
             alloc,
             expression: "",

@@ -21,8 +21,8 @@ pub struct Journals<'t> {
     journal: &'t str,
 }
 
-impl Journals<'_> {
-    pub fn new(alloc: Global) -> Journals<'static> {
+impl<'t> Journals<'t> {
+    pub fn new(alloc: Global) -> Journals<'t> {
         Journals { alloc, journal: "" }
     }
 }

@@ -25,8 +25,8 @@ pub struct Specs<'t> {
     hook: &'t str,
 }
 
-impl Specs<'_> {
-    pub fn new(alloc: Global) -> Specs<'static> {
+impl<'t> Specs<'t> {
+    pub fn new(alloc: Global) -> Specs<'t> {
         Specs {
             alloc,
             spec: None,

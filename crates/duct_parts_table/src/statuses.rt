@@ -35,8 +35,8 @@ pub struct Statuses<'t> {
     row: Row<'t>,
 }
 
-impl Statuses<'_> {
-    pub fn new(alloc: Global) -> Statuses<'static> {
+impl<'t> Statuses<'t> {
+    pub fn new(alloc: Global) -> Statuses<'t> {
         Statuses {
             alloc,
             row: begun(""),

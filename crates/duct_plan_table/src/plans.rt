@@ -63,9 +63,9 @@ pub struct Plans<'t> {
     is_started: bool,
 }
 
-impl Plans<'_> {
+impl<'t> Plans<'t> {
     /// A table at the beginning of a row.
-    pub fn new(alloc: Global) -> Plans<'static> {
+    pub fn new(alloc: Global) -> Plans<'t> {
         Plans {
             alloc,
             row: begun("", Way::Launched),

@@ -26,28 +26,6 @@ use std::process::ExitCode;
 use std::sync::Wait;
 use std::{env, fs};
 
-// Each of these tables begins with no text, and then has texts of its file.
-
-fn new_expressions<'t>(alloc: Global) -> Expressions<'t> {
-    Expressions::new(alloc)
-}
-
-fn new_journals<'t>(alloc: Global) -> Journals<'t> {
-    Journals::new(alloc)
-}
-
-fn new_plans<'t>(alloc: Global) -> Plans<'t> {
-    Plans::new(alloc)
-}
-
-fn new_specs<'t>(alloc: Global) -> Specs<'t> {
-    Specs::new(alloc)
-}
-
-fn new_statuses<'t>(alloc: Global) -> Statuses<'t> {
-    Statuses::new(alloc)
-}
-
 /// Tries the rows of a file over the scripted system, or of parts, by its table.
 fn tried<W: Write>(
     rt: &impl Wait,
@@ -61,15 +39,15 @@ fn tried<W: Write>(
             Ok(machine) => compare(&mut Calls::new(rt, alloc, machine), file, out),
             Err(stop) => untried(file, &stop, out),
         },
-        "expressions" => compare(&mut new_expressions(alloc), file, out),
-        "journals" => compare(&mut new_journals(alloc), file, out),
+        "expressions" => compare(&mut Expressions::new(alloc), file, out),
+        "journals" => compare(&mut Journals::new(alloc), file, out),
         "names" => compare(&mut Names::new(alloc), file, out),
-        "plans" => compare(&mut new_plans(alloc), file, out),
+        "plans" => compare(&mut Plans::new(alloc), file, out),
         "random" => compare(&mut Random::new(alloc), file, out),
         "scripts" => compare(&mut Scripts::new(alloc), file, out),
-        "specs" => compare(&mut new_specs(alloc), file, out),
+        "specs" => compare(&mut Specs::new(alloc), file, out),
         "starts" => compare(&mut Starts::new(rt, alloc), file, out),
-        "statuses" => compare(&mut new_statuses(alloc), file, out),
+        "statuses" => compare(&mut Statuses::new(alloc), file, out),
         "transfers" => compare(&mut Transfers::new(alloc), file, out),
         _ => untried(file, &Stop::Text("no such table"), out),
     }
