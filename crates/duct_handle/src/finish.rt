@@ -1,4 +1,4 @@
-//! A start that nobody shares is waited for without a lock, as a handle waits, and answers its output or its error.
+//! The wait for a start that no thread shares: as a handle waits, but without a lock.
 ghost use Rattle.std.specs.Prelude.{◌≡◌, IfErr, IfOk, OnErr, OnOk, Err};
 ghost use Rattle.duct_base.specs.Pool.{IsGiven};
 ghost use Rattle.duct_start.specs.Running.{RunningView};
@@ -18,7 +18,7 @@ use duct_running::running::Running;
 use std::alloc::Global;
 use std::sync::{Arc, Wait};
 
-// Polls what runs; what it answers was concluded of what was told of its numbers.
+// Polls what runs. The result is concluded from what was said under its numbers.
 fn polled<S: System>(running: &mut Running<S>) -> Result<Option<Arc<Output>>, Error>
     ensures stays { Stays S.Child.child_view S.Feed.job_view S.Drain.job_view
         running.old running.new }
@@ -31,8 +31,9 @@ fn polled<S: System>(running: &mut Running<S>) -> Result<Option<Arc<Output>>, Er
     polled
 }
 
-/// Waits until the expression has ended, and answers how, as `Handle::wait` does: a fault at the first poll that finds one while
-/// no command says that it runs. Each child keeps the orders that it was given: it gets none.
+/// Waits until the expression has ended and returns how, as `Handle::wait` does. A fault is
+/// returned by the first poll that finds one while no command says that it runs. It blocks, and
+/// gives the children no order.
 pub fn wait_for<S: System>(rt: &impl Wait, running: &mut Running<S>) -> Result<Arc<Output>, Error>
     ensures stays { Stays S.Child.child_view S.Feed.job_view S.Drain.job_view
         running.old running.new }
@@ -54,8 +55,10 @@ pub fn wait_for<S: System>(rt: &impl Wait, running: &mut Running<S>) -> Result<A
     unreachable!()
 }
 
-/// Waits as `wait_for` does, and answers the output itself, copied only where another still shares it; the pool stays as it was.
-/// Where it fails, the children are given to the pool, as `Running::give_up` gives them.
+/// Waits as `wait_for` does and returns the output itself, copied only where another owner shares
+/// it. The pool is left as it was.
+///
+/// Where it fails, the children are given to the pool as `Running::give_up` gives them.
 pub fn finish<S: System>(
     alloc: Global,
     rt: &impl Wait,

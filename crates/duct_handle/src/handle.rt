@@ -1,4 +1,5 @@
-//! The handle: a lock round what runs, and beside it the shape, the numbers, the ids and the answer.
+//! The handle: a lock round what runs, and beside it the shape, the numbers, the ids and the
+//! result.
 ghost use Rattle.std.specs.Prelude.{◌≡◌, IfNone, IfSome, Ok, Some, None};
 ghost use Rattle.duct_status.specs.ShapeView.{shape_view};
 ghost use Rattle.duct_running.specs.Answered.{IsAnswer};
@@ -17,8 +18,12 @@ use std::alloc::Global;
 use std::marker::Model;
 use std::sync::{Arc, Mutex, Wait};
 
-/// What runs, for threads that share it by reference. Its answer is published once. It is to be spent: by `into_output` or
-/// `give_up`.
+/// A running expression, which threads share by reference. The result is published once, and every
+/// wait returns it.
+///
+/// Calls that take its lock wait for one another: a poll holds it no longer than it polls,
+/// `send_signal` until the signal is sent. A handle has to be spent, by `into_output` or `give_up`:
+/// the compiler rejects a program that drops one.
 pub struct Handle<S: System> {
     pub(crate) alloc: Global,
     pub(crate) shape: Shape,
@@ -46,8 +51,9 @@ impl<S: System> Model for Handle<S> {
     } };
 }
 
-/// What a caller knows of the answer of one handle, by which it is given again without a lock. Two tokens of a handle that know
-/// an answer know the same one.
+/// What a caller knows of the result of one handle, and of no other. A call that returns an output
+/// or `Error::Checked` makes its token know that result. A wait with a token that knows it returns
+/// it again, without the lock.
 #[derive(Drop)]
 pub struct Seen<S: System> {
     note: Note<Published<S>>,
@@ -81,7 +87,8 @@ impl<S: System> Model for Seen<S> {
 }
 
 impl<S: System> Seen<S> {
-    /// Two tokens of one handle that know what was published know the same, in whatever threads they were.
+    /// Compares with another token of the same handle: two that know a result know the same one, in
+    /// whatever threads they were. It changes nothing; it is for proofs.
     pub fn agree(&mut self, other: Seen<S>)
         requires { other.cell ≡ self.old.cell }
         ensures same { self.new ≡ self.old }
@@ -94,7 +101,7 @@ impl<S: System> Seen<S> {
 }
 
 impl<S: System> Handle<S> {
-    /// A token that knows nothing yet.
+    /// Returns a token that knows no result yet.
     pub fn seen(&self) -> Seen<S>
         ensures cell { result.cell ≡ self.now.cell }
         ensures unknown { result.known ≡ None }
@@ -105,11 +112,14 @@ impl<S: System> Handle<S> {
         }
     }
 
-    /// Polls, unless the answer is published already, and answers how the expression ended; `None` while it runs.
+    /// Polls once, unless the result is published already, and returns the output, or `None` while
+    /// the expression runs. It doesn't wait until it has ended.
     ///
-    /// A checked failure is `Error::Checked`, a fault of a command or a worker `Error::System`, and so is, as `Other`, a lock that
-    /// holds something else than the handle was made of, which no start brings about. `Error::Memory` comes only for want of memory,
-    /// and the next wait tries again.
+    /// Fails with `Error::Checked` for a failure that is not unchecked, and with `Error::System`
+    /// for a fault of a command or a worker. It is `Error::System` of kind `Other`, too, where the
+    /// lock holds something else than the handle was made of, which no start brings about. Fails
+    /// with `Error::Memory` only at an allocation failure. After `Error::System` and
+    /// `Error::Memory` the handle may be asked again.
     pub fn try_wait_as(
         &self,
         rt: &impl Wait,
@@ -123,7 +133,7 @@ impl<S: System> Handle<S> {
         self.poll_as(rt, seen, &mut busy)
     }
 
-    /// Polls and answers as `try_wait_as` does, with a token of its own.
+    /// Does what `try_wait_as` does, with a token of its own.
     pub fn try_wait(&self, rt: &impl Wait) -> Result<Option<Arc<Output>>, Error>
         ensures told { IsAnswer S.Child.may_answer S.Feed.may_say S.Drain.may_say
             (shape_view self.now.shape) self.now.numbers result }
@@ -134,7 +144,7 @@ impl<S: System> Handle<S> {
         self.try_wait_as(rt, &mut seen)
     }
 
-    // As `try_wait_as`, and sets `busy` where a command said `Running` then.
+    // Does what `try_wait_as` does, and sets `busy` where a command said `Running` in that poll.
     pub(crate) fn poll_as(
         &self,
         rt: &impl Wait,
@@ -155,7 +165,7 @@ impl<S: System> Handle<S> {
         self.poll_locked(&mut *guard, seen, busy)
     }
 
-    // The answer, where it is published already.
+    // The result, where it is published already.
     fn recall(&self, seen: &mut Seen<S>) -> Option<Result<Option<Arc<Output>>, Error>>
         requires { seen.old.cell ≡ self.now.cell }
         ensures known { IfSome result (Waited S.Child.may_answer S.Feed.may_say S.Drain.may_say
@@ -169,7 +179,7 @@ impl<S: System> Handle<S> {
         None
     }
 
-    // Polls what stands in the lock, and publishes how it ended.
+    // Polls what the lock holds, and publishes how it ended.
     fn poll_locked(
         &self,
         locked: &mut Locked<S>,
@@ -194,7 +204,7 @@ impl<S: System> Handle<S> {
         }
     }
 
-    // Answers what was published, by one more owner.
+    // Returns what was published, with one more owner.
     fn share(&self, published: &Published<S>) -> Result<Option<Arc<Output>>, Error>
         ensures told { IsAnswer S.Child.may_answer S.Feed.may_say S.Drain.may_say
             (shape_view self.now.shape) self.now.numbers result }

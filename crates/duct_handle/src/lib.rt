@@ -1,4 +1,5 @@
-//! A handle of what runs, which threads share: waits, orders, and an answer that is published once.
+//! A handle of a running expression, which threads share: waits, orders, and a result that is
+//! published once.
 #![tactic(auto)]
 
 pub mod finish;

@@ -1,4 +1,4 @@
-//! What stands under a handle's lock, and one look at it.
+//! What the lock of a handle holds, and one look at it.
 ghost use Rattle.std.specs.Prelude.{◌≡◌, ◌↔◌, IfOk, IfErr, IfSome, IsTrue, is_some, true, Ok, Err, None};
 ghost use Rattle.duct_status.specs.ShapeView.{shape_view};
 ghost use Rattle.duct_running.specs.Answered.{IsAnswer, WasConcluded};
@@ -14,13 +14,13 @@ use duct_base::system::{Child, Fault, Job, Kind, System};
 use duct_running::numbers::Numbers;
 use duct_running::running::Running;
 
-/// What runs, and what is published once it ended.
+/// What runs, and what is published once it has ended.
 pub(crate) struct Locked<S: System> {
     pub(crate) running: Running<S>,
     pub(crate) spare: Option<Box<Published<S>>>,
 }
 
-// The answer where shape and numbers differ or no answer stands, which no start brings about.
+// The error where shape or numbers differ or no result is there, which no start brings about.
 pub(crate) fn differs() -> Error
     ensures { result ≡ Error.System (record { kind = Kind.Other }) }
 {
@@ -56,7 +56,7 @@ fn ended<S: System>(
     }
 }
 
-// Publishes how what runs ended, once it has: the spare with its answer. Until then nothing.
+// Once what runs has ended, returns the spare with its result, to be published; until then nothing.
 pub(crate) fn look<S: System>(
     locked: &mut Locked<S>,
     shape: &Shape,
@@ -84,7 +84,7 @@ pub(crate) fn look<S: System>(
     Ok(Some(published))
 }
 
-// Whether this is of such a shape and such numbers.
+// Whether this has such a shape and such numbers.
 pub(crate) fn same<S: System>(published: &Published<S>, shape: &Shape, numbers: &Numbers) -> bool
     ensures { IsTrue result ↔ ((shape_view published.now.shape ≡ shape_view shape.now)
         × (numbers_view published.now.numbers ≡ numbers_view numbers.now)) }

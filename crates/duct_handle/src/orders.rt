@@ -33,9 +33,15 @@ fn ordered<S: System>(
 }
 
 impl<S: System> Handle<S> {
-    /// Kills each command that is not known as ended, also behind one that refused, and answers the leftmost fault as
-    /// `Error::System`. It never waits for a wait of another thread, only for a program that the system has send another thread's
-    /// signal.
+    /// Kills each command that is not known as ended, from left to right. Where one can't be
+    /// killed, the others still are.
+    ///
+    /// It doesn't wait until they have ended: a wait or a poll reaps them. It doesn't reach what
+    /// the commands started themselves: while such a process holds a capture pipe open, a wait
+    /// still blocks. It doesn't wait for another thread's wait, but does for its `send_signal`.
+    ///
+    /// Fails with `Error::System`, the leftmost fault. A command that had no memory to note the
+    /// order was not asked, and its fault is `OutOfMemory`.
     pub fn kill(&self, rt: &impl Wait) -> Result<(), Error>
         ensures { IsObeyed S.Child.may_answer S.Child.may_obey Kill
             self.now.numbers.children result }
@@ -52,7 +58,9 @@ impl<S: System> Handle<S> {
         ordered(&mut guard.running, &self.shape, &self.numbers, order)
     }
 
-    /// The ids by which the machine knows the children, one a command, from left to right. It takes no lock and no memory.
+    /// Returns the process ids of the children, one a command, from left to right. They stay the
+    /// same after the commands have ended, when an id may be another process's. It takes no lock
+    /// and allocates nothing.
     pub fn pids(&self) -> &[u32] {
         &self.ids
     }

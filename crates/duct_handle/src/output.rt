@@ -1,4 +1,4 @@
-//! The output itself, where no thread shares the handle any more.
+//! The output itself, once no thread shares the handle.
 ghost use Rattle.std.specs.Prelude.{◌≡◌, ◌⊎◌, OnErr, OnOk, IfOk, IfErr, IsOkAnd, IsOkUnless, Err};
 ghost use Rattle.std.specs.Arc.{arc_value};
 ghost use Rattle.duct_base.specs.Pool.{IsGiven};
@@ -35,7 +35,7 @@ fn copy(alloc: Global, output: &Output) -> Result<Output, AllocError>
     })
 }
 
-// The output itself, copied where another still shares it.
+// The output itself, copied where another owner shares it.
 fn own(alloc: Global, output: Arc<Output>) -> Result<Output, Error>
     ensures status { IfOk result (λ own. own.status ≡ (arc_value output).status) }
     ensures stdout { IfOk result (λ own. own.stdout.items ≡ (arc_value output).stdout.items) }
@@ -48,8 +48,9 @@ fn own(alloc: Global, output: Arc<Output>) -> Result<Output, Error>
     }
 }
 
-/// What is answered after a wait: the output itself, copied only where another still shares it; the pool then stays as it was.
-/// Where the wait failed, or the copy for want of memory, the children are given to the pool.
+/// What is returned after a wait: the output itself, copied only where another owner shares it; the
+/// pool is then left as it was. Where the wait failed, or the copy at an allocation failure, the
+/// children are given to the pool.
 pub(crate) fn settled<S: System>(
     alloc: Global,
     running: Running<S>,
@@ -84,7 +85,8 @@ pub(crate) fn settled<S: System>(
     }
 }
 
-// The same of what stood in a lock, where it is of the shape and the numbers that stood beside the lock.
+// The same of what a lock held, where it has the shape and the numbers that were kept beside the
+// lock.
 fn settled_of<S: System>(
     alloc: Global,
     released: (Running<S>, Shape, Numbers),
@@ -108,11 +110,12 @@ fn settled_of<S: System>(
 }
 
 impl<S: System> Handle<S> {
-    /// Waits until the expression has ended, and answers the output itself, copied only where another still shares it. The pool
-    /// stays as it was.
+    /// Waits as `wait` does and returns the output itself, copied only where another owner shares
+    /// it. The pool is left as it was. It blocks until the expression has ended.
     ///
-    /// Refused by `Error::Checked` for a checked failure, whose captured bytes are lost, by `Error::System` for a fault, as `wait`
-    /// answers it, and by `Error::Memory` for want of memory. The children are then given to the pool, as `give_up` gives them.
+    /// Fails as `wait` does, and with `Error::Memory` where there is no memory for the copy. The
+    /// children are then given to the pool, as `give_up` gives them. After `Error::Checked` the
+    /// captured bytes are lost.
     pub fn into_output(self, rt: &impl Wait, pool: &mut Pool<S::Child>) -> Result<Output, Error>
         ensures output { IfOk result (λ output. WasConcluded S.Child.may_answer S.Feed.may_say
             S.Drain.may_say (shape_view self.shape) self.numbers

@@ -1,4 +1,5 @@
-//! The pauses between the polls of a wait. No clock is asked: what was waited is the sum of the pauses.
+//! The pauses between the polls of a wait. No clock is asked: the time waited is the sum of the
+//! pauses.
 ghost use Rattle.std.specs.Prelude.{◌≡◌, ◌⊎◌, ◌+◌, ◌-◌, ◌*◌, ◌^◌, ◌<◌, ◌≤◌, min, IfNone, IfSome};
 
 use std::sync::Wait;
@@ -11,14 +12,15 @@ const YIELDS: u32 = 64;
 /// The first park, in microseconds. Each is twice the one before.
 const FIRST: u64 = 20;
 
-/// The longest park while less than 100 milliseconds were waited, in microseconds.
+/// The longest park while the sum of the pauses is below 100 milliseconds, in microseconds.
 const SHORT: u64 = 1_000;
 
 /// The longest park, in microseconds.
 const LONG: u64 = 10_000;
 
-/// Where a wait stands: some yields, then parks that grow. At most a millisecond while less than 100 milliseconds were waited, then
-/// one percent of what was waited, at most 10 milliseconds.
+/// The state of a wait's pauses: some yields, then parks that grow. A park takes at most a
+/// millisecond while the sum of the pauses is below 100 milliseconds, then one percent of that sum,
+/// at most 10 milliseconds.
 #[derive(Drop)]
 pub(crate) struct Pause {
     parker: Parker,
@@ -39,7 +41,7 @@ impl Pause {
         }
     }
 
-    /// How long the next pause parks, in microseconds, or none for one that yields.
+    /// How long the next pause parks, in microseconds, or `None` for one that yields.
     fn next(&mut self) -> Option<u64>
         ensures yields { IfNone result ((self.old.yields < 64)
             × (self.new.yields ≡ self.old.yields + 1)

@@ -1,4 +1,4 @@
-//! The answer that a handle publishes, beside the shape and the numbers of what gave it.
+//! The result that a handle publishes, with the shape and the numbers of what gave it.
 ghost use Rattle.std.specs.Prelude.{IfSome};
 ghost use Rattle.duct_status.specs.ShapeView.{shape_view};
 ghost use Rattle.duct_running.specs.Answered.{Concluded};
@@ -18,7 +18,8 @@ pub enum Answer {
     Failed(Arc<String>),
 }
 
-/// An answer with the shape and the numbers of what gave it. There is none before it is published.
+/// A result with the shape and the numbers of what gave it. It has no result before it is
+/// published.
 #[derive(Drop)]
 pub struct Published<S: System> {
     pub shape: Shape,

@@ -18,8 +18,8 @@ use std::alloc::Global;
 use std::marker::PhantomData;
 use std::sync::Mutex;
 
-/// What a handle keeps beside its lock, and its answer, made before a start asks anything: the shape of its tree twice, with
-/// room for the numbers and the ids of its children and workers.
+/// What a handle keeps beside its lock, and its result, allocated before a start asks anything: the
+/// shape of its tree twice, with room for the numbers and the ids of its children and workers.
 #[derive(Drop)]
 pub struct HandleRoom<S: System> {
     pub shape: Shape,
@@ -28,7 +28,7 @@ pub struct HandleRoom<S: System> {
     pub spare: Box<Published<S>>,
 }
 
-// Empty lists for the numbers of what has this shape, twice, and for its ids.
+// Empty lists for the numbers of a start of this shape, twice, and for its ids.
 fn lists(
     alloc: Global,
     shape: &Shape,
@@ -50,7 +50,8 @@ fn lists(
     Ok((numbers, spare, ids))
 }
 
-/// Room for a handle of a tree with so many commands and inputs. Refused, by `Error::Memory`, only for want of memory.
+/// Makes room for a handle of a tree with so many commands and inputs. Fails with `Error::Memory`,
+/// and only at an allocation failure.
 pub fn handle_room<S: System>(
     alloc: Global,
     shape: Shape,
@@ -95,7 +96,7 @@ fn copy_ids(ids: &mut Vec<u32>, from: &[u32])
     }
 }
 
-/// A handle of what runs. It takes no memory.
+/// Makes a handle of what runs, in this room. It allocates nothing.
 pub fn handle_of<S: System>(alloc: Global, running: Running<S>, room: HandleRoom<S>) -> Handle<S>
     requires shape { shape_view room.shape ≡ shape_view running.shape }
     requires empty { room.ids.items ≡ [] }
@@ -129,7 +130,7 @@ pub fn handle_of<S: System>(alloc: Global, running: Running<S>, room: HandleRoom
     }
 }
 
-// What stands in the lock of a handle, with the shape and the numbers that stand beside it.
+// What the lock of a handle held, with the shape and the numbers that were kept beside it.
 pub(crate) fn released<S: System>(handle: Handle<S>) -> (Running<S>, Shape, Numbers)
     ensures shape { result.1 ≡ handle.shape }
     ensures numbers { numbers_view result.2 ≡ handle.numbers }
@@ -149,7 +150,12 @@ pub(crate) fn released<S: System>(handle: Handle<S>) -> (Running<S>, Shape, Numb
 }
 
 impl<S: System> Handle<S> {
-    /// Gives the children that stand in the lock to a pool, as `Running::give_up` does. No other thread holds the handle then.
+    /// Gives the children to a pool, which may be another one than the start's. Each is polled
+    /// once: one that still runs goes to the end of the pool, one that has ended counts as reaped,
+    /// and one whose poll is a fault counts as lost.
+    ///
+    /// Nothing is killed and nothing is waited for. The workers go on by themselves. It allocates
+    /// nothing and can't fail.
     pub fn give_up(self, pool: &mut Pool<S::Child>)
         ensures { (children : List S.Child)
             × IsGiven S.Child.may_answer S.Child.child_view children pool.old pool.new }

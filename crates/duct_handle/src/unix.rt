@@ -10,12 +10,19 @@ use std::sync::Wait;
 
 /// Signals to the commands of a handle.
 pub trait HandleExt {
-    /// What `send_signal` may answer for a signal.
+    /// What `send_signal` may return for a signal.
     ghost obeyed: { Self → ℤ → Result (Unit {0}) Error → Type 0 };
 
-    /// Sends each command that is not known as ended a signal, by its number, also behind one that refused it, and answers the
-    /// leftmost fault as `Error::System`. Which numbers are served, the system says. It never waits for a wait of another thread;
-    /// where the system has a program send the signal, it waits for that, and holds the handle's lock meanwhile.
+    /// Sends a signal, by its number, to each command that is not known as ended, from left to
+    /// right. Where one can't be sent it, the others still are. It doesn't reach what the commands
+    /// started themselves, and doesn't wait until a command has ended.
+    ///
+    /// The system decides which numbers it serves. A `Host` serves 1, 2, 3, 6, 9, 14 and 15. Number
+    /// 9 is a kill. The others are sent by `/bin/sh`: the call blocks until that shell has ended,
+    /// and the other calls of the handle that take its lock wait meanwhile.
+    ///
+    /// Fails with `Error::System`, the leftmost fault. Over a `Host` that is `InvalidInput` for a
+    /// number that isn't served, and `Other` where the shell reports a failure.
     fn send_signal(&self, rt: &impl Wait, signal: i32) -> Result<(), Error>
         ensures { obeyed self.now signal result };
 }

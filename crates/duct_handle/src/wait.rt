@@ -1,4 +1,5 @@
-//! The waits of a handle. A wait polls again and again, with pauses in between, and holds the lock for no more than a poll.
+//! The waits of a handle. A wait polls again and again, with pauses in between, and holds the lock
+//! only while it polls.
 ghost use Rattle.std.specs.Prelude.{◌≡◌, ◌⊎◌, is_some, true, IfSome, Ok, Err, Some, None};
 ghost use Rattle.duct_status.specs.ShapeView.{shape_view};
 ghost use Rattle.duct_running.specs.Answered.{IsAnswer};
@@ -14,9 +15,14 @@ use std::sync::{Arc, Wait};
 use std::time::Duration;
 
 impl<S: System> Handle<S> {
-    /// Waits until the expression has ended, and answers how. A fault is answered, as `Error::System`, at the first poll that finds
-    /// one while no command says that it runs; a checked failure, as `Error::Checked`, and want of memory, as `Error::Memory`, at
-    /// once. After a fault or want of memory the handle may be asked again.
+    /// Blocks until the expression has ended, and returns the output. It has ended once its
+    /// commands, its input workers and its capture workers have. A capture worker reads to EOF: the
+    /// wait goes on while any process holds the pipe open, also one that a command started.
+    ///
+    /// Fails with `Error::Checked` for a failure that is not unchecked, and with `Error::Memory`
+    /// only at an allocation failure. Fails with `Error::System` at the first poll that finds a
+    /// fault while no command says that it runs. After `Error::System` and `Error::Memory` the
+    /// handle may be asked again.
     pub fn wait_as(&self, rt: &impl Wait, seen: &mut Seen<S>) -> Result<Arc<Output>, Error>
         requires { seen.old.cell ≡ self.now.cell }
         ensures { Waited S.Child.may_answer S.Feed.may_say S.Drain.may_say self.now
@@ -45,8 +51,11 @@ impl<S: System> Handle<S> {
         self.wait_as(rt, &mut seen)
     }
 
-    /// Waits as `wait_as` does, but not beyond this moment of the clock, which is asked after each poll. At the moment or later it
-    /// answers what that poll answered.
+    /// Waits as `wait_as` does, but no longer than until this moment, which counts from the clock's
+    /// zero. It polls at least once, and asks the clock after each poll that doesn't end the wait.
+    /// At the moment or later it returns what the last poll gave: `None` while the expression runs,
+    /// or a fault, also while a command runs. Nothing is killed then. It may return late by one
+    /// pause, of at most 10 milliseconds.
     pub fn wait_deadline_as<C: Clock>(
         &self,
         rt: &impl Wait,
@@ -68,7 +77,7 @@ impl<S: System> Handle<S> {
         unreachable!()
     }
 
-    // One poll of a wait until this moment. It returns nothing where the wait goes on.
+    // One poll of a wait until this moment. It returns `None` where the wait goes on.
     fn poll_until<C: Clock>(
         &self,
         rt: &impl Wait,
@@ -106,8 +115,11 @@ impl<S: System> Handle<S> {
         self.wait_deadline_as(rt, clock, moment, &mut seen)
     }
 
-    /// Waits as `wait_deadline_as` does, until this long after the moment that the clock shows first. `Error::Deadline` where their
-    /// sum is no `Duration`; then nothing was polled. A token that knows the answer gives it without asking the clock.
+    /// Waits as `wait_deadline_as` does, until this long after the moment that the clock shows
+    /// first.
+    ///
+    /// Fails with `Error::Deadline` where the sum of the two is no `Duration`; then nothing was
+    /// polled. A token that knows the result returns it without asking the clock.
     pub fn wait_timeout_as<C: Clock>(
         &self,
         rt: &impl Wait,
@@ -154,7 +166,8 @@ impl<S: System> Handle<S> {
     }
 }
 
-// Whether a wait goes on after this: where nothing ended, and at a fault while a command says that it runs.
+// Whether a wait goes on after this poll: nothing has ended, or there is a fault while a command
+// says that it runs.
 fn waits_on(polled: &Result<Option<Arc<Output>>, Error>, busy: bool) -> bool {
     match polled {
         Ok(None) => true,

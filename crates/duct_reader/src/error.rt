@@ -24,7 +24,7 @@ fn name_of(kind: Kind) -> ErrorKind
     }
 }
 
-// A fault by its kind, want of memory as `OutOfMemory`, and each other error as `Other`.
+// A fault has its kind, an allocation failure is `OutOfMemory`, and each other error is `Other`.
 pub(crate) fn io_error(error: Error) -> io::Error
     ensures { error_kind result ≡ kind_read error }
 {

@@ -1,4 +1,5 @@
-//! std's reads of a reader handle. Each waits for what runs once the pipe gave nothing, as `ReaderHandle::read_as` does.
+//! std's reads of a reader handle. At EOF each waits for what runs, as `ReaderHandle::read_as`
+//! does.
 ghost use Rattle.std.specs.Io.{ReadsAtMost};
 
 use crate::error::io_error;
@@ -8,7 +9,7 @@ use std::io;
 use std::io::{ErrorKind, Read};
 use std::sync::Wait;
 
-// One read, by a token of its own.
+// One read, with a token of its own.
 fn read_once<S: System, R: Wait>(reader: &ReaderHandle<S, R>, buf: &mut [u8]) -> io::Result<usize>
     ensures bound { ReadsAtMost result buf.new }
 {
@@ -19,7 +20,8 @@ fn read_once<S: System, R: Wait>(reader: &ReaderHandle<S, R>, buf: &mut [u8]) ->
     }
 }
 
-// Reads until the buffer is full. `UnexpectedEof` where the expression ended with an output before that.
+// Reads until the buffer is full. Fails with `UnexpectedEof` where the expression ended with an
+// output before that.
 fn read_full<S: System, R: Wait>(reader: &ReaderHandle<S, R>, buf: &mut [u8]) -> io::Result<()> {
     let mut at = 0;
     while at < buf.len() {

@@ -18,7 +18,7 @@ use std::alloc::Global;
 use std::io::Read;
 use std::sync::Wait;
 
-// Reads the pipe to its end and closes it, waits, and makes the text of what was read.
+// Reads the pipe to EOF and closes it, waits, and makes the text of what was read.
 fn read_all<S: System>(
     alloc: Global,
     rt: &impl Wait,
@@ -38,12 +38,13 @@ fn read_all<S: System>(
     text_of(bytes)
 }
 
-/// Reads the pipe to its end and closes it, waits until what runs has ended, as `wait_for` does, and answers the bytes as text
-/// without their longest tail of newlines and carriage returns. The bytes are held once: they become the text. The pool stays as
-/// it was.
+/// Reads the pipe to EOF and closes it, waits until what runs has ended, as `wait_for` does, and
+/// returns the bytes as text without the newlines and carriage returns at its end. No second copy
+/// of the bytes is made: they become the text. The pool is left as it was.
 ///
-/// A fault of the pipe is `Error::System`; a list that can't grow is one of kind `OutOfMemory`. Both come before anything is waited
-/// for, and how it ended comes before `Error::NotUtf8`. Where it fails, the children are given to the pool, as `Running::give_up`
+/// Fails with `Error::System` for a fault of the pipe, of kind `OutOfMemory` where the list can't
+/// grow. Both come before anything is waited for, and an error of the wait comes before
+/// `Error::NotUtf8`. Where it fails, the children are given to the pool, as `Running::give_up`
 /// gives them.
 pub fn read_text<S: System>(
     alloc: Global,

@@ -18,12 +18,19 @@ use duct_worker::transfer::read_retried;
 use std::marker::Model;
 use std::sync::{Arc, Mutex, Wait};
 
-/// A handle of what runs, and the end of the pipe that its stdout is written to, which has a lock of its own: a read holds no
-/// other, so a kill, a wait or a question for the ids never waits for it. It is to be spent: by `give_up`.
+/// A running expression, and the end of the pipe that its stdout is written to. Threads share it by
+/// reference. The pipe has a lock of its own: `kill`, `try_wait` and `pids` never wait for a read,
+/// and threads that read take turns.
 ///
-/// It reads by std's `Read`, itself and by reference: a read into a buffer with room that the pipe gives nothing waits for what
-/// runs, and then gives nothing, or is refused: by the kind of a fault, by `OutOfMemory` for want of memory, and by `Other` for a
-/// checked failure, whose message `read_as` tells.
+/// It reads by std's `Read`, itself and by reference. A read blocks until the pipe has bytes or
+/// each process that may write to it has closed it. At EOF it waits for the expression as
+/// `Handle::wait` does, and then reads 0 bytes or fails. A fault keeps its kind, an allocation
+/// failure is `OutOfMemory`, and a failure that is not unchecked is `Other`, whose message only
+/// `read_as` returns. `read_exact` fails with `UnexpectedEof` where the expression ended with an
+/// output before the buffer was full.
+///
+/// A command that finds the pipe full blocks until somebody reads. A reader handle has to be spent,
+/// by `give_up`: the compiler rejects a program that drops one.
 pub struct ReaderHandle<S: System, R> {
     rt: R,
     handle: Handle<S>,
@@ -42,7 +49,8 @@ impl<S: System, R> Model for ReaderHandle<S, R> {
     ghost view = { λ r. r.handle };
 }
 
-/// The handle with the reader of its stdout. The runtime is that by which reads and waits take locks and pause.
+/// Makes a reader handle of a handle and the reader of its stdout. Reads and waits take locks and
+/// pause by the runtime.
 pub fn reader_handle_of<S: System, R>(
     rt: R,
     handle: Handle<S>,
@@ -58,12 +66,14 @@ pub fn reader_handle_of<S: System, R>(
 }
 
 impl<S: System, R> ReaderHandle<S, R> {
-    /// The ids by which the machine knows the children, one a command, from left to right. It takes no lock and no memory.
+    /// Returns the process ids of the children, one a command, from left to right. They stay the
+    /// same after the commands have ended, when an id may be another process's. It takes no lock
+    /// and allocates nothing.
     pub fn pids(&self) -> &[u32] {
         self.handle.pids()
     }
 
-    /// A token that knows nothing yet.
+    /// Returns a token that knows no result yet.
     pub fn seen(&self) -> Seen<S>
         ensures cell { result.cell ≡ self.now.cell }
         ensures unknown { result.known ≡ None }
@@ -73,8 +83,9 @@ impl<S: System, R> ReaderHandle<S, R> {
 }
 
 impl<S: System, R: Wait> ReaderHandle<S, R> {
-    /// Polls what runs, and answers how it ended; `None` while it runs. It is `Handle::try_wait`: it reads nothing, and the output's
-    /// `stdout` is empty.
+    /// Polls once and returns the output, or `None` while the expression runs; it fails as
+    /// `Handle::try_wait` does. It doesn't read and doesn't wait for a read. The output's `stdout`
+    /// is empty: those bytes come out of the reads.
     pub fn try_wait(&self) -> Result<Option<Arc<Output>>, Error>
         ensures told { IsAnswer S.Child.may_answer S.Feed.may_say S.Drain.may_say
             (shape_view self.now.shape) self.now.numbers result }
@@ -84,8 +95,11 @@ impl<S: System, R: Wait> ReaderHandle<S, R> {
         self.handle.try_wait(&self.rt)
     }
 
-    /// Kills each command that is not known as ended, also behind one that refused, and answers the leftmost fault as
-    /// `Error::System`. It never waits for a read.
+    /// Kills each command that is not known as ended, as `Handle::kill` does. It doesn't wait until
+    /// they have ended, doesn't wait for a read, and doesn't reach what the commands started
+    /// themselves: while such a process holds the pipe open, a read still blocks.
+    ///
+    /// Fails with `Error::System`, the leftmost fault.
     pub fn kill(&self) -> Result<(), Error>
         ensures { IsObeyed S.Child.may_answer S.Child.may_obey Kill
             self.now.numbers.children result }
@@ -93,11 +107,14 @@ impl<S: System, R: Wait> ReaderHandle<S, R> {
         self.handle.kill(&self.rt)
     }
 
-    /// Reads into the buffer, and answers how many bytes. Where the buffer has no room nothing is asked. Where the pipe gives nothing,
-    /// which is its end, it waits as `Handle::wait_as` does, and answers 0 where what runs ended with an output.
+    /// Reads into the buffer and returns how many bytes. It blocks until the pipe has bytes or is
+    /// at EOF. At EOF it waits as `Handle::wait_as` does, and returns 0 where the expression ended
+    /// with an output. Where the buffer has no room it returns 0 and asks nothing.
     ///
-    /// A fault of the pipe is `Error::System`, and the next read reads on. A checked failure is `Error::Checked`, at this and at
-    /// each further read at the end. `Error::Memory` comes only for want of memory, and the next read tries again.
+    /// Fails with `Error::System` for a fault of the pipe; the next read reads on. At EOF it fails
+    /// as `Handle::wait_as` does: with `Error::Checked` at this and at each further read, with
+    /// `Error::System` for a fault of a command or a worker, and with `Error::Memory` only at an
+    /// allocation failure. After the last two the next read tries again.
     pub fn read_as(&self, buf: &mut [u8], seen: &mut Seen<S>) -> Result<usize, Error>
         requires { seen.old.cell ≡ self.now.cell }
         ensures bound { IfOk result (λ read. read ≤ length buf.new) }
@@ -132,7 +149,8 @@ impl<S: System, R: Wait> ReaderHandle<S, R> {
 }
 
 impl<S: System, R: Drop> ReaderHandle<S, R> {
-    /// Gives the children to a pool, as `Handle::give_up` does, and closes the pipe. No other thread holds the handle then.
+    /// Closes the pipe and gives the children to a pool, as `Handle::give_up` does. A command that
+    /// goes on writing to the pipe gets a broken pipe. It doesn't block and can't fail.
     pub fn give_up(self, pool: &mut Pool<S::Child>)
         ensures { (children : List S.Child)
             × IsGiven S.Child.may_answer S.Child.child_view children pool.old pool.new }

@@ -1,4 +1,4 @@
-//! Bytes as text, without their last line ends.
+//! Bytes as text, without the line ends behind it.
 ghost use Rattle.std.specs.Prelude.{◌≡◌, IfOk, IfErr, take, string_bytes};
 ghost use Rattle.std.specs.Str.{IsUtf8};
 ghost use Rattle.duct_system.specs.declared.error.Error.TheVariants.{NotUtf8};
@@ -13,7 +13,7 @@ fn is_line_end(byte: u8) -> bool
     byte == b'\n' || byte == b'\r'
 }
 
-// How many bytes stand before the longest tail of newlines and carriage returns.
+// How many bytes stand before the longest suffix of newlines and carriage returns.
 fn text_length(bytes: &[u8]) -> usize
     ensures { take result bytes.now ≡ trimmed bytes.now }
 {
@@ -27,7 +27,8 @@ fn text_length(bytes: &[u8]) -> usize
     0
 }
 
-// The bytes as text, without their longest tail of newlines and carriage returns. They are not copied.
+// The bytes as text, without their longest suffix of newlines and carriage returns. They are not
+// copied.
 pub(crate) fn text_of(mut bytes: Vec<u8>) -> Result<String, Error>
     ensures ok { IfOk result (λ text. string_bytes text ≡ trimmed bytes.items) }
     ensures err { IfErr result (λ e. (e ≡ NotUtf8) × (IsUtf8 (trimmed bytes.items) → ⊥)) }
