@@ -15,8 +15,13 @@ use duct_tree::tree::Node;
 use std::alloc::{AllocError, Global};
 use std::sync::Arc;
 
-/// A command, a pipe of two expressions, or a modifier round one expression, with ends of type `E` and hooks of type `H`.
-/// Its parts are shared: each call that makes one of an old one adds one node, and leaves the old one as it was.
+/// A command, a pipe of two expressions, or a modifier round one expression, with ends of type `E`
+/// and hooks of type `H`. It describes commands: nothing runs before a start, and it may be started
+/// any number of times.
+///
+/// Each call that makes an expression of this one adds one node and leaves this one as it was; the
+/// parts are shared. A modifier changes what it stands round. Of two modifiers of one stream,
+/// variable or folder, the inner one counts.
 #[derive(Drop)]
 pub struct Expression<E, H = HookBox> {
     root: Arc<Node<E, H>>,
@@ -26,7 +31,8 @@ pub struct Expression<E, H = HookBox> {
 impl<E: Drop, H: Drop> Clone for Expression<E, H> {
     ghost is_clone = { λ expression copy. tree_view copy ≡ tree_view expression };
 
-    /// One more owner of the same tree, which takes no memory. Refused only where there are too many owners.
+    /// Returns one more owner of the same tree. It allocates nothing, and fails only where there
+    /// are too many owners.
     fn clone(&self) -> Result<Expression<E, H>, AllocError> {
         Ok(Expression {
             root: Arc::try_clone(&self.root)?,
@@ -35,7 +41,11 @@ impl<E: Drop, H: Drop> Clone for Expression<E, H> {
     }
 }
 
-/// A command: a program and its arguments. Refused, by `Error::Memory`, only for want of memory; the program is then dropped.
+/// A command: a program and its arguments, which no shell reads. Nothing is started yet.
+///
+/// Fails with `Error::Memory`, and only at an allocation failure; the program is then dropped.
+///
+/// Example: `cmd(alloc, "ls", &["-l", "/tmp"])?`
 pub fn cmd<E: Drop, P: IntoExecutablePath, H: Drop>(
     alloc: Global,
     program: P,
@@ -66,7 +76,7 @@ fn words(alloc: Global, program: String, args: &[&str]) -> Result<Vec<String>, E
 }
 
 impl<E, H> Expression<E, H> {
-    /// The outermost node of the tree.
+    /// Returns the outermost node of the tree.
     pub fn root(&self) -> &Node<E, H>
         ensures { node_view result.now ≡ tree_view self.now }
     {

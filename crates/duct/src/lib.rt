@@ -1,11 +1,12 @@
-//! Commands, pipes between them and modifiers round them: a description of children of the operating system, their start, and
-//! how they ended.
+//! Commands, pipes between them and modifiers round them: a description of child processes, their
+//! start, and how they ended.
 //!
 //! ```
 //! let hello: Expression<End> = cmd!(in alloc; "echo", "hi")?;
+//! let text = hello.read(&rt, &mut system, &mut pool)?; // hi
 //! let mut running = hello.launch(&mut system, &mut pool)?;
-//! let answer = running.poll(); // `Ok(None)` while it runs, then how it ended
-//! let (_children, _feeds, _drains) = running.into_parts(); // what runs must be spent
+//! let ended = running.poll(); // `Ok(None)` while it runs, then how it ended
+//! running.give_up(&mut pool); // what runs must be spent: here the pool takes its children
 //! ```
 #![tactic(auto)]
 
@@ -31,7 +32,7 @@ pub use duct_base::system::{
     Child, Clock, Entry, Fault, Job, Kind, Numbered, Order, Said, Side, Stdio, System,
 };
 
-// What runs, how it ended, and why a call was refused.
+// What runs, how it ended, and why a call failed.
 pub use duct_base::error::Error;
 pub use duct_base::system::{ExitStatus, Output};
 pub use duct_handle::handle::{Handle, Seen};
@@ -52,7 +53,10 @@ pub use duct_worker::worker::Worker;
 // How an expression ended, by what its commands and workers said.
 pub use duct_base::status::{Core, Drains, Event, Reply, Shape, Word};
 
-/// A command: `cmd!(in alloc; program, arg, ..)` is `cmd(alloc, program, &[arg, ..])`. A trailing comma is allowed.
+/// A command: `cmd!(in alloc; program, arg, ..)` is `cmd(alloc, program, &[arg, ..])`. A trailing
+/// comma is allowed.
+///
+/// Example: `cmd!(in alloc; "ls", "-l")?`
 #[macro_export]
 macro_rules! cmd {
     (in $alloc:expr; $program:expr $(, $arg:expr)* $(,)?) => {

@@ -23,10 +23,15 @@ use std::io::Read;
 use std::sync::Wait;
 
 impl<E: Drop, H: Hook> Expression<E, H> {
-    /// Starts the expression as `launch_reader` does, and answers a handle that reads what it writes to stdout. What the handle needs
-    /// is made before the first request.
+    /// Starts the expression as `launch_reader` does, and returns a handle whose reads give what it
+    /// writes to stdout. Reads block in the pipe, and a command that finds the pipe full blocks
+    /// until somebody reads. The handle keeps the runtime, by which it takes locks and pauses. What
+    /// it needs is allocated before the first request. It has to be spent, by
+    /// `ReaderHandle::give_up`.
     ///
-    /// Refused as `launch_reader` is, and what a refusal leaves is the same.
+    /// Fails as `launch` does, and leaves the same.
+    ///
+    /// Example: `hello.reader(&rt, &mut host, &mut pool)?`
     pub fn reader<S: System<End = E>, R: Drop>(
         &self,
         rt: R,
@@ -56,11 +61,15 @@ impl<E: Drop, H: Hook> Expression<E, H> {
         Ok(reader_handle_of(rt, handle_of(alloc, running, room), reader))
     }
 
-    /// Starts the expression as `launch` does, waits until it has ended as a handle waits, and answers its output.
+    /// Starts the expression as `launch` does, blocks until it has ended as `Handle::wait` does,
+    /// and returns its output: the status and what was captured.
     ///
-    /// Refused as `launch` is; and, once it was started, by `Error::Checked` where it failed and is not unchecked, by `Error::System`
-    /// with a fault of a command or a worker, and by `Error::Memory`. Then its children are given to the pool, as
-    /// `Running::give_up` gives them, and every end that the start got is closed, or a worker's that ends by itself.
+    /// Fails as `launch` does. Once it was started it fails with `Error::Checked` where it failed
+    /// and is not unchecked, with `Error::System` for a fault of a command or a worker, and with
+    /// `Error::Memory`. Then its children are given to the pool, as `Running::give_up` gives them,
+    /// and every end that the start got is closed, or is a worker's that ends by itself.
+    ///
+    /// Example: `hello.run(&rt, &mut host, &mut pool)?.status`
     pub fn run<S: System<End = E>>(
         &self,
         rt: &impl Wait,
@@ -78,7 +87,7 @@ impl<E: Drop, H: Hook> Expression<E, H> {
         ensures swept { OnOk result (Leaves S.Child.may_answer []
             (pool_view S.Child.child_view pool.old) (pool_view S.Child.child_view pool.new)) }
 
-        // Refused before the end of its start, or started and ended.
+        // Failed before the end of its start, or started and ended.
         ensures err { IfErr result (λ e. let tree = tree_view self.now in
             let old = S.journal_view sys.old in
             let new = S.journal_view sys.new in
@@ -99,11 +108,17 @@ impl<E: Drop, H: Hook> Expression<E, H> {
         finish(self.allocator(), rt, running, pool)
     }
 
-    /// Starts the expression as `launch_reader` does, reads what it writes to stdout to the end, waits as `run` does, and answers the
-    /// text without its longest tail of newlines and carriage returns. Its bytes are held once: what was read becomes the text.
+    /// Starts the expression as `launch_reader` does, reads its stdout to EOF, waits as `run` does,
+    /// and returns the text without the newlines and carriage returns at its end. It blocks in the
+    /// pipe until each process that may write to it has closed it. The bytes that were read become
+    /// the text: no second copy is made.
     ///
-    /// Refused as `run` is; by `Error::System` with a fault of the reader, of kind `OutOfMemory` where there is no room for more bytes;
-    /// and by `Error::NotUtf8`, where it ended well. What a refusal leaves is what that of `run` leaves.
+    /// Fails as `run` does, and leaves the same. Fails with `Error::System` for a fault of the
+    /// pipe, of kind `OutOfMemory` where there is no room for more bytes; it then doesn't wait for
+    /// the commands. Fails with `Error::NotUtf8` where the expression ended with an output and its
+    /// bytes are not UTF-8.
+    ///
+    /// Example: `hello.read(&rt, &mut host, &mut pool)?`
     pub fn read<S: System<End = E>>(
         &self,
         rt: &impl Wait,
@@ -120,7 +135,7 @@ impl<E: Drop, H: Hook> Expression<E, H> {
         ensures swept { OnOk result (Leaves S.Child.may_answer []
             (pool_view S.Child.child_view pool.old) (pool_view S.Child.child_view pool.new)) }
 
-        // Refused before the end of its start, or started and read.
+        // Failed before the end of its start, or started and read.
         ensures err { IfErr result (λ e. let tree = tree_view self.now in
             let old = S.journal_view sys.old in
             let new = S.journal_view sys.new in

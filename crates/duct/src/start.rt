@@ -57,7 +57,7 @@ fn is_capture<E>(action: Action<'_, E>, side: Side) -> bool
     }
 }
 
-// Whether some action does.
+// Whether some action opens it.
 fn captures<E>(actions: &[Action<'_, E>], side: Side) -> bool
     ensures { result ≡ captures_in side (actions_view actions.now) }
 {
@@ -69,7 +69,7 @@ fn captures<E>(actions: &[Action<'_, E>], side: Side) -> bool
     false
 }
 
-// How many commands a shape has. Refused, by `Error::Memory`, where they can't be counted.
+// How many commands a shape has. Fails with `Error::Memory` where they can't be counted.
 fn commands_of(shape: &Shape) -> Result<usize, Error>
     ensures count { IfOk result (λ count. count ≡ command_count (shape_view shape.now)) }
     ensures memory { IsOkUnless result Error.Memory }
@@ -84,7 +84,7 @@ fn commands_of(shape: &Shape) -> Result<usize, Error>
     }
 }
 
-// How many inputs a shape has. Refused, by `Error::Memory`, where they can't be counted.
+// How many inputs a shape has. Fails with `Error::Memory` where they can't be counted.
 fn inputs_of(shape: &Shape) -> Result<usize, Error>
     ensures count { IfOk result (λ count. count ≡ input_count (shape_view shape.now)) }
     ensures memory { IsOkUnless result Error.Memory }
@@ -138,8 +138,8 @@ fn room_for<D: Drop>(alloc: Global, shape: &Shape) -> Result<Room<D>, Error>
     Ok(Room { ids, drains })
 }
 
-// What a start makes beside its list before it asks anything: a core for this tree, room for what runs, and nothing held,
-// with room for what the list gets.
+// What a start allocates beside its list before it asks anything: a core for this tree, room for
+// what runs, and nothing held, with room for what the list gets.
 fn prepare<E: Drop, H, C: Drop, F: Drop, D: Drop>(
     alloc: Global,
     root: &Node<E, H>,
@@ -169,7 +169,7 @@ fn prepare<E: Drop, H, C: Drop, F: Drop, D: Drop>(
     Ok((core, room, held))
 }
 
-// What runs, of what a run left.
+// What runs, made of what a run of the list left.
 fn running<S: System>(
     core: Core,
     kept: Held<S::End, Place<S::Child>, S::Feed, S::Drain>,
@@ -206,16 +206,28 @@ fn running<S: System>(
 }
 
 impl<E: Drop, H: Hook> Expression<E, H> {
-    /// Starts the expression, and answers what runs.
+    /// Starts the expression and returns what runs, for one thread and without a lock. It doesn't
+    /// wait for the commands. Over a `Host` it blocks only where it opens a FIFO, until the other
+    /// side of that is opened.
     ///
-    /// Asks the system for the environment, then what the nodes ask, each before what it wraps and the left side of a pipe
-    /// before the right, and at the end for the workers of the capture pipes. Before each command the pool is swept. The list of
-    /// all this, and the room for what runs, are made before the first request. That the requests follow the plan is promised
-    /// where the ends in the expression are of this system, so that their numbers are lower than the next one it gives.
+    /// It asks the system for the environment, then for what the nodes need, each before what it
+    /// wraps and the left side of a pipe before the right, and at the end for the workers of the
+    /// capture pipes. Before each command the pool is swept. The list of these requests, and the
+    /// room for what runs, are allocated before the first request. That the requests follow the
+    /// plan is promised where the ends in the expression are of this system, so that their numbers
+    /// are lower than the next one it gives.
     ///
-    /// Refused by `Error::System` where the system refused a request, by `Error::Hook` and `Error::HookEnd` where a hook stopped
-    /// a command, and by `Error::Memory`. Then nothing more is asked: each end that the start got is closed, each child that it
-    /// had started is asked once and goes into the pool if it runs, and a worker that it had started ends by itself.
+    /// Fails with `Error::System` where the system refuses a request, with `Error::Hook` and
+    /// `Error::HookEnd` where a hook stops a command, and with `Error::Memory`. After that only
+    /// closes are asked: each end that the start got is closed, each child that it had started is
+    /// polled once and goes into the pool if it runs, and a worker that it had started ends by
+    /// itself.
+    ///
+    /// What runs has to be spent: by `Running::give_up`, which leaves the children to a pool, or by
+    /// `Running::into_parts`. A child that `into_parts` returns is not reaped if it is dropped
+    /// before a poll saw it end: over a `Host` it stays a zombie until the program ends.
+    ///
+    /// Example: `hello.launch(&mut host, &mut pool)?`
     pub fn launch<S: System<End = E>>(
         &self,
         sys: &mut S,
@@ -250,10 +262,11 @@ impl<E: Drop, H: Hook> Expression<E, H> {
         Ok(running(core, kept, room))
     }
 
-    /// Starts the expression as `launch` does, inside of one more `stdout_capture`, and answers what runs and the reader of stdout's
-    /// capture pipe, which has no worker. The reader is the last that the start asks for.
+    /// Starts the expression as `launch` does, inside of one more `stdout_capture`, and returns
+    /// what runs and a reader of stdout's capture pipe, which has no worker. The reader is the last
+    /// that the start asks for. A command that finds the pipe full blocks until the caller reads.
     ///
-    /// Refused as `launch` is, and what a refusal leaves is the same.
+    /// Fails as `launch` does, and leaves the same.
     pub fn launch_reader<S: System<End = E>>(
         &self,
         sys: &mut S,
@@ -290,10 +303,13 @@ impl<E: Drop, H: Hook> Expression<E, H> {
         Ok((running(core, kept, room), reader))
     }
 
-    /// Starts the expression as `launch` does, and answers a handle of what runs, which threads can share. What the handle needs
-    /// is made before the first request.
+    /// Starts the expression as `launch` does, and returns a handle of what runs, which threads can
+    /// share. What the handle needs is allocated before the first request. The handle has to be
+    /// spent, by `Handle::into_output` or `Handle::give_up`.
     ///
-    /// Refused as `launch` is, and what a refusal leaves is the same.
+    /// Fails as `launch` does, and leaves the same.
+    ///
+    /// Example: `hello.start(&mut host, &mut pool)?`
     pub fn start<S: System<End = E>>(
         &self,
         sys: &mut S,

@@ -9,8 +9,9 @@ impl<E, H> fmt::Debug for Expression<E, H> {
 
     ghost debug_output = { λ expression. shown (tree_view expression) };
 
-    /// `Cmd(["a", "b"])` of a command, `Pipe(L, R)` of a pipe, `Io(Modifier, X)` of a modifier round X. An end shows as
-    /// `<end>` and a hook as `<closure>`. The text is promised where all words, paths, names and values are printable ASCII.
+    /// Writes `Cmd(["a", "b"])` for a command, `Pipe(L, R)` for a pipe, and `Io(Modifier, X)` for a
+    /// modifier round X. An end is `<end>` and a hook `<closure>`. The text is promised where all
+    /// words, paths, names and values are printable ASCII.
     fn fmt<W: fmt::Write>(&self, f: &mut fmt::Formatter<W>) -> fmt::Result {
         self.root().fmt(f)
     }
