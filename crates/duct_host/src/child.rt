@@ -11,8 +11,12 @@ use std::alloc::{AllocError, Global};
 use std::os::unix::process::ExitStatusExt;
 use std::process::{self, Command, OpenProcess, Processes, Stdio};
 
-/// A child that the host started. It keeps the runtime, by which it asks a shell to send a signal. Where it is dropped it
-/// is neither waited for nor ended.
+/// A child that the host started. It keeps the runtime, by which it has a shell send a signal.
+///
+/// A poll doesn't block, and reaps a child that has ended. A kill is `SIGKILL`; it doesn't block,
+/// and is `Ok` for a child that was reaped. A signal blocks until the shell has ended. Dropping a
+/// child neither ends it nor waits for it: if no poll saw it end, it stays a zombie until the
+/// program ends.
 #[derive(Drop)]
 pub struct Child<R: Processes> {
     rt: R,
@@ -54,7 +58,7 @@ impl<R: Processes> Child<R> {
     }
 }
 
-/// Ends a child, if it has not been seen to end.
+/// Kills a child, if it has not been seen to end.
 fn kill_process<P: OpenProcess>(started: &mut process::Child<P>) -> Result<(), Fault> {
     ask(|| started.kill())
 }
@@ -67,8 +71,8 @@ fn ending<P: OpenProcess>(started: &mut process::Child<P>) -> Result<Option<Exit
     }
 }
 
-/// Whether a child has ended: as a poll saw, or else as the machine says now. Where its last poll was a fault it may have been reaped,
-/// and its id be another process's: `Other`.
+/// Whether a child has ended: as a poll saw, or else as the machine says now. Fails with `Other`
+/// where its last poll was a fault: it may have been reaped, and its id be another process's.
 fn has_ended<P: OpenProcess>(
     seen: Option<ExitStatus>,
     last: Option<Result<Option<ExitStatus>, Fault>>,
@@ -131,7 +135,8 @@ impl<R: Processes + Drop> Numbered for Child<R> {
     }
 }
 
-/// What the machine may answer is left open, but that a signal that isn't served is answered `InvalidInput`, where it is noted.
+/// What the machine may do is left open, but that a signal that isn't served fails with
+/// `InvalidInput`, where the order is noted.
 impl<R: Processes + Drop> system::Child for Child<R> {
     ghost use Rattle.std.proofs.Common.{refl};
     ghost use Rattle.duct_host.specs.ChildView.{child_view};
@@ -176,7 +181,8 @@ impl<R: Processes> Child<R> {
     ghost use Rattle.duct_host.specs.ChildView.{child_view};
     ghost use Rattle.duct_host.specs.Signals.{MayObey};
 
-    /// Gives the child an order, and notes it with its answer. Where there is no memory for that, nobody is asked.
+    /// Gives the child an order, and notes it with its result. Where there is no memory for that,
+    /// nobody is asked.
     fn order(&mut self, order: Order) -> Result<(), Fault>
         ensures { OrdersChild (λ _ order noted answer. MayObey order noted answer) order
             (child_view self.old) result (child_view self.new) }
@@ -196,8 +202,8 @@ impl<R: Processes> Child<R> {
         answer
     }
 
-    /// Sends the child a signal. Where it has ended nothing is sent and the answer is `Ok`, as a kill's; where that could not be told,
-    /// that fault.
+    /// Sends the child a signal. Where it has ended nothing is sent and the result is `Ok`, as a
+    /// kill's. Where it isn't known whether it has, that fault is the error.
     fn send(&self, signal: i32, asked: Result<bool, Fault>) -> Result<(), Fault>
         ensures ended { asked ≡ Ok true → result ≡ Ok tt }
         ensures refused { IfErr asked (λ fault. result ≡ Err fault) }
@@ -209,7 +215,7 @@ impl<R: Processes> Child<R> {
         }
     }
 
-    /// Asks a shell to send the child a signal, and waits for the shell.
+    /// Has a shell send the child a signal, and blocks until the shell has ended.
     fn send_by_shell(&self, signal: i32) -> Result<(), Fault> {
         let Ok(mut shell) = kill_command(self.alloc, signal, self.id) else {
             return Err(no_memory());

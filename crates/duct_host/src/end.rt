@@ -5,7 +5,8 @@ use duct_base::system::Numbered;
 use std::marker::Model;
 use std::os::fd::OwnedFd;
 
-/// An end: a descriptor that nothing else owns, with the number that the host gave it. Where it is dropped it is closed.
+/// An end: a descriptor that nothing else owns, with the number that the host gave it. Dropping it
+/// closes it.
 #[derive(Debug, Drop)]
 pub struct End {
     number: u64,

@@ -9,8 +9,8 @@ use std::alloc::{AllocError, Global};
 use std::env::FillError;
 use std::rt::Env;
 
-/// The variables in the order in which the environment has them. An entry that is not UTF-8, or that has no name or no
-/// `=`, is left out. Refused only for want of memory.
+/// The variables in the order in which the environment has them. An entry that is not UTF-8, or
+/// that has no name or no `=`, is left out. Fails only at an allocation failure.
 pub(crate) fn variables<R: Parents + Env>(
     rt: &R,
     alloc: Global,
@@ -106,7 +106,7 @@ fn split_entry(alloc: Global, entry: &str) -> Result<Option<(String, String)>, A
     }
 }
 
-/// The parts of a text before its first `=` and behind it, the first one behind `front`.
+/// The parts of a text before its first `=` and behind it, the first one with the prefix `front`.
 fn split_behind(
     alloc: Global,
     front: &str,

@@ -20,7 +20,7 @@ pub(crate) fn ask<T, F: FnMut() -> io::Result<T>>(mut question: F) -> Result<T, 
     Err(Fault::new(Kind::Other))
 }
 
-/// The fault of a growth that was refused.
+/// The fault of an allocation failure.
 pub(crate) fn no_memory() -> Fault
     ensures { result.kind ≡ OutOfMemory }
 {

@@ -29,9 +29,13 @@ use std::sync::Arc;
 use std::thread::Threads;
 use std::{io, process};
 
-/// A system over the runtime `R`, with its journal. It owns none of the ends that it gives: who has one closes it. Where a
-/// standard stream was closed when the host was made, `/dev/null` stands in its place until the host is dropped, and a child
-/// that inherits it gets `/dev/null` too.
+/// A system over the real machine, by the runtime `R`, with its journal. Each request of a start
+/// adds an entry: a program that runs for long empties the journal between two starts, by
+/// `clear_journal`.
+///
+/// It owns none of the ends that it gives: whoever has one closes it. Where a standard stream was
+/// closed when the host was made, `/dev/null` stands in its place until the host is dropped, and a
+/// child that inherits it gets `/dev/null` too.
 #[derive(Drop)]
 pub struct Host<R> {
     rt: R,
@@ -50,7 +54,14 @@ impl<R> Model for Host<R> {
 }
 
 impl<R: Files<File = File>> Host<R> {
-    /// A host with an empty journal, which keeps the runtime and takes its memory from this allocator.
+    /// Makes a host with an empty journal. It keeps the runtime, for which a reference is enough,
+    /// and takes its memory from this allocator. It can't fail and doesn't block.
+    ///
+    /// It opens `/dev/null` in place of each standard stream that is closed. A second host that is
+    /// made while the first one lives doesn't know which these were: a child that inherits such a
+    /// stream through it gets none.
+    ///
+    /// Example: `let mut host = Host::new(&rt, rt.alloc());`
     pub fn new(rt: R, alloc: Global) -> Host<R>
         ensures { result ≡ record { entries = []; added = 0; next = 1; room = 0 } }
     {
@@ -65,13 +76,18 @@ impl<R: Files<File = File>> Host<R> {
 }
 
 impl<R> Host<R> {
-    /// The allocator that the host takes its memory from.
+    /// Returns the allocator that the host takes its memory from.
     pub fn allocator(&self) -> Global {
         self.alloc
     }
 
-    /// An end of an open file, with the next number. It adds no entry. Where no number is left the answer is `Other`, and
-    /// the file is closed.
+    /// Makes an end of an open file, with the next number, for `stdin_file`, `stdout_file`,
+    /// `stderr_file` or a hook. It owns the file from then on, whose position is kept. It adds no
+    /// entry to the journal and doesn't block.
+    ///
+    /// Fails with a fault of kind `Other` where no number is left; the file is then closed.
+    ///
+    /// Example: `let end = host.adopt_file(file)?;`
     pub fn adopt_file(&mut self, file: File) -> Result<End, Fault>
         ensures ok { IfOk result
             (λ end. (end ≡ self.old.next)
@@ -83,7 +99,9 @@ impl<R> Host<R> {
         Ok(End::new(number, OwnedFd::from(file)))
     }
 
-    /// An end of a pipe's reader, as `adopt_file` gives one of a file.
+    /// Makes an end of the read end of a pipe, as `adopt_file` makes one of a file.
+    ///
+    /// Example: `let end = host.adopt_reader(reader)?;`
     pub fn adopt_reader(&mut self, reader: PipeReader) -> Result<End, Fault>
         ensures ok { IfOk result
             (λ end. (end ≡ self.old.next)
@@ -95,7 +113,10 @@ impl<R> Host<R> {
         Ok(End::new(number, OwnedFd::from(reader)))
     }
 
-    /// An end of a pipe's writer, as `adopt_file` gives one of a file.
+    /// Makes an end of the write end of a pipe, as `adopt_file` makes one of a file. Who reads the
+    /// pipe finds EOF only once this end is closed too.
+    ///
+    /// Example: `let end = host.adopt_writer(writer)?;`
     pub fn adopt_writer(&mut self, writer: PipeWriter) -> Result<End, Fault>
         ensures ok { IfOk result
             (λ end. (end ≡ self.old.next)
@@ -107,7 +128,7 @@ impl<R> Host<R> {
         Ok(End::new(number, OwnedFd::from(writer)))
     }
 
-    /// The next number, or `Other` where none is left.
+    /// The next number. Fails with `Other` where none is left.
     fn take_number(&mut self) -> Result<u64, Fault>
         ensures ok { IfOk result
             (λ number. (number ≡ self.old.next)
@@ -121,8 +142,8 @@ impl<R> Host<R> {
         }
     }
 
-    /// Makes room for an entry that names a path and for this many ends, and copies the path. Where there is no memory the
-    /// host is as it was.
+    /// Makes room for an entry that names a path and for this many ends, and copies the path. At an
+    /// allocation failure the host is left as it was.
     fn prepare_named(&mut self, path: &str, ends: usize) -> Result<String, Fault>
         ensures ok { IfOk result
             (λ kept. (string_bytes kept ≡ path.now)
@@ -164,7 +185,7 @@ impl<R> Host<R> {
         Ok(End::new(self.take_number()?, fd))
     }
 
-    /// What a request was answered. Where it was refused, the room that was made for an end is given back.
+    /// The result of a request. Where it failed, the room that was made for an end is given back.
     fn got(&mut self, made: Result<End, Fault>) -> Result<End, Fault>
         requires { 0 < self.old.room }
         ensures same { result ≡ made }
@@ -218,8 +239,8 @@ impl<R: Threads> Host<R> {
     ghost use Rattle.duct_system.specs.Job.{unpolled_job};
     ghost use Rattle.duct_worker.specs.WorkerView.{worker_view};
 
-    /// Starts a worker that writes the bytes to the end and closes it. Where it is refused the end is closed, and nothing was
-    /// written.
+    /// Starts a worker that writes the bytes to the end and closes it. Where that fails the end is
+    /// closed, and nothing was written.
     fn new_feed(&self, end: End, bytes: &Arc<Vec<u8>>) -> Result<Worker<()>, Fault>
         ensures ok { IfOk result (λ worker. worker_view worker ≡ unpolled_job end) }
         ensures err { IfErr result
@@ -233,7 +254,8 @@ impl<R: Threads> Host<R> {
         spawn_numbered_feed(&self.rt, self.alloc, number, writer, theirs)
     }
 
-    /// Starts a worker that reads the end to its end and closes it. Where it is refused the end is closed, and nothing was read.
+    /// Starts a worker that reads the end to EOF and closes it. Where that fails the end is closed,
+    /// and nothing was read.
     fn new_drain(&self, end: End) -> Result<Worker<Arc<Vec<u8>>>, Fault>
         ensures ok { IfOk result (λ worker. worker_view worker ≡ unpolled_job end) }
         ensures err { IfErr result
@@ -245,6 +267,10 @@ impl<R: Threads> Host<R> {
     }
 }
 
+/// `open_read` and `create` block where the path is a FIFO, until its other side is opened; no
+/// other request waits. Each worker is a thread of its own. A variable of the parent that is not
+/// UTF-8, or that has no name or no `=`, is left out of the environment.
+///
 /// What the machine may give by a reader is left open.
 impl<R: Processes + Files<File = File> + Env + Parents + Threads + Clone + Drop> System
     for Host<R> {

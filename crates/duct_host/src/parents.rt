@@ -5,16 +5,19 @@ use std::io;
 use std::io::Read;
 use std::os::fd::{AsFd, OwnedFd};
 
-/// A runtime that knows its parent: more descriptors of the parent's own stdout and stderr, and its environment.
+/// A runtime that knows its parent: more descriptors of the parent's own stdout and stderr, and its
+/// environment. `HostRuntime` and references to it are such runtimes.
 pub trait Parents {
-    /// One more descriptor of the parent's stdout.
+    /// Returns one more descriptor of the parent's stdout. Fails where the system can't give one.
     fn duplicate_stdout(&self) -> io::Result<OwnedFd>;
 
-    /// One more descriptor of the parent's stderr.
+    /// Returns one more descriptor of the parent's stderr. Fails where the system can't give one.
     fn duplicate_stderr(&self) -> io::Result<OwnedFd>;
 
-    /// All entries that the parent's environment had at first, in their order, with a NUL behind each. A runtime that refuses, or
-    /// that has more entries or fewer by now, is asked for one after the other.
+    /// Returns all entries that the parent's environment had when the program began, in their
+    /// order, with a NUL behind each. Where this fails, or gives more entries or fewer than the
+    /// environment has by now, the host asks for one after the other. A runtime need not write it:
+    /// it then fails with `Unsupported`.
     fn environment(&self, _alloc: Global) -> io::Result<Vec<u8>> {
         Err(io::Error::from(io::ErrorKind::Unsupported))
     }
@@ -29,7 +32,8 @@ impl Parents for HostRuntime {
         self.stderr().as_fd().try_clone_to_owned()
     }
 
-    /// As the kernel keeps it. From a program that has more rights than who started it, the loader has taken some entries away.
+    /// Reads `/proc/self/environ`. From a program that has more rights than who started it, the
+    /// loader has taken some entries away.
     fn environment(&self, alloc: Global) -> io::Result<Vec<u8>> {
         let mut entries = Vec::new(alloc);
         File::open(self, "/proc/self/environ")?.read_to_end(&mut entries)?;

@@ -5,7 +5,8 @@ use std::io::Read;
 use std::os::fd::OwnedFd;
 use std::process::ChildStdout;
 
-/// A reader of an end. It closes the end where it is dropped.
+/// A reader of an end, by std's `Read`. A read blocks until there are bytes, or returns 0 at EOF.
+/// Dropping it closes the end.
 #[derive(Drop)]
 pub struct Reader {
     source: ChildStdout,

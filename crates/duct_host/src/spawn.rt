@@ -14,8 +14,9 @@ use std::io::ErrorKind;
 use std::process;
 use std::process::{Command, Processes};
 
-/// Starts a process by a spec, with these streams in the order stdin, stdout, stderr. Each end among the streams is
-/// closed here, whatever is answered. A start that a signal interrupts is tried again.
+/// Starts a process by a spec, with these streams in the order stdin, stdout, stderr. Each end
+/// among the streams is closed here, also where the start fails. A start that a signal interrupts
+/// is tried again.
 pub(crate) fn start<R: Processes>(
     rt: &R,
     alloc: Global,
@@ -37,7 +38,8 @@ pub(crate) fn start<R: Processes>(
     Err(Fault::new(Kind::Other))
 }
 
-/// The command of a spec, with the spec's variables for its whole environment. A spec without words is `InvalidInput`.
+/// The command of a spec, with the spec's variables for its whole environment. Fails with
+/// `InvalidInput` for a spec without words.
 fn command_of(alloc: Global, spec: &CommandSpec) -> Result<Command, Fault>
     ensures words { IfOk result (λ c. command_program c ∷ command_args c ≡ spec.now.words) }
     ensures folder { IfOk result (λ c. command_dir c ≡ spec.now.folder) }
@@ -137,7 +139,8 @@ fn set_folder(command: &mut Command, spec: &CommandSpec) -> Result<(), AllocErro
     Ok(())
 }
 
-/// Three streams as the journal has them, and as std takes them, where those of the parent's are closed that are said here.
+/// Three streams as the journal has them, and as std takes them. `closed` says which streams of the
+/// parent are closed.
 pub(crate) fn all_wired(
     streams: [Stdio<End>; 3],
     closed: [bool; 3],

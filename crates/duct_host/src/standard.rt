@@ -11,8 +11,8 @@ pub(crate) struct Standard {
 }
 
 impl Standard {
-    /// Opens `/dev/null` at each descriptor of a standard stream that is closed, so that no end gets it. Where that file can't
-    /// be opened the streams stay as they are.
+    /// Opens `/dev/null` at each descriptor of a standard stream that is closed, so that no end
+    /// gets it. Where that file can't be opened the streams are left as they are.
     pub(crate) fn fill<R: Files<File = File>>(rt: &R) -> Standard {
         let mut filled = [None, None, None];
         for _ in 0..3 {

@@ -8,16 +8,17 @@ use duct::Error;
 /// Why the program has no text to print.
 #[derive(Debug, Drop, thiserror::Error)]
 pub enum Failure {
-    /// The arguments are no line: nothing was started.
+    /// The arguments are no line, or there was no memory to read them: nothing was started.
     #[error("{0}")]
     Usage(Usage),
-    /// The expression was refused or failed.
+    /// The expression failed, at its start or later.
     #[error("{0}")]
     Error(Error),
 }
 
 impl Failure {
-    /// The status with which the program ends: 2 where its arguments are at fault, and else 1.
+    /// Returns the status with which the program ends: 2 where its arguments are at fault, and else
+    /// 1.
     pub fn status(&self) -> u8
         ensures { result ≡ status_of self.now }
     {

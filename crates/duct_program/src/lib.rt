@@ -1,4 +1,4 @@
-//! The program: what its arguments mean, and what it answers over any system.
+//! The program: what its arguments mean, and what it does over any system.
 #![tactic(auto)]
 
 mod command;

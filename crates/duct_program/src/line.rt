@@ -15,11 +15,13 @@ use crate::usage::Usage;
 use duct::{Error, Expression, Stream, cmd};
 use std::alloc::Global;
 
-/// The expression of these arguments: options, and then commands with a `|` between two. The commands are piped from the left.
-/// In a command `<`, `>` and `2>` redirect stdin, stdout and stderr to the path behind them; the first one stands outermost.
-/// `--stdin` gives the whole its text, and `--unchecked` stands round that.
+/// The expression of these arguments: options, and then commands with a `|` between two. The
+/// commands are piped from the left. In a command `<`, `>` and `2>` redirect stdin, stdout and
+/// stderr to the path behind them; the first one stands outermost. `--stdin` gives the whole its
+/// text, and `--unchecked` stands round that. Nothing is started.
 ///
-/// Refused with the first fault from left to right, and for want of memory.
+/// Fails with the first error from left to right, and with `Usage::Memory` at an allocation
+/// failure.
 pub fn line<E: Drop, H: Drop>(alloc: Global, args: &[String]) -> Result<Expression<E, H>, Usage>
     ensures { ParsesAs tree_view result (meant (map string_bytes args.now)) }
 {
@@ -114,7 +116,7 @@ fn with_options<E: Drop, H: Drop>(
     Ok(whole)
 }
 
-// What is said of a refusal of a builder, which refuses for want of memory alone.
+// The error of a builder, which fails only at an allocation failure.
 fn out_of_memory(_error: Error) -> Usage
     ensures { result ≡ Usage.Memory }
 {

@@ -15,7 +15,7 @@ pub(crate) struct Options<'a> {
     pub unchecked: bool,
 }
 
-/// Reads the options in front of some arguments. Answers them, and the arguments behind them.
+/// Reads the options before some arguments. Returns them, and the arguments behind them.
 pub(crate) fn read_options<'a>(args: &'a [String]) -> Result<(Options<'a>, &'a [String]), Usage>
     ensures { ParsesAs (λ read. (options_view read.0, map string_bytes read.1.now)) result
         (options_from false no_options (map string_bytes args.now)) }

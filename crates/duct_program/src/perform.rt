@@ -15,8 +15,9 @@ use std::io;
 use std::io::Write;
 use std::sync::Wait;
 
-/// What the expression of these arguments prints to stdout, read as `Expression::read` reads it. Where the arguments are no line,
-/// or there is no memory to read them, nothing is asked.
+/// Returns what the expression of these arguments prints to stdout, read as `Expression::read`
+/// reads it; it blocks and fails as that does. Where the arguments are no line, or there is no
+/// memory to read them, it fails with `Failure::Usage` and asks nothing.
 pub fn answer<S: System, H: Hook + Drop>(
     rt: &impl Wait,
     alloc: Global,
@@ -51,9 +52,9 @@ pub fn answer<S: System, H: Hook + Drop>(
     }
 }
 
-/// Does the program's work, and answers its status. The text that is read goes to `out` with a newline, status 0. What went wrong goes
-/// to `err` behind `host: `, with a newline: status 2 where the arguments are no line, and else 1. The status is 1, too, where a
-/// write fails.
+/// Does the program's work and returns its status. The text that is read goes to `out` with a
+/// newline, status 0. An error goes to `err` behind `host: `, with a newline: status 2 where the
+/// arguments are no line, and else 1. The status is 1, too, where a write fails.
 pub fn perform<S: System>(
     rt: &impl Wait,
     alloc: Global,

@@ -3,7 +3,7 @@ ghost use Rattle.std.specs.Prelude.{◌≡◌, ◌∷◌, map, position, string_
 ghost use Rattle.std.specs.Option.{option_map};
 ghost use Rattle.duct_program.specs.Pieces.{further, is_bar, pieces};
 
-/// The arguments in front of the first `|`, and those behind it, where there is one.
+/// The arguments before the first `|`, and those behind it, where there is one.
 pub(crate) fn first_piece(args: &[String]) -> (&[String], Option<&[String]>)
     ensures { pieces (map string_bytes args.now) ≡ map string_bytes result.0.now
         ∷ further (option_map (λ behind. map string_bytes behind.now) result.1) }

@@ -5,7 +5,7 @@ ghost use Rattle.duct_program.specs.declared.usage.Usage.TheVariants.{Memory};
 use std::alloc::{AllocError, AllocFailed};
 use thiserror::Error;
 
-/// Why arguments are no line. The first fault, from left to right, is named.
+/// Why arguments are no line. The first error, from left to right, is named.
 #[derive(Clone, Copy, Debug, PartialEq, Eq, Error)]
 pub enum Usage {
     /// A command has no words. It is found where the command ends: at its `|`, or at the end.
@@ -17,7 +17,7 @@ pub enum Usage {
     /// No path follows a `<`, `>` or `2>`.
     #[error("missing path")]
     MissingPath,
-    /// There was no memory.
+    /// An allocation failed.
     #[error("out of memory")]
     Memory,
 }
