@@ -3,8 +3,8 @@ use duct::{Clock, Error, Expression, Output, Pool, System};
 use std::sync::Wait;
 use std::time::Duration;
 
-/// Runs a step for at most this long. Answers its output, or nothing where it took longer. Where a step that was started gives no
-/// output, those of its commands that may run yet are killed, and their children are left to the pool.
+/// Runs a step for at most this long. Returns its output, or `None` where it took longer. Where a step that was started gives no
+/// output, those of its commands that may still run are killed, and their children are left to the pool.
 pub fn build<S: System, C: Clock>(
     rt: &impl Wait,
     system: &mut S,
@@ -14,12 +14,12 @@ pub fn build<S: System, C: Clock>(
     limit: Duration,
 ) -> Result<Option<Output>, Error> {
     let handle = step.start(system, pool)?;
-    let waited = handle.wait_timeout(rt, clock, limit);
+    let waited = handle.wait_timeout(rt, clock, limit); // `Ok(None)` where the time is over
     if matches!(waited, Ok(Some(_))) {
         return Ok(Some(handle.into_output(rt, pool)?));
     }
     let killed = handle.kill(rt);
-    handle.give_up(pool);
+    handle.give_up(pool); // the compiler wants every handle spent
     waited?;
     killed?;
     Ok(None)

@@ -1,0 +1,38 @@
+//! The first steps, as README shows them.
+use duct::{Error, Expression, Pool, System, cmd};
+use std::alloc::Global;
+use std::sync::Wait;
+
+/// How many bytes a pipeline prints to each stream, and why another one fails.
+pub fn piped<S: System>(rt: &impl Wait, alloc: Global, system: &mut S) -> Result<String, Error> {
+    let mut pool = Pool::new(alloc);
+    let hello: Expression<S::End> = cmd!(in alloc; "sh", "-c", "echo hello; echo careful >&2")?;
+    let loud = hello.pipe(&cmd!(in alloc; "tr", "a-z", "A-Z")?)?;
+    let captured = loud.stdout_capture()?.stderr_capture()?;
+    let output = captured.run(rt, system, &mut pool)?; // stdout: HELLO, stderr: careful
+    let fails: Expression<S::End> = cmd!(in alloc; "sh", "-c", "exit 3")?;
+    let failed = fails.run(rt, system, &mut pool); // Err(Error::Checked(..))
+
+    let (out, err) = (output.stdout.len(), output.stderr.len());
+    match failed {
+        Err(Error::Checked(why)) => Ok(format!(in alloc; "{out}, {err}, {why}")?),
+        Err(error) => Err(error),
+        Ok(_) => Ok(format!(in alloc; "{out}, {err}, no error")?),
+    }
+}
+
+/// What a command writes into a file.
+pub fn filed<S: System>(
+    rt: &impl Wait,
+    alloc: Global,
+    system: &mut S,
+    path: &str,
+) -> Result<String, Error> {
+    let mut pool = Pool::new(alloc);
+    let sh: Expression<S::End> = cmd!(in alloc; "sh", "-c", "echo $WHO; pwd; echo no >&2")?;
+    let there = sh.env("WHO", "me")?.dir("/")?; // WHO=me, in the folder /
+    let filed = there.stdout_path(path)?.stderr_null()?; // > path 2> /dev/null
+    filed.run(rt, system, &mut pool)?;
+    let cat: Expression<S::End> = cmd!(in alloc; "cat")?;
+    cat.stdin_path(path)?.read(rt, system, &mut pool) // cat < path
+}

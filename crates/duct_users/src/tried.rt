@@ -1,0 +1,168 @@
+//! The examples of the documents: over the real machine, and a test of a script over the scripted system.
+use crate::build::build;
+use crate::clock::MachineClock;
+use crate::cookbook::{counted, fed, listed, merged, placed, stopped, swapped, unchecked};
+use crate::files::writer;
+use crate::harness::started;
+use crate::script::run_script;
+use crate::tour::{filed, piped};
+use duct::{Clock, Error, ExitStatus, Expression, Pool, System, cmd};
+use duct_host::end::End;
+use duct_host::host::Host;
+use duct_script::child::PollAnswer;
+use duct_script::system::Script;
+use std::alloc::Global;
+use std::sync::Wait;
+use std::test::Fail;
+use std::time::Duration;
+
+/// A script stops at its first command that fails. No program runs: the test says what the child answers.
+#[test]
+fn a_script_stops_at_a_failure(rt: HostRuntime) -> Result<(), Fail> {
+    let mut system = Script::new(rt.alloc())?;
+    system.polls(&[PollAnswer::Running, PollAnswer::Ended(ExitStatus::Code(2))])?;
+    let told = run_script(&rt, rt.alloc(), &mut system, "make all\nmake install");
+    assert!(rt; matches!(told, Err(Error::Checked(_))));
+    assert_eq!(rt; started(rt.alloc(), &system)?.as_str(), "make all \n"); // from the journal
+    Ok(())
+}
+
+#[test]
+fn a_pipeline_and_an_error(rt: HostRuntime) -> Result<(), Error> {
+    let mut host = Host::new(&rt, rt.alloc());
+    let text = piped(&rt, rt.alloc(), &mut host)?;
+    let wanted = "6, 8, command [\"sh\", \"-c\", \"exit 3\"] exited with code 3";
+    assert_eq!(rt; text.as_str(), wanted);
+    Ok(())
+}
+
+/// Whether a command that sleeps takes longer than its limit.
+fn is_late<S: System, C: Clock>(
+    rt: &impl Wait,
+    alloc: Global,
+    system: &mut S,
+    clock: &C,
+) -> Result<bool, Error> {
+    let mut pool = Pool::new(alloc);
+    let sleep: Expression<S::End> = cmd!(in alloc; "sleep", "20")?;
+    let limit = Duration::from_millis(50);
+    let built = build(rt, system, &mut pool, clock, &sleep, limit)?;
+    Ok(built.is_none())
+}
+
+#[test]
+fn a_deadline_and_a_kill(rt: HostRuntime) -> Result<(), Error> {
+    let mut host = Host::new(&rt, rt.alloc());
+    let clock = MachineClock { rt: &rt };
+    assert!(rt; is_late(&rt, rt.alloc(), &mut host, &clock)?);
+    Ok(())
+}
+
+/// The path of a new file.
+fn new_file<S: System>(rt: &impl Wait, alloc: Global, system: &mut S) -> Result<String, Error> {
+    let mut pool = Pool::new(alloc);
+    let mktemp: Expression<S::End> = cmd!(in alloc; "mktemp")?;
+    mktemp.read(rt, system, &mut pool)
+}
+
+/// What a file has, which is removed.
+fn take_file<S: System>(
+    rt: &impl Wait,
+    alloc: Global,
+    system: &mut S,
+    path: &str,
+) -> Result<String, Error> {
+    let mut pool = Pool::new(alloc);
+    let take: Expression<S::End> = cmd!(in alloc; "sh", "-c", "cat \"$0\"; rm \"$0\"", path)?;
+    take.read(rt, system, &mut pool)
+}
+
+/// What a command reads back from a file that it wrote.
+fn filed_text<S: System>(rt: &impl Wait, alloc: Global, system: &mut S) -> Result<String, Error> {
+    let path = new_file(rt, alloc, system)?;
+    let text = filed(rt, alloc, system, path.as_str())?;
+    take_file(rt, alloc, system, path.as_str())?;
+    Ok(text)
+}
+
+#[test]
+fn redirections_and_environment(rt: HostRuntime) -> Result<(), Error> {
+    let mut host = Host::new(&rt, rt.alloc());
+    let text = filed_text(&rt, rt.alloc(), &mut host)?;
+    assert_eq!(rt; text.as_str(), "me\n/");
+    Ok(())
+}
+
+/// What the examples of the cookbook read.
+fn texts<S: System>(rt: &impl Wait, alloc: Global, system: &mut S) -> Result<String, Error> {
+    let mut text = listed(rt, alloc, system)?;
+    text.push_str(merged(rt, alloc, system)?.as_str())?;
+    text.push_str(fed(rt, alloc, system)?.as_str())?;
+    text.push_str(placed(rt, alloc, system)?.as_str())?;
+    Ok(text)
+}
+
+#[test]
+fn texts_are_read(rt: HostRuntime) -> Result<(), Error> {
+    let mut host = Host::new(&rt, rt.alloc());
+    let text = texts(&rt, rt.alloc(), &mut host)?;
+    assert_eq!(rt; text.as_str(), "foo bar bazout\nerrfoo/\nfoobar");
+    Ok(())
+}
+
+#[test]
+fn a_failure_is_no_error(rt: HostRuntime) -> Result<(), Error> {
+    let mut host = Host::new(&rt, rt.alloc());
+    let status = unchecked(&rt, rt.alloc(), &mut host)?;
+    assert_eq!(rt; status, ExitStatus::Code(3));
+    Ok(())
+}
+
+#[test]
+fn streams_are_exchanged(rt: HostRuntime) -> Result<(), Error> {
+    let mut host = Host::new(&rt, rt.alloc());
+    let output = swapped(&rt, rt.alloc(), &mut host)?;
+    assert_eq!(rt;
+        (output.stdout.as_slice(), output.stderr.as_slice()),
+        (&b"bar\n"[..], &b"foo\n"[..])
+    );
+    Ok(())
+}
+
+#[test]
+fn bytes_are_counted(rt: HostRuntime) -> Result<(), Error> {
+    let mut host = Host::new(&rt, rt.alloc());
+    assert_eq!(rt; counted(&rt, rt.alloc(), &mut host)?, 3893);
+    Ok(())
+}
+
+#[test]
+fn a_signal_ends_a_service(rt: HostRuntime) -> Result<(), Error> {
+    let mut host = Host::new(&rt, rt.alloc());
+    let output = stopped(&rt, rt.alloc(), &mut host)?;
+    assert_eq!(rt; output.status, ExitStatus::Signal(15));
+    Ok(())
+}
+
+/// Runs a command whose file is open already.
+fn written<S: System<End = End>>(
+    rt: &impl Wait,
+    alloc: Global,
+    system: &mut S,
+    echo: &Expression<End>,
+    path: &str,
+) -> Result<String, Error> {
+    let mut pool = Pool::new(alloc);
+    echo.run(rt, system, &mut pool)?;
+    take_file(rt, alloc, system, path)
+}
+
+#[test]
+fn an_open_file_is_written(rt: HostRuntime) -> Result<(), Error> {
+    let mut host = Host::new(&rt, rt.alloc());
+    let path = new_file(&rt, rt.alloc(), &mut host)?;
+    let echo = writer(&rt, &mut host, rt.alloc(), path.as_str())?;
+    let text = written(&rt, rt.alloc(), &mut host, &echo, path.as_str())?;
+    assert_eq!(rt; text.as_str(), "foo");
+    Ok(())
+}
