@@ -122,20 +122,20 @@ pub fn echoed<S: System>(rt: &impl Wait, alloc: Global, system: &mut S) -> Resul
 pub fn silenced<E: Drop>(
     foo: &Expression<E>,
     bar: &Expression<E>,
-) -> Result<[Expression<E>; 3], Error> {
+) -> Result<(Expression<E>, Expression<E>, Expression<E>), Error> {
     let left = foo.stderr_null()?.pipe(bar)?; // foo 2> /dev/null | bar
     let right = foo.pipe(&bar.stderr_null()?)?; // foo | bar 2> /dev/null
     let both = foo.pipe(bar)?.stderr_null()?; // { foo | bar; } 2> /dev/null
-    Ok([left, right, both])
+    Ok((left, right, both))
 }
 
 /// Two commands in a pipe, of which a failure doesn't count on the left, on the right, and on both sides.
 pub fn excused<E: Drop>(
     foo: &Expression<E>,
     bar: &Expression<E>,
-) -> Result<[Expression<E>; 3], Error> {
+) -> Result<(Expression<E>, Expression<E>, Expression<E>), Error> {
     let left = foo.unchecked()?.pipe(bar)?; // a failure of bar is an error
     let right = foo.pipe(&bar.unchecked()?)?; // a failure of foo is an error
     let both = foo.pipe(bar)?.unchecked()?; // no failure is an error
-    Ok([left, right, both])
+    Ok((left, right, both))
 }

@@ -15,9 +15,8 @@ pub fn piped<S: System>(rt: &impl Wait, alloc: Global, system: &mut S) -> Result
 
     let (out, err) = (output.stdout.len(), output.stderr.len());
     match failed {
-        Err(Error::Checked(why)) => Ok(format!(in alloc; "{out}, {err}, {why}")?),
-        Err(error) => Err(error),
         Ok(_) => Ok(format!(in alloc; "{out}, {err}, no error")?),
+        Err(error) => Ok(format!(in alloc; "{out}, {err}, {error}")?),
     }
 }
 
