@@ -1,8 +1,11 @@
 pub mod Answers
 pub mod Change
+pub mod Next
 pub mod Obeying
 pub mod Paths
 pub mod Refusals
 pub mod Said
+pub mod Shares
 pub mod Shows
+pub mod Unset
 pub mod Views

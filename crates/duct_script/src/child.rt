@@ -77,6 +77,8 @@ impl ScriptChild {
     ) -> ScriptChild
         ensures number { result.number ≡ number }
         ensures unasked { IsUnasked (child_view result) }
+        ensures script { result.script ≡ script }
+        ensures calls { result.calls ≡ calls }
     {
         ScriptChild {
             number,

@@ -1,4 +1,5 @@
 //! A clock that shows the moments of a list.
+ghost use Rattle.std.specs.Prelude.{◌≡◌};
 ghost use Rattle.duct_script.specs.Shows.{Shows};
 
 use duct_base::system::Clock;
@@ -15,7 +16,9 @@ pub struct ScriptClock {
 
 impl ScriptClock {
     /// A clock that shows these moments.
-    pub fn new(moments: Vec<Duration>) -> ScriptClock {
+    pub fn new(moments: Vec<Duration>) -> ScriptClock
+        ensures { result.moments ≡ moments }
+    {
         ScriptClock {
             moments,
             asked: AtomicU64::new(0),

@@ -1,5 +1,5 @@
 //! A hook that does what a list says.
-ghost use Rattle.std.specs.Prelude.{◌≡◌, ◌≢◌, [], string_bytes, map, OnOk, OnErr, IfErr};
+ghost use Rattle.std.specs.Prelude.{◌≡◌, ◌≢◌, [], string_bytes, map, None, OnOk, OnErr, IfErr};
 ghost use Rattle.duct_system.specs.declared.spec.Port.TheVariants.{Given};
 ghost use Rattle.duct_system.specs.declared.system.Kind.TheVariants.{OutOfMemory};
 ghost use Rattle.duct_system.specs.SpecView.{GivesNothing};
@@ -66,6 +66,8 @@ impl ScriptHook {
     pub fn new(alloc: Global) -> ScriptHook
         ensures changes { result.changes.items ≡ [] }
         ensures answer { result.answer ≡ Obey }
+        ensures label { result.label ≡ 0 }
+        ensures calls { result.calls ≡ None }
     {
         ScriptHook {
             changes: Vec::new(alloc),

@@ -30,7 +30,8 @@ impl ScriptFeed {
 
     /// The feed of the end of this number, before anybody asks it.
     pub fn new(number: u64, script: FeedScript) -> ScriptFeed
-        ensures { feed_view result ≡ unpolled_job number }
+        ensures job { feed_view result ≡ unpolled_job number }
+        ensures script { result.script ≡ script }
     {
         ScriptFeed {
             number,
@@ -99,7 +100,9 @@ impl ScriptDrain {
     /// The drain of the end of this number, before anybody asks it. It shares these bytes, which are none, where its list
     /// is empty.
     pub fn new(number: u64, script: DrainScript, empty: Arc<Vec<u8>>) -> ScriptDrain
-        ensures { drain_view result ≡ unpolled_job number }
+        ensures job { drain_view result ≡ unpolled_job number }
+        ensures script { result.script ≡ script }
+        ensures otherwise { result.otherwise ≡ Done empty }
     {
         let said = Said::Running;
         let kept = Snapshot::of(&said);

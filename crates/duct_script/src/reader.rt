@@ -1,5 +1,5 @@
 //! The readers of a scripted system.
-ghost use Rattle.std.specs.Prelude.{◌≡◌, ◌<◌, ◌≤◌, [], ◌++◌, take, drop, length, vec_len, Some, IfOk};
+ghost use Rattle.std.specs.Prelude.{◌≡◌, ◌<◌, ◌≤◌, [], ◌++◌, take, drop, length, vec_len, Some, None, IfOk};
 
 use crate::gate::Gate;
 use std::alloc::Global;
@@ -28,7 +28,11 @@ pub struct ReaderScript {
 
 impl ReaderScript {
     /// A reader of no bytes.
-    pub fn empty(alloc: Global) -> ReaderScript {
+    pub fn empty(alloc: Global) -> ReaderScript
+        ensures bytes { result.bytes.items ≡ [] }
+        ensures steps { result.steps.items ≡ [] }
+        ensures gate { result.gate ≡ None }
+    {
         ReaderScript {
             bytes: Vec::new(alloc),
             steps: VecDeque::new(alloc),
@@ -51,7 +55,11 @@ pub struct ScriptReader {
 impl ScriptReader {
     /// The reader of the end of this number, before anything is read.
     pub fn new(number: u64, script: ReaderScript) -> ScriptReader
-        ensures { result.number ≡ number }
+        ensures number { result.number ≡ number }
+        ensures bytes { result.bytes ≡ script.bytes }
+        ensures given { result.given ≡ 0 }
+        ensures steps { result.steps ≡ script.steps }
+        ensures gate { result.gate ≡ script.gate }
     {
         let ReaderScript { bytes, steps, gate } = script;
         ScriptReader {

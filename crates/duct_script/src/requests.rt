@@ -1,7 +1,6 @@
 //! The requests that a scripted system was asked, counted, and the faults that a test set for some of them.
-ghost use Rattle.std.specs.Prelude.{◌≡◌, ◌<◌, ◌++◌, ◌∷◌, [], replicate, slice_index, slice_set, OnOk, OnErr};
-ghost use Rattle.duct_system.specs.Child.{one_more};
-ghost use Rattle.duct_script.specs.Refusals.{place_of, fault_for};
+ghost use Rattle.std.specs.Prelude.{◌≡◌, ◌<◌, ◌≤◌, ◌++◌, ◌∷◌, [], replicate, IfSome, IfNone, OnOk, OnErr};
+ghost use Rattle.duct_script.specs.Refusals.{place_of, fault_for, next_fault, with_request};
 
 use duct_base::system::Fault;
 use std::alloc::{AllocError, Global};
@@ -65,7 +64,10 @@ impl Sort {
     ];
 
     /// The sort at this place among all sorts, counted from 0.
-    pub fn at(place: usize) -> Option<Sort> {
+    pub fn at(place: usize) -> Option<Sort>
+        ensures some { IfSome result (λ sort. place_of sort ≡ place) }
+        ensures none { IfNone result (SORTS ≤ place) }
+    {
         Sort::ALL.get(place).copied()
     }
 }
@@ -126,8 +128,7 @@ impl Requests {
             (self.new.refusals.items ≡ self.old.refusals.items
             ++ record { sort = sort; request = request; fault = fault } ∷ []) }
         ensures err { OnErr result (self.new.refusals.items ≡ self.old.refusals.items) }
-        ensures asked { self.new.asked ≡ self.old.asked }
-        ensures of_sort { self.new.of_sort ≡ self.old.of_sort }
+        ensures rest { self.new ≡ record self.old { refusals = self.new.refusals } }
     {
         let refusal = Refusal {
             sort,
@@ -147,13 +148,8 @@ impl Requests {
 
     /// Counts a request of this sort, and answers the fault that is set for it.
     pub fn count(&mut self, sort: Sort) -> Option<Fault>
-        ensures fault { result ≡ fault_for (place_of sort) (one_more self.old.asked)
-            (one_more (slice_index self.old.of_sort (place_of sort))) self.old.refusals.items }
-        ensures asked { self.new.asked ≡ one_more self.old.asked }
-        ensures of_sort { self.new.of_sort
-            ≡ slice_set self.old.of_sort (place_of sort)
-            (one_more (slice_index self.old.of_sort (place_of sort))) }
-        ensures refusals { self.new.refusals.items ≡ self.old.refusals.items }
+        ensures fault { result ≡ next_fault sort self.old }
+        ensures counted { self.new ≡ with_request sort self.old }
     {
         self.asked = self.asked.saturating_add(1);
         let place = sort.place();

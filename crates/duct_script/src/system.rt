@@ -1,12 +1,18 @@
 //! The scripted system.
-ghost use Rattle.std.specs.Prelude.{◌≡◌, ◌+◌, ◌-◌, ◌^◌, ◌<◌, ◌≤◌, max, length, map, string_bytes, unwrap_or, IfOk, IfErr, OnOk, OnErr, Ok, Err, Some, None, [], ◌∷◌, ◌++◌};
+ghost use Rattle.std.specs.Prelude.{◌≡◌, ◌+◌, ◌-◌, ◌^◌, ◌<◌, ◌≤◌, max, length, drop, map, string_bytes, unwrap_or, false, IfSome, IfNone, IfOk, IfErr, OnOk, OnErr, Ok, Err, Some, None, [], ◌∷◌, ◌++◌};
+ghost use Rattle.std.specs.Arc.{arc_value};
 ghost use Rattle.duct_system.specs.declared.system.Kind.TheVariants.{OutOfMemory, Other};
 ghost use Rattle.duct_system.specs.SpecView.{pair_text};
 ghost use Rattle.duct_script.specs.Paths.{canonical_of, with_path};
 ghost use Rattle.duct_script.specs.Obeying.{IsObeying};
 ghost use Rattle.duct_script.specs.declared.child.ChildScript.{ChildScript};
 ghost use Rattle.duct_system.specs.Streams.{stream_of, end_of, ends_of};
-ghost use Rattle.duct_system.specs.Child.{one_more};
+ghost use Rattle.duct_system.specs.declared.system.Said.TheVariants.{Done};
+ghost use Rattle.duct_script.specs.Next.{IsNext};
+ghost use Rattle.duct_script.specs.Refusals.{next_fault, with_request};
+ghost use Rattle.duct_script.specs.Said.{word_of};
+ghost use Rattle.duct_script.specs.Shares.{SharesLog};
+ghost use Rattle.duct_script.specs.declared.requests.Sort.TheVariants.{Drain};
 
 use crate::answers::Answers;
 use crate::calls::{Call, CallLog};
@@ -54,6 +60,7 @@ pub struct Script {
 impl Script {
     ghost use Rattle.duct_system.specs.Child.{IsUnasked};
     ghost use Rattle.duct_system.specs.Job.{unpolled_job};
+    ghost use Rattle.duct_script.specs.Unset.{IsUnset};
     ghost use Rattle.duct_script.specs.Views.{child_view, feed_view, drain_view};
 
     /// A system with no variables, whose requests are all answered Ok, and whose next number is 1.
@@ -62,6 +69,7 @@ impl Script {
             (λ sys. sys.journal ≡ record { entries = []; added = 0; next = 1; room = 0 }) }
         ensures asked { IfOk result (λ sys. sys.requests.asked ≡ 0) }
         ensures refusals { IfOk result (λ sys. sys.requests.refusals.items ≡ []) }
+        ensures unset { IfOk result IsUnset }
     {
         Ok(Script {
             journal: Journal::new(alloc),
@@ -85,7 +93,9 @@ impl Script {
             ++ record { sort = None; request = request; fault = fault } ∷ []) }
         ensures err { OnErr result
             (self.new.requests.refusals.items ≡ self.old.requests.refusals.items) }
-        ensures journal { self.new.journal ≡ self.old.journal }
+        ensures rest { self.new ≡ record self.old {
+          requests = record self.old.requests { refusals = self.new.requests.refusals };
+        } }
     {
         self.requests.refuse(None, request, fault)
     }
@@ -97,7 +107,9 @@ impl Script {
             ++ record { sort = Some sort; request = request; fault = fault } ∷ []) }
         ensures err { OnErr result
             (self.new.requests.refusals.items ≡ self.old.requests.refusals.items) }
-        ensures journal { self.new.journal ≡ self.old.journal }
+        ensures rest { self.new ≡ record self.old {
+          requests = record self.old.requests { refusals = self.new.requests.refusals };
+        } }
     {
         self.requests.refuse(Some(sort), request, fault)
     }
@@ -108,7 +120,7 @@ impl Script {
             (map pair_text self.new.variables.items ≡ map pair_text self.old.variables.items
             ++ (name.now, value.now) ∷ []) }
         ensures err { OnErr result (self.new.variables.items ≡ self.old.variables.items) }
-        ensures journal { self.new.journal ≡ self.old.journal }
+        ensures rest { self.new ≡ record self.old { variables = self.new.variables } }
     {
         let alloc = self.journal.allocator();
         let pair = (
@@ -125,7 +137,7 @@ impl Script {
             (map pair_text self.new.canonical.entries
             ≡ with_path path.now text.now (map pair_text self.old.canonical.entries)) }
         ensures err { OnErr result (self.new.canonical.entries ≡ self.old.canonical.entries) }
-        ensures journal { self.new.journal ≡ self.old.journal }
+        ensures rest { self.new ≡ record self.old { canonical = self.new.canonical } }
     {
         let alloc = self.journal.allocator();
         let path = String::from_str(alloc, path)?;
@@ -140,7 +152,7 @@ impl Script {
         ensures ok { OnOk result
             (self.new.children.items ≡ self.old.children.items ++ script ∷ []) }
         ensures err { OnErr result (self.new.children.items ≡ self.old.children.items) }
-        ensures journal { self.new.journal ≡ self.old.journal }
+        ensures rest { self.new ≡ record self.old { children = self.new.children } }
     {
         self.children.push_back(script)?;
         Ok(())
@@ -153,7 +165,7 @@ impl Script {
             × (self.new.children.items ≡ self.old.children.items ++ script ∷ [])
             × IsObeying answers.now script) }
         ensures err { OnErr result (self.new.children.items ≡ self.old.children.items) }
-        ensures journal { self.new.journal ≡ self.old.journal }
+        ensures rest { self.new ≡ record self.old { children = self.new.children } }
     {
         let alloc = self.journal.allocator();
         let mut script = ChildScript::running(alloc);
@@ -166,7 +178,7 @@ impl Script {
     pub fn feed(&mut self, script: FeedScript) -> Result<(), AllocError>
         ensures ok { OnOk result (self.new.feeds.items ≡ self.old.feeds.items ++ script ∷ []) }
         ensures err { OnErr result (self.new.feeds.items ≡ self.old.feeds.items) }
-        ensures journal { self.new.journal ≡ self.old.journal }
+        ensures rest { self.new ≡ record self.old { feeds = self.new.feeds } }
     {
         self.feeds.push_back(script)?;
         Ok(())
@@ -176,7 +188,7 @@ impl Script {
     pub fn drain(&mut self, script: DrainScript) -> Result<(), AllocError>
         ensures ok { OnOk result (self.new.drains.items ≡ self.old.drains.items ++ script ∷ []) }
         ensures err { OnErr result (self.new.drains.items ≡ self.old.drains.items) }
-        ensures journal { self.new.journal ≡ self.old.journal }
+        ensures rest { self.new ≡ record self.old { drains = self.new.drains } }
     {
         self.drains.push_back(script)?;
         Ok(())
@@ -186,7 +198,7 @@ impl Script {
     pub fn bytes(&mut self, script: ReaderScript) -> Result<(), AllocError>
         ensures ok { OnOk result (self.new.readers.items ≡ self.old.readers.items ++ script ∷ []) }
         ensures err { OnErr result (self.new.readers.items ≡ self.old.readers.items) }
-        ensures journal { self.new.journal ≡ self.old.journal }
+        ensures rest { self.new ≡ record self.old { readers = self.new.readers } }
     {
         self.readers.push_back(script)?;
         Ok(())
@@ -194,24 +206,23 @@ impl Script {
 
     /// Sets the log in which each request is noted, and each poll and order of the children of later spawns.
     pub fn note_in(&mut self, calls: Arc<CallLog>)
-        ensures calls { self.new.calls ≡ Some calls }
-        ensures journal { self.new.journal ≡ self.old.journal }
+        ensures { self.new ≡ record self.old { calls = Some calls } }
     {
         self.calls = Some(calls);
     }
 
     /// Says whether the system finds no memory from now on. A request that is given an end needs none.
     pub fn starve(&mut self, starved: bool)
-        ensures starved { self.new.starved ≡ starved }
-        ensures journal { self.new.journal ≡ self.old.journal }
+        ensures { self.new ≡ record self.old { starved = starved } }
     {
         self.starved = starved;
     }
 
     /// Passes over the numbers below this one.
     pub fn skip_numbers_below(&mut self, number: u64)
-        ensures { self.new.journal
-            ≡ record self.old.journal { next = max self.old.journal.next number } }
+        ensures { self.new ≡ record self.old {
+          journal = record self.old.journal { next = max self.old.journal.next number };
+        } }
     {
         let next = self.journal.next();
         let _ = self.journal.take_numbers(number.saturating_sub(next));
@@ -222,9 +233,11 @@ impl Script {
     pub fn adopt(&mut self) -> Result<ScriptEnd, Fault>
         ensures number { IfOk result
             (λ end. (end.number ≡ self.old.journal.next)
-            × (self.new.journal ≡ record self.old.journal { next = self.old.journal.next + 1 })) }
+            × (self.new ≡ record self.old {
+              journal = record self.old.journal { next = self.old.journal.next + 1 };
+            })) }
         ensures none_left { IfErr result
-            (λ fault. (fault.kind ≡ Other) × (self.new.journal ≡ self.old.journal)
+            (λ fault. (fault.kind ≡ Other) × (self.new ≡ self.old)
             × (2 ^ 64 ≤ self.old.journal.next + 1)) }
     {
         match self.journal.take_numbers(1) {
@@ -249,8 +262,9 @@ impl Script {
 
     /// Counts a request, notes it, and answers the fault that is set for it.
     fn ask(&mut self, sort: Sort) -> Option<Fault>
-        ensures journal { self.new.journal ≡ self.old.journal }
-        ensures asked { self.new.requests.asked ≡ one_more self.old.requests.asked }
+        ensures fault { result ≡ next_fault sort self.old.requests }
+        ensures counted { self.new
+            ≡ record self.old { requests = with_request sort self.old.requests } }
     {
         if let Some(calls) = &self.calls {
             calls.write(Call::Request(sort));
@@ -260,12 +274,12 @@ impl Script {
 
     /// Makes room for an entry and for this many after it.
     fn prepare(&mut self, ends: usize) -> Result<(), Fault>
-        ensures ok { OnOk result
-            (self.new.journal
-            ≡ record self.old.journal { room = self.old.journal.room + ends + 1 }) }
+        ensures ok { OnOk result (self.new ≡ record self.old {
+          journal = record self.old.journal { room = self.old.journal.room + ends + 1 };
+        }) }
+        ensures has_memory { OnOk result (self.old.starved ≡ false) }
         ensures err { IfErr result (λ fault. fault.kind ≡ OutOfMemory) }
-        ensures unchanged { OnErr result (self.new.journal ≡ self.old.journal) }
-        ensures requests { self.new.requests ≡ self.old.requests }
+        ensures unchanged { OnErr result (self.new ≡ self.old) }
     {
         if self.starved {
             return Err(Fault::new(Kind::OutOfMemory));
@@ -276,13 +290,14 @@ impl Script {
     /// Makes room for the entry of a request and for the ends that it would get, and only then counts the request and
     /// answers the fault that is set for it. Where there is no memory nothing is counted.
     fn begin(&mut self, sort: Sort, ends: usize) -> Result<Option<Fault>, Fault>
-        ensures room { OnOk result
-            (self.new.journal
-            ≡ record self.old.journal { room = self.old.journal.room + ends + 1 }) }
-        ensures asked { OnOk result (self.new.requests.asked ≡ one_more self.old.requests.asked) }
+        ensures fault { IfOk result (λ fault. fault ≡ next_fault sort self.old.requests) }
+        ensures ok { OnOk result (self.new ≡ record self.old {
+          journal = record self.old.journal { room = self.old.journal.room + ends + 1 };
+          requests = with_request sort self.old.requests;
+        }) }
+        ensures has_memory { OnOk result (self.old.starved ≡ false) }
         ensures err { IfErr result (λ fault. fault.kind ≡ OutOfMemory) }
-        ensures unchanged { OnErr result (self.new.journal ≡ self.old.journal) }
-        ensures unasked { OnErr result (self.new.requests ≡ self.old.requests) }
+        ensures unchanged { OnErr result (self.new ≡ self.old) }
     {
         self.prepare(ends)?;
         Ok(self.ask(sort))
@@ -291,10 +306,14 @@ impl Script {
     /// Takes this many numbers in a row for the answer of a request for which this fault is set, if one is.
     fn answer(&mut self, fault: Option<Fault>, count: u64) -> Result<u64, Fault>
         ensures ok { IfOk result (λ first. (first ≡ self.old.journal.next)
-            × (self.new.journal
-            ≡ record self.old.journal { next = self.old.journal.next + count })) }
+            × (self.new ≡ record self.old {
+              journal = record self.old.journal { next = self.old.journal.next + count };
+            })) }
         ensures fits { OnOk result (self.new.journal.next < 2 ^ 64) }
-        ensures err { OnErr result (self.new.journal ≡ self.old.journal) }
+        ensures unchanged { OnErr result (self.new ≡ self.old) }
+        ensures refused { IfSome fault (λ fault. result ≡ Err fault) }
+        ensures none_left { IfNone fault (IfErr result (λ fault. (fault.kind ≡ Other)
+            × (2 ^ 64 ≤ self.old.journal.next + count))) }
     {
         if let Some(fault) = fault {
             return Err(fault);
@@ -310,9 +329,10 @@ impl Script {
         requires { 0 < self.old.journal.room }
         ensures ok { IfOk result (λ end. answer ≡ Ok end.number) }
         ensures err { IfErr result (λ fault. answer ≡ Err fault) }
-        ensures made { OnOk result (self.new.journal ≡ self.old.journal) }
-        ensures given_back { OnErr result
-            (self.new.journal ≡ record self.old.journal { room = self.old.journal.room - 1 }) }
+        ensures made { OnOk result (self.new ≡ self.old) }
+        ensures given_back { OnErr result (self.new ≡ record self.old {
+          journal = record self.old.journal { room = self.old.journal.room - 1 };
+        }) }
     {
         match answer {
             Ok(number) => Ok(ScriptEnd { number }),
@@ -325,9 +345,9 @@ impl Script {
 
     /// Says that the room of these ends isn't wanted any more. One of them had its room used by the entry that spent them.
     fn spent(&mut self, ends: usize)
-        ensures journal { self.new.journal
-            ≡ record self.old.journal { room = self.new.journal.room } }
-        ensures room { self.old.journal.room ≤ self.new.journal.room + (ends - 1) }
+        ensures { self.new ≡ record self.old {
+          journal = record self.old.journal { room = self.old.journal.room - (ends - 1) };
+        } }
     {
         let others = ends.saturating_sub(1);
         let room = self.journal.room();
@@ -348,9 +368,12 @@ impl Script {
 
     /// The next child, with this number.
     fn next_child(&mut self, number: u64) -> ScriptChild
-        ensures journal { self.new.journal ≡ self.old.journal }
         ensures number { result.number ≡ number }
         ensures unasked { IsUnasked (child_view result) }
+        ensures script { IsNext self.old.children.items (IsObeying []) result.script }
+        ensures calls { SharesLog self.old.calls result.calls }
+        ensures children { self.new.children.items ≡ drop 1 self.old.children.items }
+        ensures rest { self.new ≡ record self.old { children = self.new.children } }
     {
         let alloc = self.journal.allocator();
         let script = match self.children.pop_front() {
@@ -361,15 +384,20 @@ impl Script {
     }
 
     /// One more owner of the log, if there is one and it isn't refused.
-    fn shared_calls(&self) -> Option<Arc<CallLog>> {
+    fn shared_calls(&self) -> Option<Arc<CallLog>>
+        ensures { SharesLog self.now.calls result }
+    {
         let calls = self.calls.as_ref()?;
         Arc::try_clone(calls).ok()
     }
 
     /// The next feed, with this number.
     fn next_feed(&mut self, number: u64) -> ScriptFeed
-        ensures journal { self.new.journal ≡ self.old.journal }
         ensures job { feed_view result ≡ unpolled_job number }
+        ensures script { IsNext self.old.feeds.items
+            (λ script. script.items.items ≡ []) result.script }
+        ensures feeds { self.new.feeds.items ≡ drop 1 self.old.feeds.items }
+        ensures rest { self.new ≡ record self.old { feeds = self.new.feeds } }
     {
         let script = match self.feeds.pop_front() {
             Some(script) => script,
@@ -380,8 +408,22 @@ impl Script {
 
     /// Counts the start of a drain, and answers the next one, with this number.
     fn next_drain(&mut self, number: u64) -> Result<ScriptDrain, Fault>
-        ensures journal { self.new.journal ≡ self.old.journal }
         ensures job { IfOk result (λ job. drain_view job ≡ unpolled_job number) }
+        ensures script { IfOk result (λ job.
+            IsNext self.old.drains.items (λ script. script.items ≡ []) job.script) }
+        ensures empty { IfOk result (λ job.
+            word_of job.otherwise ≡ Done (arc_value self.old.empty).items) }
+        ensures refused { IfSome (next_fault Drain self.old.requests)
+            (λ fault. result ≡ Err fault) }
+        ensures err { IfNone (next_fault Drain self.old.requests)
+            (IfErr result (λ fault. fault.kind ≡ OutOfMemory)) }
+        ensures drains { OnOk result (self.new.drains.items ≡ drop 1 self.old.drains.items) }
+        ensures ok { OnOk result (self.new ≡ record self.old {
+          requests = with_request Drain self.old.requests;
+          drains = self.new.drains;
+        }) }
+        ensures unchanged { OnErr result (self.new
+            ≡ record self.old { requests = with_request Drain self.old.requests }) }
     {
         if let Some(fault) = self.ask(Sort::Drain) {
             return Err(fault);
