@@ -1,8 +1,8 @@
 //! The debug text of nodes and modifiers.
-ghost use Rattle.std.specs.Prelude.{codes, map, string_bytes};
+ghost use Rattle.std.specs.Prelude.{[], ◌∷◌, codes, map, string_bytes};
 ghost use Rattle.std.specs.Fmt.{DisplaysOnOk};
 ghost use Rattle.duct_system.specs.SpecView.{var_view};
-ghost use Rattle.duct_tree.specs.Text.{named, printed, texts, vars_form};
+ghost use Rattle.duct_tree.specs.Text.{joined, named, numbers, plain, printed, quote, texts, vars_form};
 
 use super::{Modifier, Node};
 use duct_base::names::EnvNameString;
@@ -42,36 +42,76 @@ impl<E, H> fmt::Debug for Modifier<E, H> {
 
     fn fmt<W: fmt::Write>(&self, f: &mut fmt::Formatter<W>) -> fmt::Result {
         match self {
-            Modifier::StdinBytes(bytes) => {
-                let bytes = bytes.as_slice();
-                write!(f, "StdinBytes({bytes:?})")
-            }
-            Modifier::StdinPath(path) => write!(f, "StdinPath({path:?})"),
-            Modifier::StdinFile(_) => write!(f, "StdinFile(<end>)"),
-            Modifier::StdinNull => write!(f, "StdinNull"),
-            Modifier::StdoutPath(path) => write!(f, "StdoutPath({path:?})"),
-            Modifier::StdoutFile(_) => write!(f, "StdoutFile(<end>)"),
-            Modifier::StdoutNull => write!(f, "StdoutNull"),
-            Modifier::StdoutCapture => write!(f, "StdoutCapture"),
-            Modifier::StdoutToStderr => write!(f, "StdoutToStderr"),
-            Modifier::StderrPath(path) => write!(f, "StderrPath({path:?})"),
-            Modifier::StderrFile(_) => write!(f, "StderrFile(<end>)"),
-            Modifier::StderrNull => write!(f, "StderrNull"),
-            Modifier::StderrCapture => write!(f, "StderrCapture"),
-            Modifier::StderrToStdout => write!(f, "StderrToStdout"),
-            Modifier::StdoutStderrSwap => write!(f, "StdoutStderrSwap"),
-            Modifier::Dir(path) => write!(f, "Dir({path:?})"),
-            Modifier::Env(name, value) => write!(f, "Env({name:?}, {value:?})"),
-            Modifier::EnvRemove(name) => write!(f, "EnvRemove({name:?})"),
-            Modifier::FullEnv(vars) => {
-                write!(f, "FullEnv({{")?;
-                write_vars(vars.iter(), "", f)?;
-                write!(f, "}})")
-            }
-            Modifier::Unchecked => write!(f, "Unchecked"),
-            Modifier::BeforeSpawn(_, _) => write!(f, "BeforeSpawn(<closure>)"),
+            Modifier::StdinBytes(bytes) => write_bytes(bytes.as_slice(), f),
+            Modifier::StdinPath(path) => write_text("StdinPath(", path, f),
+            Modifier::StdinFile(_) => f.write_str("StdinFile(<end>)"),
+            Modifier::StdinNull => f.write_str("StdinNull"),
+            Modifier::StdoutPath(path) => write_text("StdoutPath(", path, f),
+            Modifier::StdoutFile(_) => f.write_str("StdoutFile(<end>)"),
+            Modifier::StdoutNull => f.write_str("StdoutNull"),
+            Modifier::StdoutCapture => f.write_str("StdoutCapture"),
+            Modifier::StdoutToStderr => f.write_str("StdoutToStderr"),
+            Modifier::StderrPath(path) => write_text("StderrPath(", path, f),
+            Modifier::StderrFile(_) => f.write_str("StderrFile(<end>)"),
+            Modifier::StderrNull => f.write_str("StderrNull"),
+            Modifier::StderrCapture => f.write_str("StderrCapture"),
+            Modifier::StderrToStdout => f.write_str("StderrToStdout"),
+            Modifier::StdoutStderrSwap => f.write_str("StdoutStderrSwap"),
+            Modifier::Dir(path) => write_text("Dir(", path, f),
+            Modifier::Env(name, value) => write_env(name, value, f),
+            Modifier::EnvRemove(name) => write_env_remove(name, f),
+            Modifier::FullEnv(vars) => write_full_env(vars.iter(), f),
+            Modifier::Unchecked => f.write_str("Unchecked"),
+            Modifier::BeforeSpawn(_, _) => f.write_str("BeforeSpawn(<closure>)"),
         }
     }
+}
+
+// A name with its parenthesis, then a text in quotes, then the other parenthesis.
+fn write_text<W: fmt::Write>(name: &str, text: &str, f: &mut fmt::Formatter<W>) -> fmt::Result
+    ensures { DisplaysOnOk W.write_str_gives f.old result
+        (printed (named name.now (quote text.now))) f.new }
+{
+    write!(f, "{name}{text:?})")
+}
+
+fn write_bytes<W: fmt::Write>(bytes: &[u8], f: &mut fmt::Formatter<W>) -> fmt::Result
+    ensures { DisplaysOnOk W.write_str_gives f.old result
+        (printed (named (codes "StdinBytes(") (numbers bytes.now))) f.new }
+{
+    write!(f, "StdinBytes({bytes:?})")
+}
+
+fn write_env<W: fmt::Write>(
+    name: &EnvNameString,
+    value: &str,
+    f: &mut fmt::Formatter<W>,
+) -> fmt::Result
+    ensures { DisplaysOnOk W.write_str_gives f.old result
+        (printed (joined (plain (codes "Env(") ∷ quote name.now ∷ plain (codes ", ")
+        ∷ quote value.now ∷ plain (codes ")") ∷ []))) f.new }
+{
+    write!(f, "Env({name:?}, {value:?})")
+}
+
+fn write_env_remove<W: fmt::Write>(name: &EnvNameString, f: &mut fmt::Formatter<W>) -> fmt::Result
+    ensures { DisplaysOnOk W.write_str_gives f.old result
+        (printed (named (codes "EnvRemove(") (quote name.now))) f.new }
+{
+    write!(f, "EnvRemove({name:?})")
+}
+
+fn write_full_env<W: fmt::Write>(
+    vars: Iter<'_, EnvNameString, String>,
+    f: &mut fmt::Formatter<W>,
+) -> fmt::Result
+    ensures { DisplaysOnOk W.write_str_gives f.old result
+        (printed (joined (plain (codes "FullEnv({") ∷ vars_form [] (map var_view vars.entry)
+        ∷ plain (codes "})") ∷ []))) f.new }
+{
+    f.write_str("FullEnv({")?;
+    write_vars(vars, "", f)?;
+    f.write_str("})")
 }
 
 // A command with these words.
