@@ -1,5 +1,6 @@
 pub mod Bytes
 pub mod Changes
+pub mod Orders
 pub mod Paths
 pub mod Said
 pub mod Threads

@@ -7,5 +7,7 @@ pub mod Refusals
 pub mod Said
 pub mod Shares
 pub mod Shows
+pub mod Steps
+pub mod Told
 pub mod Unset
 pub mod Views

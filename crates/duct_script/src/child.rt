@@ -19,8 +19,12 @@ pub enum PollAnswer {
 }
 
 impl PollAnswer {
+    ghost use Rattle.duct_script.specs.Told.{told_by};
+
     /// The answer in the form of the interface.
-    fn told(self) -> Result<Option<ExitStatus>, Fault> {
+    fn told(self) -> Result<Option<ExitStatus>, Fault>
+        ensures { result ≡ told_by self }
+    {
         match self {
             PollAnswer::Running => Ok(None),
             PollAnswer::Ended(status) => Ok(Some(status)),
@@ -66,6 +70,7 @@ pub struct ScriptChild {
 }
 
 impl ScriptChild {
+    ghost use Rattle.duct_script.specs.Told.{Obeys};
     ghost use Rattle.duct_script.specs.Views.{child_view};
 
     /// The child of this number, as it is before anybody asks it. It notes its calls in this log.
@@ -101,7 +106,7 @@ impl ScriptChild {
     /// Notes an order with the answer that a list has for it, where there is memory.
     fn order(&mut self, order: Order) -> Result<(), Fault>
         ensures { OrdersChild
-            (λ _ _ _ _. Unit {0}) order (child_view self.old) result (child_view self.new) }
+            (Obeys self.old.script) order (child_view self.old) result (child_view self.new) }
     {
         if self.orders.reserve(1).is_err() {
             return Err(Fault::new(Kind::OutOfMemory));
@@ -142,7 +147,10 @@ impl Numbered for ScriptChild {
 }
 
 impl Child for ScriptChild {
+    ghost use Rattle.std.specs.Prelude.{◌≡◌};
     ghost use Rattle.std.proofs.Common.{refl};
+    ghost use Rattle.duct_system.specs.Child.{PollsChild};
+    ghost use Rattle.duct_script.specs.Told.{poll_of};
     ghost use Rattle.duct_script.specs.Views.{child_view};
 
     ghost may_answer = { λ _ _. Unit {0} };
@@ -151,7 +159,11 @@ impl Child for ScriptChild {
 
     ghost child_view = { child_view };
 
-    fn poll(&mut self) -> Result<Option<ExitStatus>, Fault> {
+    fn poll(&mut self) -> Result<Option<ExitStatus>, Fault>
+        ensures polled { PollsChild
+            (λ _ _. Unit {0}) (child_view self.old) result (child_view self.new) }
+        ensures told { result ≡ poll_of self.old }
+    {
         self.note(Call::Poll(self.number));
         self.polls = self.polls.saturating_add(1);
         let answer = match self.ending {

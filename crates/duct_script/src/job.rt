@@ -58,7 +58,10 @@ impl Numbered for ScriptFeed {
 }
 
 impl Job for ScriptFeed {
+    ghost use Rattle.std.specs.Prelude.{◌≡◌};
     ghost use Rattle.std.proofs.Common.{refl};
+    ghost use Rattle.duct_system.specs.Job.{PollsJob};
+    ghost use Rattle.duct_script.specs.Told.{said_by};
     ghost use Rattle.duct_script.specs.Views.{feed_view};
 
     type Result = ();
@@ -73,7 +76,11 @@ impl Job for ScriptFeed {
 
     ghost has_number = { λ f. refl };
 
-    fn poll(&mut self) -> Said<()> {
+    fn poll(&mut self) -> Said<()>
+        ensures polled { PollsJob
+            (λ _ _. Unit {0}) (λ _ _. Unit {0}) ⊥ (feed_view self.old) result (feed_view self.new) }
+        ensures told { result ≡ said_by self.old }
+    {
         self.polls = self.polls.saturating_add(1);
         if self.kept == Said::Running {
             self.kept = self.script.next_or(Said::Done(()));

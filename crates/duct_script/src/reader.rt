@@ -1,5 +1,5 @@
 //! The readers of a scripted system.
-ghost use Rattle.std.specs.Prelude.{◌≡◌, ◌<◌, ◌≤◌, [], ◌++◌, take, drop, length, vec_len, Some, None, IfOk};
+ghost use Rattle.std.specs.Prelude.{◌≡◌, ◌<◌, ◌≤◌, ◌-◌, min, [], ◌++◌, take, drop, length, vec_len, Some, None, IfOk};
 
 use crate::gate::Gate;
 use std::alloc::Global;
@@ -80,9 +80,13 @@ impl ScriptReader {
 }
 
 impl ScriptReader {
+    ghost use Rattle.duct_script.specs.Steps.{step_of};
+
     /// Takes the next step: the most bytes that it gives, which is at least one.
     fn step(&mut self) -> Result<usize, ErrorKind>
+        ensures told { result ≡ step_of self.old.steps.items }
         ensures most { IfOk result (λ most. 0 < most) }
+        ensures steps { self.new.steps.items ≡ drop 1 self.old.steps.items }
         ensures bytes { self.new.bytes ≡ self.old.bytes }
         ensures given { self.new.given ≡ self.old.given }
     {
@@ -96,7 +100,9 @@ impl ScriptReader {
     /// Gives bytes, at most so many.
     fn give(&mut self, buf: &mut [u8], most: usize) -> usize
         requires { 0 < most }
-        ensures count { result ≤ length buf.new }
+        ensures count { result
+            ≡ min most (min (length buf.new) (vec_len self.old.bytes - self.old.given)) }
+        ensures within { result ≤ length buf.new }
         ensures most { result ≤ most }
         ensures bytes { drop self.old.given self.old.bytes.items ≡ take result buf.new
             ++ drop self.new.given self.new.bytes.items }
