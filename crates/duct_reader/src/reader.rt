@@ -8,7 +8,7 @@ ghost use Rattle.duct_status.specs.ShapeView.{shape_view};
 ghost use Rattle.duct_running.specs.Answered.{IsAnswer};
 ghost use Rattle.duct_running.specs.Told.{OneRuns};
 ghost use Rattle.duct_handle.specs.Obeyed.{IsObeyed};
-ghost use Rattle.duct_reader.specs.Reads.{KnowsOutput, ReadsAs};
+ghost use Rattle.duct_reader.specs.Reads.{ClosesAs, KnowsOutput, ReadsAs};
 
 use duct_base::error::Error;
 use duct_base::pool::Pool;
@@ -126,6 +126,15 @@ impl<S: System, R: Wait> ReaderHandle<S, R> {
         if read > 0 || buf.is_empty() {
             return Ok(read);
         }
+        self.close_as(seen)
+    }
+
+    // Waits for what runs, as a read does that the pipe gives nothing, which is its end.
+    fn close_as(&self, seen: &mut Seen<S>) -> Result<usize, Error>
+        requires { seen.old.cell ≡ self.now.cell }
+        ensures { ClosesAs S.Child.may_answer S.Feed.may_say S.Drain.may_say self.now seen.old
+            seen.new result }
+    {
         drop(self.handle.wait_as(&self.rt, seen)?);
         Ok(0)
     }
