@@ -1,4 +1,5 @@
 pub mod Ended
 pub mod LastValues
 pub mod Pairs
+pub mod Ready
 pub mod TreeView

@@ -12,12 +12,14 @@ ghost use Rattle.duct_start.specs.Ran.{MadeReader};
 ghost use Rattle.duct_start.specs.Running.{IsRunning};
 ghost use Rattle.duct_start.specs.ShapeOfTree.{shape_of_tree};
 ghost use Rattle.duct_start.specs.Start.{StartSucceeds, StartRefused};
+ghost use Rattle.duct_start.specs.TreeView.{around, stdout_capture};
 ghost use Rattle.duct_run.specs.ActionView.{action_view, actions_view};
-ghost use Rattle.duct_run.specs.HeldView.{AreNew, IsEmpty};
+ghost use Rattle.duct_run.specs.HeldView.{AreNew};
 ghost use Rattle.duct_running.specs.NumbersView.{HaveRoom};
 ghost use Rattle.duct_handle.specs.Started.{IsHandle};
 ghost use Rattle.duct_tree.specs.NodeView.{node_view};
 ghost use Rattle.duct.specs.Ended.{PoolHasRoom};
+ghost use Rattle.duct.specs.Ready.{FitsShape, IsPrepared, IsReady, Launched};
 ghost use Rattle.duct.specs.TreeView.{tree_view};
 
 use crate::expression::Expression;
@@ -126,11 +128,7 @@ pub(crate) fn room_beside<E: Drop, H, S: System>(
 
 // Room for the ids of the commands of this shape, and for two capture workers.
 fn room_for<D: Drop>(alloc: Global, shape: &Shape) -> Result<Room<D>, Error>
-    ensures unnamed { IfOk result (λ room. room.ids.items ≡ []) }
-    ensures named { IfOk result
-        (λ room. command_count (shape_view shape.now) ≤ vec_capacity room.ids) }
-    ensures empty { IfOk result (λ room. room.drains.items ≡ []) }
-    ensures drained { IfOk result (λ room. 2 ≤ vec_capacity room.drains) }
+    ensures fits { IfOk result (FitsShape (shape_view shape.now)) }
     ensures memory { IsOkUnless result Error.Memory }
 {
     let ids = Vec::with_capacity(alloc, commands_of(shape)?)?;
@@ -138,23 +136,25 @@ fn room_for<D: Drop>(alloc: Global, shape: &Shape) -> Result<Room<D>, Error>
     Ok(Room { ids, drains })
 }
 
-// What a start allocates beside its list before it asks anything: a core for this tree, room for
-// what runs, and nothing held, with room for what the list gets.
+// What a start allocates before it asks anything: its list, a core for its tree, room for what runs,
+// and nothing held, with room for what the list gets.
+#[derive(Drop)]
+struct Ready<'a, E, H, C, F, D> {
+    list: Listing<'a, E, H>,
+    core: Core,
+    room: Room<D>,
+    held: Held<E, C, F, D>,
+}
+
+// Allocates all of it but the list.
 fn prepare<E: Drop, H, C: Drop, F: Drop, D: Drop>(
     alloc: Global,
     root: &Node<E, H>,
     list: &Listing<'_, E, H>,
     drains: Drains,
 ) -> Result<(Core, Room<D>, Held<E, C, F, D>), Error>
-    ensures shape { IfOk result (λ made. shape_in made.0 ≡ shape_of_tree (node_view root.now)) }
-    ensures silent { IfOk result
-        (λ made. latest_in made.0 ≡ latest_told (shape_in made.0) drains []) }
-    ensures unnamed { IfOk result (λ made. made.1.ids.items ≡ []) }
-    ensures named { IfOk result
-        (λ made. command_count (shape_in made.0) ≤ vec_capacity made.1.ids) }
-    ensures empty { IfOk result (λ made. made.1.drains.items ≡ []) }
-    ensures drained { IfOk result (λ made. 2 ≤ vec_capacity made.1.drains) }
-    ensures nothing { IfOk result (λ made. IsEmpty made.2) }
+    ensures prepared { IfOk result
+        (λ made. IsPrepared (node_view root.now) drains made.0 made.1 made.2) }
     ensures memory { IsOkUnless result Error.Memory }
 {
     let shape = shape_of(alloc, root)?;
@@ -180,10 +180,7 @@ fn running<S: System>(
     requires commands { length kept.children.items ≡ command_count (shape_in core) }
     requires inputs { length kept.feeds.items ≡ input_count (shape_in core) }
     requires new { AreNew S.Child.child_view S.Feed.job_view S.Drain.job_view kept }
-    requires unnamed { room.ids.items ≡ [] }
-    requires named { command_count (shape_in core) ≤ vec_capacity room.ids }
-    requires empty { room.drains.items ≡ [] }
-    requires drained { 2 ≤ vec_capacity room.drains }
+    requires room { FitsShape (shape_in core) room }
     ensures { result ≡ record {
       shape = core.shape;
       children = kept.children.items;
@@ -251,15 +248,8 @@ impl<E: Drop, H: Hook> Expression<E, H> {
             PoolHasRoom added pool.old
             → LeavesStarted S.Child.may_answer S.Child.child_view added pool.old pool.new) }
     {
-        let alloc = self.allocator();
-        let list = flatten(alloc, self.root())?;
-        let drains = Drains {
-            out: captures(&list.actions, Side::Out),
-            err: captures(&list.actions, Side::Err),
-        };
-        let (core, room, held) = prepare(alloc, self.root(), &list, drains)?;
-        let kept = start(sys, pool, &list.scopes, &list.actions, held)?;
-        Ok(running(core, kept, room))
+        let ready = self.ready()?;
+        self.launch_ready(sys, pool, ready)
     }
 
     /// Starts the expression as `launch` does, inside of one more `stdout_capture`, and returns
@@ -292,15 +282,8 @@ impl<E: Drop, H: Hook> Expression<E, H> {
             PoolHasRoom added pool.old
             → LeavesStarted S.Child.may_answer S.Child.child_view added pool.old pool.new) }
     {
-        let alloc = self.allocator();
-        let list = flatten_captured(alloc, self.root())?;
-        let drains = Drains {
-            out: false,
-            err: captures(&list.actions, Side::Err),
-        };
-        let (core, room, held) = prepare(alloc, self.root(), &list, drains)?;
-        let (kept, reader) = start_reader(sys, pool, &list.scopes, &list.actions, held)?;
-        Ok((running(core, kept, room), reader))
+        let ready = self.ready_captured()?;
+        self.launch_ready_reader(sys, pool, ready)
     }
 
     /// Starts the expression as `launch` does, and returns a handle of what runs, which threads can
@@ -336,5 +319,104 @@ impl<E: Drop, H: Hook> Expression<E, H> {
         let room = room_beside(alloc, self.root())?;
         let running = self.launch(sys, pool)?;
         Ok(handle_of(alloc, running, room))
+    }
+}
+
+// The parts of a launch: what fails before the first request, and what makes requests.
+impl<E: Drop, H: Hook> Expression<E, H> {
+    // Allocates what `launch` needs.
+    fn ready<C: Drop, F: Drop, D: Drop>(&self) -> Result<Ready<'_, E, H, C, F, D>, Error>
+        ensures ready { IfOk result
+            (let tree = tree_view self.now in let plan = plan_of tree in
+            IsReady tree tree (is_some plan.out) (is_some plan.err)) }
+        ensures memory { IsOkUnless result Error.Memory }
+    {
+        let alloc = self.allocator();
+        let list = flatten(alloc, self.root())?;
+        let drains = Drains {
+            out: captures(&list.actions, Side::Out),
+            err: captures(&list.actions, Side::Err),
+        };
+        let (core, room, held) = prepare(alloc, self.root(), &list, drains)?;
+        Ok(Ready {
+            list,
+            core,
+            room,
+            held,
+        })
+    }
+
+    // Allocates what `launch_reader` needs.
+    fn ready_captured<C: Drop, F: Drop, D: Drop>(&self) -> Result<Ready<'_, E, H, C, F, D>, Error>
+        ensures ready { IfOk result (let tree = tree_view self.now in
+            IsReady tree (around stdout_capture tree) false (is_some (plan_of_reader tree).err)) }
+        ensures memory { IsOkUnless result Error.Memory }
+    {
+        let alloc = self.allocator();
+        let list = flatten_captured(alloc, self.root())?;
+        let drains = Drains {
+            out: false,
+            err: captures(&list.actions, Side::Err),
+        };
+        let (core, room, held) = prepare(alloc, self.root(), &list, drains)?;
+        Ok(Ready {
+            list,
+            core,
+            room,
+            held,
+        })
+    }
+
+    // Runs what `ready` returned.
+    fn launch_ready<S: System<End = E>>(
+        &self,
+        sys: &mut S,
+        pool: &mut Pool<S::Child>,
+        ready: Ready<'_, E, H, Place<S::Child>, S::Feed, S::Drain>,
+    ) -> Result<Running<S>, Error>
+        requires { let tree = tree_view self.now in let plan = plan_of tree in
+            IsReady tree tree (is_some plan.out) (is_some plan.err) ready }
+        ensures { let tree = tree_view self.now in let plan = plan_of tree in
+            let old = S.journal_view sys.old in let new = S.journal_view sys.new in
+            Launched H.allows H.refuses E.number_of S.Child.may_answer S.Child.child_view tree plan
+            old new pool.old pool.new (IsRunning S.Child.child_view S.Feed.job_view S.Drain.job_view
+            tree (is_some plan.out) (is_some plan.err) (segment old.entries new.entries)) result }
+    {
+        let Ready {
+            list,
+            core,
+            room,
+            held,
+        } = ready;
+        let kept = start(sys, pool, &list.scopes, &list.actions, held)?;
+        Ok(running(core, kept, room))
+    }
+
+    // Runs what `ready_captured` returned.
+    fn launch_ready_reader<S: System<End = E>>(
+        &self,
+        sys: &mut S,
+        pool: &mut Pool<S::Child>,
+        ready: Ready<'_, E, H, Place<S::Child>, S::Feed, S::Drain>,
+    ) -> Result<(Running<S>, S::Reader), Error>
+        requires { let tree = tree_view self.now in
+            let err = (plan_of_reader tree).err in
+            IsReady tree (around stdout_capture tree) false (is_some err) ready }
+        ensures { let tree = tree_view self.now in let plan = plan_of_reader tree in
+            let old = S.journal_view sys.old in let new = S.journal_view sys.new in
+            let added = segment old.entries new.entries in
+            Launched H.allows H.refuses E.number_of S.Child.may_answer S.Child.child_view tree plan
+            old new pool.old pool.new (λ made. IsRunning S.Child.child_view S.Feed.job_view
+            S.Drain.job_view tree false (is_some plan.err) added made.0
+            × MadeReader S.may_read added made.1) result }
+    {
+        let Ready {
+            list,
+            core,
+            room,
+            held,
+        } = ready;
+        let (kept, reader) = start_reader(sys, pool, &list.scopes, &list.actions, held)?;
+        Ok((running(core, kept, room), reader))
     }
 }

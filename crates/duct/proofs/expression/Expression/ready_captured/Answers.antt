@@ -1,0 +1,37 @@
+-- What a launch of a reader needs.
+use Rattle.std.proofs.Common.{◌≡◌, ◌∙◌, [], ap}
+use Rattle.std.specs.Prelude.{false, is_some}
+use Rattle.duct_status.specs.CoreView.{shape_in}
+use Rattle.duct_status.specs.Latest.{latest_told}
+use Rattle.duct_system.specs.declared.system.Side.TheVariants as side
+use Rattle.duct_start.specs.Listed.{listed_of}
+use Rattle.duct_start.specs.Plan.{begun, plan_of_reader, planned}
+use Rattle.duct_start.specs.ShapeOfTree.{shape_of_tree}
+use Rattle.duct_start.specs.TreeView.{around, stdout_capture}
+use Rattle.duct_start.proofs.Launched.{read_pipe}
+use Rattle.duct_run.specs.ActionView.{actions_view}
+use Rattle.duct_run.specs.ScopeView.{scopes_view}
+use Rattle.duct.specs.TreeView.{tree_view}
+use Rattle.duct.proofs.Starting.{captured}
+use Rattle.duct.proofs.expression.Expression.ready_captured.Goals as goal
+
+pub returns-clause-ready : goal.returns-clause-ready
+returns-clause-ready g c =
+    let tree = tree_view c.args.self.now in
+    let list = c.in_ok-list.list in
+    let core = c.in_ok-core.core in
+    let actions_are : actions_view list.actions.items ≡ (listed_of (around stdout_capture tree)).actions = c.in_ok-list.ensures.actions ∙ ap (λ t. (listed_of (around stdout_capture t)).actions) c.root.ensures in
+    let scopes_are : scopes_view list.scopes.items ≡ (listed_of (around stdout_capture tree)).scopes = c.in_ok-list.ensures.scopes ∙ ap (λ t. (listed_of (around stdout_capture t)).scopes) c.root.ensures in
+    let first : actions_view c.deref.result.now ≡ (listed_of (around stdout_capture tree)).actions = ap (λ l. actions_view l) c.deref.ensures.value ∙ actions_are in
+    let err : c.captures-2.result ≡ is_some (plan_of_reader tree).err = c.captures-2.ensures ∙ captured (around stdout_capture tree) list.scopes.items c.deref.result.now scopes_are first side.Err ∙ read_pipe (planned [] (around stdout_capture tree) begun) in
+    let p = c.in_ok-core.ensures.prepared in
+    record {
+      actions = actions_are;
+      scopes = scopes_are;
+      prepared = record {
+        shape = p.shape ∙ ap (λ t. shape_of_tree t) c.root-2.ensures;
+        silent = p.silent ∙ (λ i. latest_told (shape_in core) (record { out = false; err = err i }) []);
+        fits = p.fits;
+        nothing = p.nothing;
+      };
+    }
