@@ -149,8 +149,8 @@ impl Numbered for ScriptChild {
 impl Child for ScriptChild {
     ghost use Rattle.std.specs.Prelude.{◌≡◌};
     ghost use Rattle.std.proofs.Common.{refl};
-    ghost use Rattle.duct_system.specs.Child.{PollsChild};
-    ghost use Rattle.duct_script.specs.Told.{poll_of};
+    ghost use Rattle.duct_system.specs.Child.{OrdersChild, PollsChild};
+    ghost use Rattle.duct_script.specs.Told.{Obeys, poll_of};
     ghost use Rattle.duct_script.specs.Views.{child_view};
 
     ghost may_answer = { λ _ _. Unit {0} };
@@ -177,11 +177,21 @@ impl Child for ScriptChild {
         answer
     }
 
-    fn kill(&mut self) -> Result<(), Fault> {
+    fn kill(&mut self) -> Result<(), Fault>
+        ensures ordered { OrdersChild (λ _ _ _ _. Unit {0})
+            Order.Kill (child_view self.old) result (child_view self.new) }
+        ensures obeyed { OrdersChild (Obeys self.old.script)
+            Order.Kill (child_view self.old) result (child_view self.new) }
+    {
         self.order(Order::Kill)
     }
 
-    fn signal(&mut self, signal: i32) -> Result<(), Fault> {
+    fn signal(&mut self, signal: i32) -> Result<(), Fault>
+        ensures ordered { OrdersChild (λ _ _ _ _. Unit {0})
+            (Order.Signal signal) (child_view self.old) result (child_view self.new) }
+        ensures obeyed { OrdersChild (Obeys self.old.script)
+            (Order.Signal signal) (child_view self.old) result (child_view self.new) }
+    {
         self.order(Order::Signal(signal))
     }
 
