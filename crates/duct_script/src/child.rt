@@ -6,7 +6,7 @@ ghost use Rattle.duct_script.specs.Obeying.{IsObeying};
 use crate::answers::Answers;
 use crate::calls::{Call, CallLog};
 use crate::gate::Gate;
-use duct_base::system::{Child, ExitStatus, Fault, Kind, Numbered, Order};
+use duct_system::system::{Child, ExitStatus, Fault, Kind, Numbered, Order};
 use std::alloc::Global;
 use std::sync::Arc;
 

@@ -2,7 +2,7 @@
 ghost use Rattle.std.specs.Prelude.{◌≡◌};
 ghost use Rattle.duct_script.specs.Shows.{Shows};
 
-use duct_base::system::Clock;
+use duct_system::system::Clock;
 use std::sync::atomic::{AtomicU64, Ordering};
 use std::time::Duration;
 

@@ -7,9 +7,9 @@ ghost use Rattle.duct_script.specs.declared.hook.HookAnswer.TheVariants.{Obey};
 ghost use Rattle.duct_script.specs.Change.{port_to, with_port, changed_by, changed, has_word, refusal_of};
 
 use crate::calls::{Call, CallLog};
-use duct_base::error::Error;
-use duct_base::spec::{CommandSpec, Hook, Port, Stream};
-use duct_base::system::{Fault, Kind};
+use duct_system::error::Error;
+use duct_system::spec::{CommandSpec, Hook, Port, Stream};
+use duct_system::system::{Fault, Kind};
 use std::alloc::Global;
 use std::sync::Arc;
 

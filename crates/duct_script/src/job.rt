@@ -5,7 +5,7 @@ ghost use Rattle.duct_system.specs.declared.system.Said.TheVariants.{Running, Do
 ghost use Rattle.duct_script.specs.Said.{word_of, SameBytes};
 
 use crate::answers::Answers;
-use duct_base::system::{Job, Numbered, Said};
+use duct_system::system::{Job, Numbered, Said};
 use std::collections::VecDeque;
 use std::snapshot::Snapshot;
 use std::sync::Arc;

@@ -2,7 +2,7 @@
 ghost use Rattle.std.specs.Prelude.{◌≡◌, ◌<◌, ◌≤◌, ◌++◌, ◌∷◌, [], replicate, IfSome, IfNone, OnOk, OnErr};
 ghost use Rattle.duct_script.specs.Refusals.{place_of, fault_for, next_fault, with_request};
 
-use duct_base::system::Fault;
+use duct_system::system::Fault;
 use std::alloc::{AllocError, Global};
 
 /// A sort of request: a call that adds entries of this name.

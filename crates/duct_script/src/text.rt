@@ -1,6 +1,6 @@
 //! Entries of a journal in words, so that a test can compare a whole one with a text.
 
-use duct_base::system::{Entry, Fault, Stdio};
+use duct_system::system::{Entry, Fault, Stdio};
 use std::fmt;
 
 /// An entry in words: the request, then its answer, which is `ok` with what was answered, or the kind of the fault.
