@@ -1,4 +1,4 @@
--- What a start makes before it asks anything, and what comes of it.
+-- What a start allocates before its first request, and what a launch returns and leaves.
 use Rattle.std.specs.Prelude.{ℕ, ◌≡◌, ◌≤◌, Bool, [], IfErr, IfOk, OnErr, OnOk, vec_capacity}
 use Rattle.std.specs.declared.result.Result.{Result}
 use Rattle.duct_base.specs.Pool.{PoolView}
@@ -49,7 +49,7 @@ pub record IsReady {E H C F D : Type 0} (tree listed : TreeView E H) (output err
   pub prepared : IsPrepared tree (record { out = output; err = error }) ready.core ready.room
       ready.held
 
--- what a start that follows this plan answers and leaves, where what it made has to be so
+-- what a start that follows this plan returns and leaves, where what it made has to be so
 pub record Launched {E H C R : Type 0} (allows : Allows H) (refuses : Refuses H) (number_of : E → ℕ)
     (may : ℕ → Answer → Type 0) (view : C → ChildView) (tree : TreeView E H) (plan : Plan E H)
     (old new : JournalView) (before after : PoolView C) (is_so : R → Type 0)

@@ -136,8 +136,8 @@ fn room_for<D: Drop>(alloc: Global, shape: &Shape) -> Result<Room<D>, Error>
     Ok(Room { ids, drains })
 }
 
-// What a start allocates before it asks anything: its list, a core for its tree, room for what runs,
-// and nothing held, with room for what the list gets.
+// What a start allocates before it asks anything: its list, a core for its tree, room for what
+// runs, and nothing held, with room for what the list gets.
 #[derive(Drop)]
 struct Ready<'a, E, H, C, F, D> {
     list: Listing<'a, E, H>,
@@ -146,7 +146,7 @@ struct Ready<'a, E, H, C, F, D> {
     held: Held<E, C, F, D>,
 }
 
-// Allocates all of it but the list.
+// All of it but the list.
 fn prepare<E: Drop, H, C: Drop, F: Drop, D: Drop>(
     alloc: Global,
     root: &Node<E, H>,
@@ -322,7 +322,7 @@ impl<E: Drop, H: Hook> Expression<E, H> {
     }
 }
 
-// The parts of a launch: what fails before the first request, and what makes requests.
+// The parts of a launch: what it allocates before the first request, and its requests.
 impl<E: Drop, H: Hook> Expression<E, H> {
     // Allocates what `launch` needs.
     fn ready<C: Drop, F: Drop, D: Drop>(&self) -> Result<Ready<'_, E, H, C, F, D>, Error>
@@ -367,7 +367,7 @@ impl<E: Drop, H: Hook> Expression<E, H> {
         })
     }
 
-    // Runs what `ready` returned.
+    // Starts what `ready` returned.
     fn launch_ready<S: System<End = E>>(
         &self,
         sys: &mut S,
@@ -392,7 +392,7 @@ impl<E: Drop, H: Hook> Expression<E, H> {
         Ok(running(core, kept, room))
     }
 
-    // Runs what `ready_captured` returned.
+    // Starts what `ready_captured` returned, with the reader of stdout.
     fn launch_ready_reader<S: System<End = E>>(
         &self,
         sys: &mut S,

@@ -35,7 +35,7 @@ ReadsAs answer feed drain handle room before after result =
     × Waited answer feed drain handle before after (at_end waited)
     × (result ≡ at_close waited))
 
--- the answer at the end of the pipe, of a wait for what runs
+-- what a read returns at the end of the pipe, after a wait for what runs
 abbrev pub ClosesAs : (ℕ → Answer → Type 0) → (ℕ → Said (Unit {0}) → Type 0)
     → (ℕ → Said Bytes → Type 0) → HandleView → SeenView → SeenView → Result ℕ Error → Type 0
 ClosesAs answer feed drain handle before after result =

@@ -129,7 +129,7 @@ impl<S: System, R: Wait> ReaderHandle<S, R> {
         self.close_as(seen)
     }
 
-    // Waits for what runs, as a read does that the pipe gives nothing, which is its end.
+    // Waits for what runs, as a read does at the end of the pipe.
     fn close_as(&self, seen: &mut Seen<S>) -> Result<usize, Error>
         requires { seen.old.cell ≡ self.now.cell }
         ensures { ClosesAs S.Child.may_answer S.Feed.may_say S.Drain.may_say self.now seen.old
