@@ -105,8 +105,14 @@ impl<R: Real> HostMachine<R> {
     fn set(&mut self, key: &str, text: &str) -> Result<(), Stop> {
         match key {
             "adopt_pipe" => self.adopt_pipe(text),
-            "adopt_file" => self.adopt_file(File::open(&self.clock.rt, text)?),
-            "adopt_new" => self.adopt_file(File::create(&self.clock.rt, text)?),
+            "adopt_file" => {
+                let file = File::open(&self.clock.rt, text)?;
+                self.adopt_file(file)
+            }
+            "adopt_new" => {
+                let file = File::create(&self.clock.rt, text)?;
+                self.adopt_file(file)
+            }
             "adopt_captured" => self.adopt_captured(),
             "drop" => Ok(drop(taken(&mut self.ends, text)?)),
             _ => arrange(&self.clock.rt, key, text),

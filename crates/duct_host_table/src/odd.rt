@@ -9,7 +9,7 @@ ghost use Rattle.std.specs.Io.{WritesAtMost};
 
 use duct_host::parents::Parents;
 use duct_table::words::first_word;
-use std::alloc::{Allocator, Global};
+use std::alloc::{AllocError, Allocator, Global};
 use std::env::FillError;
 use std::fs::{Metadata, OpenOptions};
 use std::io;
@@ -21,23 +21,50 @@ use std::process::{
     Child, ChildStderr, ChildStdin, ChildStdout, Command, ExitStatus, OpenProcess, Processes, Stdio,
 };
 use std::rt::{Clock, Env, Files};
-use std::sync::Wait;
 use std::sync::atomic::{AtomicUsize, Ordering};
+use std::sync::{Arc, Wait};
 use std::thread::Threads;
 use std::time::Duration;
 
-/// A process that answers by a text, and how many answers were given of it.
-#[derive(Clone, Copy, Drop)]
-pub struct Script<'a> {
-    answers: &'a str,
-    given: &'a AtomicUsize,
+/// Answers, and how many of them were given.
+#[derive(Drop)]
+struct Answers {
+    text: String,
+    given: AtomicUsize,
 }
 
-impl<'a> Script<'a> {
+/// A process that answers by a text. Its clones share the answers.
+#[derive(Clone, Drop)]
+pub struct Script {
+    answers: Arc<Answers>,
+}
+
+impl Script {
+    /// One that has given none of these answers.
+    pub fn new(alloc: Global, text: &str) -> Result<Script, AllocError> {
+        let answers = Answers {
+            text: String::from_str(alloc, text)?,
+            given: AtomicUsize::new(0),
+        };
+        let answers = Arc::new(alloc, answers)?;
+        Ok(Script { answers })
+    }
+
+    /// How many questions were asked.
+    pub fn given(&self) -> usize {
+        self.answers.given.load(Ordering::SeqCst)
+    }
+
+    /// Whether as many questions were asked as there are answers.
+    pub fn is_spent(&self) -> bool {
+        self.given() == self.answers.text.as_str().split(", ").count()
+    }
+
     /// The next answer. Behind the last one each is a fault.
     fn next(&self) -> io::Result<Option<ExitStatus>> {
-        let place = self.given.fetch_add(1, Ordering::SeqCst);
-        let answer = self.answers.split(", ").nth(place).unwrap_or("none");
+        let place = self.answers.given.fetch_add(1, Ordering::SeqCst);
+        let text = self.answers.text.as_str();
+        let answer = text.split(", ").nth(place).unwrap_or("none");
         let (word, raw) = first_word(answer);
         match (word, raw.parse()) {
             ("ok", _) => Ok(None),
@@ -58,7 +85,7 @@ fn kind(name: &str) -> ErrorKind {
     }
 }
 
-impl<'a> OpenProcess for Script<'a> {
+impl OpenProcess for Script {
     type Stdin = ChildStdin;
 
     type Stdout = ChildStdout;
@@ -85,31 +112,31 @@ impl<'a> OpenProcess for Script<'a> {
 /// A runtime with such answers, and with entries of an environment, each with a NUL behind it. A shell that would get the parent's
 /// variables isn't started, nor is one whose streams aren't all null.
 #[derive(Clone, Drop)]
-pub struct Odd<'a, R> {
+pub struct Odd<R> {
     real: R,
-    script: Script<'a>,
-    shown: &'a str,
-    entries: &'a str,
+    script: Script,
+    shown: String,
+    entries: String,
 }
 
-impl<'a, R> Odd<'a, R> {
+impl<R> Odd<R> {
     /// One whose environment has no entry.
-    pub fn new(real: R, answers: &'a str, given: &'a AtomicUsize) -> Odd<'a, R> {
-        let script = Script { answers, given };
+    pub fn new(alloc: Global, real: R, script: Script) -> Odd<R> {
         Odd {
             real,
             script,
-            shown: "",
-            entries: "",
+            shown: String::new(alloc),
+            entries: String::new(alloc),
         }
     }
 
-    /// The same with these entries, and others that it shows at once.
-    pub fn with_entries(self, shown: &'a str, entries: &'a str) -> Odd<'a, R> {
+    /// One whose environment has these entries, and others that it shows at once.
+    pub fn with_entries(real: R, script: Script, shown: String, entries: String) -> Odd<R> {
         Odd {
+            real,
+            script,
             shown,
             entries,
-            ..self
         }
     }
 
@@ -119,11 +146,6 @@ impl<'a, R> Odd<'a, R> {
             self.script.next()?;
         }
         Ok(())
-    }
-
-    /// Whether as many questions were asked as there are answers.
-    pub fn is_spent(&self) -> bool {
-        self.script.given.load(Ordering::SeqCst) == self.script.answers.split(", ").count()
     }
 }
 
@@ -157,8 +179,8 @@ fn is_null<R: Processes, B: Allocator + Clone>(
     Ok(looking.wait()?.success())
 }
 
-impl<'a, R: Processes> Processes for Odd<'a, R> {
-    type Started = Script<'a>;
+impl<R: Processes> Processes for Odd<R> {
+    type Started = Script;
 
     fn spawn<B: Allocator + Clone>(
         &self,
@@ -166,7 +188,7 @@ impl<'a, R: Processes> Processes for Odd<'a, R> {
         stdin: &Stdio,
         stdout: &Stdio,
         stderr: &Stdio,
-    ) -> io::Result<Child<Script<'a>>> {
+    ) -> io::Result<Child<Script>> {
         let is_apart = command.get_program() != "/bin/sh"
             || command.get_env_clear()
                 && are_null(&self.real, command.allocator(), [stdin, stdout, stderr])?;
@@ -174,15 +196,15 @@ impl<'a, R: Processes> Processes for Odd<'a, R> {
             return Err(io::Error::from(ErrorKind::InvalidInput));
         }
         self.script.next()?;
-        Ok(Child::from_parts(self.script, None, None, None))
+        Ok(Child::from_parts(self.script.clone()?, None, None, None))
     }
 }
 
-impl<'a, R: Wait> Wait for Odd<'a, R> {}
+impl<R: Wait> Wait for Odd<R> {}
 
-impl<'a, R: Threads> Threads for Odd<'a, R> {}
+impl<R: Threads> Threads for Odd<R> {}
 
-impl<'a, R: AllocGlobal> Alloc for Odd<'a, R> {
+impl<R: AllocGlobal> Alloc for Odd<R> {
     type A = Global;
 
     fn alloc(&self) -> Global {
@@ -190,7 +212,7 @@ impl<'a, R: AllocGlobal> Alloc for Odd<'a, R> {
     }
 }
 
-impl<'a, R: Parents> Parents for Odd<'a, R> {
+impl<R: Parents> Parents for Odd<R> {
     fn duplicate_stdout(&self) -> io::Result<OwnedFd> {
         self.script.next()?;
         self.real.duplicate_stdout()
@@ -209,7 +231,7 @@ impl<'a, R: Parents> Parents for Odd<'a, R> {
     }
 }
 
-impl<'a, R: Clock> Clock for Odd<'a, R> {
+impl<R: Clock> Clock for Odd<R> {
     fn monotonic(&self) -> io::Result<Duration> {
         self.real.monotonic()
     }
@@ -219,7 +241,7 @@ impl<'a, R: Clock> Clock for Odd<'a, R> {
     }
 }
 
-/// Copies an entry to the start of a buffer that it fits in, and answers its length.
+/// Copies an entry to the start of a buffer that it fits in, and returns its length.
 fn fill(buf: &mut [u8], entry: &[u8]) -> Result<usize, FillError>
     ensures { WritesAtMost result buf.new }
 {
@@ -231,7 +253,7 @@ fn fill(buf: &mut [u8], entry: &[u8]) -> Result<usize, FillError>
     Ok(count)
 }
 
-impl<'a, R: Env> Env for Odd<'a, R> {
+impl<R: Env> Env for Odd<R> {
     fn arg(&self, i: usize, buf: &mut [u8]) -> Result<usize, FillError> {
         self.real.arg(i, buf)
     }
@@ -241,14 +263,14 @@ impl<'a, R: Env> Env for Odd<'a, R> {
     }
 
     fn var_at(&self, i: usize, buf: &mut [u8]) -> Result<usize, FillError> {
-        match self.entries.split('\0').nth(i) {
+        match self.entries.as_str().split('\0').nth(i) {
             Some(entry) if !entry.is_empty() => fill(buf, entry.as_bytes()),
             _ => Err(FillError::NotPresent),
         }
     }
 }
 
-impl<'a, R: Files> Files for Odd<'a, R> {
+impl<R: Files> Files for Odd<R> {
     type File = R::File;
 
     type Dir = R::Dir;

@@ -3,53 +3,51 @@
 //! `all` where as many were asked as there are answers, or how many.
 use crate::calls::HostMachine;
 use crate::machine::Real;
-use crate::odd::Odd;
+use crate::odd::{Odd, Script};
 use crate::requests::HostRequests;
 use duct_call_table::calls::Calls;
 use duct_table::stop::Stop;
 use duct_table::table::Table;
 use std::sync::Wait;
-use std::sync::atomic::{AtomicUsize, Ordering};
 
 /// The calls of a row.
-type OddCalls<'t, R> = Calls<'t, 't, R, HostMachine<Odd<'t, R>>>;
+type OddCalls<'t, R> = Calls<'t, 't, R, HostMachine<Odd<R>>>;
 
-/// The table, and how many answers of its row were given.
+/// The table, and the answers of its row.
 #[derive(Drop)]
 pub struct Rare<'t, R: Real> {
     rt: &'t R,
-    given: &'t AtomicUsize,
-    odd: Option<Odd<'t, R>>,
-    requests: Option<HostRequests<Odd<'t, R>>>,
+    script: Option<Script>,
+    requests: Option<HostRequests<Odd<R>>>,
     calls: Option<OddCalls<'t, R>>,
 }
 
 impl<'t, R: Real + Wait> Rare<'t, R> {
-    pub fn new(rt: &'t R, given: &'t AtomicUsize) -> Rare<'t, R> {
+    pub fn new(rt: &'t R) -> Rare<'t, R> {
         Rare {
             rt,
-            given,
-            odd: None,
+            script: None,
             requests: None,
             calls: None,
         }
     }
 
     /// Begins a row over a machine that has these answers.
-    fn begin(&mut self, answers: &'t str) -> Result<Odd<'t, R>, Stop> {
-        self.given.store(0, Ordering::SeqCst);
-        let odd = Odd::new(self.rt.clone()?, answers, self.given);
-        self.odd = Some(odd.clone()?);
+    fn begin(&mut self, answers: &str) -> Result<Odd<R>, Stop> {
+        let alloc = self.rt.alloc();
+        let script = Script::new(alloc, answers)?;
+        let odd = Odd::new(alloc, self.rt.clone()?, script.clone()?);
+        self.script = Some(script);
         Ok(odd)
     }
 
-    fn begin_requests(&mut self, answers: &'t str) -> Result<(), Stop> {
+    fn begin_requests(&mut self, answers: &str) -> Result<(), Stop> {
         let odd = self.begin(answers)?;
         self.requests = Some(HostRequests::new(odd));
         Ok(())
     }
 
-    fn begin_calls(&mut self, answers: &'t str) -> Result<(), Stop> {
+    fn begin_calls(&mut self, answers: &str) -> Result<(), Stop> {
         let odd = self.begin(answers)?;
         let machine = HostMachine::new(&odd)?;
         self.calls = Some(Calls::new(self.rt, self.rt.alloc(), machine));
@@ -59,9 +57,10 @@ impl<'t, R: Real + Wait> Rare<'t, R> {
     /// How many questions were asked, or that all were.
     fn questions(&self) -> Result<Option<String>, Stop> {
         let alloc = self.rt.alloc();
-        match &self.odd {
-            Some(odd) if odd.is_spent() => Ok(Some(String::from_str(alloc, "all")?)),
-            _ => Ok(Some(format!(in alloc; "{}", self.given.load(Ordering::SeqCst))?)),
+        match &self.script {
+            Some(script) if script.is_spent() => Ok(Some(String::from_str(alloc, "all")?)),
+            Some(script) => Ok(Some(format!(in alloc; "{}", script.given())?)),
+            None => Err(Stop::Text("no row was begun")),
         }
     }
 
@@ -96,7 +95,7 @@ impl<'t, R: Real + Wait> Table<'t> for Rare<'t, R> {
     }
 
     fn end(&mut self) -> Result<(), Stop> {
-        self.odd = None;
+        self.script = None;
         self.end_tables()
     }
 }

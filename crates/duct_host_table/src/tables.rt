@@ -7,7 +7,6 @@ use duct_call_table::calls::Calls;
 use duct_table::table::{Counts, File, compare, untried};
 use std::io::{self, Write};
 use std::sync::Wait;
-use std::sync::atomic::AtomicUsize;
 
 /// Tries the rows of a file of the table `host requests`.
 pub fn requests<R: Real, W: Write>(rt: &R, file: File, out: &mut W) -> io::Result<Counts> {
@@ -46,7 +45,6 @@ pub fn rare<R: Real + Wait, W: Write>(rt: &R, file: File, out: &mut W) -> io::Re
         text: text.as_str(),
         memory: file.memory,
     };
-    let given = AtomicUsize::new(0);
-    let mut table = Rare::new(rt, &given);
+    let mut table = Rare::new(rt);
     compare(&mut table, file, out)
 }

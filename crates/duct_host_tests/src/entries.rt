@@ -2,11 +2,10 @@
 use duct_base::system::{Entry, System};
 use duct_host::host::Host;
 use duct_host_table::machine::Real;
-use duct_host_table::odd::Odd;
+use duct_host_table::odd::{Odd, Script};
 use std::alloc::{AllocError, Global};
 use std::fmt::{Debug, Write};
 use std::fs;
-use std::sync::atomic::AtomicUsize;
 use std::test::Fail;
 
 /// The entries of an environment that are UTF-8, each ended by a NUL.
@@ -102,9 +101,11 @@ fn the_environment_is_the_parents(rt: HostRuntime) -> Result<(), Fail> {
 /// Fails unless a host has this environment, where `:` stands between a name and its value, and where the runtime shows some entries
 /// at once and has others.
 fn reads<R: Real>(rt: &R, shown: &str, entries: &str, expected: &str) -> Result<(), Fail> {
-    let given = AtomicUsize::new(0);
-    let odd = Odd::new(rt.clone()?, "", &given).with_entries(shown, entries);
-    has_environment(&mut Host::new(odd, rt.alloc()), ":", expected)
+    let alloc = rt.alloc();
+    let shown = String::from_str(alloc, shown)?;
+    let entries = String::from_str(alloc, entries)?;
+    let odd = Odd::with_entries(rt.clone()?, Script::new(alloc, "")?, shown, entries);
+    has_environment(&mut Host::new(odd, alloc), ":", expected)
 }
 
 /// As many entries as the runtime has are read at once.

@@ -5,7 +5,7 @@ use duct_base::system::{Child, ExitStatus, Fault, Job, Kind, Stdio, System};
 use duct_host::child;
 use duct_host::host::Host;
 use duct_host_table::machine::Real;
-use duct_host_table::odd::Odd;
+use duct_host_table::odd::{Odd, Script};
 use duct_request_table::specs::spec;
 use duct_table::memory::MemoryOutcome;
 use duct_table::stop::Stop;
@@ -13,7 +13,6 @@ use duct_table::waits::heard;
 use std::os::fd::AsRawFd;
 use std::rt::{Clock, Files};
 use std::sync::Arc;
-use std::sync::atomic::{AtomicUsize, Ordering};
 use std::{fs, io};
 
 /// The path of a file that has a text.
@@ -40,8 +39,8 @@ fn created<R: Real>(rt: &R) -> Result<MemoryOutcome, Error> {
 }
 
 /// A child that goes on until it is killed.
-fn lasting<'a, R: Real>(rt: &R, given: &'a AtomicUsize) -> Result<child::Child<Odd<'a, R>>, Error> {
-    let odd = Odd::new(rt.clone()?, "ok, ok, ok, status 9", given);
+fn lasting<R: Real>(rt: &R, script: &Script) -> Result<child::Child<Odd<R>>, Error> {
+    let odd = Odd::new(rt.alloc(), rt.clone()?, script.clone()?);
     let spec = spec(rt.alloc(), Some("odd"), "", "")?;
     let null = [Stdio::Null, Stdio::Null, Stdio::Null];
     Ok(Host::new(odd, rt.alloc()).spawn(spec, null)?)
@@ -49,14 +48,14 @@ fn lasting<'a, R: Real>(rt: &R, given: &'a AtomicUsize) -> Result<child::Child<O
 
 /// A kill of a child that goes on. One that is refused is not asked of the machine.
 fn killed<R: Real>(rt: &R) -> Result<MemoryOutcome, Error> {
-    let given = AtomicUsize::new(0);
-    let mut child = lasting(rt, &given)?;
-    Ok(kill_of(&mut child, &given))
+    let script = Script::new(rt.alloc(), "ok, ok, ok, status 9")?;
+    let mut child = lasting(rt, &script)?;
+    Ok(kill_of(&mut child, &script))
 }
 
-fn kill_of(child: &mut impl Child, given: &AtomicUsize) -> MemoryOutcome {
+fn kill_of(child: &mut impl Child, script: &Script) -> MemoryOutcome {
     match child.kill() {
-        Ok(()) => MemoryOutcome::whole_if(given.load(Ordering::SeqCst) == 2),
+        Ok(()) => MemoryOutcome::whole_if(script.given() == 2),
         Err(fault) => MemoryOutcome::refused_if(
             fault.kind == Kind::OutOfMemory && is_killed(child),
         ),
