@@ -2,17 +2,27 @@
 //! expression, and over any system a script runner, a build step with a time limit, a supervisor that restarts, and a harness.
 #![tactic(auto)]
 
-pub mod build;
-pub mod clock;
-pub mod cookbook;
-pub mod files;
-pub mod harness;
-pub mod hello;
-pub mod kinds;
-pub mod script;
-pub mod supervisor;
+#[cfg(test)]
+mod build;
+#[cfg(test)]
+mod clock;
+#[cfg(test)]
+mod cookbook;
+#[cfg(test)]
+mod files;
+#[cfg(test)]
+mod harness;
+#[cfg(test)]
+mod hello;
+#[cfg(test)]
+mod kinds;
+#[cfg(test)]
+mod script;
+#[cfg(test)]
+mod supervisor;
 #[cfg(test)]
 mod tests;
-pub mod tour;
+#[cfg(test)]
+mod tour;
 #[cfg(test)]
 mod tried;
