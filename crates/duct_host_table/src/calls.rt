@@ -4,7 +4,7 @@
 //! - `adopt_pipe: text` adopts both ends of a pipe with this text in it, `adopt_file: f` a file that is there, `adopt_new: f` a new one,
 //!   and `adopt_captured` one end of a pipe whose other end the call `captured` reads. Their numbers begin with 1, and expressions name the
 //!   ends by them. `drop: 2` drops one.
-//! - Changes of files stand in `files`. `{place}` begins the path of a file of this process.
+//! - Changes of files stand in `duct_request_table::files`. `{place}` begins the path of a file of this process.
 //!
 //! These calls are made beside those of what runs.
 //! - `ids` fails unless the ids are those of the children that this thread has more than at first. `ended` waits until each child has ended, and asks nobody.
@@ -18,9 +18,6 @@
 //!   `within`: the milliseconds within which the row came to here. Where it is otherwise, they have what it is.
 //!
 //! At the end of a row the pool is swept until it keeps nobody, and no descriptor and no child is left.
-use crate::files::arrange;
-use crate::held::taken;
-use crate::machine::{Real, children_text, open_descriptors};
 use duct::{Clock, Entry, Numbered, Place, Pool, System};
 use duct_base::pool::pool_take;
 use duct_call_table::machine::{Line, Machine, PartsOf, PoolOf};
@@ -28,6 +25,9 @@ use duct_call_table::texts::push_bytes;
 use duct_host::child::Child;
 use duct_host::end::End;
 use duct_host::host::Host;
+use duct_request_table::files::arrange;
+use duct_request_table::held::taken;
+use duct_request_table::machine::{Real, children_text, open_descriptors};
 use duct_script::calls::CallLog;
 use duct_table::expressions::Lender;
 use duct_table::stop::Stop;

@@ -1,101 +1,52 @@
-//! The table `host rare`: what the real machine rarely answers of a process, by a runtime that stands in front of it (`odd`). A row begins with
-//! `requests`, which has those answers, and goes on as in `requests`, or with `calls`, and goes on as in `calls`. `questions` is compared: it is
-//! `all` where as many were asked as there are answers, or how many.
-use crate::calls::HostMachine;
-use crate::machine::Real;
-use crate::odd::{Odd, Script};
-use crate::requests::HostRequests;
-use duct_call_table::calls::Calls;
+//! What the real machine rarely returns for a process, by a runtime that stands in front of it (`duct_request_table::odd`): a table over that
+//! runtime, whose rows begin with `returns`, what it returns in this row. `questions` is compared: it is `all` where as many were asked as
+//! there are answers, or how many.
+use duct_request_table::odd::Script;
 use duct_table::stop::Stop;
 use duct_table::table::Table;
-use std::sync::Wait;
-
-/// The calls of a row.
-type OddCalls<'t, R> = Calls<'t, 't, R, HostMachine<Odd<R>>>;
+use std::alloc::Global;
 
 /// The table, and the answers of its row.
 #[derive(Drop)]
-pub struct Rare<'t, R: Real> {
-    rt: &'t R,
-    script: Option<Script>,
-    requests: Option<HostRequests<Odd<R>>>,
-    calls: Option<OddCalls<'t, R>>,
+pub struct Rare<T> {
+    alloc: Global,
+    script: Script,
+    table: T,
 }
 
-impl<'t, R: Real + Wait> Rare<'t, R> {
-    pub fn new(rt: &'t R) -> Rare<'t, R> {
+impl<T> Rare<T> {
+    /// A table over a runtime with these answers.
+    pub fn new(alloc: Global, script: Script, table: T) -> Rare<T> {
         Rare {
-            rt,
-            script: None,
-            requests: None,
-            calls: None,
+            alloc,
+            script,
+            table,
         }
-    }
-
-    /// Begins a row over a machine that has these answers.
-    fn begin(&mut self, answers: &str) -> Result<Odd<R>, Stop> {
-        let alloc = self.rt.alloc();
-        let script = Script::new(alloc, answers)?;
-        let odd = Odd::new(alloc, self.rt.clone()?, script.clone()?);
-        self.script = Some(script);
-        Ok(odd)
-    }
-
-    fn begin_requests(&mut self, answers: &str) -> Result<(), Stop> {
-        let odd = self.begin(answers)?;
-        self.requests = Some(HostRequests::new(odd));
-        Ok(())
-    }
-
-    fn begin_calls(&mut self, answers: &str) -> Result<(), Stop> {
-        let odd = self.begin(answers)?;
-        let machine = HostMachine::new(&odd)?;
-        self.calls = Some(Calls::new(self.rt, self.rt.alloc(), machine));
-        Ok(())
     }
 
     /// How many questions were asked, or that all were.
-    fn questions(&self) -> Result<Option<String>, Stop> {
-        let alloc = self.rt.alloc();
-        match &self.script {
-            Some(script) if script.is_spent() => Ok(Some(String::from_str(alloc, "all")?)),
-            Some(script) => Ok(Some(format!(in alloc; "{}", script.given())?)),
-            None => Err(Stop::Text("no row was begun")),
+    fn questions(&self) -> Result<String, Stop> {
+        if self.script.is_spent() {
+            Ok(String::from_str(self.alloc, "all")?)
+        } else {
+            Ok(format!(in self.alloc; "{}", self.script.given())?)
         }
-    }
-
-    fn end_tables(&mut self) -> Result<(), Stop> {
-        if let Some(mut table) = self.requests.take() {
-            table.end()?;
-        }
-        if let Some(mut table) = self.calls.take() {
-            table.end()?;
-        }
-        Ok(())
     }
 }
 
-impl<'t, R: Real + Wait> Table<'t> for Rare<'t, R> {
+impl<'t, T: Table<'t>> Table<'t> for Rare<T> {
     fn line(&mut self, key: &'t str, text: &'t str) -> Result<Option<String>, Stop> {
         match key {
-            "requests" => self.begin_requests(text)?,
-            "calls" => self.begin_calls(text)?,
-            "questions" => return self.questions(),
-            _ => {
-                if let Some(table) = &mut self.requests {
-                    return table.line(key, text);
-                }
-                if let Some(table) = &mut self.calls {
-                    return table.line(key, text);
-                }
-                return Err(Stop::Text("no row was begun"));
+            "returns" => {
+                self.script.begin();
+                Ok(None)
             }
+            "questions" => Ok(Some(self.questions()?)),
+            _ => self.table.line(key, text),
         }
-        Ok(None)
     }
 
     fn end(&mut self) -> Result<(), Stop> {
-        self.script = None;
-        self.end_tables()
+        self.table.end()
     }
 }

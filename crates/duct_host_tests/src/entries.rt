@@ -1,8 +1,8 @@
 //! The variables of the parent, as the host returns them and notes them.
 use duct_base::system::{Entry, System};
 use duct_host::host::Host;
-use duct_host_table::machine::Real;
-use duct_host_table::odd::{Odd, Script};
+use duct_request_table::machine::Real;
+use duct_request_table::odd::{Odd, Script};
 use std::alloc::{AllocError, Global};
 use std::fmt::{Debug, Write};
 use std::fs;

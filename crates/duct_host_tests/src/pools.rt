@@ -4,7 +4,7 @@ use duct_host::child::Child;
 use duct_host::end::End;
 use duct_host::host::Host;
 use duct_host::parents::Parents;
-use duct_host_table::left::count_left;
+use duct_request_table::left::count_left;
 use std::alloc::Global;
 use std::fs::File;
 use std::process::Processes;

@@ -3,7 +3,7 @@
 use duct::{Clock, Error, ExitStatus, Expression, Handle, Output, Pool, ReaderHandle, System, cmd};
 use duct_host::end::End;
 use duct_host::host::Host;
-use duct_host_table::left::count_left;
+use duct_request_table::left::count_left;
 use std::alloc::Global;
 use std::sync::{Arc, Wait};
 use std::test::Fail;

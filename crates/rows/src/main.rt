@@ -6,7 +6,6 @@
 
 use duct_call_table::calls::Calls;
 use duct_call_table::scripted::Scripted;
-use duct_host_table::machine::Real;
 use duct_host_table::tables;
 use duct_parts_table::expressions::Expressions;
 use duct_parts_table::journals::Journals;
@@ -16,6 +15,7 @@ use duct_parts_table::specs::Specs;
 use duct_parts_table::statuses::Statuses;
 use duct_parts_table::transfers::Transfers;
 use duct_plan_table::plans::Plans;
+use duct_request_table::machine::Real;
 use duct_script_table::scripts::Scripts;
 use duct_table::stop::Stop;
 use duct_table::table::{Counts, File, Memory, compare, untried};
@@ -58,7 +58,8 @@ fn tried_by_table<R: Real + Wait, W: Write>(rt: &R, file: File, out: &mut W) -> 
     let first = file.text.lines().next().unwrap_or("");
     match first.strip_prefix("table: ").unwrap_or("") {
         "host calls" => tables::calls(rt, file, out),
-        "host rare" => tables::rare(rt, file, out),
+        "host rare calls" => tables::rare_calls(rt, file, out),
+        "host rare requests" => tables::rare_requests(rt, file, out),
         "host requests" => tables::requests(rt, file, out),
         table => tried(rt, rt.alloc(), table, file, out),
     }

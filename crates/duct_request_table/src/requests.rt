@@ -1,6 +1,6 @@
 //! The table `host requests`: requests of a host on the real machine. Each row has a host of its own.
 //!
-//! - Requests stand in `held`, calls of the last child in `duct_request_table::children`, and changes of files in
+//! - Requests stand in `held`, calls of the last child in `children`, and changes of files in
 //!   `files`; `{nul}` is a NUL. `{place}` begins the path of a file of this process, and `{id}` is the number of this process.
 //! - `spawn: null 2 inherit (/bin/echo,a b)` has the words of a command in brackets, and none without them. `folder: /in` and
 //!   `variables: A=1,B=2` are those of the commands that follow. `read_id: 1` says whether the text is the child's id and a line feed.
@@ -8,17 +8,17 @@
 //! - `adopt_pipe: xyz` adopts the ends of a pipe of somebody else with this text in it, and `adopt_file: f` a file; `lend: 1` asks for
 //!   a duplicate of an adopted end, and `drop: 1` drops one.
 //! - `says` is compared: it has what was said behind the last such line. At the end of a row no descriptor is left open.
+use crate::children::order;
 use crate::files::arrange;
 use crate::held::{Requests, taken};
 use crate::machine::{Real, open_descriptors};
+use crate::say::say;
+use crate::specs::spec;
+use crate::story::story;
 use duct_base::system::{Child, Numbered, System};
 use duct_host::child;
 use duct_host::end::End;
 use duct_host::host::Host;
-use duct_request_table::children::order;
-use duct_request_table::say::say;
-use duct_request_table::specs::spec;
-use duct_request_table::story::story;
 use duct_table::stop::Stop;
 use duct_table::table::Table;
 use std::fs::File;

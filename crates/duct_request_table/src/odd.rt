@@ -26,10 +26,11 @@ use std::sync::{Arc, Wait};
 use std::thread::Threads;
 use std::time::Duration;
 
-/// Answers, and how many of them were given.
+/// The answers of rows, a line for each, how many rows were begun, and how many answers of the last one were given.
 #[derive(Drop)]
 struct Answers {
-    text: String,
+    rows: String,
+    begun: AtomicUsize,
     given: AtomicUsize,
 }
 
@@ -40,14 +41,28 @@ pub struct Script {
 }
 
 impl Script {
-    /// One that has given none of these answers.
-    pub fn new(alloc: Global, text: &str) -> Result<Script, AllocError> {
+    /// One with the answers of these rows, a line for each. It stands at the first row.
+    pub fn new(alloc: Global, rows: &str) -> Result<Script, AllocError> {
         let answers = Answers {
-            text: String::from_str(alloc, text)?,
+            rows: String::from_str(alloc, rows)?,
+            begun: AtomicUsize::new(0),
             given: AtomicUsize::new(0),
         };
         let answers = Arc::new(alloc, answers)?;
         Ok(Script { answers })
+    }
+
+    /// Begins the next row.
+    pub fn begin(&self) {
+        let _ = self.answers.begun.fetch_add(1, Ordering::SeqCst);
+        self.answers.given.store(0, Ordering::SeqCst);
+    }
+
+    /// The answers of the row.
+    fn row(&self) -> &str {
+        let begun = self.answers.begun.load(Ordering::SeqCst);
+        let mut rows = self.answers.rows.as_str().lines();
+        rows.nth(begun.saturating_sub(1)).unwrap_or("")
     }
 
     /// How many questions were asked.
@@ -57,14 +72,13 @@ impl Script {
 
     /// Whether as many questions were asked as there are answers.
     pub fn is_spent(&self) -> bool {
-        self.given() == self.answers.text.as_str().split(", ").count()
+        self.given() == self.row().split(", ").count()
     }
 
     /// The next answer. Behind the last one each is a fault.
     fn next(&self) -> io::Result<Option<ExitStatus>> {
         let place = self.answers.given.fetch_add(1, Ordering::SeqCst);
-        let text = self.answers.text.as_str();
-        let answer = text.split(", ").nth(place).unwrap_or("none");
+        let answer = self.row().split(", ").nth(place).unwrap_or("none");
         let (word, raw) = first_word(answer);
         match (word, raw.parse()) {
             ("ok", _) => Ok(None),

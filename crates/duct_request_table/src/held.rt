@@ -9,12 +9,12 @@ ghost use Rattle.std.specs.Prelude.{◌≡◌, ◌+◌, ◌≤◌, [], ◌∷◌
 ghost use Rattle.duct_system.specs.Streams.{ends_of};
 
 use crate::machine::Real;
+use crate::say::{say, tell};
 use duct_base::spec::CommandSpec;
 use duct_base::system::{Fault, Kind, Numbered, Stdio, System};
 use duct_host::child::Child;
 use duct_host::end::End;
 use duct_host::host::Host;
-use duct_request_table::say::{say, tell};
 use duct_table::stop::Stop;
 use duct_table::waits::heard;
 use duct_table::words::side;
