@@ -14,10 +14,12 @@
 //! - `opened` and `children`: how many descriptors and children there are more than at first.
 //! - `file: f "text"`: the text of this file, which is removed.
 //! - `asked`: the canonical names that were asked for.
+//! - `questions`: of a machine that returns what the real one rarely does, as in `rare`, whose row begins with `returns`.
 //! - `clock` and `slept`: two numbers between which it lies how often the clock of the waits was asked, and how often this thread has slept.
 //!   `within`: the milliseconds within which the row came to here. Where it is otherwise, they have what it is.
 //!
 //! At the end of a row the pool is swept until it keeps nobody, and no descriptor and no child is left.
+use crate::rare::questions;
 use duct::{Clock, Entry, Numbered, Place, Pool, System};
 use duct_base::pool::pool_take;
 use duct_call_table::machine::{Line, Machine, PartsOf, PoolOf};
@@ -28,6 +30,7 @@ use duct_host::host::Host;
 use duct_request_table::files::arrange;
 use duct_request_table::held::taken;
 use duct_request_table::machine::{Real, children_text, open_descriptors};
+use duct_request_table::odd::Script;
 use duct_script::calls::CallLog;
 use duct_table::expressions::Lender;
 use duct_table::stop::Stop;
@@ -74,10 +77,12 @@ pub struct HostMachine<R: Real> {
     children: String,
     slept: u64,
     begun: Duration,
+    /// What the runtime returns, where that is scripted.
+    script: Option<Script>,
 }
 
 impl<R: Real> HostMachine<R> {
-    pub fn new(rt: &R) -> Result<HostMachine<R>, Stop> {
+    pub fn new(rt: &R, script: Option<Script>) -> Result<HostMachine<R>, Stop> {
         let alloc = rt.alloc();
         let opened = open_descriptors(rt)?;
         let children = children_text(rt)?;
@@ -99,6 +104,7 @@ impl<R: Real> HostMachine<R> {
             children,
             slept,
             begun,
+            script,
         })
     }
 
@@ -115,7 +121,24 @@ impl<R: Real> HostMachine<R> {
             }
             "adopt_captured" => self.adopt_captured(),
             "drop" => Ok(drop(taken(&mut self.ends, text)?)),
+            "returns" => self.begin_script(),
             _ => arrange(&self.clock.rt, key, text),
+        }
+    }
+
+    /// Begins the next row of what the runtime returns.
+    fn begin_script(&self) -> Result<(), Stop> {
+        match &self.script {
+            Some(script) => Ok(script.begin()),
+            None => Err(Stop::Text("nothing is scripted")),
+        }
+    }
+
+    /// How many questions the runtime was asked, or that all were.
+    fn script_questions(&self) -> Result<String, Stop> {
+        match &self.script {
+            Some(script) => Ok(questions(self.clock.rt.alloc(), script)?),
+            None => Err(Stop::Text("nothing is scripted")),
         }
     }
 
@@ -200,6 +223,7 @@ impl<R: Real> HostMachine<R> {
             "children" => count_text(alloc, self.more_children()?.as_str())?,
             "file" => self.file_text(first_word(text).0)?,
             "asked" => asked_text(alloc, self.host.journal())?,
+            "questions" => self.script_questions()?,
             "clock" | "slept" => between(alloc, text, self.count(key)?)?,
             "within" => within(alloc, text, self.milliseconds()?)?,
             _ => return Ok(None),
@@ -250,7 +274,8 @@ impl<R: Real> Machine for HostMachine<R> {
     type Clock = Counting<R>;
 
     fn begin(&mut self) -> Result<(), Stop> {
-        *self = HostMachine::new(&self.clock.rt)?;
+        let script = self.script.take();
+        *self = HostMachine::new(&self.clock.rt, script)?;
         Ok(())
     }
 

@@ -1,47 +1,49 @@
-//! What the real machine rarely returns for a process, by a runtime that stands in front of it (`duct_request_table::odd`): a table over that
-//! runtime, whose rows begin with `returns`, what it returns in this row. `questions` is compared: it is `all` where as many were asked as
-//! there are answers, or how many.
-use duct_request_table::odd::Script;
+//! The table of requests over a runtime that returns what the real machine rarely does for a process (`duct_request_table::odd`). A row begins with
+//! `returns`, which has what it returns in this row, and goes on as one of the table of requests. `questions` is compared: it is `all` where as
+//! many were asked as there are answers, or how many.
+use duct_request_table::machine::Real;
+use duct_request_table::odd::{Odd, Script};
+use duct_request_table::requests::HostRequests;
 use duct_table::stop::Stop;
 use duct_table::table::Table;
-use std::alloc::Global;
+use std::alloc::{AllocError, Global};
+
+/// How many questions were asked, or that all were.
+pub fn questions(alloc: Global, script: &Script) -> Result<String, AllocError> {
+    if script.is_spent() {
+        String::from_str(alloc, "all")
+    } else {
+        format!(in alloc; "{}", script.given())
+    }
+}
 
 /// The table, and the answers of its row.
 #[derive(Drop)]
-pub struct Rare<T> {
+pub struct RareRequests<R: Real> {
     alloc: Global,
     script: Script,
-    table: T,
+    table: HostRequests<Odd<R>>,
 }
 
-impl<T> Rare<T> {
+impl<R: Real> RareRequests<R> {
     /// A table over a runtime with these answers.
-    pub fn new(alloc: Global, script: Script, table: T) -> Rare<T> {
-        Rare {
+    pub fn new(alloc: Global, script: Script, odd: Odd<R>) -> RareRequests<R> {
+        RareRequests {
             alloc,
             script,
-            table,
-        }
-    }
-
-    /// How many questions were asked, or that all were.
-    fn questions(&self) -> Result<String, Stop> {
-        if self.script.is_spent() {
-            Ok(String::from_str(self.alloc, "all")?)
-        } else {
-            Ok(format!(in self.alloc; "{}", self.script.given())?)
+            table: HostRequests::new(odd),
         }
     }
 }
 
-impl<'t, T: Table<'t>> Table<'t> for Rare<T> {
+impl<'t, R: Real> Table<'t> for RareRequests<R> {
     fn line(&mut self, key: &'t str, text: &'t str) -> Result<Option<String>, Stop> {
         match key {
             "returns" => {
                 self.script.begin();
                 Ok(None)
             }
-            "questions" => Ok(Some(self.questions()?)),
+            "questions" => Ok(Some(questions(self.alloc, &self.script)?)),
             _ => self.table.line(key, text),
         }
     }

@@ -1,6 +1,6 @@
 //! The tables over the real machine, by their names.
 use crate::calls::HostMachine;
-use crate::rare::Rare;
+use crate::rare::RareRequests;
 use duct_call_table::calls::Calls;
 use duct_request_table::machine::{Real, filled};
 use duct_request_table::odd::{Odd, Script};
@@ -30,7 +30,7 @@ pub fn calls<R: Real + Wait, W: Write>(rt: &R, file: File, out: &mut W) -> io::R
         text: text.as_str(),
         memory: file.memory,
     };
-    match HostMachine::new(rt) {
+    match HostMachine::new(rt, None) {
         Ok(machine) => {
             let mut table = Calls::new(rt, rt.alloc(), machine);
             compare(&mut table, file, out)
@@ -62,7 +62,7 @@ pub fn rare_requests<R: Real, W: Write>(rt: &R, file: File, out: &mut W) -> io::
     };
     let script = Script::new(alloc, answers_in(alloc, file.text)?.as_str())?;
     let odd = Odd::new(alloc, rt.clone()?, script.clone()?);
-    let mut table = Rare::new(alloc, script, HostRequests::new(odd));
+    let mut table = RareRequests::new(alloc, script, odd);
     compare(&mut table, file, out)
 }
 
@@ -77,9 +77,9 @@ pub fn rare_calls<R: Real + Wait, W: Write>(rt: &R, file: File, out: &mut W) -> 
     };
     let script = Script::new(alloc, answers_in(alloc, file.text)?.as_str())?;
     let odd = Odd::new(alloc, rt.clone()?, script.clone()?);
-    match HostMachine::new(&odd) {
+    match HostMachine::new(&odd, Some(script)) {
         Ok(machine) => {
-            let mut table = Rare::new(alloc, script, Calls::new(rt, alloc, machine));
+            let mut table = Calls::new(rt, alloc, machine);
             compare(&mut table, file, out)
         }
         Err(stop) => untried(file, &stop, out),
