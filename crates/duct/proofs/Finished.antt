@@ -14,7 +14,7 @@ use Rattle.duct_system.specs.Started.{children_in}
 use Rattle.duct_start.specs.Left.{Leaves, LeavesStarted, pool_view}
 use Rattle.duct_start.specs.Running.{IsRunning, RunningView}
 use Rattle.duct_start.specs.TreeView.{TreeView}
-use Rattle.duct_start.proofs.Leaving.{leaves_on, leaves_taken}
+use Rattle.duct_start.proofs.Leaving.{keeps_fewer, leaves_on, leaves_taken}
 use Rattle.duct_running.specs.NumbersView.{numbers_in}
 use Rattle.duct_running.specs.Stays.{Stays}
 use Rattle.duct_handle.specs.Started.{AreNumbers}
@@ -68,7 +68,7 @@ module _ {E H C F D V W : Type 0} (child : C → ChildView) (feed : F → JobVie
       ap (λ n. n.children) stays.numbers_are ∙ map-map (λ (c : ChildView). c.number) child running.children ∙ runs.children_are in
       let many : length waited.children ≡ length (children_in added) =
       sym (length-map waited.children child) ∙ sym (length-map (map child waited.children) (λ c. c.number)) ∙ ap (λ (l : List ℕ). length l) numbers in
-      let low : mid.given + length waited.children < 2 ^ 63 = omega (arith, fits, many, swept.given_is) in (
+      let low : length mid.children + length waited.children < 2 ^ 63 = omega (arith, fits, many, keeps_fewer may child before mid swept) in (
         map child waited.children,
         numbers,
         still_unordered child running.children waited.children stays.orders_are runs.unasked,

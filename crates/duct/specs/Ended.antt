@@ -52,6 +52,6 @@ LeavesGiven may view added before after =
     × All (λ child. child.orders ≡ []) given
     × Leaves may given (pool_view view before) (pool_view view after)
 
--- the pool's count has room for the children that the entries name: below the bound of the standard library's lists
+-- the pool's list has a place for each child that the entries name: below the bound of the standard library's lists
 abbrev pub PoolHasRoom : {C : Type 0} → List EntryView → PoolView C → Type 0
-PoolHasRoom added pool = pool.given + length (children_in added) < 2 ^ 63
+PoolHasRoom added pool = length pool.children + length (children_in added) < 2 ^ 63

@@ -226,10 +226,12 @@ one_seat {C} seats (None ∷ []) rest full whole long = no_none (seated seats) r
     no_none (x ∷ xs) rest is = absurd (cc)
 one_seat seats (o ∷ p ∷ one) rest full whole long = absurd (omega (arith, long))
 
--- a pool keeps no more children than it was given
-pub few_by_given : {C : Type 0} (view pool : PoolView C) → view ≡ pool → AddsUp view
-    → pool.given + 1 < 2 ^ 63 → length pool.children + 1 < 2 ^ 63
-few_by_given {C} view pool is adds fits =
-    let a : AddsUp pool = subst (λ (p : PoolView C). AddsUp p) is adds in
-    let below : pool.given < greatest = omega (arith, fits) in
-    omega (arith, fits, a below)
+-- no more children are left than were asked
+pub sieves_fewer : {A B : Type 0} (may : A → Answer → Type 0) (keeps : A → B → Type 0)
+    (children : List A) (left : List B) (r l : ℕ) → Sieves may keeps children left r l
+    → length left ≤ length children
+sieves_fewer {A} {B} may keeps [] left r l none = omega (arith, ap (λ (z : List B). length z) none.0)
+sieves_fewer {A} {B} may keeps (child ∷ children) left r l (inl s) =
+    omega (arith, ap (λ (z : List B). length z) s.3, sieves_fewer may keeps children s.1 r l s.4)
+sieves_fewer {A} {B} may keeps (child ∷ children) left r l (inr (inl s)) = omega (arith, sieves_fewer may keeps children left s.1 l s.4)
+sieves_fewer {A} {B} may keeps (child ∷ children) left r l (inr (inr s)) = omega (arith, sieves_fewer may keeps children left r s.1 s.4)

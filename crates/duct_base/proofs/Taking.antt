@@ -3,11 +3,7 @@ use Rattle.std.proofs.Common.{ℕ, zero, suc, ◌≡◌, ◌+◌, ◌^◌, ◌<�
 use Rattle.std.specs.Prelude.{Ok, None}
 use Rattle.duct_system.specs.Child.{Answer, ChildView, PollsChild}
 use Rattle.duct_base.specs.Pool.{PoolView, Takes, IsGiven, counted}
-use Rattle.duct_base.proofs.Sieving.{counted_more, sieves-append}
-
-counted_low : (count more : ℕ) → counted count more ≤ count + more
-counted_low count zero = omega arith
-counted_low count (suc more) = omega arith
+use Rattle.duct_base.proofs.Sieving.{counted_more, sieves-append, sieves_fewer}
 
 module _ {C : Type 0} (may : ℕ → Answer → Type 0) (view : C → ChildView) where
   -- some children, and then others
@@ -37,7 +33,9 @@ module _ {C : Type 0} (may : ℕ → Answer → Type 0) (view : C → ChildView)
         counts = one.counts ∙ ap (λ (n : ℕ). counted n 1) first.counts ∙ counted_more before.given (length taken) 1
             ∙ ap (λ (n : ℕ). counted before.given n) (sym many);
         takes = λ fits.
-            let few : before.given + length taken < 2 ^ 63 = omega (arith, fits, many) in
-            let low : mid.given + 1 < 2 ^ 63 = omega (arith, fits, many, first.counts, counted_low before.given (length taken)) in
-            takes_append taken (child ∷ []) before mid after (first.takes few) (one.takes low);
+            let few : length before.children + length taken < 2 ^ 63 = omega (arith, fits, many) in
+            let t = first.takes few in
+            let fewer = sieves_fewer (λ child. may (view child).number) (λ child kept. PollsChild may (view child) (Ok None) (view kept)) taken t.kept t.reaped t.lost t.asked in
+            let low : length mid.children + 1 < 2 ^ 63 = omega (arith, fits, many, fewer, ap (λ (l : List C). length l) t.children_are, length-append before.children t.kept) in
+            takes_append taken (child ∷ []) before mid after t (one.takes low);
       }

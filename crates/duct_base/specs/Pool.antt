@@ -84,8 +84,9 @@ pub record Takes {C : Type 0} (may : ℕ → Answer → Type 0) (view : C → Ch
   pub reaped_is : after.reaped ≡ counted before.reaped reaped
   pub lost_is : after.lost ≡ counted before.lost lost
 
--- these children were given to a pool: each is counted, and taken while fewer than 2 ^ 63 were ever given to it
+-- these children were given to a pool: each is counted, and taken where its list has a place for each of them
 pub record IsGiven {C : Type 0} (may : ℕ → Answer → Type 0) (view : C → ChildView)
     (children : List C) (before after : PoolView C) : Type 0 where
   pub counts : after.given ≡ counted before.given (length children)
-  pub takes : before.given + length children < 2 ^ 63 → Takes may view children before after
+  pub takes : length before.children + length children < 2 ^ 63
+      → Takes may view children before after

@@ -1,5 +1,5 @@
 -- Where a stream goes with one redirection round another, and with two swaps.
-use Rattle.std.proofs.Common.{◌≡◌, ℕ, [], ◌∷◌, ◌++◌, refl, ap, subst, ◌∙◌}
+use Rattle.std.proofs.Common.{◌≡◌, ℕ, [], ◌∷◌, ◌++◌, refl, ap, subst, sym, ◌∙◌}
 use Rattle.std.specs.Prelude.{Some, None}
 use Rattle.std.specs.Option.{option_or}
 use Rattle.std.specs.declared.option.Option.{Option}
@@ -10,7 +10,7 @@ use Rattle.duct_laws.specs.Redirected.{redirected}
 use Rattle.duct_start.specs.Found.{Target}
 use Rattle.duct_start.specs.Lookup.{turned, goes, folder, changes, hooks, found_on}
 use Rattle.duct_start.specs.Path.{Path, within, place_of, step_of}
-use Rattle.duct_start.specs.Step.{Turn, Decides, Follows, at_stdin, at_stdout, at_stderr, step}
+use Rattle.duct_start.specs.Step.{Turn, Decides, Follows, step}
 use Rattle.duct_start.specs.TreeView.{ModifierView, stdin_bytes, stdin_path, stdin_file, stdin_null, stdout_path, stdout_file, stdout_null, stdout_capture, stdout_to_stderr, stderr_path, stderr_file, stderr_null, stderr_capture, stderr_to_stdout, stdout_stderr_swap, dir, env, env_remove, full_env, unchecked, before_spawn}
 
 -- two ways outwards on which the same is found
@@ -53,44 +53,49 @@ record TurnsOne {E : Type 0} (stream : Stream) (turns : Stream → Turn E) : Typ
   others : (other : Stream) → (other ≡ stream → ⊥) → turns other ≡ Follows other
   apart : (other : Stream) → IsApart stream (turns other)
 
-at_in : {E : Type 0} (turn : Turn E) → IsApart In turn → TurnsOne In (at_stdin turn)
-at_in {E} turn apart = record { others = others; apart = aparts }
-  where
-    others : (other : Stream) → (other ≡ In → ⊥) → at_stdin turn other ≡ Follows other
-    others In differs = absurd (differs refl)
-    others Out differs = refl
-    others Err differs = refl
+apart_as : {E : Type 0} (stream : Stream) (turn other : Turn E) → turn ≡ other → IsApart stream other
+    → IsApart stream turn
+apart_as stream turn other is apart = subst (λ turn. IsApart stream turn) (sym is) apart
 
-    aparts : (other : Stream) → IsApart In (at_stdin turn other)
-    aparts In = apart
-    aparts Out = λ is. cc
-    aparts Err = λ is. cc
+module _ {E : Type 0} (turns : Stream → Turn E) where
+  at_in : turns Out ≡ Follows Out → turns Err ≡ Follows Err → IsApart In (turns In) → TurnsOne In turns
+  at_in output error apart = record { others = others; apart = aparts }
+    where
+      others : (other : Stream) → (other ≡ In → ⊥) → turns other ≡ Follows other
+      others In differs = absurd (differs refl)
+      others Out differs = output
+      others Err differs = error
 
-at_out : {E : Type 0} (turn : Turn E) → IsApart Out turn → TurnsOne Out (at_stdout turn)
-at_out {E} turn apart = record { others = others; apart = aparts }
-  where
-    others : (other : Stream) → (other ≡ Out → ⊥) → at_stdout turn other ≡ Follows other
-    others In differs = refl
-    others Out differs = absurd (differs refl)
-    others Err differs = refl
+      aparts : (other : Stream) → IsApart In (turns other)
+      aparts In = apart
+      aparts Out = apart_as In (turns Out) (Follows Out) output (λ is. cc)
+      aparts Err = apart_as In (turns Err) (Follows Err) error (λ is. cc)
 
-    aparts : (other : Stream) → IsApart Out (at_stdout turn other)
-    aparts In = λ is. cc
-    aparts Out = apart
-    aparts Err = λ is. cc
+  at_out : turns In ≡ Follows In → turns Err ≡ Follows Err → IsApart Out (turns Out) → TurnsOne Out turns
+  at_out input error apart = record { others = others; apart = aparts }
+    where
+      others : (other : Stream) → (other ≡ Out → ⊥) → turns other ≡ Follows other
+      others In differs = input
+      others Out differs = absurd (differs refl)
+      others Err differs = error
 
-at_err : {E : Type 0} (turn : Turn E) → IsApart Err turn → TurnsOne Err (at_stderr turn)
-at_err {E} turn apart = record { others = others; apart = aparts }
-  where
-    others : (other : Stream) → (other ≡ Err → ⊥) → at_stderr turn other ≡ Follows other
-    others In differs = refl
-    others Out differs = refl
-    others Err differs = absurd (differs refl)
+      aparts : (other : Stream) → IsApart Out (turns other)
+      aparts In = apart_as Out (turns In) (Follows In) input (λ is. cc)
+      aparts Out = apart
+      aparts Err = apart_as Out (turns Err) (Follows Err) error (λ is. cc)
 
-    aparts : (other : Stream) → IsApart Err (at_stderr turn other)
-    aparts In = λ is. cc
-    aparts Out = λ is. cc
-    aparts Err = apart
+  at_err : turns In ≡ Follows In → turns Out ≡ Follows Out → IsApart Err (turns Err) → TurnsOne Err turns
+  at_err input output apart = record { others = others; apart = aparts }
+    where
+      others : (other : Stream) → (other ≡ Err → ⊥) → turns other ≡ Follows other
+      others In differs = input
+      others Out differs = output
+      others Err differs = absurd (differs refl)
+
+      aparts : (other : Stream) → IsApart Err (turns other)
+      aparts In = apart_as Err (turns In) (Follows In) input (λ is. cc)
+      aparts Out = apart_as Err (turns Out) (Follows Out) output (λ is. cc)
+      aparts Err = apart
 
 -- a turn that follows another stream passes by the turns of this one
 passes : {E : Type 0} (stream : Stream) (turn : Turn E) → IsApart stream turn
@@ -121,22 +126,22 @@ module _ {E H : Type 0} where
       record { turns = turns; no_folder = a; no_changes = b; no_hooks = c }
 
   says : (modifier : ModifierView E H) (place : ℕ) → Says (redirected modifier) modifier place
-  says (stdin_bytes bytes) place = speaks In (stdin_bytes bytes) place (at_in _ tt) refl refl refl
-  says (stdin_path path) place = speaks In (stdin_path path) place (at_in _ tt) refl refl refl
-  says (stdin_file end) place = speaks In (stdin_file end) place (at_in _ tt) refl refl refl
-  says stdin_null place = speaks In stdin_null place (at_in _ tt) refl refl refl
-  says (stdout_path path) place = speaks Out (stdout_path path) place (at_out _ tt) refl refl refl
-  says (stdout_file end) place = speaks Out (stdout_file end) place (at_out _ tt) refl refl refl
-  says stdout_null place = speaks Out stdout_null place (at_out _ tt) refl refl refl
-  says stdout_capture place = speaks Out stdout_capture place (at_out _ tt) refl refl refl
+  says (stdin_bytes bytes) place = speaks In (stdin_bytes bytes) place (at_in _ refl refl tt) refl refl refl
+  says (stdin_path path) place = speaks In (stdin_path path) place (at_in _ refl refl tt) refl refl refl
+  says (stdin_file end) place = speaks In (stdin_file end) place (at_in _ refl refl tt) refl refl refl
+  says stdin_null place = speaks In stdin_null place (at_in _ refl refl tt) refl refl refl
+  says (stdout_path path) place = speaks Out (stdout_path path) place (at_out _ refl refl tt) refl refl refl
+  says (stdout_file end) place = speaks Out (stdout_file end) place (at_out _ refl refl tt) refl refl refl
+  says stdout_null place = speaks Out stdout_null place (at_out _ refl refl tt) refl refl refl
+  says stdout_capture place = speaks Out stdout_capture place (at_out _ refl refl tt) refl refl refl
   says stdout_to_stderr place =
-      speaks Out stdout_to_stderr place (at_out (Follows Err) (λ is. cc)) refl refl refl
-  says (stderr_path path) place = speaks Err (stderr_path path) place (at_err _ tt) refl refl refl
-  says (stderr_file end) place = speaks Err (stderr_file end) place (at_err _ tt) refl refl refl
-  says stderr_null place = speaks Err stderr_null place (at_err _ tt) refl refl refl
-  says stderr_capture place = speaks Err stderr_capture place (at_err _ tt) refl refl refl
+      speaks Out stdout_to_stderr place (at_out _ refl refl (λ is. cc)) refl refl refl
+  says (stderr_path path) place = speaks Err (stderr_path path) place (at_err _ refl refl tt) refl refl refl
+  says (stderr_file end) place = speaks Err (stderr_file end) place (at_err _ refl refl tt) refl refl refl
+  says stderr_null place = speaks Err stderr_null place (at_err _ refl refl tt) refl refl refl
+  says stderr_capture place = speaks Err stderr_capture place (at_err _ refl refl tt) refl refl refl
   says stderr_to_stdout place =
-      speaks Err stderr_to_stdout place (at_err (Follows Out) (λ is. cc)) refl refl refl
+      speaks Err stderr_to_stdout place (at_err _ refl refl (λ is. cc)) refl refl refl
   says stdout_stderr_swap place = tt
   says (dir path) place = tt
   says (env name value) place = tt

@@ -60,7 +60,8 @@ module _ {E H C F D V W : Type 0} (allows : Allows H) (refuses : Refuses H) (num
         → AreNew child feed drain held
         → Leaves may [] (pool_view child before) (pool_view child mid)
         → IsGiven may child held.children.items mid after
-        → before.given + length (children_in (segment course.old.entries then.entries)) < 2 ^ 63
+        → length before.children
+        + length (children_in (segment course.old.entries then.entries)) < 2 ^ 63
         → LeavesStarted may child (segment course.old.entries then.entries) before after
     left_started may before mid after new swept given fits =
         leaves_refused may child held.children.items (segment course.old.entries then.entries) before mid after swept given

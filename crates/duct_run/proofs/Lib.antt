@@ -6,5 +6,6 @@ pub mod New
 pub mod OutputRead
 pub mod Outwards
 pub mod Pushed
+pub mod Requesting
 pub mod Saying
 pub mod Turns

@@ -7,7 +7,7 @@ use Rattle.duct_start.specs.Actions as plan
 use Rattle.duct_start.specs.Flat.{rooted, scope_within}
 use Rattle.duct_start.specs.Found.{Change}
 use Rattle.duct_start.specs.Listed.{AreOutwards, scope_in}
-use Rattle.duct_start.specs.Step.{step}
+use Rattle.duct_start.specs.Step.{said}
 use Rattle.duct_start.proofs.ScopeIn.{scope_in_root, scope_in_next}
 use Rattle.duct_run.specs.ScopeView.{scope_view, scopes_view, setting_view}
 use Rattle.duct_run.specs.declared.scope.Scope.{Scope}
@@ -37,28 +37,28 @@ module _ {E H : Type 0} {scopes : List (Scope E H)} {n : ℕ} {here : Scope E H}
 
   -- it is that of its node inside the one outside of it
   pub is_next : scope_in (scopes_view scopes) n
-      ≡ scope_within (step (setting_view here.setting)) (scope_in (scopes_view scopes) here.outer)
+      ≡ scope_within (said (setting_view here.setting)) (scope_in (scopes_view scopes) here.outer)
   is_next =
       let next : n - 1 + 1 ≡ n = omega (arith, read.above) in
       sym (ap (λ m. scope_in (scopes_view scopes) m) next)
       ∙ scope_in_next (scopes_view scopes) (n - 1) (scope_view here) read.outwards stands_there
 
   -- the folder is what its node sets, or else that of the one outside of it
-  pub folder_is : (folder : Option (List ℕ)) → folder ≡ (step (setting_view here.setting)).folder
+  pub folder_is : (folder : Option (List ℕ)) → folder ≡ (said (setting_view here.setting)).folder
       → option_or folder (scope_in (scopes_view scopes) here.outer).folder
       ≡ (scope_in (scopes_view scopes) n).folder
   folder_is folder set =
       ap (λ o. option_or o (scope_in (scopes_view scopes) here.outer).folder) set ∙ sym (ap (λ (s : plan.Scope E H). s.folder) is_next)
 
   -- the changes are its node's, and then those of the one outside of it
-  pub changes_are : (changes : List Change) → (step (setting_view here.setting)).changes ≡ changes
+  pub changes_are : (changes : List Change) → (said (setting_view here.setting)).changes ≡ changes
       → changes ++ (scope_in (scopes_view scopes) here.outer).changes
       ≡ (scope_in (scopes_view scopes) n).changes
   changes_are changes said =
       sym (ap (λ (s : plan.Scope E H). s.changes) is_next ∙ ap (λ cs. cs ++ (scope_in (scopes_view scopes) here.outer).changes) said)
 
   -- the hooks are those of the one outside of it, and then its node's
-  pub hooks_are : (hooks : List (H × List E)) → (step (setting_view here.setting)).hooks ≡ hooks
+  pub hooks_are : (hooks : List (H × List E)) → (said (setting_view here.setting)).hooks ≡ hooks
       → (scope_in (scopes_view scopes) here.outer).hooks ++ hooks
       ≡ (scope_in (scopes_view scopes) n).hooks
   hooks_are hooks said =

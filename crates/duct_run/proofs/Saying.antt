@@ -10,6 +10,9 @@ use Rattle.duct_start.specs.Chain.{Allows, Refuses}
 use Rattle.duct_start.specs.Commands.{GoesSaying, RefusedSaying}
 use Rattle.duct_start.specs.Holdings.{Holdings}
 use Rattle.duct_start.specs.Standing.{Goes, IsHooks, Quits}
+use Rattle.duct_run.specs.Requested.{Performed, Requested}
+use Rattle.duct_run.specs.SystemViews.{SystemViews}
+use Rattle.duct_run.specs.declared.held.Held.{Held}
 use Rattle.duct_start.proofs.Spawning.{plain_refused}
 
 module _ {E H : Type 0} (allows : Allows H) (number_of : E → ℕ) (pairs : Vars) (act : Action E H)
@@ -33,3 +36,16 @@ module _ {E H : Type 0} (allows : Allows H) (number_of : E → ℕ) (pairs : Var
       → IfErr answer (λ e. (IsHooks e → ⊥) × Quits allows number_of act now next held kept e)
       → IfErr answer (RefusedSaying allows refuses number_of pairs act now next held kept)
   err_saying refuses answer err = IfErr-weaker answer _ _ (quits_refused refuses) err
+
+-- a request is an action that was performed
+pub performed : {S E H C F D V W : Type 0} {views : SystemViews S E C F D V W} {allows : Allows H}
+    {refuses : Refuses H} {pairs : Vars} {act : Action E H} {answer : Result (Unit {0}) Error}
+    {sys after : S} {held kept : Held E C F D}
+    → Requested views allows act answer sys after held kept
+    → Performed views allows refuses pairs act answer sys after held kept
+performed {views = views} {allows = allows} {refuses = refuses} {answer = answer} asked = record {
+  ok = ok_saying allows views.number_of _ _ _ _ _ _ answer asked.ok;
+  err = err_saying allows views.number_of _ _ _ _ _ _ refuses answer asked.err;
+  new = asked.new;
+  workers = asked.workers;
+}

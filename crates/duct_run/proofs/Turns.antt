@@ -22,7 +22,7 @@ use Rattle.duct_start.specs.Chain.{Allows, Refuses}
 use Rattle.duct_start.specs.Commands.{GoesSaying, Refused, RefusedSaying}
 use Rattle.duct_start.specs.Holdings.{Holdings, ends}
 use Rattle.duct_start.specs.Listed.{IsWithin, resolved, resolved_all}
-use Rattle.duct_start.specs.Standing.{CanDo, Course, IsHooks, IsWantOfMemory, Stands, Stood}
+use Rattle.duct_start.specs.Standing.{CanDo, Course, IsHooks, IsWantOfMemory, Stands, Stood, GivesUnder, IsEarly}
 use Rattle.duct_start.specs.Step.{Item}
 use Rattle.duct_start.proofs.Running.{can_now, memory_now}
 use Rattle.duct_start.proofs.Spawning.{plain_refused}
@@ -137,7 +137,7 @@ module _ {E H : Type 0} (allows : Allows H) (refuses : Refuses H) (number_of : E
             added = stopped.added;
             books = stopped.books;
             few = stopped.few;
-            answers = λ l later. answers_front allows number_of (stopped.added ++ l) 0 items more (trace stopped.added) (stopped.answers l later);
+            answers = λ l later. answers_front (GivesUnder (IsEarly course) (stopped.added ++ l)) allows number_of (stopped.added ++ l) 0 items more (trace stopped.added) (stopped.answers l later);
             ended = stopped.ended;
           };
           cause = λ is l later.

@@ -4,13 +4,11 @@ use Rattle.std.specs.Option.{option_map, option_to_list}
 use Rattle.duct_system.specs.Child.{ChildView, IsUnasked}
 use Rattle.duct_system.specs.Job.{JobView, unpolled_job}
 use Rattle.duct_system.specs.Journal.{JournalView}
-use Rattle.duct_system.specs.declared.error.Error.{Error}
 use Rattle.duct_start.specs.Actions.{Action, State}
 use Rattle.duct_system.specs.SpecView.{Vars}
-use Rattle.duct_start.specs.Chain.{Allows, Refuses}
-use Rattle.duct_start.specs.Commands.{GoesSaying, RefusedSaying}
+use Rattle.duct_start.specs.Chain.{Allows}
 use Rattle.duct_start.specs.Holdings.{Holdings}
-use Rattle.duct_start.specs.Standing.{Course, Goes, IsHooks, Quits, Stood}
+use Rattle.duct_start.specs.Standing.{Course, Stood}
 use Rattle.duct_run.specs.declared.held.Held.{Held}
 
 -- the stack by numbers, its top first
@@ -66,44 +64,10 @@ pub record AreNew {E C F D V W : Type 0} (child : C → ChildView) (feed : F →
   pub error_worker : All (λ d. drain d ≡ unpolled_job (drain d).number)
       (option_to_list held.error_worker)
 
--- an action goes on by what is held
-abbrev pub GoesOn : {E H C F D V W : Type 0} → Allows H → (E → ℕ) → (C → ChildView)
-    → (F → JobView V)
-    → (D → JobView W) → Action E H → JournalView → JournalView → Held E C F D → Held E C F D
-    → Type 0
-GoesOn allows end child feed drain action now then held kept =
-    Goes allows end action now then (held_view end child feed drain held)
-    (held_view end child feed drain kept)
-
--- an action stops with an error, which is not a hook's
-abbrev pub QuitsAt : {E H C F D V W : Type 0} → Allows H → (E → ℕ) → (C → ChildView)
-    → (F → JobView V)
-    → (D → JobView W) → Action E H → JournalView → JournalView → Held E C F D → Held E C F D → Error
-    → Type 0
-QuitsAt allows end child feed drain action now then held kept error =
-    (IsHooks error → ⊥) × Quits allows end action now then (held_view end child feed drain held)
-    (held_view end child feed drain kept) error
-
 -- the capture workers are the same
 pub record HasSameWorkers {E C F D : Type 0} (old new : Held E C F D) : Type 0 where
   pub output_worker : new.output_worker ≡ old.output_worker
   pub error_worker : new.error_worker ≡ old.error_worker
-
--- a command goes on by what is held, where the system answered these variables
-abbrev pub SpawnGoes : {E H C F D V W : Type 0} → Allows H → (E → ℕ) → (C → ChildView)
-    → (F → JobView V) → (D → JobView W) → Vars → Action E H → JournalView → JournalView
-    → Held E C F D → Held E C F D → Type 0
-SpawnGoes allows end child feed drain pairs action now next held kept =
-    GoesSaying allows end pairs action now next (held_view end child feed drain held)
-    (held_view end child feed drain kept)
-
--- it is refused
-abbrev pub SpawnRefused : {E H C F D V W : Type 0} → Allows H → Refuses H → (E → ℕ)
-    → (C → ChildView) → (F → JobView V) → (D → JobView W) → Vars → Action E H → JournalView
-    → JournalView → Held E C F D → Held E C F D → Error → Type 0
-SpawnRefused allows refuses end child feed drain pairs action now next held kept error =
-    RefusedSaying allows refuses end pairs action now next (held_view end child feed drain held)
-    (held_view end child feed drain kept) error
 
 -- some run stands before these actions, where the system answered these variables
 abbrev pub SomeStood : {E H : Type 0} → Allows H → (E → ℕ) → Vars → List (Action E H)

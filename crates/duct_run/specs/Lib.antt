@@ -7,5 +7,7 @@ pub mod Made
 pub mod NameRefused
 pub mod OutputRead
 pub mod Places
+pub mod Requested
 pub mod ScopeView
 pub mod StreamsView
+pub mod SystemViews

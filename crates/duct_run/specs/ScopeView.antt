@@ -4,18 +4,19 @@ use Rattle.duct_system.specs.SpecView.{var_view}
 use Rattle.duct_start.specs.Actions.{Scope}
 use Rattle.duct_start.specs.Flat.{rooted}
 use Rattle.duct_start.specs.Listed.{ListedScope, scopes_from}
-use Rattle.duct_start.specs.TreeView.{ModifierView, dir, env, env_remove, full_env, before_spawn}
+use Rattle.duct_start.specs.Found.{Sets, Removes, Replaces}
+use Rattle.duct_start.specs.Row.{Says, says_folder, says_change, says_hook}
 use Rattle.duct_run.specs.declared.scope.Setting.{Setting}
 use Rattle.duct_run.specs.declared.scope.Setting.TheVariants.{Dir, Env, EnvRemove, FullEnv, BeforeSpawn}
 use Rattle.duct_run.specs.declared.scope.Scope as declared
 
--- the node of a scope
-abbrev pub setting_view : {E H : Type 0} → Setting E H → ModifierView E H
-setting_view (Dir path) = dir path.now
-setting_view (Env name value) = env name.now value.now
-setting_view (EnvRemove name) = env_remove name.now
-setting_view (FullEnv vars) = full_env (map var_view vars.now.entries)
-setting_view (BeforeSpawn hook ends) = before_spawn hook.now ends.now
+-- what the node of a scope says
+abbrev pub setting_view : {E H : Type 0} → Setting E H → Says E H
+setting_view (Dir path) = says_folder path.now
+setting_view (Env name value) = says_change (Sets name.now value.now)
+setting_view (EnvRemove name) = says_change (Removes name.now)
+setting_view (FullEnv vars) = says_change (Replaces (map var_view vars.now.entries))
+setting_view (BeforeSpawn hook ends) = says_hook hook.now ends.now
 
 -- a scope with the index of the one outside of it
 abbrev pub scope_view : {E H : Type 0} → declared.Scope E H → ListedScope E H

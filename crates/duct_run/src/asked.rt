@@ -4,7 +4,7 @@ ghost use Rattle.std.specs.Option.{option_copied, option_map};
 ghost use Rattle.duct_system.specs.SpecView.{pair_text};
 ghost use Rattle.duct_start.specs.Asked.{with_program};
 ghost use Rattle.duct_start.specs.Listed.{AreOutwards, scope_in};
-ghost use Rattle.duct_start.specs.Step.{step};
+ghost use Rattle.duct_start.specs.Step.{said};
 ghost use Rattle.duct_run.specs.ActionView.{ports_view};
 ghost use Rattle.duct_run.specs.Made.{IsMade, program_text};
 ghost use Rattle.duct_run.specs.ScopeView.{setting_view, scopes_view};
@@ -35,7 +35,7 @@ pub(crate) fn folder_in<'a, E, H>(scopes: &[Scope<'a, E, H>], scope: usize) -> O
 
 // The folder that a setting sets.
 fn folder_of<'a, E, H>(setting: Setting<'a, E, H>) -> Option<&'a str>
-    ensures { option_copied result ≡ (step (setting_view setting.entry)).folder }
+    ensures { option_copied result ≡ (said (setting_view setting.entry)).folder }
 {
     match setting {
         Setting::Dir(folder) => Some(folder),

@@ -3,7 +3,7 @@ ghost use Rattle.std.specs.Prelude.{◌≡◌, ◌≤◌, ◌+◌, ◌∷◌, []
 ghost use Rattle.std.specs.Option.{option_to_list};
 ghost use Rattle.duct_start.specs.Commands.{Alters, Breaks};
 ghost use Rattle.duct_start.specs.Listed.{AreOutwards, scope_in};
-ghost use Rattle.duct_start.specs.Step.{step};
+ghost use Rattle.duct_start.specs.Step.{said};
 ghost use Rattle.duct_run.specs.ScopeView.{scopes_view, setting_view};
 ghost use Rattle.duct_run.specs.StreamsView.{many_ends, streams_view};
 
@@ -80,7 +80,7 @@ pub(crate) fn change_all<S: System, H: Hook>(
 
 // The hook of a setting, with the ends beside it.
 fn hook_of<'a, E, H>(setting: Setting<'a, E, H>) -> Option<(&'a H, &'a [E])>
-    ensures { (step (setting_view setting.entry)).hooks
+    ensures { (said (setting_view setting.entry)).hooks
         ≡ map (λ pair. (pair.0.now, pair.1.now)) (option_to_list result) }
 {
     match setting {

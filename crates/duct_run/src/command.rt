@@ -10,9 +10,10 @@ ghost use Rattle.duct_start.specs.Holdings.{Holdings, ends};
 ghost use Rattle.duct_start.specs.Listed.{AreOutwards, scope_in};
 ghost use Rattle.duct_start.specs.Plan.{program_of};
 ghost use Rattle.duct_run.specs.ActionView.{ports_view};
-ghost use Rattle.duct_run.specs.HeldView.{AreNew, HasRoom, HasSameWorkers, SpawnGoes, SpawnRefused, held_view, stack_view};
+ghost use Rattle.duct_run.specs.HeldView.{HasRoom, HasSameWorkers, stack_view};
 ghost use Rattle.duct_run.specs.Made.{IsPrepared, program_text};
 ghost use Rattle.duct_run.specs.NameRefused.{NameRefused};
+ghost use Rattle.duct_run.specs.Requested.{CommandGoes, CommandStops, IsNew, held_by};
 ghost use Rattle.duct_run.specs.ScopeView.{scopes_view};
 ghost use Rattle.duct_run.specs.StreamsView.{streams_view};
 
@@ -22,6 +23,7 @@ use crate::change::change_all;
 use crate::held::{Held, top};
 use crate::scope::Scope;
 use crate::streams::Streams;
+use crate::views::Seen;
 use duct_base::exe::asks_canonical;
 use duct_base::pool::{Place, Seat, place_new, seat_new};
 use duct_system::error::Error;
@@ -47,11 +49,11 @@ fn canonical<S: System, H: Hook>(
 ) -> Result<Option<String>, Error>
     requires within { scope ≤ length scopes.now }
     requires outwards { AreOutwards (scopes_view scopes.now) }
-    ensures ok { IfOk result (λ name. let texts = map string_bytes words.now in
-        Names {E = S.End} {H = H} H.allows S.End.number_of (scope_in (scopes_view scopes.now) scope)
-        texts (S.journal_view sys.old) (S.journal_view sys.new) (program_text name texts)) }
-    ensures err { IfErr result (NameRefused (scope_in (scopes_view scopes.now) scope)
-        (map string_bytes words.now) (S.journal_view sys.old) (S.journal_view sys.new)) }
+    ensures ok { IfOk result (λ name. let texts = map string_bytes words.now in Names {E = S.End} {H
+        = H} H.allows S.End.number_of (scope_in (scopes_view scopes.now) scope) texts
+        (S.journal_view sys.old) (S.journal_view sys.new) (program_text name texts)) }
+    ensures err { IfErr result (NameRefused (scope_in (scopes_view scopes.now) scope) (map
+        string_bytes words.now) (S.journal_view sys.old) (S.journal_view sys.new)) }
     ensures left { OnOk result ((S.journal_view sys.old).room ≤ (S.journal_view sys.new).room) }
 {
     let program = program_of(words);
@@ -64,10 +66,10 @@ fn canonical<S: System, H: Hook>(
 // What a port takes off the stack.
 fn take<E: Numbered>(stack: &mut Vec<E>, port: Port) -> Stdio<E>
     requires { many port ≤ vec_len stack.old }
-    ensures stream { stream_of E.number_of result
-        ≡ taken port (stack_view E.number_of stack.old.items) }
-    ensures left { stack_view E.number_of stack.new.items
-        ≡ less port (stack_view E.number_of stack.old.items) }
+    ensures stream { stream_of E.number_of result ≡ taken port (stack_view E.number_of
+        stack.old.items) }
+    ensures left { stack_view E.number_of stack.new.items ≡ less port (stack_view E.number_of
+        stack.old.items) }
     ensures len { vec_len stack.new + many port ≡ vec_len stack.old }
     ensures capacity { vec_capacity stack.new ≡ vec_capacity stack.old }
 {
@@ -81,10 +83,10 @@ fn take<E: Numbered>(stack: &mut Vec<E>, port: Port) -> Stdio<E>
 // What three ports take off the stack; stderr's end is on top.
 fn take_all<E: Numbered>(stack: &mut Vec<E>, ports: Ports) -> Streams<E>
     requires { many ports.input + (many ports.output + many ports.error) ≤ vec_len stack.old }
-    ensures streams { streams_view E.number_of result
-        ≡ taken_by (ports_view ports) (stack_view E.number_of stack.old.items) }
-    ensures left { stack_view E.number_of stack.new.items
-        ≡ left_by (ports_view ports) (stack_view E.number_of stack.old.items) }
+    ensures streams { streams_view E.number_of result ≡ taken_by (ports_view ports) (stack_view
+        E.number_of stack.old.items) }
+    ensures left { stack_view E.number_of stack.new.items ≡ left_by (ports_view ports) (stack_view
+        E.number_of stack.old.items) }
     ensures len { vec_len stack.new ≤ vec_len stack.old }
     ensures capacity { vec_capacity stack.new ≡ vec_capacity stack.old }
 {
@@ -101,8 +103,8 @@ fn take_all<E: Numbered>(stack: &mut Vec<E>, ports: Ports) -> Streams<E>
 // Puts the end of a stream back onto the stack, if it has one.
 fn put<E: Numbered>(stack: &mut Vec<E>, stream: Stdio<E>)
     requires { vec_len stack.old + 1 ≤ vec_capacity stack.old }
-    ensures items { stack_view E.number_of stack.new.items
-        ≡ end_of (stream_of E.number_of stream) ++ stack_view E.number_of stack.old.items }
+    ensures items { stack_view E.number_of stack.new.items ≡ end_of (stream_of E.number_of stream)
+        ++ stack_view E.number_of stack.old.items }
     ensures len { vec_len stack.new ≤ vec_len stack.old + 1 }
     ensures capacity { vec_capacity stack.new ≡ vec_capacity stack.old }
 {
@@ -163,21 +165,18 @@ pub(crate) fn command<S: System, H: Hook>(
 ) -> Result<(), Error>
     requires within { scope ≤ length scopes.now }
     requires outwards { AreOutwards (scopes_view scopes.now) }
-    requires full { many ports.input + (many ports.output + many ports.error)
-        ≤ vec_len held.old.stack }
-    requires room { length (ends (held_view S.End.number_of S.Child.child_view S.Feed.job_view
-        S.Drain.job_view held.old)) ≤ (S.journal_view sys.old).room }
+    requires full { many ports.input + (many ports.output + many ports.error) ≤ vec_len
+        held.old.stack }
+    requires room { length (ends (held_by ⟦<S as Seen>⟧.views held.old)) ≤ (S.journal_view
+        sys.old).room }
     requires reserved { HasRoom held.old }
-    ensures ok { OnOk result (SpawnGoes H.allows S.End.number_of S.Child.child_view S.Feed.job_view
-        S.Drain.job_view (map pair_text pairs.now.items)
-        (action.spawn (scope_in (scopes_view scopes.now) scope) (map string_bytes words.now)
-        (ports_view ports)) (S.journal_view sys.old) (S.journal_view sys.new) held.old held.new) }
-    ensures err { IfErr result (SpawnRefused H.allows H.refuses S.End.number_of S.Child.child_view
-        S.Feed.job_view S.Drain.job_view (map pair_text pairs.now.items)
-        (action.spawn (scope_in (scopes_view scopes.now) scope) (map string_bytes words.now)
-        (ports_view ports)) (S.journal_view sys.old) (S.journal_view sys.new) held.old held.new) }
-    ensures new { AreNew S.Child.child_view S.Feed.job_view S.Drain.job_view held.old
-        → AreNew S.Child.child_view S.Feed.job_view S.Drain.job_view held.new }
+    ensures ok { OnOk result (CommandGoes ⟦<S as Seen>⟧.views H.allows (map pair_text
+        pairs.now.items) (action.spawn (scope_in (scopes_view scopes.now) scope) (map string_bytes
+        words.now) (ports_view ports)) sys.old sys.new held.old held.new) }
+    ensures err { IfErr result (CommandStops ⟦<S as Seen>⟧.views H.allows H.refuses (map pair_text
+        pairs.now.items) (action.spawn (scope_in (scopes_view scopes.now) scope) (map string_bytes
+        words.now) (ports_view ports)) sys.old sys.new held.old held.new) }
+    ensures new { IsNew ⟦<S as Seen>⟧.views held.old → IsNew ⟦<S as Seen>⟧.views held.new }
     ensures workers { HasSameWorkers held.old held.new }
 {
     let (seat, mut spec) = prepared(sys, pairs, scopes, scope, words, ports)?;

@@ -14,3 +14,4 @@ pub mod scope;
 pub mod start;
 pub mod streams;
 pub mod variables;
+pub mod views;

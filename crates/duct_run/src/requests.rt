@@ -1,13 +1,14 @@
 //! The requests of a run, one function for each action but a command's.
-ghost use Rattle.std.specs.Prelude.{◌≡◌, ◌<◌, ◌≤◌, ◌+◌, length, None, OnOk, IfErr, IsSome, is_some, vec_len, vec_capacity};
+ghost use Rattle.std.specs.Prelude.{◌≡◌, ◌<◌, ◌≤◌, ◌+◌, length, None, Ok, OnOk, IfErr, IsSome, is_some, vec_len, vec_capacity};
 ghost use Rattle.std.specs.Arc.{arc_value};
 ghost use Rattle.duct_system.specs.declared.system.Side.TheVariants as side;
 ghost use Rattle.duct_start.specs.Actions as action;
 ghost use Rattle.duct_start.specs.Holdings.{ends};
 ghost use Rattle.duct_start.specs.Standing.{CanDo};
-ghost use Rattle.duct_run.specs.HeldView.{AreNew, GoesOn, HasSameWorkers, QuitsAt, held_view};
+ghost use Rattle.duct_run.specs.Requested.{IsNew, RequestGoes, RequestQuits, Requested, held_by};
 
 use crate::held::{Held, top};
+use crate::views::Seen;
 use duct_base::pool::Place;
 use duct_system::error::Error;
 use duct_system::spec::Hook;
@@ -21,15 +22,8 @@ pub(crate) fn open_read<S: System, H: Hook>(
     held: &mut Held<S::End, Place<S::Child>, S::Feed, S::Drain>,
 ) -> Result<(), Error>
     requires reserved { vec_len held.old.stack + 1 ≤ vec_capacity held.old.stack }
-    ensures ok { OnOk result (GoesOn H.allows S.End.number_of S.Child.child_view S.Feed.job_view
-        S.Drain.job_view (action.open_read path.now) (S.journal_view sys.old)
-        (S.journal_view sys.new) held.old held.new) }
-    ensures err { IfErr result (QuitsAt H.allows S.End.number_of S.Child.child_view S.Feed.job_view
-        S.Drain.job_view (action.open_read path.now) (S.journal_view sys.old)
-        (S.journal_view sys.new) held.old held.new) }
-    ensures new { AreNew S.Child.child_view S.Feed.job_view S.Drain.job_view held.old
-        → AreNew S.Child.child_view S.Feed.job_view S.Drain.job_view held.new }
-    ensures workers { HasSameWorkers held.old held.new }
+    ensures { Requested ⟦<S as Seen>⟧.views H.allows (action.open_read path.now) result sys.old
+        sys.new held.old held.new }
 {
     let end = sys.open_read(path)?;
     held.stack.push_reserved(end);
@@ -43,15 +37,8 @@ pub(crate) fn create<S: System, H: Hook>(
     held: &mut Held<S::End, Place<S::Child>, S::Feed, S::Drain>,
 ) -> Result<(), Error>
     requires reserved { vec_len held.old.stack + 1 ≤ vec_capacity held.old.stack }
-    ensures ok { OnOk result (GoesOn H.allows S.End.number_of S.Child.child_view S.Feed.job_view
-        S.Drain.job_view (action.create path.now) (S.journal_view sys.old) (S.journal_view sys.new)
-        held.old held.new) }
-    ensures err { IfErr result (QuitsAt H.allows S.End.number_of S.Child.child_view S.Feed.job_view
-        S.Drain.job_view (action.create path.now) (S.journal_view sys.old) (S.journal_view sys.new)
-        held.old held.new) }
-    ensures new { AreNew S.Child.child_view S.Feed.job_view S.Drain.job_view held.old
-        → AreNew S.Child.child_view S.Feed.job_view S.Drain.job_view held.new }
-    ensures workers { HasSameWorkers held.old held.new }
+    ensures { Requested ⟦<S as Seen>⟧.views H.allows (action.create path.now) result sys.old sys.new
+        held.old held.new }
 {
     let end = sys.create(path)?;
     held.stack.push_reserved(end);
@@ -64,15 +51,8 @@ pub(crate) fn open_pipe<S: System, H: Hook>(
     held: &mut Held<S::End, Place<S::Child>, S::Feed, S::Drain>,
 ) -> Result<(), Error>
     requires reserved { vec_len held.old.stack + 2 ≤ vec_capacity held.old.stack }
-    ensures ok { OnOk result (GoesOn H.allows S.End.number_of S.Child.child_view S.Feed.job_view
-        S.Drain.job_view (action.pipe) (S.journal_view sys.old) (S.journal_view sys.new)
-        held.old held.new) }
-    ensures err { IfErr result (QuitsAt H.allows S.End.number_of S.Child.child_view S.Feed.job_view
-        S.Drain.job_view (action.pipe) (S.journal_view sys.old) (S.journal_view sys.new)
-        held.old held.new) }
-    ensures new { AreNew S.Child.child_view S.Feed.job_view S.Drain.job_view held.old
-        → AreNew S.Child.child_view S.Feed.job_view S.Drain.job_view held.new }
-    ensures workers { HasSameWorkers held.old held.new }
+    ensures { Requested ⟦<S as Seen>⟧.views H.allows (action.pipe) result sys.old sys.new held.old
+        held.new }
 {
     let (reader, writer) = sys.pipe()?;
     held.stack.push_reserved(reader);
@@ -86,15 +66,8 @@ pub(crate) fn open_input<S: System, H: Hook>(
     held: &mut Held<S::End, Place<S::Child>, S::Feed, S::Drain>,
 ) -> Result<(), Error>
     requires reserved { vec_len held.old.stack + 2 ≤ vec_capacity held.old.stack }
-    ensures ok { OnOk result (GoesOn H.allows S.End.number_of S.Child.child_view S.Feed.job_view
-        S.Drain.job_view (action.input) (S.journal_view sys.old) (S.journal_view sys.new)
-        held.old held.new) }
-    ensures err { IfErr result (QuitsAt H.allows S.End.number_of S.Child.child_view S.Feed.job_view
-        S.Drain.job_view (action.input) (S.journal_view sys.old) (S.journal_view sys.new)
-        held.old held.new) }
-    ensures new { AreNew S.Child.child_view S.Feed.job_view S.Drain.job_view held.old
-        → AreNew S.Child.child_view S.Feed.job_view S.Drain.job_view held.new }
-    ensures workers { HasSameWorkers held.old held.new }
+    ensures { Requested ⟦<S as Seen>⟧.views H.allows (action.input) result sys.old sys.new held.old
+        held.new }
 {
     let (reader, writer) = sys.pipe()?;
     held.stack.push_reserved(writer);
@@ -110,15 +83,8 @@ pub(crate) fn duplicate<S: System, H: Hook>(
 ) -> Result<(), Error>
     requires reserved { vec_len held.old.stack + 1 ≤ vec_capacity held.old.stack }
     requires within { depth < length held.old.stack.items }
-    ensures ok { OnOk result (GoesOn H.allows S.End.number_of S.Child.child_view S.Feed.job_view
-        S.Drain.job_view (action.duplicate depth) (S.journal_view sys.old) (S.journal_view sys.new)
-        held.old held.new) }
-    ensures err { IfErr result (QuitsAt H.allows S.End.number_of S.Child.child_view S.Feed.job_view
-        S.Drain.job_view (action.duplicate depth) (S.journal_view sys.old) (S.journal_view sys.new)
-        held.old held.new) }
-    ensures new { AreNew S.Child.child_view S.Feed.job_view S.Drain.job_view held.old
-        → AreNew S.Child.child_view S.Feed.job_view S.Drain.job_view held.new }
-    ensures workers { HasSameWorkers held.old held.new }
+    ensures { Requested ⟦<S as Seen>⟧.views H.allows (action.duplicate depth) result sys.old sys.new
+        held.old held.new }
 {
     let end = sys.duplicate(&held.stack[depth])?;
     held.stack.push_reserved(end);
@@ -132,15 +98,8 @@ pub(crate) fn lend<S: System, H: Hook>(
     held: &mut Held<S::End, Place<S::Child>, S::Feed, S::Drain>,
 ) -> Result<(), Error>
     requires reserved { vec_len held.old.stack + 1 ≤ vec_capacity held.old.stack }
-    ensures ok { OnOk result (GoesOn H.allows S.End.number_of S.Child.child_view S.Feed.job_view
-        S.Drain.job_view (action.lend end.now) (S.journal_view sys.old) (S.journal_view sys.new)
-        held.old held.new) }
-    ensures err { IfErr result (QuitsAt H.allows S.End.number_of S.Child.child_view S.Feed.job_view
-        S.Drain.job_view (action.lend end.now) (S.journal_view sys.old) (S.journal_view sys.new)
-        held.old held.new) }
-    ensures new { AreNew S.Child.child_view S.Feed.job_view S.Drain.job_view held.old
-        → AreNew S.Child.child_view S.Feed.job_view S.Drain.job_view held.new }
-    ensures workers { HasSameWorkers held.old held.new }
+    ensures { Requested ⟦<S as Seen>⟧.views H.allows (action.lend end.now) result sys.old sys.new
+        held.old held.new }
 {
     let made = sys.duplicate(end)?;
     held.stack.push_reserved(made);
@@ -154,15 +113,8 @@ pub(crate) fn parent<S: System, H: Hook>(
     held: &mut Held<S::End, Place<S::Child>, S::Feed, S::Drain>,
 ) -> Result<(), Error>
     requires reserved { vec_len held.old.stack + 1 ≤ vec_capacity held.old.stack }
-    ensures ok { OnOk result (GoesOn H.allows S.End.number_of S.Child.child_view S.Feed.job_view
-        S.Drain.job_view (action.parent side) (S.journal_view sys.old) (S.journal_view sys.new)
-        held.old held.new) }
-    ensures err { IfErr result (QuitsAt H.allows S.End.number_of S.Child.child_view S.Feed.job_view
-        S.Drain.job_view (action.parent side) (S.journal_view sys.old) (S.journal_view sys.new)
-        held.old held.new) }
-    ensures new { AreNew S.Child.child_view S.Feed.job_view S.Drain.job_view held.old
-        → AreNew S.Child.child_view S.Feed.job_view S.Drain.job_view held.new }
-    ensures workers { HasSameWorkers held.old held.new }
+    ensures { Requested ⟦<S as Seen>⟧.views H.allows (action.parent side) result sys.old sys.new
+        held.old held.new }
 {
     let end = sys.parent(side)?;
     held.stack.push_reserved(end);
@@ -176,12 +128,8 @@ pub(crate) fn close<S: System, H: Hook>(
 )
     requires full { 1 ≤ vec_len held.old.stack }
     requires room { 0 < (S.journal_view sys.old).room }
-    ensures ok { GoesOn H.allows S.End.number_of S.Child.child_view S.Feed.job_view
-        S.Drain.job_view (action.close) (S.journal_view sys.old) (S.journal_view sys.new)
-        held.old held.new }
-    ensures new { AreNew S.Child.child_view S.Feed.job_view S.Drain.job_view held.old
-        → AreNew S.Child.child_view S.Feed.job_view S.Drain.job_view held.new }
-    ensures workers { HasSameWorkers held.old held.new }
+    ensures { Requested ⟦<S as Seen>⟧.views H.allows (action.close) (Ok tt) sys.old sys.new held.old
+        held.new }
 {
     let end = top(&mut held.stack);
     sys.close(end);
@@ -192,15 +140,8 @@ pub(crate) fn capture_out<S: System, H: Hook>(
     sys: &mut S,
     held: &mut Held<S::End, Place<S::Child>, S::Feed, S::Drain>,
 ) -> Result<(), Error>
-    ensures ok { OnOk result (GoesOn H.allows S.End.number_of S.Child.child_view S.Feed.job_view
-        S.Drain.job_view (action.capture side.Out) (S.journal_view sys.old) (S.journal_view sys.new)
-        held.old held.new) }
-    ensures err { IfErr result (QuitsAt H.allows S.End.number_of S.Child.child_view S.Feed.job_view
-        S.Drain.job_view (action.capture side.Out) (S.journal_view sys.old) (S.journal_view sys.new)
-        held.old held.new) }
-    ensures new { AreNew S.Child.child_view S.Feed.job_view S.Drain.job_view held.old
-        → AreNew S.Child.child_view S.Feed.job_view S.Drain.job_view held.new }
-    ensures workers { HasSameWorkers held.old held.new }
+    ensures { Requested ⟦<S as Seen>⟧.views H.allows (action.capture side.Out) result sys.old
+        sys.new held.old held.new }
 {
     match &held.output {
         Some(_) => Ok(()),
@@ -219,15 +160,8 @@ pub(crate) fn tap_out<S: System, H: Hook>(
 ) -> Result<(), Error>
     requires reserved { vec_len held.old.stack + 1 ≤ vec_capacity held.old.stack }
     requires open { IsSome held.old.output }
-    ensures ok { OnOk result (GoesOn H.allows S.End.number_of S.Child.child_view S.Feed.job_view
-        S.Drain.job_view (action.tap side.Out) (S.journal_view sys.old) (S.journal_view sys.new)
-        held.old held.new) }
-    ensures err { IfErr result (QuitsAt H.allows S.End.number_of S.Child.child_view S.Feed.job_view
-        S.Drain.job_view (action.tap side.Out) (S.journal_view sys.old) (S.journal_view sys.new)
-        held.old held.new) }
-    ensures new { AreNew S.Child.child_view S.Feed.job_view S.Drain.job_view held.old
-        → AreNew S.Child.child_view S.Feed.job_view S.Drain.job_view held.new }
-    ensures workers { HasSameWorkers held.old held.new }
+    ensures { Requested ⟦<S as Seen>⟧.views H.allows (action.tap side.Out) result sys.old sys.new
+        held.old held.new }
 {
     let end = match &held.output {
         Some((_, writer)) => sys.duplicate(writer)?,
@@ -242,15 +176,8 @@ pub(crate) fn capture_err<S: System, H: Hook>(
     sys: &mut S,
     held: &mut Held<S::End, Place<S::Child>, S::Feed, S::Drain>,
 ) -> Result<(), Error>
-    ensures ok { OnOk result (GoesOn H.allows S.End.number_of S.Child.child_view S.Feed.job_view
-        S.Drain.job_view (action.capture side.Err) (S.journal_view sys.old) (S.journal_view sys.new)
-        held.old held.new) }
-    ensures err { IfErr result (QuitsAt H.allows S.End.number_of S.Child.child_view S.Feed.job_view
-        S.Drain.job_view (action.capture side.Err) (S.journal_view sys.old) (S.journal_view sys.new)
-        held.old held.new) }
-    ensures new { AreNew S.Child.child_view S.Feed.job_view S.Drain.job_view held.old
-        → AreNew S.Child.child_view S.Feed.job_view S.Drain.job_view held.new }
-    ensures workers { HasSameWorkers held.old held.new }
+    ensures { Requested ⟦<S as Seen>⟧.views H.allows (action.capture side.Err) result sys.old
+        sys.new held.old held.new }
 {
     match &held.error {
         Some(_) => Ok(()),
@@ -269,15 +196,8 @@ pub(crate) fn tap_err<S: System, H: Hook>(
 ) -> Result<(), Error>
     requires reserved { vec_len held.old.stack + 1 ≤ vec_capacity held.old.stack }
     requires open { IsSome held.old.error }
-    ensures ok { OnOk result (GoesOn H.allows S.End.number_of S.Child.child_view S.Feed.job_view
-        S.Drain.job_view (action.tap side.Err) (S.journal_view sys.old) (S.journal_view sys.new)
-        held.old held.new) }
-    ensures err { IfErr result (QuitsAt H.allows S.End.number_of S.Child.child_view S.Feed.job_view
-        S.Drain.job_view (action.tap side.Err) (S.journal_view sys.old) (S.journal_view sys.new)
-        held.old held.new) }
-    ensures new { AreNew S.Child.child_view S.Feed.job_view S.Drain.job_view held.old
-        → AreNew S.Child.child_view S.Feed.job_view S.Drain.job_view held.new }
-    ensures workers { HasSameWorkers held.old held.new }
+    ensures { Requested ⟦<S as Seen>⟧.views H.allows (action.tap side.Err) result sys.old sys.new
+        held.old held.new }
 {
     let end = match &held.error {
         Some((_, writer)) => sys.duplicate(writer)?,
@@ -293,15 +213,8 @@ pub(crate) fn capture<S: System, H: Hook>(
     side: Side,
     held: &mut Held<S::End, Place<S::Child>, S::Feed, S::Drain>,
 ) -> Result<(), Error>
-    ensures ok { OnOk result (GoesOn H.allows S.End.number_of S.Child.child_view S.Feed.job_view
-        S.Drain.job_view (action.capture side) (S.journal_view sys.old) (S.journal_view sys.new)
-        held.old held.new) }
-    ensures err { IfErr result (QuitsAt H.allows S.End.number_of S.Child.child_view S.Feed.job_view
-        S.Drain.job_view (action.capture side) (S.journal_view sys.old) (S.journal_view sys.new)
-        held.old held.new) }
-    ensures new { AreNew S.Child.child_view S.Feed.job_view S.Drain.job_view held.old
-        → AreNew S.Child.child_view S.Feed.job_view S.Drain.job_view held.new }
-    ensures workers { HasSameWorkers held.old held.new }
+    ensures { Requested ⟦<S as Seen>⟧.views H.allows (action.capture side) result sys.old sys.new
+        held.old held.new }
 {
     match side {
         Side::Out => capture_out::<S, H>(sys, held),
@@ -316,17 +229,10 @@ pub(crate) fn tap<S: System, H: Hook>(
     held: &mut Held<S::End, Place<S::Child>, S::Feed, S::Drain>,
 ) -> Result<(), Error>
     requires reserved { vec_len held.old.stack + 1 ≤ vec_capacity held.old.stack }
-    requires open { CanDo {E = S.End} {H = H} (action.tap side) (held_view S.End.number_of
-        S.Child.child_view S.Feed.job_view S.Drain.job_view held.old) }
-    ensures ok { OnOk result (GoesOn H.allows S.End.number_of S.Child.child_view S.Feed.job_view
-        S.Drain.job_view (action.tap side) (S.journal_view sys.old) (S.journal_view sys.new)
-        held.old held.new) }
-    ensures err { IfErr result (QuitsAt H.allows S.End.number_of S.Child.child_view S.Feed.job_view
-        S.Drain.job_view (action.tap side) (S.journal_view sys.old) (S.journal_view sys.new)
-        held.old held.new) }
-    ensures new { AreNew S.Child.child_view S.Feed.job_view S.Drain.job_view held.old
-        → AreNew S.Child.child_view S.Feed.job_view S.Drain.job_view held.new }
-    ensures workers { HasSameWorkers held.old held.new }
+    requires open { CanDo {E = S.End} {H = H} (action.tap side) (held_by ⟦<S as Seen>⟧.views
+        held.old) }
+    ensures { Requested ⟦<S as Seen>⟧.views H.allows (action.tap side) result sys.old sys.new
+        held.old held.new }
 {
     match side {
         Side::Out => tap_out::<S, H>(sys, held),
@@ -343,15 +249,8 @@ pub(crate) fn feed<S: System, H: Hook>(
     requires full { 1 ≤ vec_len held.old.stack }
     requires room { 0 < (S.journal_view sys.old).room }
     requires reserved { vec_len held.old.feeds + 1 ≤ vec_capacity held.old.feeds }
-    ensures ok { OnOk result (GoesOn H.allows S.End.number_of S.Child.child_view S.Feed.job_view
-        S.Drain.job_view (action.feed (arc_value bytes.now).items) (S.journal_view sys.old)
-        (S.journal_view sys.new) held.old held.new) }
-    ensures err { IfErr result (QuitsAt H.allows S.End.number_of S.Child.child_view S.Feed.job_view
-        S.Drain.job_view (action.feed (arc_value bytes.now).items) (S.journal_view sys.old)
-        (S.journal_view sys.new) held.old held.new) }
-    ensures new { AreNew S.Child.child_view S.Feed.job_view S.Drain.job_view held.old
-        → AreNew S.Child.child_view S.Feed.job_view S.Drain.job_view held.new }
-    ensures workers { HasSameWorkers held.old held.new }
+    ensures { Requested ⟦<S as Seen>⟧.views H.allows (action.feed (arc_value bytes.now).items)
+        result sys.old sys.new held.old held.new }
 {
     let bytes = Arc::try_clone(bytes)?;
     let end = top(&mut held.stack);
@@ -365,18 +264,15 @@ pub(crate) fn finish_out<S: System, H: Hook>(
     sys: &mut S,
     held: &mut Held<S::End, Place<S::Child>, S::Feed, S::Drain>,
 ) -> Result<(), Error>
-    requires room { length (ends (held_view S.End.number_of S.Child.child_view S.Feed.job_view
-        S.Drain.job_view held.old)) ≤ (S.journal_view sys.old).room }
+    requires room { length (ends (held_by ⟦<S as Seen>⟧.views held.old)) ≤ (S.journal_view
+        sys.old).room }
     requires first { held.old.output_worker ≡ None }
     requires last { held.old.error_worker ≡ None }
-    ensures ok { OnOk result (GoesOn H.allows S.End.number_of S.Child.child_view S.Feed.job_view
-        S.Drain.job_view (action.finish side.Out) (S.journal_view sys.old) (S.journal_view sys.new)
-        held.old held.new) }
-    ensures err { IfErr result (QuitsAt H.allows S.End.number_of S.Child.child_view S.Feed.job_view
-        S.Drain.job_view (action.finish side.Out) (S.journal_view sys.old) (S.journal_view sys.new)
-        held.old held.new) }
-    ensures new { AreNew S.Child.child_view S.Feed.job_view S.Drain.job_view held.old
-        → AreNew S.Child.child_view S.Feed.job_view S.Drain.job_view held.new }
+    ensures ok { OnOk result (RequestGoes ⟦<S as Seen>⟧.views H.allows (action.finish side.Out)
+        sys.old sys.new held.old held.new) }
+    ensures err { IfErr result (RequestQuits ⟦<S as Seen>⟧.views H.allows (action.finish side.Out)
+        sys.old sys.new held.old held.new) }
+    ensures new { IsNew ⟦<S as Seen>⟧.views held.old → IsNew ⟦<S as Seen>⟧.views held.new }
     ensures last { held.new.error_worker ≡ held.old.error_worker }
     ensures worker { OnOk result (is_some held.new.output_worker ≡ is_some held.old.output) }
 {
@@ -394,17 +290,14 @@ pub(crate) fn finish_err<S: System, H: Hook>(
     sys: &mut S,
     held: &mut Held<S::End, Place<S::Child>, S::Feed, S::Drain>,
 ) -> Result<(), Error>
-    requires room { length (ends (held_view S.End.number_of S.Child.child_view S.Feed.job_view
-        S.Drain.job_view held.old)) ≤ (S.journal_view sys.old).room }
+    requires room { length (ends (held_by ⟦<S as Seen>⟧.views held.old)) ≤ (S.journal_view
+        sys.old).room }
     requires last { held.old.error_worker ≡ None }
-    ensures ok { OnOk result (GoesOn H.allows S.End.number_of S.Child.child_view S.Feed.job_view
-        S.Drain.job_view (action.finish side.Err) (S.journal_view sys.old) (S.journal_view sys.new)
-        held.old held.new) }
-    ensures err { IfErr result (QuitsAt H.allows S.End.number_of S.Child.child_view S.Feed.job_view
-        S.Drain.job_view (action.finish side.Err) (S.journal_view sys.old) (S.journal_view sys.new)
-        held.old held.new) }
-    ensures new { AreNew S.Child.child_view S.Feed.job_view S.Drain.job_view held.old
-        → AreNew S.Child.child_view S.Feed.job_view S.Drain.job_view held.new }
+    ensures ok { OnOk result (RequestGoes ⟦<S as Seen>⟧.views H.allows (action.finish side.Err)
+        sys.old sys.new held.old held.new) }
+    ensures err { IfErr result (RequestQuits ⟦<S as Seen>⟧.views H.allows (action.finish side.Err)
+        sys.old sys.new held.old held.new) }
+    ensures new { IsNew ⟦<S as Seen>⟧.views held.old → IsNew ⟦<S as Seen>⟧.views held.new }
     ensures first { held.new.output_worker ≡ held.old.output_worker }
     ensures worker { OnOk result (is_some held.new.error_worker ≡ is_some held.old.error) }
 {

@@ -4,11 +4,11 @@ ghost use Rattle.duct_system.specs.SpecView.{pair_text};
 ghost use Rattle.duct_start.specs.Actions.{State, pops};
 ghost use Rattle.duct_start.specs.Commands.{Refused};
 ghost use Rattle.duct_start.specs.Holdings.{ends};
-ghost use Rattle.duct_start.specs.Left.{Leaves, pool_view};
 ghost use Rattle.duct_start.specs.Listed.{AreOutwards, IsWithin, resolved, resolved_all};
 ghost use Rattle.duct_start.specs.Standing.{CanDo, Course, Stands, Stood};
 ghost use Rattle.duct_run.specs.ActionView.{action_view, actions_view};
-ghost use Rattle.duct_run.specs.HeldView.{AreNew, HasRoom, HasSameWorkers, SomeStood, SpawnGoes, SpawnRefused, held_view};
+ghost use Rattle.duct_run.specs.HeldView.{HasRoom, HasSameWorkers, SomeStood};
+ghost use Rattle.duct_run.specs.Requested.{IsNew, Performed, PoolLeaves, held_by};
 ghost use Rattle.duct_run.specs.ScopeView.{all_scopes, scopes_view};
 
 use crate::action::Action;
@@ -18,6 +18,7 @@ use crate::requests::{
     capture, close, create, duplicate, feed, lend, open_input, open_pipe, open_read, parent, tap,
 };
 use crate::scope::Scope;
+use crate::views::Seen;
 use duct_base::pool::{Place, Pool};
 use duct_system::error::Error;
 use duct_system::spec::Hook;
@@ -35,24 +36,14 @@ fn perform<S: System, H: Hook>(
     requires outwards { AreOutwards (scopes_view scopes.now) }
     requires within { IsWithin (length scopes.now) (action_view action) }
     requires full { pops (action_view action) ≤ vec_len held.old.stack }
-    requires can { CanDo (resolved (all_scopes scopes.now) (action_view action))
-        (held_view S.End.number_of S.Child.child_view S.Feed.job_view S.Drain.job_view held.old) }
-    requires room { length (ends (held_view S.End.number_of S.Child.child_view S.Feed.job_view
-        S.Drain.job_view held.old)) ≤ (S.journal_view sys.old).room }
+    requires can { CanDo (resolved (all_scopes scopes.now) (action_view action)) (held_by ⟦<S as Seen>⟧.views held.old) }
+    requires room { length (ends (held_by ⟦<S as Seen>⟧.views held.old)) ≤ (S.journal_view
+        sys.old).room }
     requires reserved { HasRoom held.old }
-    ensures ok { OnOk result (SpawnGoes H.allows S.End.number_of S.Child.child_view S.Feed.job_view
-        S.Drain.job_view (map pair_text pairs.now.items)
-        (resolved (all_scopes scopes.now) (action_view action.entry)) (S.journal_view sys.old)
-        (S.journal_view sys.new) held.old held.new) }
-    ensures err { IfErr result (SpawnRefused H.allows H.refuses S.End.number_of S.Child.child_view
-        S.Feed.job_view S.Drain.job_view (map pair_text pairs.now.items)
-        (resolved (all_scopes scopes.now) (action_view action.entry)) (S.journal_view sys.old)
-        (S.journal_view sys.new) held.old held.new) }
-    ensures new { AreNew S.Child.child_view S.Feed.job_view S.Drain.job_view held.old
-        → AreNew S.Child.child_view S.Feed.job_view S.Drain.job_view held.new }
-    ensures workers { HasSameWorkers held.old held.new }
-    ensures pool { Leaves S.Child.may_answer [] (pool_view S.Child.child_view pool.old)
-        (pool_view S.Child.child_view pool.new) }
+    ensures performed { Performed ⟦<S as Seen>⟧.views H.allows H.refuses (map pair_text
+        pairs.now.items) (resolved (all_scopes scopes.now) (action_view action.entry)) result
+        sys.old sys.new held.old held.new }
+    ensures pool { PoolLeaves ⟦<S as Seen>⟧.views pool.old pool.new }
 {
     match action {
         Action::OpenRead(path) => open_read::<S, H>(sys, path, held),
@@ -89,27 +80,18 @@ pub(crate) fn perform_all<S: System, H: Hook>(
     requires within { All (IsWithin (length scopes.now)) (actions_view actions.now) }
     requires stood { SomeStood H.allows S.End.number_of (map pair_text pairs.now.items)
         (resolved_all (all_scopes scopes.now) (actions_view actions.now)) (S.journal_view sys.old)
-        (held_view S.End.number_of S.Child.child_view S.Feed.job_view S.Drain.job_view held.old) }
-    ensures ok { OnOk result ((course : Course) (goal : State S.End H)
-        → course.pairs ≡ map pair_text pairs.now.items
-        → Stood H.allows S.End.number_of course goal
-        (resolved_all (all_scopes scopes.now) (actions_view actions.now)) (S.journal_view sys.old)
-        (held_view S.End.number_of S.Child.child_view S.Feed.job_view S.Drain.job_view held.old)
-        → Stands H.allows S.End.number_of course goal (S.journal_view sys.new)
-        (held_view S.End.number_of S.Child.child_view S.Feed.job_view S.Drain.job_view held.new)) }
-    ensures err { IfErr result (λ error. (course : Course) (goal : State S.End H)
-        → course.pairs ≡ map pair_text pairs.now.items
-        → Stood H.allows S.End.number_of course goal
-        (resolved_all (all_scopes scopes.now) (actions_view actions.now)) (S.journal_view sys.old)
-        (held_view S.End.number_of S.Child.child_view S.Feed.job_view S.Drain.job_view held.old)
-        → Refused H.allows H.refuses S.End.number_of course goal.plan.items (S.journal_view sys.new)
-        (held_view S.End.number_of S.Child.child_view S.Feed.job_view S.Drain.job_view held.new)
-        error) }
-    ensures new { AreNew S.Child.child_view S.Feed.job_view S.Drain.job_view held.old
-        → AreNew S.Child.child_view S.Feed.job_view S.Drain.job_view held.new }
+        (held_by ⟦<S as Seen>⟧.views held.old) }
+    ensures ok { OnOk result ((course : Course) (goal : State S.End H) → course.pairs ≡ map
+        pair_text pairs.now.items → Stood H.allows S.End.number_of course goal (resolved_all
+        (all_scopes scopes.now) (actions_view actions.now)) (S.journal_view sys.old) (held_by ⟦<S as Seen>⟧.views held.old) → Stands H.allows S.End.number_of course goal (S.journal_view
+        sys.new) (held_by ⟦<S as Seen>⟧.views held.new)) }
+    ensures err { IfErr result (λ error. (course : Course) (goal : State S.End H) → course.pairs ≡
+        map pair_text pairs.now.items → Stood H.allows S.End.number_of course goal (resolved_all
+        (all_scopes scopes.now) (actions_view actions.now)) (S.journal_view sys.old) (held_by ⟦<S as Seen>⟧.views held.old) → Refused H.allows H.refuses S.End.number_of course goal.plan.items
+        (S.journal_view sys.new) (held_by ⟦<S as Seen>⟧.views held.new) error) }
+    ensures new { IsNew ⟦<S as Seen>⟧.views held.old → IsNew ⟦<S as Seen>⟧.views held.new }
     ensures workers { HasSameWorkers held.old held.new }
-    ensures pool { Leaves S.Child.may_answer [] (pool_view S.Child.child_view pool.old)
-        (pool_view S.Child.child_view pool.new) }
+    ensures pool { PoolLeaves ⟦<S as Seen>⟧.views pool.old pool.new }
 {
     for action in actions {
         make_room(held)?;

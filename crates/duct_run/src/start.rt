@@ -1,14 +1,13 @@
 //! A start: its actions are run, and what a refusal leaves is given up.
-ghost use Rattle.std.specs.Prelude.{◌≡◌, ◌≤◌, [], All, length, is_some, true, None, OnOk, IfOk, IfErr, IsSome};
+ghost use Rattle.std.specs.Prelude.{◌≡◌, ◌≤◌, All, length, is_some, true, None, OnOk, IfOk, IfErr, IsSome};
 ghost use Rattle.duct_system.specs.Trace.{segment};
 ghost use Rattle.duct_start.specs.Holdings.{empty};
-ghost use Rattle.duct_start.specs.Left.{Leaves, pool_view};
 ghost use Rattle.duct_start.specs.Listed.{AreOutwards, IsWithin, resolved_all};
-ghost use Rattle.duct_start.specs.Ran.{HavePipes, MadeReader, OpensOut, Runs, RunRefused, SomeLeads, drained, drained_and_read, nothing_more};
+ghost use Rattle.duct_start.specs.Ran.{HavePipes, MadeReader, OpensOut, SomeLeads, drained, drained_and_read, nothing_more};
 ghost use Rattle.duct_run.specs.ActionView.{actions_view};
-ghost use Rattle.duct_run.specs.GivesUp.{GivesUp};
-ghost use Rattle.duct_run.specs.HeldView.{AreNew, HasSameWorkers, held_view};
+ghost use Rattle.duct_run.specs.HeldView.{HasSameWorkers};
 ghost use Rattle.duct_run.specs.OutputRead.{IsRead, pipe_view};
+ghost use Rattle.duct_run.specs.Requested.{GivesUpBy, IsNew, PoolLeaves, RunStops, RunsBy, held_by};
 ghost use Rattle.duct_run.specs.ScopeView.{all_scopes, scopes_view};
 
 use crate::action::Action;
@@ -17,6 +16,7 @@ use crate::held::Held;
 use crate::requests::{finish_err, finish_out};
 use crate::run::perform_all;
 use crate::scope::Scope;
+use crate::views::Seen;
 use duct_base::pool::{Place, Pool};
 use duct_system::error::Error;
 use duct_system::spec::Hook;
@@ -32,23 +32,16 @@ fn run_actions<S: System, H: Hook>(
 ) -> Result<(), Error>
     requires outwards { AreOutwards (scopes_view scopes.now) }
     requires within { All (IsWithin (length scopes.now)) (actions_view actions.now) }
-    requires begun { held_view S.End.number_of S.Child.child_view S.Feed.job_view S.Drain.job_view
-        held.old ≡ empty }
-    requires leads { SomeLeads S.End.number_of
-        (resolved_all (all_scopes scopes.now) (actions_view actions.now)) }
-    ensures ok { OnOk result (Runs H.allows S.End.number_of nothing_more
-        (resolved_all (all_scopes scopes.now) (actions_view actions.now)) (S.journal_view sys.old)
-        (S.journal_view sys.new) (held_view S.End.number_of S.Child.child_view S.Feed.job_view
-        S.Drain.job_view held.new)) }
-    ensures err { IfErr result (RunRefused H.allows H.refuses S.End.number_of nothing_more
-        (resolved_all (all_scopes scopes.now) (actions_view actions.now)) (S.journal_view sys.old)
-        (S.journal_view sys.new) (held_view S.End.number_of S.Child.child_view S.Feed.job_view
-        S.Drain.job_view held.new)) }
+    requires begun { held_by ⟦<S as Seen>⟧.views held.old ≡ empty }
+    requires leads { SomeLeads S.End.number_of (resolved_all (all_scopes scopes.now) (actions_view
+        actions.now)) }
+    ensures ok { OnOk result (RunsBy ⟦<S as Seen>⟧.views H.allows nothing_more (resolved_all
+        (all_scopes scopes.now) (actions_view actions.now)) sys.old sys.new held.new) }
+    ensures err { IfErr result (RunStops ⟦<S as Seen>⟧.views H.allows H.refuses nothing_more
+        (resolved_all (all_scopes scopes.now) (actions_view actions.now)) sys.old sys.new held.new) }
     ensures workers { HasSameWorkers held.old held.new }
-    ensures new { AreNew S.Child.child_view S.Feed.job_view S.Drain.job_view held.old
-        → AreNew S.Child.child_view S.Feed.job_view S.Drain.job_view held.new }
-    ensures pool { Leaves S.Child.may_answer [] (pool_view S.Child.child_view pool.old)
-        (pool_view S.Child.child_view pool.new) }
+    ensures new { IsNew ⟦<S as Seen>⟧.views held.old → IsNew ⟦<S as Seen>⟧.views held.new }
+    ensures pool { PoolLeaves ⟦<S as Seen>⟧.views pool.old pool.new }
 {
     let pairs = sys.environment()?;
     perform_all(sys, pool, &pairs, scopes, actions, held)
@@ -64,25 +57,18 @@ fn run<S: System, H: Hook>(
 ) -> Result<(), Error>
     requires outwards { AreOutwards (scopes_view scopes.now) }
     requires within { All (IsWithin (length scopes.now)) (actions_view actions.now) }
-    requires begun { held_view S.End.number_of S.Child.child_view S.Feed.job_view S.Drain.job_view
-        held.old ≡ empty }
-    requires leads { SomeLeads S.End.number_of
-        (resolved_all (all_scopes scopes.now) (actions_view actions.now)) }
-    ensures ok { OnOk result (Runs H.allows S.End.number_of drained
-        (resolved_all (all_scopes scopes.now) (actions_view actions.now)) (S.journal_view sys.old)
-        (S.journal_view sys.new) (held_view S.End.number_of S.Child.child_view S.Feed.job_view
-        S.Drain.job_view held.new)) }
-    ensures err { IfErr result (RunRefused H.allows H.refuses S.End.number_of drained
-        (resolved_all (all_scopes scopes.now) (actions_view actions.now)) (S.journal_view sys.old)
-        (S.journal_view sys.new) (held_view S.End.number_of S.Child.child_view S.Feed.job_view
-        S.Drain.job_view held.new)) }
-    ensures workers { OnOk result (HavePipes S.End.number_of
-        (resolved_all (all_scopes scopes.now) (actions_view actions.now))
-        (is_some held.new.output_worker) (is_some held.new.error_worker)) }
-    ensures new { AreNew S.Child.child_view S.Feed.job_view S.Drain.job_view held.old
-        → AreNew S.Child.child_view S.Feed.job_view S.Drain.job_view held.new }
-    ensures pool { Leaves S.Child.may_answer [] (pool_view S.Child.child_view pool.old)
-        (pool_view S.Child.child_view pool.new) }
+    requires begun { held_by ⟦<S as Seen>⟧.views held.old ≡ empty }
+    requires leads { SomeLeads S.End.number_of (resolved_all (all_scopes scopes.now) (actions_view
+        actions.now)) }
+    ensures ok { OnOk result (RunsBy ⟦<S as Seen>⟧.views H.allows drained (resolved_all (all_scopes
+        scopes.now) (actions_view actions.now)) sys.old sys.new held.new) }
+    ensures err { IfErr result (RunStops ⟦<S as Seen>⟧.views H.allows H.refuses drained
+        (resolved_all (all_scopes scopes.now) (actions_view actions.now)) sys.old sys.new held.new) }
+    ensures workers { OnOk result (HavePipes S.End.number_of (resolved_all (all_scopes scopes.now)
+        (actions_view actions.now)) (is_some held.new.output_worker) (is_some
+        held.new.error_worker)) }
+    ensures new { IsNew ⟦<S as Seen>⟧.views held.old → IsNew ⟦<S as Seen>⟧.views held.new }
+    ensures pool { PoolLeaves ⟦<S as Seen>⟧.views pool.old pool.new }
 {
     run_actions(sys, pool, scopes, actions, held)?;
     finish_out::<S, H>(sys, held)?;
@@ -116,30 +102,22 @@ fn run_reader<S: System, H: Hook>(
 ) -> Result<S::Reader, Error>
     requires outwards { AreOutwards (scopes_view scopes.now) }
     requires within { All (IsWithin (length scopes.now)) (actions_view actions.now) }
-    requires begun { held_view S.End.number_of S.Child.child_view S.Feed.job_view S.Drain.job_view
-        held.old ≡ empty }
-    requires leads { SomeLeads S.End.number_of
-        (resolved_all (all_scopes scopes.now) (actions_view actions.now)) }
-    requires opens { OpensOut S.End.number_of
-        (resolved_all (all_scopes scopes.now) (actions_view actions.now)) }
-    ensures ok { OnOk result (Runs H.allows S.End.number_of drained_and_read
-        (resolved_all (all_scopes scopes.now) (actions_view actions.now)) (S.journal_view sys.old)
-        (S.journal_view sys.new) (held_view S.End.number_of S.Child.child_view S.Feed.job_view
-        S.Drain.job_view held.new)) }
-    ensures reader { IfOk result (MadeReader S.may_read
-        (segment (S.journal_view sys.old).entries (S.journal_view sys.new).entries)) }
-    ensures err { IfErr result (RunRefused H.allows H.refuses S.End.number_of drained_and_read
-        (resolved_all (all_scopes scopes.now) (actions_view actions.now)) (S.journal_view sys.old)
-        (S.journal_view sys.new) (held_view S.End.number_of S.Child.child_view S.Feed.job_view
-        S.Drain.job_view held.new)) }
+    requires begun { held_by ⟦<S as Seen>⟧.views held.old ≡ empty }
+    requires leads { SomeLeads S.End.number_of (resolved_all (all_scopes scopes.now) (actions_view
+        actions.now)) }
+    requires opens { OpensOut S.End.number_of (resolved_all (all_scopes scopes.now) (actions_view
+        actions.now)) }
+    ensures ok { OnOk result (RunsBy ⟦<S as Seen>⟧.views H.allows drained_and_read (resolved_all
+        (all_scopes scopes.now) (actions_view actions.now)) sys.old sys.new held.new) }
+    ensures reader { IfOk result (MadeReader S.may_read (segment (S.journal_view sys.old).entries
+        (S.journal_view sys.new).entries)) }
+    ensures err { IfErr result (RunStops ⟦<S as Seen>⟧.views H.allows H.refuses drained_and_read
+        (resolved_all (all_scopes scopes.now) (actions_view actions.now)) sys.old sys.new held.new) }
     ensures output { OnOk result (held.new.output_worker ≡ None) }
-    ensures workers { OnOk result (HavePipes S.End.number_of
-        (resolved_all (all_scopes scopes.now) (actions_view actions.now)) true
-        (is_some held.new.error_worker)) }
-    ensures new { AreNew S.Child.child_view S.Feed.job_view S.Drain.job_view held.old
-        → AreNew S.Child.child_view S.Feed.job_view S.Drain.job_view held.new }
-    ensures pool { Leaves S.Child.may_answer [] (pool_view S.Child.child_view pool.old)
-        (pool_view S.Child.child_view pool.new) }
+    ensures workers { OnOk result (HavePipes S.End.number_of (resolved_all (all_scopes scopes.now)
+        (actions_view actions.now)) true (is_some held.new.error_worker)) }
+    ensures new { IsNew ⟦<S as Seen>⟧.views held.old → IsNew ⟦<S as Seen>⟧.views held.new }
+    ensures pool { PoolLeaves ⟦<S as Seen>⟧.views pool.old pool.new }
 {
     run_actions(sys, pool, scopes, actions, held)?;
     finish_err::<S, H>(sys, held)?;
@@ -158,26 +136,20 @@ pub fn start<S: System, H: Hook>(
 ) -> Result<Held<S::End, Place<S::Child>, S::Feed, S::Drain>, Error>
     requires outwards { AreOutwards (scopes_view scopes.now) }
     requires within { All (IsWithin (length scopes.now)) (actions_view actions.now) }
-    requires begun { held_view S.End.number_of S.Child.child_view S.Feed.job_view S.Drain.job_view
-        held ≡ empty }
-    requires new { AreNew S.Child.child_view S.Feed.job_view S.Drain.job_view held }
-    requires leads { SomeLeads S.End.number_of
-        (resolved_all (all_scopes scopes.now) (actions_view actions.now)) }
-    ensures ok { IfOk result (λ kept. Runs H.allows S.End.number_of drained
-        (resolved_all (all_scopes scopes.now) (actions_view actions.now)) (S.journal_view sys.old)
-        (S.journal_view sys.new) (held_view S.End.number_of S.Child.child_view S.Feed.job_view
-        S.Drain.job_view kept)) }
-    ensures kept { IfOk result
-        (λ kept. AreNew S.Child.child_view S.Feed.job_view S.Drain.job_view kept) }
-    ensures workers { IfOk result (λ kept. HavePipes S.End.number_of
-        (resolved_all (all_scopes scopes.now) (actions_view actions.now))
-        (is_some kept.output_worker) (is_some kept.error_worker)) }
-    ensures swept { OnOk result (Leaves S.Child.may_answer []
-        (pool_view S.Child.child_view pool.old) (pool_view S.Child.child_view pool.new)) }
-    ensures err { IfErr result (GivesUp H.allows H.refuses S.End.number_of S.Child.child_view
-        S.Feed.job_view S.Drain.job_view S.Child.may_answer drained
-        (resolved_all (all_scopes scopes.now) (actions_view actions.now)) (S.journal_view sys.old)
-        (S.journal_view sys.new) pool.old pool.new) }
+    requires begun { held_by ⟦<S as Seen>⟧.views held ≡ empty }
+    requires new { IsNew ⟦<S as Seen>⟧.views held }
+    requires leads { SomeLeads S.End.number_of (resolved_all (all_scopes scopes.now) (actions_view
+        actions.now)) }
+    ensures ok { IfOk result (λ kept. RunsBy ⟦<S as Seen>⟧.views H.allows drained (resolved_all
+        (all_scopes scopes.now) (actions_view actions.now)) sys.old sys.new kept) }
+    ensures kept { IfOk result (λ kept. IsNew ⟦<S as Seen>⟧.views kept) }
+    ensures workers { IfOk result (λ kept. HavePipes S.End.number_of (resolved_all (all_scopes
+        scopes.now) (actions_view actions.now)) (is_some kept.output_worker) (is_some
+        kept.error_worker)) }
+    ensures swept { OnOk result (PoolLeaves ⟦<S as Seen>⟧.views pool.old pool.new) }
+    ensures err { IfErr result (GivesUpBy ⟦<S as Seen>⟧.views H.allows H.refuses drained
+        (resolved_all (all_scopes scopes.now) (actions_view actions.now)) sys.old sys.new pool.old
+        pool.new) }
 {
     let mut held = held;
     match run(sys, pool, scopes, actions, &mut held) {
@@ -202,31 +174,24 @@ pub fn start_reader<S: System, H: Hook>(
 ) -> Result<(Held<S::End, Place<S::Child>, S::Feed, S::Drain>, S::Reader), Error>
     requires outwards { AreOutwards (scopes_view scopes.now) }
     requires within { All (IsWithin (length scopes.now)) (actions_view actions.now) }
-    requires begun { held_view S.End.number_of S.Child.child_view S.Feed.job_view S.Drain.job_view
-        held ≡ empty }
-    requires new { AreNew S.Child.child_view S.Feed.job_view S.Drain.job_view held }
-    requires leads { SomeLeads S.End.number_of
-        (resolved_all (all_scopes scopes.now) (actions_view actions.now)) }
-    requires opens { OpensOut S.End.number_of
-        (resolved_all (all_scopes scopes.now) (actions_view actions.now)) }
-    ensures ok { IfOk result (λ made. Runs H.allows S.End.number_of drained_and_read
-        (resolved_all (all_scopes scopes.now) (actions_view actions.now)) (S.journal_view sys.old)
-        (S.journal_view sys.new) (held_view S.End.number_of S.Child.child_view S.Feed.job_view
-        S.Drain.job_view made.0)) }
-    ensures reader { IfOk result (λ made. MadeReader S.may_read
-        (segment (S.journal_view sys.old).entries (S.journal_view sys.new).entries) made.1) }
-    ensures kept { IfOk result
-        (λ made. AreNew S.Child.child_view S.Feed.job_view S.Drain.job_view made.0) }
+    requires begun { held_by ⟦<S as Seen>⟧.views held ≡ empty }
+    requires new { IsNew ⟦<S as Seen>⟧.views held }
+    requires leads { SomeLeads S.End.number_of (resolved_all (all_scopes scopes.now) (actions_view
+        actions.now)) }
+    requires opens { OpensOut S.End.number_of (resolved_all (all_scopes scopes.now) (actions_view
+        actions.now)) }
+    ensures ok { IfOk result (λ made. RunsBy ⟦<S as Seen>⟧.views H.allows drained_and_read
+        (resolved_all (all_scopes scopes.now) (actions_view actions.now)) sys.old sys.new made.0) }
+    ensures reader { IfOk result (λ made. MadeReader S.may_read (segment (S.journal_view
+        sys.old).entries (S.journal_view sys.new).entries) made.1) }
+    ensures kept { IfOk result (λ made. IsNew ⟦<S as Seen>⟧.views made.0) }
     ensures output { IfOk result (λ made. made.0.output_worker ≡ None) }
-    ensures workers { IfOk result (λ made. HavePipes S.End.number_of
-        (resolved_all (all_scopes scopes.now) (actions_view actions.now)) true
-        (is_some made.0.error_worker)) }
-    ensures swept { OnOk result (Leaves S.Child.may_answer []
-        (pool_view S.Child.child_view pool.old) (pool_view S.Child.child_view pool.new)) }
-    ensures err { IfErr result (GivesUp H.allows H.refuses S.End.number_of S.Child.child_view
-        S.Feed.job_view S.Drain.job_view S.Child.may_answer drained_and_read
-        (resolved_all (all_scopes scopes.now) (actions_view actions.now)) (S.journal_view sys.old)
-        (S.journal_view sys.new) pool.old pool.new) }
+    ensures workers { IfOk result (λ made. HavePipes S.End.number_of (resolved_all (all_scopes
+        scopes.now) (actions_view actions.now)) true (is_some made.0.error_worker)) }
+    ensures swept { OnOk result (PoolLeaves ⟦<S as Seen>⟧.views pool.old pool.new) }
+    ensures err { IfErr result (GivesUpBy ⟦<S as Seen>⟧.views H.allows H.refuses drained_and_read
+        (resolved_all (all_scopes scopes.now) (actions_view actions.now)) sys.old sys.new pool.old
+        pool.new) }
 {
     let mut held = held;
     match run_reader(sys, pool, scopes, actions, &mut held) {

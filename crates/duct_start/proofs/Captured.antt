@@ -18,10 +18,11 @@ use Rattle.duct_start.specs.Chain.{Allows}
 use Rattle.duct_start.specs.Found.{ReaderAt}
 use Rattle.duct_start.specs.Holdings.{Holdings, pair_of}
 use Rattle.duct_start.specs.Plan.{drains}
-use Rattle.duct_start.specs.Standing.{Course, IsLater, IsPair, Stands, Stopped, Goes, Quits}
+use Rattle.duct_start.specs.Standing.{Course, IsEarly, IsLater, IsPair, Stands, Stopped, Goes, Quits}
 use Rattle.duct_start.specs.Step.{Item, AskPipe, AskDrain}
 use Rattle.duct_start.proofs.Counts.{fresh_two, fresh_none, is_itself, other_than, count_other, count-cons, count-append}
-use Rattle.duct_start.proofs.Going.{cons_eq, none_changes, plain_changes, pop_changes, opened_here, popped}
+use Rattle.duct_start.proofs.Going.{none_changes, plain_changes, pop_changes, opened_here}
+use Rattle.duct_start.proofs.Sources.{surely}
 use Rattle.duct_start.proofs.Standing.{Changes, as_many, stands_more, stops_more, stops_unasked, sources_now, few_now, few_of}
 
 none_place : (o : Option ℕ) → is_some o ≡ false → o ≡ None
@@ -36,9 +37,6 @@ pair_reads : (L : List EntryView) (o : Option ℕ) (r w : ℕ) → IsPair L o (S
     → origin L r ≡ Opened (end_at (trace L) (unwrap_or o 0) 0)
 pair_reads L None r w is = absurd is
 pair_reads L (Some place) r w is = is.0
-
-pub top_some : {A : Type 0} (a b : A) (xs ys : List (Option A)) → Some a ∷ xs ≡ Some b ∷ ys → a ≡ b
-top_some a b xs ys is = cc
 
 -- what is held without stdout's capture pipe, and with these on the stack
 abbrev pub without_out : List ℕ → Holdings → Holdings
@@ -122,8 +120,8 @@ module _ {E H : Type 0} (allows : Allows H) (number_of : E → ℕ) where
       (λ more later.
       let L = (stands.added ++ Close w ∷ []) ++ more in
       let z = sources_now allows number_of course st (mid_out st) [] now next held kept (Close w) stands items ch more later in
-      let top = ap Some (pair_reads L st.plan.out r w (subst (λ o. IsPair L st.plan.out o) is z.out)) in
-      record { stack = cons_eq _ _ _ _ top z.stack; out = tt; err = z.err })
+      let top = surely (IsEarly course) (pair_reads L st.plan.out r w (subst (λ o. IsPair L st.plan.out o) is z.out)) in
+      record { stack = (top, z.stack); out = tt; err = z.err })
 
   after_out : (course : Course) (st : State E H) (r w : ℕ) (now : JournalView) (held : Holdings)
       → held.out ≡ Some (r, w) → (stands : Stands allows number_of course st now held) →
@@ -148,8 +146,8 @@ module _ {E H : Type 0} (allows : Allows H) (number_of : E → ℕ) where
         let from = λ (more : List EntryView) (later : IsLater course next.next more). sources_now allows number_of course one then_st asked mid next before kept entry first refl ch more later in
         subst (λ (s : State E H). Stands allows number_of course s next kept) (after_out course st r w now held is stands)
         (stands_more allows number_of course one then_st asked mid next before kept entry first refl ch (few_of course.bound kept (omega (arith, stands.shaped.stack, ready.low))) (record { stack = stands.shaped.stack; out = refl; err = stands.shaped.err }) refl refl
-        (λ more later. (top_some _ _ _ _ (from more later).stack, tt))
-        (λ more later. let z = from more later in record { stack = popped _ _ r held.stack one.stack z.stack; out = tt; err = z.err }))
+        (λ more later. ((from more later).stack.0.0, tt))
+        (λ more later. let z = from more later in record { stack = z.stack.1; out = tt; err = z.err }))
 
     pub finish_out_quits : (fault : Fault) → GivesEnds (Drain r (Err fault)) 1 mid next
         → Quits allows number_of (action.finish side.Out) now next held (without_out [] held)
@@ -165,7 +163,7 @@ module _ {E H : Type 0} (allows : Allows H) (number_of : E → ℕ) where
         let ch : Changes entry mid next before kept = pop_changes entry r held.stack held.children held.feeds held.drains mid next before gives refl refl refl (sym (append-nil held.children)) (sym (append-nil held.feeds)) (sym (append-nil held.drains)) in
         subst (λ (s : State E H). Stopped allows number_of course s.plan.items next kept (System fault)) (after_out course st r w now held is stands)
         (stops_more allows number_of course one then_st asked mid next before kept entry first refl ch (few_of course.bound kept (omega (arith, stands.shaped.stack, ready.low))) fault refl
-        (λ more later. (top_some _ _ _ _ (sources_now allows number_of course one then_st asked mid next before kept entry first refl ch more later).stack, tt)))
+        (λ more later. ((sources_now allows number_of course one then_st asked mid next before kept entry first refl ch more later).stack.0.0, tt)))
 
 -- what is held without stderr's capture pipe, and with these on the stack
 abbrev pub without_err : List ℕ → Holdings → Holdings
@@ -249,8 +247,8 @@ module _ {E H : Type 0} (allows : Allows H) (number_of : E → ℕ) where
       (λ more later.
       let L = (stands.added ++ Close w ∷ []) ++ more in
       let z = sources_now allows number_of course st (mid_err st) [] now next held kept (Close w) stands items ch more later in
-      let top = ap Some (pair_reads L st.plan.err r w (subst (λ o. IsPair L st.plan.err o) is z.err)) in
-      record { stack = cons_eq _ _ _ _ top z.stack; out = z.out; err = tt })
+      let top = surely (IsEarly course) (pair_reads L st.plan.err r w (subst (λ o. IsPair L st.plan.err o) is z.err)) in
+      record { stack = (top, z.stack); out = z.out; err = tt })
 
   after_err : (course : Course) (st : State E H) (r w : ℕ) (now : JournalView) (held : Holdings)
       → held.err ≡ Some (r, w) → (stands : Stands allows number_of course st now held) →
@@ -275,8 +273,8 @@ module _ {E H : Type 0} (allows : Allows H) (number_of : E → ℕ) where
         let from = λ (more : List EntryView) (later : IsLater course next.next more). sources_now allows number_of course one then_st asked mid next before kept entry first refl ch more later in
         subst (λ (s : State E H). Stands allows number_of course s next kept) (after_err course st r w now held is stands)
         (stands_more allows number_of course one then_st asked mid next before kept entry first refl ch (few_of course.bound kept (omega (arith, stands.shaped.stack, ready.low))) (record { stack = stands.shaped.stack; err = refl; out = stands.shaped.out }) refl refl
-        (λ more later. (top_some _ _ _ _ (from more later).stack, tt))
-        (λ more later. let z = from more later in record { stack = popped _ _ r held.stack one.stack z.stack; out = z.out; err = tt }))
+        (λ more later. ((from more later).stack.0.0, tt))
+        (λ more later. let z = from more later in record { stack = z.stack.1; out = z.out; err = tt }))
 
     pub finish_err_quits : (fault : Fault) → GivesEnds (Drain r (Err fault)) 1 mid next
         → Quits allows number_of (action.finish side.Err) now next held (without_err [] held)
@@ -292,4 +290,4 @@ module _ {E H : Type 0} (allows : Allows H) (number_of : E → ℕ) where
         let ch : Changes entry mid next before kept = pop_changes entry r held.stack held.children held.feeds held.drains mid next before gives refl refl refl (sym (append-nil held.children)) (sym (append-nil held.feeds)) (sym (append-nil held.drains)) in
         subst (λ (s : State E H). Stopped allows number_of course s.plan.items next kept (System fault)) (after_err course st r w now held is stands)
         (stops_more allows number_of course one then_st asked mid next before kept entry first refl ch (few_of course.bound kept (omega (arith, stands.shaped.stack, ready.low))) fault refl
-        (λ more later. (top_some _ _ _ _ (sources_now allows number_of course one then_st asked mid next before kept entry first refl ch more later).stack, tt)))
+        (λ more later. ((sources_now allows number_of course one then_st asked mid next before kept entry first refl ch more later).stack.0.0, tt)))

@@ -20,16 +20,17 @@ use Rattle.duct_start.specs.Causes.{HasCause, AnswersLastFault, StoppedBy, asked
 use Rattle.duct_start.specs.Chain.{Allows, Refuses}
 use Rattle.duct_start.specs.Closes.{Closes}
 use Rattle.duct_start.specs.Commands.{Refused}
-use Rattle.duct_start.specs.Follows.{AnswersFrom, Follows}
+use Rattle.duct_start.specs.Follows.{AsksPlan, Follows}
 use Rattle.duct_start.specs.Holdings.{Holdings, ends}
 use Rattle.duct_start.specs.Plan.{Plan}
-use Rattle.duct_start.specs.Standing.{Course, Ended, HeldFew, IsHooks, IsLater, IsWantOfMemory, unasked, hooked, refused}
-use Rattle.duct_start.specs.Start.{AreEarlier, HoldsFew, StartRefused, ceiling, depth}
+use Rattle.duct_start.specs.Standing.{AnswersUnder, Course, Ended, HeldFew, IsEarly, IsHooks, IsLater, IsWantOfMemory, unasked, hooked, refused}
+use Rattle.duct_start.specs.Start.{AreEarlier, GotNew, HoldsFew, StartRefused, ceiling, depth}
 use Rattle.duct_start.specs.Step.{Item}
 use Rattle.duct_start.specs.TreeView.{TreeView}
 use Rattle.duct_start.proofs.Ceiling.{ceiling_low}
 use Rattle.duct_start.proofs.Ending.{ended_stops}
 use Rattle.duct_start.proofs.Origins.{got-append, spent-append, trace-append, count_got-append, count_spent-append}
+use Rattle.duct_start.proofs.Sources.{exactly_answered, plan_asked}
 use Rattle.duct_start.proofs.Whole.{segment_is, grows_by_added}
 
 -- closes
@@ -241,26 +242,32 @@ module _ {E H : Type 0} (allows : Allows H) (refuses : Refuses H) (number_of : E
   all_are : then.entries ≡ course.old.entries ++ all
   all_are = entries_are ∙ ap (λ (l : List EntryView). l ++ map Close numbers) run.stopped.books.entries_are ∙ append_assoc course.old.entries first (map Close numbers)
 
-  closes_later : AreEarlier number_of course.old tree → IsLater course now.next (map Close numbers)
-  closes_later earlier = record {
-    early = omega (arith, base_is, ceiling_low number_of tree course.old earlier);
-    fresh = λ n lt. ap (λ (l : List ℕ). count_of n l) (closes_got numbers);
-  }
+  closes_later : IsLater course now.next (map Close numbers)
+  closes_later = record { fresh = λ n lt. ap (λ (l : List ℕ). count_of n l) (closes_got numbers) }
+
+  early : AreEarlier number_of course.old tree → IsEarly course
+  early earlier = omega (arith, base_is, ceiling_low number_of tree course.old earlier)
+
+  all_answered : AnswersUnder course allows number_of all 0 plan.items (trace all)
+  all_answered =
+      subst (λ (l : List (Item E H)). AnswersUnder course allows number_of all 0 l (trace all)) (sym items_are)
+      (subst (λ (l : List EntryView). AnswersUnder course allows number_of all 0 items l) (sym (closed_trace first numbers)) (run.stopped.answers (map Close numbers) closes_later))
+
+  all_asked : AsksPlan allows number_of plan all
+  all_asked = plan_asked course allows number_of all plan.items (trace all) all_answered
 
   all_follow : AreEarlier number_of course.old tree → Follows allows number_of plan all
   all_follow earlier = record {
-    answers = subst (λ (l : List (Item E H)). AnswersFrom allows number_of all 0 l (trace all)) (sym items_are)
-        (subst (λ (l : List EntryView). AnswersFrom allows number_of all 0 items l) (sym (closed_trace first numbers)) (run.stopped.answers (map Close numbers) (closes_later earlier)));
+    answers = exactly_answered course allows number_of all plan.items (trace all) (early earlier) all_answered;
     stops = ended_stops first error numbers run.stopped.ended;
   }
 
-  all_caused : AreEarlier number_of course.old tree
-      → HasCause allows refuses number_of plan all error
-  all_caused earlier = cause_ended allows refuses number_of plan all first error run.stopped.ended (closed_fault first numbers)
+  all_caused : HasCause allows refuses number_of plan all error
+  all_caused = cause_ended allows refuses number_of plan all first error run.stopped.ended (closed_fault first numbers)
       (λ is.
       subst (λ (l : List (Item E H)). StoppedBy allows refuses number_of (trace all) (length (trace all)) (slice_get l (length (trace all))) error) (sym items_are)
       (subst (λ (k : ℕ). StoppedBy allows refuses number_of (trace all) k (slice_get items k) error) (ap (λ (l : List EntryView). length l) (sym (closed_trace first numbers)))
-      (run.cause is (map Close numbers) (closes_later earlier))))
+      (run.cause is (map Close numbers) closes_later)))
 
   all_balanced : IsBalanced all
   all_balanced n =
@@ -281,10 +288,13 @@ module _ {E H : Type 0} (allows : Allows H) (refuses : Refuses H) (number_of : E
             (omega (arith, next, books.next_grows)) (omega (arith, room, many, books.room_is));
         stops = subst StopsAtFault segment_same (ended_stops first error numbers run.stopped.ended);
         reason = subst (λ (l : List EntryView). MayAnswer l error) segment_same (may_answer all first error run.stopped.ended (closed_fault first numbers));
+        asks = subst (λ (l : List EntryView). AsksPlan allows number_of plan l) segment_same all_asked;
         follows = λ earlier. subst (λ (l : List EntryView). Follows allows number_of plan l) segment_same (all_follow earlier);
-        cause = λ earlier. subst (λ (l : List EntryView). HasCause allows refuses number_of plan l error) segment_same (all_caused earlier);
+        cause = subst (λ (l : List EntryView). HasCause allows refuses number_of plan l error) segment_same all_caused;
         last_fault = subst (λ (l : List EntryView). AnswersLastFault l error) segment_same (λ fault is. ended_answers first error run.stopped.ended fault (sym (closed_fault first numbers) ∙ is));
         balanced = subst IsBalanced segment_same all_balanced;
+        got_new = subst (λ (l : List EntryView). GotNew course.old l) segment_same
+            (λ n lt. omega (arith, count_got-append n first (map Close numbers), ap (λ (l : List ℕ). count_of n l) (closes_got numbers), books.above n lt));
         few = subst (λ (l : List EntryView). HoldsFew tree l) segment_same (λ count. omega (arith, bound_is, closed_few first numbers course.bound run.stopped.few count));
       }
 

@@ -1,11 +1,9 @@
 -- A command as a whole: its canonical name, its hooks and its spawn.
 use Rattle.std.proofs.Common.{◌≡◌, ℕ, ◌+◌, ◌-◌, ◌≤◌, List, [], ◌∷◌, ◌++◌, length, refl, ap, sym, ◌∙◌, arith, subst, append_assoc, length-append}
-use Rattle.std.proofs.lemmas.Simd.{map-map}
-use Rattle.std.specs.Prelude.{Bool, true, false, Err, Ok, Some, if◌then◌else◌, map, slice_get}
+use Rattle.std.specs.Prelude.{Bool, true, false, Err, Ok, Some, if◌then◌else◌, slice_get}
 use Rattle.duct_system.specs.EntryView.{EntryView, Canonicalize, Spawn}
 use Rattle.duct_system.specs.Journal.{JournalView, AddsNothing, Asks, GivesEnds, IsRefused}
 use Rattle.duct_system.specs.Ledger.{spent_by}
-use Rattle.duct_system.specs.Origin.{Origin, origin}
 use Rattle.duct_system.specs.SpecView.{SpecView, Vars}
 use Rattle.duct_system.specs.Trace.{trace}
 use Rattle.duct_system.specs.declared.error.Error.{Error}
@@ -24,7 +22,8 @@ use Rattle.duct_start.specs.Follows.{text_in}
 use Rattle.duct_start.specs.Found.{Target, target_of}
 use Rattle.duct_start.specs.Holdings.{Holdings}
 use Rattle.duct_start.specs.Plan.{asks, program_of}
-use Rattle.duct_start.specs.Standing.{Course, IsHooks, IsWantOfMemory, Quits, Stands, origin_to}
+use Rattle.duct_start.specs.Sources.{Pairwise}
+use Rattle.duct_start.specs.Standing.{Course, IsEarly, IsFrom, IsHooks, IsWantOfMemory, Quits, Stands}
 use Rattle.duct_start.specs.Step.{Item, AskCanonicalize, AskSpawn}
 use Rattle.duct_start.proofs.Commanded.{items_if, items_of, commanded_is}
 use Rattle.duct_start.proofs.Going.{none_changes, memory_quits, quits_none}
@@ -93,7 +92,7 @@ module _ {E H : Type 0} (allows : Allows H) (number_of : E → ℕ) (scope : Sco
   name_quits now next held ports fault is refused =
       quits_none allows number_of (action.spawn scope words ports) (λ st. items_if true (found_by scope ports st.stack) words) (Canonicalize (program_of words) (Err fault)) fault now next held
       (λ st. ap (λ p. p.items) (commanded_is (found_by scope ports st.stack) words st.plan) ∙ ap (λ b. st.plan.items ++ items_if b (found_by scope ports st.stack) words) is)
-      refused refl refl refl refl refl refl (λ st L. (refl, tt))
+      refused refl refl refl refl refl refl (λ course st L. (refl, tt))
 
   module _ (refuses : Refuses H) (pairs : Vars) (ports : Three Port) (now : JournalView) (held : Holdings) where
     abbrev act : Action E H
@@ -130,13 +129,11 @@ module _ {E H : Type 0} (allows : Allows H) (number_of : E → ℕ) (scope : Sco
           asked_is : IsAsked course.pairs program (found_by scope ports state.stack) words asked
           asked_is = subst (λ ps. IsAsked ps program (found_by scope ports state.stack) words asked) (sym same) (made state.stack ready.needs.ports_are)
 
-          tops : course.base ≤ course.old.next
-              → (e : List EntryView) × (numbers : List Origin) ×
-              (map (λ o. Some o) numbers ≡ map (origin_to e number_of) state.stack)
-          tops early =
+          tops : (L : List EntryView) × (numbers : List ℕ) ×
+              Pairwise (IsFrom (IsEarly course) number_of L) numbers state.stack
+          tops =
               let n = (names course state held stands).0 in
-              let L = n.added ++ [] in
-              (trace L, map (λ k. origin L k) held.stack, map-map (λ o. Some o) (λ k. origin L k) held.stack ∙ (n.sources [] (record { early = early; fresh = λ k lt. refl })).stack)
+              (n.added ++ [], held.stack, (n.sources [] (record { fresh = λ k lt. refl })).stack)
 
           -- the command stands before its hooks
           abbrev under : State E H

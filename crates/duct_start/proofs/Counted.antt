@@ -18,7 +18,7 @@ use Rattle.duct_status.specs.ShapeView.{ShapeView, command_count, input_count}
 use Rattle.duct_start.specs.Actions as action
 use Rattle.duct_start.specs.Actions.{Action, ActionOf, NoneFinishes, Scope, State, Three, advance, after, capture_at, captures_in, found_by, is_capture, with_plan}
 use Rattle.duct_start.specs.Chain.{Allows}
-use Rattle.duct_start.specs.Flat.{Wire, parents, nothing, slot, captured, lent, fetches, inputs, outputs, errors, flat, flat_of, ports_at, rooted, outside, scope_within}
+use Rattle.duct_start.specs.Flat.{Wire, parents, nothing, slot, captured, lent, fetches, inputs, outputs, flat, flat_of, deeper, ports_at, rooted, outside, scope_if, wires_in, wrapped}
 use Rattle.duct_start.specs.Found.{Found}
 use Rattle.duct_start.specs.Holdings.{Holdings}
 use Rattle.duct_start.specs.Listed.{listed_of, resolved, resolved_all, scopes_from}
@@ -29,8 +29,9 @@ use Rattle.duct_start.specs.ShapeOfTree.{shape_around, shape_of_tree}
 use Rattle.duct_start.specs.Standing.{Course, Stands}
 use Rattle.duct_start.specs.Lookup.{found_on}
 use Rattle.duct_start.specs.Start.{ceiling}
-use Rattle.duct_start.specs.Step.{Item, AskPipe, step}
-use Rattle.duct_start.specs.TreeView.{ModifierView, TreeView, command, pipe, around, stdin_bytes, stdin_path, stdin_file, stdin_null, stdout_path, stdout_file, stdout_null, stdout_capture, stdout_to_stderr, stderr_path, stderr_file, stderr_null, stderr_capture, stderr_to_stdout, stdout_stderr_swap, dir, env, env_remove, full_env, unchecked, before_spawn}
+use Rattle.duct_start.specs.Row.{Obtains, opens_nothing, opens_input, opens_read, opens_create, opens_capture, row}
+use Rattle.duct_start.specs.Step.{Item, AskPipe, opening_of, step}
+use Rattle.duct_start.specs.TreeView.{ModifierView, TreeView, command, pipe, around, stdin_bytes, unchecked, stdout_capture}
 use Rattle.duct_start.proofs.Ceiling.{ends_below}
 use Rattle.duct_start.proofs.Commanded.{items_if, items_of, commanded_is, with_items}
 use Rattle.duct_start.proofs.Joined.{tree_leads}
@@ -118,15 +119,14 @@ module _ {E H : Type 0} where
   adds_command true found words items = adds_items items (items_if true found words)
   adds_command false found words items = adds_items items (items_if false found words)
 
-  adds_opening : (modifier : ModifierView E H) (plan : Plan E H)
-      → AddsKinds 0 0 plan.items (opened (step modifier).opening plan).items
-  adds_opening (stdin_bytes bytes) plan = adds_items plan.items _
-  adds_opening (stdin_path path) plan = adds_items plan.items _
-  adds_opening (stdout_path path) plan = adds_items plan.items _
-  adds_opening (stderr_path path) plan = adds_items plan.items _
-  adds_opening stdout_capture plan = adds_if plan.out plan _ (adds_items plan.items _)
-  adds_opening stderr_capture plan = adds_if plan.err plan _ (adds_items plan.items _)
-  adds_opening modifier plan = adds_none plan.items
+  adds_opening : (opens : Obtains) (plan : Plan E H)
+      → AddsKinds 0 0 plan.items (opened (opening_of opens) plan).items
+  adds_opening opens_nothing plan = adds_none plan.items
+  adds_opening (opens_input bytes) plan = adds_items plan.items _
+  adds_opening (opens_read path) plan = adds_items plan.items _
+  adds_opening (opens_create path) plan = adds_items plan.items _
+  adds_opening (opens_capture side.Out) plan = adds_if plan.out plan _ (adds_items plan.items _)
+  adds_opening (opens_capture side.Err) plan = adds_if plan.err plan _ (adds_items plan.items _)
 
   adds_as : {a b c d : ℕ} {x y z : List (Item E H)} → a ≡ c → b ≡ d → z ≡ y → AddsKinds a b x y
       → AddsKinds c d x z
@@ -164,7 +164,7 @@ module _ {E H : Type 0} where
       let closing = (step modifier).closing place in
       let shape = shape_of_tree inner in
       adds_as (omega (arith, closes_none modifier place shape)) (omega (arith, closes_feeds modifier place shape)) refl
-      (adds_on (adds_opening modifier plan) (adds_on (adds_tree (within place modifier ∷ up) inner before) (adds_items inside.items closing)))
+      (adds_on (adds_opening (row modifier).opens plan) (adds_on (adds_tree (within place modifier ∷ up) inner before) (adds_items inside.items closing)))
 
   adds_drains : (o : Option ℕ) (plan : Plan E H) → AddsKinds 0 0 plan.items (drains o plan).items
   adds_drains None plan = adds_none plan.items
@@ -287,6 +287,14 @@ module _ {E H : Type 0} where
   none_append (action.finish which ∷ xs) ys none more = absurd none
   none_append (act ∷ xs) ys none more = none_append xs ys none more
 
+  none_wrapped : (opens : Obtains) (inside : List (Action E H)) → NoneFinishes inside
+      → NoneFinishes (wrapped opens inside)
+  none_wrapped opens_nothing inside none = none
+  none_wrapped (opens_input bytes) inside none = none_append inside (action.close ∷ action.feed bytes ∷ []) none tt
+  none_wrapped (opens_read path) inside none = none_append inside (action.close ∷ []) none tt
+  none_wrapped (opens_create path) inside none = none_append inside (action.close ∷ []) none tt
+  none_wrapped (opens_capture which) inside none = none
+
   none_flat : (tree : TreeView E H) (s : Scope E H) (w : Three (Wire E)) (n : ℕ)
       → NoneFinishes (flat s w tree n)
   none_flat (command words) s w n =
@@ -302,31 +310,9 @@ module _ {E H : Type 0} where
       let first : List (Action E H) = flat s up left (n + 2) in
       let second : List (Action E H) = flat s down right (n + 1) in
       none_append first (action.close ∷ (second ++ action.close ∷ [])) (none_flat left s up (n + 2)) (none_append second (action.close ∷ []) (none_flat right s down (n + 1)) tt)
-  none_flat (around (stdin_bytes bytes) inner) s w n =
-      let wires = inputs (slot (n + 1)) w in none_append (flat s wires inner (n + 2)) (action.close ∷ action.feed bytes ∷ []) (none_flat inner s wires (n + 2)) tt
-  none_flat (around (stdin_path path) inner) s w n =
-      let wires = inputs (slot n) w in none_append (flat s wires inner (n + 1)) (action.close ∷ []) (none_flat inner s wires (n + 1)) tt
-  none_flat (around (stdin_file end) inner) s w n = none_flat inner s (inputs (lent end) w) n
-  none_flat (around stdin_null inner) s w n = none_flat inner s (inputs nothing w) n
-  none_flat (around (stdout_path path) inner) s w n =
-      let wires = outputs (slot n) w in none_append (flat s wires inner (n + 1)) (action.close ∷ []) (none_flat inner s wires (n + 1)) tt
-  none_flat (around (stdout_file end) inner) s w n = none_flat inner s (outputs (lent end) w) n
-  none_flat (around stdout_null inner) s w n = none_flat inner s (outputs nothing w) n
-  none_flat (around stdout_capture inner) s w n = none_flat inner s (outputs (captured side.Out) w) n
-  none_flat (around stdout_to_stderr inner) s w n = none_flat inner s (outputs w.error w) n
-  none_flat (around (stderr_path path) inner) s w n =
-      let wires = errors (slot n) w in none_append (flat s wires inner (n + 1)) (action.close ∷ []) (none_flat inner s wires (n + 1)) tt
-  none_flat (around (stderr_file end) inner) s w n = none_flat inner s (errors (lent end) w) n
-  none_flat (around stderr_null inner) s w n = none_flat inner s (errors nothing w) n
-  none_flat (around stderr_capture inner) s w n = none_flat inner s (errors (captured side.Err) w) n
-  none_flat (around stderr_to_stdout inner) s w n = none_flat inner s (errors w.output w) n
-  none_flat (around stdout_stderr_swap inner) s w n = none_flat inner s (record w { output = w.error; error = w.output }) n
-  none_flat (around (dir path) inner) s w n = none_flat inner (scope_within (step (dir path)) s) w n
-  none_flat (around (env name value) inner) s w n = none_flat inner (scope_within (step (env name value)) s) w n
-  none_flat (around (env_remove name) inner) s w n = none_flat inner (scope_within (step (env_remove name)) s) w n
-  none_flat (around (full_env vars) inner) s w n = none_flat inner (scope_within (step (full_env vars)) s) w n
-  none_flat (around unchecked inner) s w n = none_flat inner s w n
-  none_flat (around (before_spawn hook ends) inner) s w n = none_flat inner (scope_within (step (before_spawn hook ends)) s) w n
+  none_flat (around modifier inner) s w n =
+      let r = row modifier in
+      none_wrapped r.opens _ (none_flat inner (scope_if r.says s) (wires_in r n w) (deeper r.opens n))
 
   -- the list of a tree is done with no capture pipe
   pub flat_none : (tree : TreeView E H) → NoneFinishes (flat_of tree)

@@ -1,9 +1,7 @@
 -- Each kind of action goes on, or quits.
 use Rattle.std.proofs.Common.{◌≡◌, ◌≢◌, ℕ, ◌+◌, ◌<◌, ◌≤◌, List, [], ◌∷◌, ◌++◌, length, refl, ap, sym, ◌∙◌, arith, append_assoc, length-append, subst, inl, inr, suc, zero}
-use Rattle.std.proofs.lemmas.List.{append-nil, reverse-append, map-append}
-use Rattle.std.proofs.lemmas.Option.{slice_get-map}
+use Rattle.std.proofs.lemmas.List.{append-nil}
 use Rattle.std.proofs.lemmas.Bool.{cases_lt}
-use Rattle.std.specs.Option.{option_map}
 use Rattle.std.specs.Prelude.{map, Some, None, Ok, Err, is_some, reverse, slice_get, slice_index, true, drop, unwrap_or}
 use Rattle.std.specs.declared.option.Option.{Option}
 use Rattle.std.specs.declared.result.Result.{Result}
@@ -24,22 +22,20 @@ use Rattle.duct_start.specs.Actions.{Action, State, IsReady, IsWriter, advance, 
 use Rattle.duct_start.specs.Asked.{end_at}
 use Rattle.duct_start.specs.Chain.{Allows}
 use Rattle.duct_start.specs.Commands.{holding}
-use Rattle.duct_start.specs.Follows.{AnswersFrom}
+use Rattle.duct_start.specs.Sources.{Pairwise}
 use Rattle.duct_start.specs.Found.{Target, Parents, Nothing, ReaderAt, WriterAt, FileAt, Lends}
 use Rattle.duct_start.specs.Holdings.{Holdings, ends, pair_of}
 use Rattle.duct_start.specs.Kinds.{entry_kind, item_kind}
-use Rattle.duct_start.specs.Standing.{AreFresh, Course, IsLater, IsShaped, IsPair, Sourced, Stands, IsWantOfMemory, Goes, Quits, origin_to}
+use Rattle.duct_start.specs.Standing.{AnswersUnder, AreFresh, Course, IsEarly, IsFrom, IsLater, IsShaped, IsPair, Sourced, Stands, IsWantOfMemory, Goes, Quits}
 use Rattle.duct_start.specs.Step.{Item, AskPipe, AskOpenRead, AskCreate, AskFeed}
 use Rattle.duct_start.proofs.Counts.{fresh_one, fresh_two, fresh_none, is_itself, other_than, count_other, count_same, count-cons, count-append, count-reverse}
 use Rattle.duct_start.proofs.Origins.{later_more, origin_stays, origin-more, origin_lent, end_at_seam}
+use Rattle.duct_start.proofs.Sources.{duplicate_first, duplicated, pair_level, pair_popped, surely}
 use Rattle.duct_start.proofs.Standing.{Changes, as_many, stands_more, stops_more, stops_unasked, sources_now, few_now, few_of}
 
 -- with these on the stack
 abbrev pub on : List ℕ → Holdings → Holdings
 on tops held = record held { stack = tops ++ held.stack }
-
-pub cons_eq : {A : Type 0} (a b : A) (xs ys : List A) → a ≡ b → xs ≡ ys → a ∷ xs ≡ b ∷ ys
-cons_eq a b xs ys x y = cc
 
 pub adds_as : (entry : EntryView) (a b c d : ℕ) (now next : JournalView)
     → Adds entry a b now next → c ≡ a → d ≡ b → Adds entry c d now next
@@ -136,36 +132,17 @@ get_counts (x ∷ xs) (suc d) m is = omega (arith, count-cons m x xs, get_counts
 level_counts : (stack : List ℕ) (d m : ℕ) → level stack d ≡ Some m → 1 ≤ count_of m stack
 level_counts stack d m is = omega (arith, get_counts (reverse stack) d m is, count-reverse m stack)
 
-map-reversed : {A B : Type 0} (f : A → B) (xs : List A) → reverse (map f xs) ≡ map f (reverse xs)
-map-reversed f [] = refl
-map-reversed f (x ∷ xs) =
-    reverse-append (f x ∷ []) (map f xs) ∙ ap (λ l. l ++ f x ∷ []) (map-reversed f xs) ∙ sym (ap (λ l. map f l) (reverse-append (x ∷ []) xs) ∙ map-append f (reverse xs) (x ∷ []))
-
-level-map : {A B : Type 0} (f : A → B) (stack : List A) (d : ℕ)
-    → level (map f stack) d ≡ option_map f (level stack d)
-level-map f stack d = ap (λ l. slice_get l d) (map-reversed f stack) ∙ slice_get-map f (reverse stack) d
-
-some_of : {A B : Type 0} (o : Option A) (f : A → B) (d : A) (z : B) → Some z ≡ option_map f o
-    → z ≡ f (unwrap_or o d)
-some_of None f d z is = cc
-some_of (Some x) f d z is = cc
-
 pair_writes : (L : List EntryView) (o : Option ℕ) (r w : ℕ) → IsPair L o (Some (r, w))
     → origin L w ≡ Opened (end_at (trace L) (unwrap_or o 0) 1)
 pair_writes L None r w is = absurd is
 pair_writes L (Some place) r w is = is.1
 
--- the top is popped on both sides
-pub popped : {A B C : Type 0} (f : A → C) (g : B → C) (n : A) (rest : List A) (stack : List B)
-    → map f (n ∷ rest) ≡ map g stack → map f rest ≡ map g (drop 1 stack)
-popped f g n rest [] is = cc
-popped f g n rest (x ∷ stack) is = cc
-
-fed_top : {E : Type 0} (number_of : E → ℕ) (L : List EntryView) (n : ℕ) (rest : List ℕ)
-    (stack : List (Target E)) → IsWriter stack →
-    map (λ k. Some (origin L k)) (n ∷ rest) ≡ map (origin_to (trace L) number_of) stack → origin L n ≡ Opened (end_at (trace L) (place_of stack) 1)
-fed_top number_of L n rest (WriterAt place ∷ stack) writer is = cc
-fed_top number_of L n rest stack writer is = absurd writer
+fed_top : {E : Type 0} (early : Type 0) (number_of : E → ℕ) (L : List EntryView) (n : ℕ)
+    (rest : List ℕ) (stack : List (Target E)) → IsWriter stack
+    → Pairwise (IsFrom early number_of L) (n ∷ rest) stack
+    → origin L n ≡ Opened (end_at (trace L) (place_of stack) 1)
+fed_top early number_of L n rest (WriterAt place ∷ stack) writer is = is.0.0
+fed_top early number_of L n rest stack writer is = absurd writer
 
 -- an entry that popped the top
 pub pop_changes : (entry : EntryView) (n : ℕ) (rest children feeds drains : List ℕ)
@@ -196,10 +173,10 @@ module _ {E H : Type 0} (allows : Allows H) (number_of : E → ℕ) where
       ((st : State E H) → advance st act ≡ record { stack = x st ∷ st.stack; plan = record { items = st.plan.items ++ asked st; out = st.plan.out; err = st.plan.err } }) →
       GetsEnd entry n now next → got_by entry ≡ n ∷ [] → spent_by entry ≡ [] → child_by entry ≡ [] → feed_by entry ≡ [] → drain_by entry ≡ [] → fault_of entry ≡ None →
       ((st : State E H) → map entry_kind (trace (entry ∷ [])) ≡ map item_kind (asked st)) →
-      ((st : State E H) (L : List EntryView) → AnswersFrom allows number_of L (length st.plan.items) (asked st) (trace (entry ∷ []))) →
+      ((course : Course) (st : State E H) (L : List EntryView) → AnswersUnder course allows number_of L (length st.plan.items) (asked st) (trace (entry ∷ []))) →
       ((course : Course) (st : State E H) → IsReady number_of course.base course.bound st act → (stands : Stands allows number_of course st now held) → (more : List EntryView) → IsLater course next.next more →
-      Sourced number_of ((stands.added ++ entry ∷ []) ++ more) st held →
-      Some (origin ((stands.added ++ entry ∷ []) ++ more) n) ≡ origin_to (trace ((stands.added ++ entry ∷ []) ++ more)) number_of (x st)) →
+      Sourced (IsEarly course) number_of ((stands.added ++ entry ∷ []) ++ more) st held →
+      IsFrom (IsEarly course) number_of ((stands.added ++ entry ∷ []) ++ more) n (x st)) →
       Goes allows number_of act now next held (on (n ∷ []) held)
   got_goes act asked x entry n now next held is gets got none no_child no_feed no_drain clean many matches source = λ course st ready stands.
       let then_st : State E H = record { stack = x st ∷ st.stack; plan = record { items = st.plan.items ++ asked st; out = st.plan.out; err = st.plan.err } } in
@@ -207,24 +184,24 @@ module _ {E H : Type 0} (allows : Allows H) (number_of : E → ℕ) where
       subst (λ (s : State E H). Stands allows number_of course s next (on (n ∷ []) held)) (sym (is st))
       (stands_more allows number_of course st then_st (asked st) now next held (on (n ∷ []) held) entry stands refl ch
       (few_of course.bound (on (n ∷ []) held) (omega (arith, stands.shaped.stack, ready.low, ap (λ (s : State E H). length s.stack) (is st)))) (pushed_shape (n ∷ []) (x st ∷ []) (asked st) st held refl stands.shaped) clean (many st)
-      (λ more later. matches st ((stands.added ++ entry ∷ []) ++ more))
+      (λ more later. matches course st ((stands.added ++ entry ∷ []) ++ more))
       (λ more later.
       let s = sources_now allows number_of course st then_st (asked st) now next held (on (n ∷ []) held) entry stands refl ch more later in
-      record { stack = cons_eq _ _ _ _ (source course st ready stands more later s) s.stack; out = s.out; err = s.err }))
+      record { stack = (source course st ready stands more later s, s.stack); out = s.out; err = s.err }))
 
   pub open_read_goes : (path : List ℕ) (n : ℕ) (now next : JournalView) (held : Holdings)
       → GetsEnd (OpenRead path (Ok n)) n now next
       → Goes allows number_of (action.open_read path) now next held (on (n ∷ []) held)
   open_read_goes path n now next held gets =
-      got_goes (action.open_read path) (λ st. AskOpenRead path ∷ []) (λ st. FileAt (length st.plan.items)) (OpenRead path (Ok n)) n now next held (λ st. refl) gets refl refl refl refl refl refl (λ st. refl) (λ st L. (refl, tt))
-      (λ course st ready stands more later s. ap Some (opened_here course stands.added more (OpenRead path (Ok n)) n next.next 0 gets.1.below_new later refl (rw is_itself refl) refl (length st.plan.items) (as_many stands)))
+      got_goes (action.open_read path) (λ st. AskOpenRead path ∷ []) (λ st. FileAt (length st.plan.items)) (OpenRead path (Ok n)) n now next held (λ st. refl) gets refl refl refl refl refl refl (λ st. refl) (λ course st L. (refl, tt))
+      (λ course st ready stands more later s. surely (IsEarly course) (opened_here course stands.added more (OpenRead path (Ok n)) n next.next 0 gets.1.below_new later refl (rw is_itself refl) refl (length st.plan.items) (as_many stands)))
 
   pub create_goes : (path : List ℕ) (n : ℕ) (now next : JournalView) (held : Holdings)
       → GetsEnd (Create path (Ok n)) n now next
       → Goes allows number_of (action.create path) now next held (on (n ∷ []) held)
   create_goes path n now next held gets =
-      got_goes (action.create path) (λ st. AskCreate path ∷ []) (λ st. FileAt (length st.plan.items)) (Create path (Ok n)) n now next held (λ st. refl) gets refl refl refl refl refl refl (λ st. refl) (λ st L. (refl, tt))
-      (λ course st ready stands more later s. ap Some (opened_here course stands.added more (Create path (Ok n)) n next.next 0 gets.1.below_new later refl (rw is_itself refl) refl (length st.plan.items) (as_many stands)))
+      got_goes (action.create path) (λ st. AskCreate path ∷ []) (λ st. FileAt (length st.plan.items)) (Create path (Ok n)) n now next held (λ st. refl) gets refl refl refl refl refl refl (λ st. refl) (λ course st L. (refl, tt))
+      (λ course st ready stands more later s. surely (IsEarly course) (opened_here course stands.added more (Create path (Ok n)) n next.next 0 gets.1.below_new later refl (rw is_itself refl) refl (length st.plan.items) (as_many stands)))
 
   same_plan : (x : Target E) (st : State E H)
       → action.pushes x st ≡ record { stack = x ∷ st.stack; plan = record { items = st.plan.items ++ []; out = st.plan.out; err = st.plan.err } }
@@ -234,38 +211,41 @@ module _ {E H : Type 0} (allows : Allows H) (number_of : E → ℕ) where
       → GetsEnd (Parent which (Ok n)) n now next
       → Goes allows number_of (action.parent which) now next held (on (n ∷ []) held)
   parent_goes side.Out n now next held gets =
-      got_goes (action.parent side.Out) (λ st. []) (λ st. Parents stream.Out) (Parent side.Out (Ok n)) n now next held (λ st. same_plan (Parents stream.Out) st) gets refl refl refl refl refl refl (λ st. refl) (λ st L. tt)
-      (λ course st ready stands more later s. ap Some (origin_stays n (stands.added ++ Parent side.Out (Ok n) ∷ []) more (later.fresh n gets.1.below_new) ∙ origin-more n stands.added (Parent side.Out (Ok n)) ∙ rw is_itself refl))
+      got_goes (action.parent side.Out) (λ st. []) (λ st. Parents stream.Out) (Parent side.Out (Ok n)) n now next held (λ st. same_plan (Parents stream.Out) st) gets refl refl refl refl refl refl (λ st. refl) (λ course st L. tt)
+      (λ course st ready stands more later s. surely (IsEarly course) (origin_stays n (stands.added ++ Parent side.Out (Ok n) ∷ []) more (later.fresh n gets.1.below_new) ∙ origin-more n stands.added (Parent side.Out (Ok n)) ∙ rw is_itself refl))
   parent_goes side.Err n now next held gets =
-      got_goes (action.parent side.Err) (λ st. []) (λ st. Parents stream.Err) (Parent side.Err (Ok n)) n now next held (λ st. same_plan (Parents stream.Err) st) gets refl refl refl refl refl refl (λ st. refl) (λ st L. tt)
-      (λ course st ready stands more later s. ap Some (origin_stays n (stands.added ++ Parent side.Err (Ok n) ∷ []) more (later.fresh n gets.1.below_new) ∙ origin-more n stands.added (Parent side.Err (Ok n)) ∙ rw is_itself refl))
+      got_goes (action.parent side.Err) (λ st. []) (λ st. Parents stream.Err) (Parent side.Err (Ok n)) n now next held (λ st. same_plan (Parents stream.Err) st) gets refl refl refl refl refl refl (λ st. refl) (λ course st L. tt)
+      (λ course st ready stands more later s. surely (IsEarly course) (origin_stays n (stands.added ++ Parent side.Err (Ok n) ∷ []) more (later.fresh n gets.1.below_new) ∙ origin-more n stands.added (Parent side.Err (Ok n)) ∙ rw is_itself refl))
 
   pub lend_goes : (end : E) (n : ℕ) (now next : JournalView) (held : Holdings)
       → GetsEnd (Duplicate (number_of end) (Ok n)) n now next
       → Goes allows number_of (action.lend end) now next held (on (n ∷ []) held)
   lend_goes end n now next held gets =
       let entry = Duplicate (number_of end) (Ok n) in
-      got_goes (action.lend end) (λ st. []) (λ st. Lends end) entry n now next held (λ st. same_plan (Lends end) st) gets refl refl refl refl refl refl (λ st. refl) (λ st L. tt)
-      (λ course st ready stands more later s. ap Some (origin_stays n (stands.added ++ entry ∷ []) more (later.fresh n gets.1.below_new) ∙ origin-more n stands.added entry
-      ∙ rw is_itself (origin_lent (number_of end) stands.added (let lt : number_of end < course.old.next = omega (arith, ready.needs, later.early) in stands.books.above (number_of end) lt))))
+      got_goes (action.lend end) (λ st. []) (λ st. Lends end) entry n now next held (λ st. same_plan (Lends end) st) gets refl refl refl refl refl refl (λ st. refl) (λ course st L. tt)
+      (λ course st ready stands more later s. (
+        duplicate_first stands.added more (number_of end) n,
+        λ early. origin_stays n (stands.added ++ entry ∷ []) more (later.fresh n gets.1.below_new) ∙ origin-more n stands.added entry
+            ∙ rw is_itself (origin_lent (number_of end) stands.added (let lt : number_of end < course.old.next = omega (arith, ready.needs, early) in stands.books.above (number_of end) lt)),
+      ))
 
   -- a duplicate of an end that is held
   dup_goes : (act : Action E H) (x : State E H → Target E) (m n : ℕ) (now next : JournalView)
       (held : Holdings) → ((st : State E H) → advance st act ≡ action.pushes (x st) st)
       → 1 ≤ count_of m (ends held) →
-      ((course : Course) (st : State E H) → IsReady number_of course.base course.bound st act → (L : List EntryView) → Sourced number_of L st held → Some (origin L m) ≡ origin_to (trace L) number_of (x st)) →
+      ((course : Course) (st : State E H) → IsReady number_of course.base course.bound st act → (L : List EntryView) → Sourced (IsEarly course) number_of L st held → IsFrom (IsEarly course) number_of L m (x st)) →
       GetsEnd (Duplicate m (Ok n)) n now next → Goes allows number_of act now next held (on (n ∷ []) held)
   dup_goes act x m n now next held is here from gets =
       let entry = Duplicate m (Ok n) in
       let fresh = fresh_one now.next next.next n gets.1.after_old gets.1.below_new in
-      got_goes act (λ st. []) x entry n now next held (λ st. is st ∙ same_plan (x st) st) gets refl refl refl refl refl refl (λ st. refl) (λ st L. tt)
+      got_goes act (λ st. []) x entry n now next held (λ st. is st ∙ same_plan (x st) st) gets refl refl refl refl refl refl (λ st. refl) (λ course st L. tt)
       (λ course st ready stands more later sourced.
       let L = (stands.added ++ entry ∷ []) ++ more in
       let below : m < now.next = elim (cases_lt m now.next) [ inl lt ↦ lt | inr le ↦ absurd (omega (arith, here, stands.books.even m, stands.books.below m le)) ] in
       let dup : origin L n ≡ origin stands.added m = origin_stays n (stands.added ++ entry ∷ []) more (later.fresh n gets.1.below_new) ∙ origin-more n stands.added entry ∙ rw is_itself refl in
       let lent : origin L m ≡ origin stands.added m =
       ap (λ (l : List EntryView). origin l m) (append_assoc stands.added (entry ∷ []) more) ∙ origin_stays m stands.added (entry ∷ more) ((later_more course now.next next.next entry more fresh later).fresh m below) in
-      ap Some (dup ∙ sym lent) ∙ from course st ready L sourced)
+      duplicated (IsEarly course) number_of stands.added more m n (x st) (dup ∙ sym lent) (from course st ready (stands.added ++ []) (stands.sources [] (record { fresh = λ k lt. refl }))) (from course st ready L sourced))
 
   pub duplicate_goes : (depth m n : ℕ) (now next : JournalView) (held : Holdings)
       → level held.stack depth ≡ Some m → GetsEnd (Duplicate m (Ok n)) n now next
@@ -273,8 +253,7 @@ module _ {E H : Type 0} (allows : Allows H) (number_of : E → ℕ) where
   duplicate_goes depth m n now next held at_level gets =
       dup_goes (action.duplicate depth) (λ st. unwrap_or (level st.stack depth) Nothing) m n now next held (λ st. refl)
       (omega (arith, count-append m held.stack (pair_of held.out ++ pair_of held.err), level_counts held.stack depth m at_level))
-      (λ course st ready L s. some_of (level st.stack depth) (origin_to (trace L) number_of) Nothing (Some (origin L m))
-      (ap (option_map (λ k. Some (origin L k))) (sym at_level) ∙ sym (level-map (λ k. Some (origin L k)) held.stack depth) ∙ ap (λ l. level l depth) s.stack ∙ level-map (origin_to (trace L) number_of) st.stack depth))
+      (λ course st ready L s. pair_level (IsFrom (IsEarly course) number_of L) held.stack st.stack depth m Nothing s.stack at_level)
       gets
 
   pub tap_out_goes : (r w n : ℕ) (now next : JournalView) (held : Holdings)
@@ -283,7 +262,7 @@ module _ {E H : Type 0} (allows : Allows H) (number_of : E → ℕ) where
   tap_out_goes r w n now next held is gets =
       dup_goes (action.tap side.Out) (λ st. WriterAt (unwrap_or st.plan.out 0)) w n now next held (λ st. refl)
       (omega (arith, count-append w held.stack (pair_of held.out ++ pair_of held.err), count-append w (pair_of held.out) (pair_of held.err), ap (λ o. count_of w (pair_of o)) is, count-cons w r (w ∷ []), count_same w))
-      (λ course st ready L s. ap Some (pair_writes L st.plan.out r w (subst (λ o. IsPair L st.plan.out o) is s.out))) gets
+      (λ course st ready L s. surely (IsEarly course) (pair_writes L st.plan.out r w (subst (λ o. IsPair L st.plan.out o) is s.out))) gets
 
   pub tap_err_goes : (r w n : ℕ) (now next : JournalView) (held : Holdings)
       → held.err ≡ Some (r, w) → GetsEnd (Duplicate w (Ok n)) n now next
@@ -291,15 +270,15 @@ module _ {E H : Type 0} (allows : Allows H) (number_of : E → ℕ) where
   tap_err_goes r w n now next held is gets =
       dup_goes (action.tap side.Err) (λ st. WriterAt (unwrap_or st.plan.err 0)) w n now next held (λ st. refl)
       (omega (arith, count-append w held.stack (pair_of held.out ++ pair_of held.err), count-append w (pair_of held.out) (pair_of held.err), ap (λ o. count_of w (pair_of o)) is, count-cons w r (w ∷ []), count_same w))
-      (λ course st ready L s. ap Some (pair_writes L st.plan.err r w (subst (λ o. IsPair L st.plan.err o) is s.err))) gets
+      (λ course st ready L s. surely (IsEarly course) (pair_writes L st.plan.err r w (subst (λ o. IsPair L st.plan.err o) is s.err))) gets
 
   -- a pipe, of which the one end or the other is on top
   two_goes : (act : Action E H) (a b n m : ℕ) (x y : State E H → Target E) (now next : JournalView)
       (held : Holdings) →
       ((st : State E H) → advance st act ≡ record { stack = x st ∷ y st ∷ st.stack; plan = record { items = st.plan.items ++ AskPipe ∷ []; out = st.plan.out; err = st.plan.err } }) →
       ((k : ℕ) → count_of k (a ∷ b ∷ []) ≡ count_of k (n ∷ m ∷ [])) →
-      ((st : State E H) (L : List EntryView) → (origin L n ≡ Opened (end_at (trace L) (length st.plan.items) 0)) → (origin L m ≡ Opened (end_at (trace L) (length st.plan.items) 1)) →
-      (Some (origin L a) ≡ origin_to (trace L) number_of (x st)) × (Some (origin L b) ≡ origin_to (trace L) number_of (y st))) →
+      ((early : Type 0) (st : State E H) (L : List EntryView) → (origin L n ≡ Opened (end_at (trace L) (length st.plan.items) 0)) → (origin L m ≡ Opened (end_at (trace L) (length st.plan.items) 1)) →
+      IsFrom early number_of L a (x st) × IsFrom early number_of L b (y st)) →
       GetsEnds (Pipe (Ok (n, m))) n m now next → Goes allows number_of act now next held (on (a ∷ b ∷ []) held)
   two_goes act a b n m x y now next held is same from gets = λ course st ready stands.
       let then_st : State E H = record { stack = x st ∷ y st ∷ st.stack; plan = record { items = st.plan.items ++ AskPipe ∷ []; out = st.plan.out; err = st.plan.err } } in
@@ -316,22 +295,22 @@ module _ {E H : Type 0} (allows : Allows H) (number_of : E → ℕ) where
       let z = sources_now allows number_of course st then_st (AskPipe ∷ []) now next held (on (a ∷ b ∷ []) held) l stands refl ch more later in
       let r = opened_here course stands.added more l n next.next 0 gets.1.below_new later refl (rw is_itself refl) refl (length st.plan.items) (as_many stands) in
       let w = opened_here course stands.added more l m next.next 1 gets.2.below_new later refl (rw (other_than m n (count_other m n other), is_itself) refl) refl (length st.plan.items) (as_many stands) in
-      let both = from st L r w in
-      record { stack = cons_eq _ _ _ _ both.0 (cons_eq _ _ _ _ both.1 z.stack); out = z.out; err = z.err }))
+      let both = from (IsEarly course) st L r w in
+      record { stack = (both.0, (both.1, z.stack)); out = z.out; err = z.err }))
 
   pub pipe_goes : (n m : ℕ) (now next : JournalView) (held : Holdings)
       → GetsEnds (Pipe (Ok (n, m))) n m now next
       → Goes allows number_of action.pipe now next held (on (m ∷ n ∷ []) held)
   pipe_goes n m now next held gets =
       two_goes action.pipe m n n m (λ st. WriterAt (length st.plan.items)) (λ st. ReaderAt (length st.plan.items)) now next held (λ st. refl)
-      (λ k. omega (arith, count-cons k m (n ∷ []), count-cons k n (m ∷ []))) (λ st L r w. (ap Some w, ap Some r)) gets
+      (λ k. omega (arith, count-cons k m (n ∷ []), count-cons k n (m ∷ []))) (λ early st L r w. (surely early w, surely early r)) gets
 
   pub input_goes : (n m : ℕ) (now next : JournalView) (held : Holdings)
       → GetsEnds (Pipe (Ok (n, m))) n m now next
       → Goes allows number_of action.input now next held (on (n ∷ m ∷ []) held)
   input_goes n m now next held gets =
       two_goes action.input n m n m (λ st. ReaderAt (length st.plan.items)) (λ st. WriterAt (length st.plan.items)) now next held (λ st. refl)
-      (λ k. refl) (λ st L r w. (ap Some r, ap Some w)) gets
+      (λ k. refl) (λ early st L r w. (surely early r, surely early w)) gets
 
   pub close_goes : (n : ℕ) (rest : List ℕ) (now next : JournalView) (held : Holdings)
       → held.stack ≡ n ∷ rest → GivesEnds (Close n) 1 now next
@@ -345,7 +324,7 @@ module _ {E H : Type 0} (allows : Allows H) (number_of : E → ℕ) where
       (λ more later.
       let s = sources_now allows number_of course st (advance st action.close) [] now next held (holding rest held) (Close n) stands items ch more later in
       let L = (stands.added ++ Close n ∷ []) ++ more in
-      record { stack = popped (λ k. Some (origin L k)) (origin_to (trace L) number_of) n rest st.stack (ap (λ (l : List ℕ). map (λ k. Some (origin L k)) l) (sym is) ∙ s.stack); out = s.out; err = s.err })
+      record { stack = pair_popped (IsFrom (IsEarly course) number_of L) n rest st.stack (subst (λ (l : List ℕ). Pairwise (IsFrom (IsEarly course) number_of L) l st.stack) is s.stack); out = s.out; err = s.err })
 
   module _ (n : ℕ) (rest bytes : List ℕ) (now next : JournalView) (held : Holdings) (is : held.stack ≡ n ∷ rest) where
     fed : (answer : Result (Unit {0}) Fault) (kept : Holdings) (course : Course) (st : State E H)
@@ -356,7 +335,7 @@ module _ {E H : Type 0} (allows : Allows H) (number_of : E → ℕ) where
     fed answer kept course st ready stands ch more later =
         let L = (stands.added ++ Feed n bytes answer ∷ []) ++ more in
         let s = sources_now allows number_of course st (advance st (action.feed bytes)) (AskFeed (place_of st.stack) bytes ∷ []) now next held kept (Feed n bytes answer) stands refl ch more later in
-        fed_top number_of L n rest st.stack ready.needs (ap (λ (l : List ℕ). map (λ k. Some (origin L k)) l) (sym is) ∙ s.stack)
+        fed_top (IsEarly course) number_of L n rest st.stack ready.needs (subst (λ (l : List ℕ). Pairwise (IsFrom (IsEarly course) number_of L) l st.stack) is s.stack)
 
     pub feed_goes : GivesEnds (Feed n bytes (Ok tt)) 1 now next
         → Goes allows number_of (action.feed bytes) now next held
@@ -371,7 +350,7 @@ module _ {E H : Type 0} (allows : Allows H) (number_of : E → ℕ) where
         (λ more later.
         let L = (stands.added ++ entry ∷ []) ++ more in
         let s = sources_now allows number_of course st (advance st (action.feed bytes)) (AskFeed (place_of st.stack) bytes ∷ []) now next held kept entry stands refl ch more later in
-        record { stack = popped (λ k. Some (origin L k)) (origin_to (trace L) number_of) n rest st.stack (ap (λ (l : List ℕ). map (λ k. Some (origin L k)) l) (sym is) ∙ s.stack); out = s.out; err = s.err })
+        record { stack = pair_popped (IsFrom (IsEarly course) number_of L) n rest st.stack (subst (λ (l : List ℕ). Pairwise (IsFrom (IsEarly course) number_of L) l st.stack) is s.stack); out = s.out; err = s.err })
 
     pub feed_quits : (fault : Fault) → GivesEnds (Feed n bytes (Err fault)) 1 now next
         → Quits allows number_of (action.feed bytes) now next held (holding rest held) (System fault)
@@ -398,12 +377,12 @@ module _ {E H : Type 0} (allows : Allows H) (number_of : E → ℕ) where
       → ((st : State E H) → (advance st act).plan.items ≡ st.plan.items ++ asked st)
       → IsRefused entry 0 fault now next → fault_of entry ≡ Some fault → got_by entry ≡ []
       → spent_by entry ≡ [] → child_by entry ≡ [] → feed_by entry ≡ [] → drain_by entry ≡ []
-      → ((st : State E H) (L : List EntryView)
-      → AnswersFrom allows number_of L (length st.plan.items) (asked st) (trace (entry ∷ [])))
+      → ((course : Course) (st : State E H) (L : List EntryView)
+      → AnswersUnder course allows number_of L (length st.plan.items) (asked st) (trace (entry ∷ [])))
       → Quits allows number_of act now next held held (System fault)
   quits_none act asked entry fault now next held items (inl adds) refuses no_end none no_child no_feed no_drain matches = λ course st ready stands.
       stops_more allows number_of course st (advance st act) (asked st) now next held held entry stands (items st)
-      (none_changes entry now next held adds no_end none no_child no_feed no_drain) (few_now allows number_of course st now held stands) fault refuses (λ more later. matches st ((stands.added ++ entry ∷ []) ++ more))
+      (none_changes entry now next held adds no_end none no_child no_feed no_drain) (few_now allows number_of course st now held stands) fault refuses (λ more later. matches course st ((stands.added ++ entry ∷ []) ++ more))
   quits_none act asked entry fault now next held items (inr nothing) refuses no_end none no_child no_feed no_drain matches =
       memory_quits act asked now next held (System fault) items nothing.1 nothing.2
 
@@ -412,27 +391,27 @@ module _ {E H : Type 0} (allows : Allows H) (number_of : E → ℕ) where
     pub open_read_quits : (path : List ℕ) → IsRefused (OpenRead path (Err fault)) 0 fault now next
         → Quits allows number_of (action.open_read path) now next held held (System fault)
     open_read_quits path refused =
-        quits_none (action.open_read path) (λ st. AskOpenRead path ∷ []) (OpenRead path (Err fault)) fault now next held (λ st. refl) refused refl refl refl refl refl refl (λ st L. (refl, tt))
+        quits_none (action.open_read path) (λ st. AskOpenRead path ∷ []) (OpenRead path (Err fault)) fault now next held (λ st. refl) refused refl refl refl refl refl refl (λ course st L. (refl, tt))
 
     pub create_quits : (path : List ℕ) → IsRefused (Create path (Err fault)) 0 fault now next
         → Quits allows number_of (action.create path) now next held held (System fault)
     create_quits path refused =
-        quits_none (action.create path) (λ st. AskCreate path ∷ []) (Create path (Err fault)) fault now next held (λ st. refl) refused refl refl refl refl refl refl (λ st L. (refl, tt))
+        quits_none (action.create path) (λ st. AskCreate path ∷ []) (Create path (Err fault)) fault now next held (λ st. refl) refused refl refl refl refl refl refl (λ course st L. (refl, tt))
 
     pub pipe_quits : IsRefused (Pipe (Err fault)) 0 fault now next
         → Quits allows number_of action.pipe now next held held (System fault)
-    pipe_quits refused = quits_none action.pipe (λ st. AskPipe ∷ []) (Pipe (Err fault)) fault now next held (λ st. refl) refused refl refl refl refl refl refl (λ st L. (tt, tt))
+    pipe_quits refused = quits_none action.pipe (λ st. AskPipe ∷ []) (Pipe (Err fault)) fault now next held (λ st. refl) refused refl refl refl refl refl refl (λ course st L. (tt, tt))
 
     pub input_quits : IsRefused (Pipe (Err fault)) 0 fault now next
         → Quits allows number_of action.input now next held held (System fault)
-    input_quits refused = quits_none action.input (λ st. AskPipe ∷ []) (Pipe (Err fault)) fault now next held (λ st. refl) refused refl refl refl refl refl refl (λ st L. (tt, tt))
+    input_quits refused = quits_none action.input (λ st. AskPipe ∷ []) (Pipe (Err fault)) fault now next held (λ st. refl) refused refl refl refl refl refl refl (λ course st L. (tt, tt))
 
     pub parent_quits : (which : Side) → IsRefused (Parent which (Err fault)) 0 fault now next
         → Quits allows number_of (action.parent which) now next held held (System fault)
     parent_quits side.Out refused =
-        quits_none (action.parent side.Out) (λ st. []) (Parent side.Out (Err fault)) fault now next held (λ st. sym (append-nil st.plan.items)) refused refl refl refl refl refl refl (λ st L. tt)
+        quits_none (action.parent side.Out) (λ st. []) (Parent side.Out (Err fault)) fault now next held (λ st. sym (append-nil st.plan.items)) refused refl refl refl refl refl refl (λ course st L. tt)
     parent_quits side.Err refused =
-        quits_none (action.parent side.Err) (λ st. []) (Parent side.Err (Err fault)) fault now next held (λ st. sym (append-nil st.plan.items)) refused refl refl refl refl refl refl (λ st L. tt)
+        quits_none (action.parent side.Err) (λ st. []) (Parent side.Err (Err fault)) fault now next held (λ st. sym (append-nil st.plan.items)) refused refl refl refl refl refl refl (λ course st L. tt)
 
     -- of a duplicate, whatever it is of
     pub duplicate_quits : (act : Action E H) (m : ℕ)
@@ -440,4 +419,4 @@ module _ {E H : Type 0} (allows : Allows H) (number_of : E → ℕ) where
         → IsRefused (Duplicate m (Err fault)) 0 fault now next
         → Quits allows number_of act now next held held (System fault)
     duplicate_quits act m same refused =
-        quits_none act (λ st. []) (Duplicate m (Err fault)) fault now next held (λ st. same st ∙ sym (append-nil st.plan.items)) refused refl refl refl refl refl refl (λ st L. tt)
+        quits_none act (λ st. []) (Duplicate m (Err fault)) fault now next held (λ st. same st ∙ sym (append-nil st.plan.items)) refused refl refl refl refl refl refl (λ course st L. tt)

@@ -1,6 +1,7 @@
 -- The flat plan of a tree leads to its plan, and leaves the stack as it was.
 use Rattle.std.proofs.Common.{◌≡◌, ℕ, ◌+◌, ◌*◌, ◌≤◌, ◌<◌, List, [], ◌∷◌, ◌++◌, length, refl, ap, sym, ◌∙◌, arith, subst}
-use Rattle.std.specs.Prelude.{unwrap_or, true, false}
+use Rattle.std.specs.Prelude.{Bool, Some, None, unwrap_or, true, false}
+use Rattle.std.specs.declared.option.Option.{Option}
 use Rattle.std.specs.List.{All}
 use Rattle.std.proofs.lemmas.List.{append-nil}
 use Rattle.std.proofs.lemmas.List.Elements.{All-append, All-nil, All-cons, All-head, All-tail}
@@ -8,16 +9,16 @@ use Rattle.duct_system.specs.declared.spec.Stream.TheVariants.{In, Out, Err}
 use Rattle.duct_system.specs.declared.system.Side.TheVariants as side
 use Rattle.duct_start.specs.Actions as action
 use Rattle.duct_start.specs.Actions.{Action, Scope, State, Three, IsReady, AreBelow, Leads, advance, with_plan}
-use Rattle.duct_start.specs.Flat.{Wire, slot, captured, flat, flat_of, scope_within, rooted, outside, inputs, outputs, errors, WireIs, is_in, is_out, is_err, is_nothing, is_slot, is_captured, is_lent, WiresFit}
-use Rattle.duct_start.specs.Flat as flat
+use Rattle.duct_start.specs.Flat.{Wire, slot, deeper, flat, flat_of, opened_wire, scope_if, rooted, outside, inputs, outputs, wired, wires_in, wrapped, WireIs, is_in, is_out, is_err, is_nothing, is_slot, is_captured, is_lent, WiresFit}
 use Rattle.duct_start.specs.Found.{Found, Target, ReaderAt, WriterAt, FileAt, plain, target_of}
 use Rattle.duct_start.specs.Lookup.{turned}
 use Rattle.std.specs.Option.{option_or}
 use Rattle.duct_start.specs.Inward.{found_within, walked}
-use Rattle.duct_start.specs.Plan.{Plan, asks, captures_out, captures_err, closed, begun, planned}
-use Rattle.duct_start.specs.Start.{depth, ends_in}
-use Rattle.duct_start.specs.Step.{Step, Follows, Item, AskPipe, AskFeed, AskOpenRead, AskCreate, left_step, right_step, step}
-use Rattle.duct_start.specs.TreeView.{TreeView, command, pipe, around, stdin_bytes, stdin_path, stdin_file, stdin_null, stdout_path, stdout_file, stdout_null, stdout_capture, stdout_to_stderr, stderr_path, stderr_file, stderr_null, stderr_capture, stderr_to_stdout, stdout_stderr_swap, dir, env, env_remove, full_env, unchecked, before_spawn}
+use Rattle.duct_start.specs.Plan.{Plan, asks, closed, begun, opened, place_for, planned}
+use Rattle.duct_start.specs.Start.{depth, ends_in, modifier_ends, opens_depth, said_ends, way_ends}
+use Rattle.duct_start.specs.Row.{Obtains, Says, Way, opens_nothing, opens_input, opens_read, opens_create, opens_capture, as_outside, to_nothing, to_lent, to_opened, says_folder, says_change, says_hook, row}
+use Rattle.duct_start.specs.Step.{Item, AskPipe, closing_of, end_of, opening_of, said, said_if, turn_of, AskFeed, AskOpenRead, AskCreate, left_step, right_step, step}
+use Rattle.duct_start.specs.TreeView.{ModifierView, TreeView, command, pipe, around, stdin_bytes}
 use Rattle.duct_start.proofs.Inward.{joined}
 use Rattle.duct_start.proofs.Keeping.{keeps, keeps_same, keeps_out, keeps_err, out_opens, err_opens}
 use Rattle.duct_start.proofs.Stacks.{level_top, leads_none, leads_cons, leads_append}
@@ -34,6 +35,43 @@ module _ {E : Type 0} (P : E → Type 0) where
   pub all_back : (xs ys : List E) → All P (xs ++ ys) → All P ys
   all_back [] ys all = all
   all_back (x ∷ xs) ys all = all_back xs ys (All-tail P x (xs ++ ys) all)
+
+module _ {E : Type 0} where
+  -- the stack inside of a node that opens this at this place
+  abbrev stack_in : Obtains → ℕ → List (Target E) → List (Target E)
+  stack_in opens_nothing place stack = stack
+  stack_in (opens_input bytes) place stack = ReaderAt place ∷ WriterAt place ∷ stack
+  stack_in (opens_read path) place stack = FileAt place ∷ stack
+  stack_in (opens_create path) place stack = FileAt place ∷ stack
+  stack_in (opens_capture which) place stack = stack
+
+  -- stdin follows no other stream, and no other stream follows it
+  abbrev IsWay : Bool → Way E → Type 0
+  IsWay true (as_outside Out) = ⊥
+  IsWay true (as_outside Err) = ⊥
+  IsWay false (as_outside In) = ⊥
+  IsWay b way = Unit {0}
+
+  length_in : (opens : Obtains) (place : ℕ) (stack : List (Target E)) (n : ℕ) → n ≡ length stack
+      → deeper opens n ≡ length (stack_in opens place stack)
+  length_in opens_nothing place stack n is = is
+  length_in (opens_input bytes) place stack n is = omega (arith, is)
+  length_in (opens_read path) place stack n is = omega (arith, is)
+  length_in (opens_create path) place stack n is = omega (arith, is)
+  length_in (opens_capture which) place stack n is = is
+
+deep : (opens : Obtains) (n : ℕ) → deeper opens n ≤ n + 2 * opens_depth opens
+deep opens_nothing n = omega arith
+deep (opens_input bytes) n = omega arith
+deep (opens_read path) n = omega arith
+deep (opens_create path) n = omega arith
+deep (opens_capture which) n = omega arith
+
+module _ {E H : Type 0} where
+  lawful : (modifier : ModifierView E H)
+      → IsWay true (row modifier).input × IsWay false (row modifier).output × IsWay false (row modifier).error
+  lawful (stdin_bytes bytes) = (tt, tt, tt)
+  lawful modifier = (tt, tt, tt)
 
 module _ {E H : Type 0} (number_of : E → ℕ) (base bound : ℕ) where
   abbrev at_st : List (Target E) → Plan E H → State E H
@@ -86,19 +124,113 @@ module _ {E H : Type 0} (number_of : E → ℕ) (base bound : ℕ) where
     below = fits.below;
   }
 
-  -- the same wires, inside a node that says something of folder, variables or hooks, and nothing of streams
-  scoped : (node : Step E H) (p : Plan E H) (stack : List (Target E)) (s : Scope E H)
-      (w : Three (Wire E)) (found : Found E H) → WiresFit number_of base (at_st stack p) s w found →
-      node.turn ≡ (λ place stream. Follows stream) → AreBelow number_of base node.hooks → WiresFit number_of base (at_st stack p) (scope_within node s) w (found_within node (length p.items) found)
-  scoped node p stack s w found fits still below = record {
-    folder = ap (option_or node.folder) fits.folder;
-    changes = ap (λ changes. node.changes ++ changes) fits.changes;
-    hooks = ap (λ hooks. hooks ++ node.hooks) fits.hooks;
-    input = subst (λ t. WireIs number_of base (at_st stack p) true w.input (turned (t (length p.items) In) (target_of found))) (sym still) fits.input;
-    output = subst (λ t. WireIs number_of base (at_st stack p) false w.output (turned (t (length p.items) Out) (target_of found))) (sym still) fits.output;
-    error = subst (λ t. WireIs number_of base (at_st stack p) false w.error (turned (t (length p.items) Err) (target_of found))) (sym still) fits.error;
-    below = All-append (λ hook. All (λ end. number_of end < base) hook.1) s.hooks node.hooks fits.below below;
+  -- what stood on the stack stands there inside of the node
+  opens_grow : (opens : Obtains) (stack : List (Target E)) (p : Plan E H)
+      → Grows (at_st stack p)
+      (at_st (stack_in opens (place_for (opening_of {E = E} {H = H} opens) p) stack) (opened (opening_of opens) p))
+  opens_grow opens_nothing stack p = grows_plan stack p p (keeps_same p p refl refl)
+  opens_grow (opens_input bytes) stack p =
+      let k = length p.items in
+      let p1 = asks AskPipe p in
+      grows_on (grows_by stack (WriterAt k) p p1 (keeps_same p p1 refl refl)) (grows_by (WriterAt k ∷ stack) (ReaderAt k) p1 p1 (keeps_same p1 p1 refl refl))
+  opens_grow (opens_read path) stack p = grows_by stack (FileAt (length p.items)) p _ (keeps_same p _ refl refl)
+  opens_grow (opens_create path) stack p = grows_by stack (FileAt (length p.items)) p _ (keeps_same p _ refl refl)
+  opens_grow (opens_capture side.Out) stack p = grows_plan stack p _ (keeps_out p)
+  opens_grow (opens_capture side.Err) stack p = grows_plan stack p _ (keeps_err p)
+
+  -- a wire leads to what the node opens
+  opened_fits : (b : Bool) (opens : Obtains) (stack : List (Target E)) (p : Plan E H) (n : ℕ)
+      → n ≡ length stack
+      → WireIs number_of base
+      (at_st (stack_in opens (place_for (opening_of {E = E} {H = H} opens) p) stack) (opened (opening_of opens) p))
+      b (opened_wire opens n) (end_of opens (place_for (opening_of {E = E} {H = H} opens) p))
+  opened_fits b opens_nothing stack p n is = is_nothing b
+  opened_fits b (opens_input bytes) stack p n is =
+      let k = length p.items in
+      is_slot b (n + 1) (ReaderAt k) tt (level_top (WriterAt k ∷ stack) (ReaderAt k) (n + 1) (omega (arith, is)))
+  opened_fits b (opens_read path) stack p n is = is_slot b n (FileAt (length p.items)) tt (level_top stack (FileAt (length p.items)) n is)
+  opened_fits b (opens_create path) stack p n is = is_slot b n (FileAt (length p.items)) tt (level_top stack (FileAt (length p.items)) n is)
+  opened_fits b (opens_capture side.Out) stack p n is = is_captured b side.Out (unwrap_or p.out (length p.items)) (out_opens p)
+  opened_fits b (opens_capture side.Err) stack p n is = is_captured b side.Err (unwrap_or p.err (length p.items)) (err_opens p)
+
+  -- a wire leads where its stream goes inside of the node
+  wire_fits : (b : Bool) (way : Way E) (state : State E H) (s : Scope E H) (w : Three (Wire E))
+      (found : Found E H) (opened : Wire E) (opens : Obtains) (place : ℕ) → IsWay b way
+      → All (λ end. number_of end < base) (way_ends way)
+      → WiresFit number_of base state s w found
+      → WireIs number_of base state b opened (end_of opens place)
+      → WireIs number_of base state b (wired way opened w) (turned (turn_of opens place way) (target_of found))
+  wire_fits true (as_outside In) state s w found opened opens place law below fits there = fits.input
+  wire_fits true (as_outside Out) state s w found opened opens place law below fits there = absurd law
+  wire_fits true (as_outside Err) state s w found opened opens place law below fits there = absurd law
+  wire_fits false (as_outside In) state s w found opened opens place law below fits there = absurd law
+  wire_fits false (as_outside Out) state s w found opened opens place law below fits there = fits.output
+  wire_fits false (as_outside Err) state s w found opened opens place law below fits there = fits.error
+  wire_fits b to_nothing state s w found opened opens place law below fits there = is_nothing b
+  wire_fits b (to_lent end) state s w found opened opens place law below fits there = is_lent b end (All-head (λ end. number_of end < base) end [] below)
+  wire_fits b to_opened state s w found opened opens place law below fits there = there
+
+  hooks_below : (says : Option (Says E H)) → All (λ end. number_of end < base) (said_ends says)
+      → AreBelow number_of base (said_if says).hooks
+  hooks_below None below = All-nil _
+  hooks_below (Some (says_folder path)) below = All-nil _
+  hooks_below (Some (says_change change)) below = All-nil _
+  hooks_below (Some (says_hook hook ends)) below =
+      All-cons (λ pair. All (λ end. number_of end < base) pair.1) (hook, ends) [] below (All-nil (λ pair. All (λ end. number_of end < base) pair.1))
+
+  -- these wires fit inside of a node that says this
+  scope_fits : (says : Option (Says E H)) (state : State E H) (s : Scope E H)
+      (w more : Three (Wire E)) (found : Found E H) (input output error : Target E)
+      → WiresFit number_of base state s w found → AreBelow number_of base (said_if says).hooks
+      → WireIs number_of base state true more.input input
+      → WireIs number_of base state false more.output output
+      → WireIs number_of base state false more.error error
+      → WiresFit number_of base state (scope_if says s) more (record {
+        folder = option_or (said_if says).folder found.folder;
+        changes = (said_if says).changes ++ found.changes;
+        input = input;
+        output = output;
+        error = error;
+        hooks = found.hooks ++ (said_if says).hooks;
+      })
+  scope_fits None state s w more found input output error fits below one two three =
+      rewired state s w more found _ fits refl refl refl one two three
+  scope_fits (Some says) state s w more found input output error fits below one two three = record {
+    folder = ap (option_or (said says).folder) fits.folder;
+    changes = ap (λ changes. (said says).changes ++ changes) fits.changes;
+    hooks = ap (λ hooks. hooks ++ (said says).hooks) fits.hooks;
+    input = one;
+    output = two;
+    error = three;
+    below = All-append (λ hook. All (λ end. number_of end < base) hook.1) s.hooks (said says).hooks fits.below below;
   }
+
+  -- the actions of a node round those of what stands inside of it
+  wraps : (opens : Obtains) (stack : List (Target E)) (p q : Plan E H) (inside : List (Action E H))
+      (n : ℕ) → n ≡ length stack → n + 3 ≤ bound
+      → Leads number_of base bound
+      (at_st (stack_in opens (place_for (opening_of {E = E} {H = H} opens) p) stack) (opened (opening_of opens) p)) inside
+      (at_st (stack_in opens (place_for (opening_of {E = E} {H = H} opens) p) stack) q)
+      → Leads number_of base bound (at_st stack p) (wrapped opens inside)
+      (at_st stack (closed (closing_of opens (place_for (opening_of {E = E} {H = H} opens) p)) q))
+  wraps opens_nothing stack p q inside n is low leads = unclosed _ _ stack q leads
+  wraps (opens_input bytes) stack p q inside n is low leads =
+      let k = length p.items in
+      let r : Target E = ReaderAt k in
+      let x : Target E = WriterAt k in
+      let q1 = asks (AskFeed k bytes) q in
+      leads_cons number_of base bound (at_st stack p) (at_st stack q1) action.input _ (easy (at_st stack p) action.input refl tt (omega (arith, is, low)))
+      (leads_append number_of base bound _ (at_st (r ∷ x ∷ stack) q) _ _ _ leads
+      (leads_cons number_of base bound _ (at_st stack q1) action.close _ (close_ready r (x ∷ stack) q (omega (arith, is, low)))
+      (leads_cons number_of base bound (at_st (x ∷ stack) q) (at_st stack q1) (action.feed bytes) [] (record { full = omega arith; needs = tt; low = omega (arith, is, low) }) (leads_none number_of base bound _))))
+  wraps (opens_read path) stack p q inside n is low leads =
+      held_leads (action.open_read path) (AskOpenRead path) (FileAt (length p.items)) inside stack p q refl tt refl (omega (arith, is, low)) leads
+  wraps (opens_create path) stack p q inside n is low leads =
+      held_leads (action.create path) (AskCreate path) (FileAt (length p.items)) inside stack p q refl tt refl (omega (arith, is, low)) leads
+  wraps (opens_capture side.Out) stack p q inside n is low leads =
+      unclosed _ _ stack q (leads_cons number_of base bound (at_st stack p) _ (action.capture side.Out) _ (easy (at_st stack p) (action.capture side.Out) refl tt (omega (arith, is, low))) leads)
+  wraps (opens_capture side.Err) stack p q inside n is low leads =
+      unclosed _ _ stack q (leads_cons number_of base bound (at_st stack p) _ (action.capture side.Err) _ (easy (at_st stack p) (action.capture side.Err) refl tt (omega (arith, is, low))) leads)
 
   pub flat_leads : (tree : TreeView E H) (s : Scope E H) (w : Three (Wire E)) (found : Found E H)
       (stack : List (Target E)) (p : Plan E H) (n : ℕ) → n ≡ length stack
@@ -131,128 +263,25 @@ module _ {E H : Type 0} (number_of : E → ℕ) (base bound : ℕ) where
       (leads_append number_of base bound _ (at_st (r ∷ stack) p3) _ _ _
       (flat_leads right s _ found2 (r ∷ stack) p2 (n + 1) (omega (arith, is)) (all_back (λ end. number_of end < base) (ends_in left) (ends_in right) older) down (omega (arith, is, low)))
       (close_leads r stack p3 (omega (arith, is, low))))))
-  flat_leads (around (stdin_bytes bytes) inner) s w found stack p n is older fits low =
-      let k = length p.items in
-      let r : Target E = ReaderAt k in
-      let x : Target E = WriterAt k in
-      let p1 = asks AskPipe p in
-      let found1 = found_within (step (stdin_bytes bytes)) k found in
-      let p2 = walked found1 inner p1 in
-      let p3 = asks (AskFeed k bytes) p2 in
-      let g : Grows (at_st stack p) (at_st (r ∷ x ∷ stack) p1) = grows_on (grows_by stack x p p1 (keeps_same p p1 refl refl)) (grows_by (x ∷ stack) r p1 p1 (keeps_same p1 p1 refl refl)) in
-      let fits1 = fits_grow number_of base (at_st stack p) (at_st (r ∷ x ∷ stack) p1) s w found g fits in
-      let fit = rewired (at_st (r ∷ x ∷ stack) p1) s w (inputs (slot (n + 1)) w) found found1 fits1 refl refl refl (is_slot true (n + 1) r tt (level_top (x ∷ stack) r (n + 1) (omega (arith, is)))) fits1.output fits1.error in
-      leads_cons number_of base bound (at_st stack p) (at_st stack p3) action.input _ (easy (at_st stack p) action.input refl tt (omega (arith, is, low)))
-      (leads_append number_of base bound _ (at_st (r ∷ x ∷ stack) p2) _ _ _
-      (flat_leads inner s _ found1 (r ∷ x ∷ stack) p1 (n + 2) (omega (arith, is)) older fit (omega (arith, is, low)))
-      (leads_cons number_of base bound _ (at_st stack p3) action.close _ (close_ready r (x ∷ stack) p2 (omega (arith, is, low)))
-      (leads_cons number_of base bound (at_st (x ∷ stack) p2) (at_st stack p3) (action.feed bytes) [] (record { full = omega arith; needs = tt; low = omega (arith, is, low) }) (leads_none number_of base bound _))))
-  flat_leads (around (stdin_path path) inner) s w found stack p n is older fits low =
-      let x : Target E = FileAt (length p.items) in
-      let p1 = asks (AskOpenRead path) p in
-      let found1 = found_within (step (stdin_path path)) (length p.items) found in
-      let top = level_top stack x n is in
-      let fits1 = fits_grow number_of base (at_st stack p) (at_st (x ∷ stack) p1) s w found (grows_by stack x p p1 (keeps_same p p1 refl refl)) fits in
-      let fit = rewired (at_st (x ∷ stack) p1) s w (inputs (slot n) w) found found1 fits1 refl refl refl (is_slot true n x tt top) fits1.output fits1.error in
-      held_leads (action.open_read path) (AskOpenRead path) x _ stack p _ refl tt refl (omega (arith, is, low))
-      (flat_leads inner s _ found1 (x ∷ stack) p1 (n + 1) (omega (arith, is)) older fit (omega (arith, low)))
-  flat_leads (around (stdin_file end) inner) s w found stack p n is older fits low =
-      let found1 = found_within (step (stdin_file end)) (length p.items) found in
-      let fit = rewired (at_st stack p) s w (inputs (flat.lent end) w) found found1 fits refl refl refl (is_lent true end (All-head (λ end. number_of end < base) end (ends_in inner) older)) fits.output fits.error in
-      unclosed _ _ stack _ (flat_leads inner s _ found1 stack p n is (All-tail (λ end. number_of end < base) end (ends_in inner) older) fit (omega (arith, low)))
-  flat_leads (around stdin_null inner) s w found stack p n is older fits low =
-      let found1 = found_within (step stdin_null) (length p.items) found in
-      let fit = rewired (at_st stack p) s w (inputs flat.nothing w) found found1 fits refl refl refl (is_nothing true) fits.output fits.error in
-      unclosed _ _ stack _ (flat_leads inner s _ found1 stack p n is older fit (omega (arith, low)))
-  flat_leads (around (stdout_path path) inner) s w found stack p n is older fits low =
-      let x : Target E = FileAt (length p.items) in
-      let p1 = asks (AskCreate path) p in
-      let found1 = found_within (step (stdout_path path)) (length p.items) found in
-      let top = level_top stack x n is in
-      let fits1 = fits_grow number_of base (at_st stack p) (at_st (x ∷ stack) p1) s w found (grows_by stack x p p1 (keeps_same p p1 refl refl)) fits in
-      let fit = rewired (at_st (x ∷ stack) p1) s w (outputs (slot n) w) found found1 fits1 refl refl refl fits1.input (is_slot false n x tt top) fits1.error in
-      held_leads (action.create path) (AskCreate path) x _ stack p _ refl tt refl (omega (arith, is, low))
-      (flat_leads inner s _ found1 (x ∷ stack) p1 (n + 1) (omega (arith, is)) older fit (omega (arith, low)))
-  flat_leads (around (stdout_file end) inner) s w found stack p n is older fits low =
-      let found1 = found_within (step (stdout_file end)) (length p.items) found in
-      let fit = rewired (at_st stack p) s w (outputs (flat.lent end) w) found found1 fits refl refl refl fits.input (is_lent false end (All-head (λ end. number_of end < base) end (ends_in inner) older)) fits.error in
-      unclosed _ _ stack _ (flat_leads inner s _ found1 stack p n is (All-tail (λ end. number_of end < base) end (ends_in inner) older) fit (omega (arith, low)))
-  flat_leads (around stdout_null inner) s w found stack p n is older fits low =
-      let found1 = found_within (step stdout_null) (length p.items) found in
-      let fit = rewired (at_st stack p) s w (outputs flat.nothing w) found found1 fits refl refl refl fits.input (is_nothing false) fits.error in
-      unclosed _ _ stack _ (flat_leads inner s _ found1 stack p n is older fit (omega (arith, low)))
-  flat_leads (around stdout_capture inner) s w found stack p n is older fits low =
-      let p1 = captures_out p in
-      let k = unwrap_or p.out (length p.items) in
-      let found1 = found_within (step stdout_capture) k found in
-      let fits1 = fits_grow number_of base (at_st stack p) (at_st stack p1) s w found (grows_plan stack p p1 (keeps_out p)) fits in
-      let fit = rewired (at_st stack p1) s w (outputs (captured side.Out) w) found found1 fits1 refl refl refl fits1.input (is_captured false side.Out k (out_opens p)) fits1.error in
-      unclosed _ _ stack _
-      (leads_cons number_of base bound (at_st stack p) _ (action.capture side.Out) _ (easy (at_st stack p) (action.capture side.Out) refl tt (omega (arith, is, low)))
-      (flat_leads inner s _ found1 stack p1 n is older fit (omega (arith, low))))
-  flat_leads (around stdout_to_stderr inner) s w found stack p n is older fits low =
-      let found1 = found_within (step stdout_to_stderr) (length p.items) found in
-      let fit = rewired (at_st stack p) s w (outputs w.error w) found found1 fits refl refl refl fits.input fits.error fits.error in
-      unclosed _ _ stack _ (flat_leads inner s _ found1 stack p n is older fit (omega (arith, low)))
-  flat_leads (around (stderr_path path) inner) s w found stack p n is older fits low =
-      let x : Target E = FileAt (length p.items) in
-      let p1 = asks (AskCreate path) p in
-      let found1 = found_within (step (stderr_path path)) (length p.items) found in
-      let top = level_top stack x n is in
-      let fits1 = fits_grow number_of base (at_st stack p) (at_st (x ∷ stack) p1) s w found (grows_by stack x p p1 (keeps_same p p1 refl refl)) fits in
-      let fit = rewired (at_st (x ∷ stack) p1) s w (errors (slot n) w) found found1 fits1 refl refl refl fits1.input fits1.output (is_slot false n x tt top) in
-      held_leads (action.create path) (AskCreate path) x _ stack p _ refl tt refl (omega (arith, is, low))
-      (flat_leads inner s _ found1 (x ∷ stack) p1 (n + 1) (omega (arith, is)) older fit (omega (arith, low)))
-  flat_leads (around (stderr_file end) inner) s w found stack p n is older fits low =
-      let found1 = found_within (step (stderr_file end)) (length p.items) found in
-      let fit = rewired (at_st stack p) s w (errors (flat.lent end) w) found found1 fits refl refl refl fits.input fits.output (is_lent false end (All-head (λ end. number_of end < base) end (ends_in inner) older)) in
-      unclosed _ _ stack _ (flat_leads inner s _ found1 stack p n is (All-tail (λ end. number_of end < base) end (ends_in inner) older) fit (omega (arith, low)))
-  flat_leads (around stderr_null inner) s w found stack p n is older fits low =
-      let found1 = found_within (step stderr_null) (length p.items) found in
-      let fit = rewired (at_st stack p) s w (errors flat.nothing w) found found1 fits refl refl refl fits.input fits.output (is_nothing false) in
-      unclosed _ _ stack _ (flat_leads inner s _ found1 stack p n is older fit (omega (arith, low)))
-  flat_leads (around stderr_capture inner) s w found stack p n is older fits low =
-      let p1 = captures_err p in
-      let k = unwrap_or p.err (length p.items) in
-      let found1 = found_within (step stderr_capture) k found in
-      let fits1 = fits_grow number_of base (at_st stack p) (at_st stack p1) s w found (grows_plan stack p p1 (keeps_err p)) fits in
-      let fit = rewired (at_st stack p1) s w (errors (captured side.Err) w) found found1 fits1 refl refl refl fits1.input fits1.output (is_captured false side.Err k (err_opens p)) in
-      unclosed _ _ stack _
-      (leads_cons number_of base bound (at_st stack p) _ (action.capture side.Err) _ (easy (at_st stack p) (action.capture side.Err) refl tt (omega (arith, is, low)))
-      (flat_leads inner s _ found1 stack p1 n is older fit (omega (arith, low))))
-  flat_leads (around stderr_to_stdout inner) s w found stack p n is older fits low =
-      let found1 = found_within (step stderr_to_stdout) (length p.items) found in
-      let fit = rewired (at_st stack p) s w (errors w.output w) found found1 fits refl refl refl fits.input fits.output fits.output in
-      unclosed _ _ stack _ (flat_leads inner s _ found1 stack p n is older fit (omega (arith, low)))
-  flat_leads (around stdout_stderr_swap inner) s w found stack p n is older fits low =
-      let found1 = found_within (step stdout_stderr_swap) (length p.items) found in
-      let fit = rewired (at_st stack p) s w (record w { output = w.error; error = w.output }) found found1 fits refl refl refl fits.input fits.error fits.output in
-      unclosed _ _ stack _ (flat_leads inner s _ found1 stack p n is older fit (omega (arith, low)))
-  flat_leads (around (dir path) inner) s w found stack p n is older fits low =
-      let node = step {E = E} {H = H} (dir path) in
-      let found1 = found_within node (length p.items) found in
-      unclosed _ _ stack _ (flat_leads inner (scope_within node s) w found1 stack p n is older (scoped node p stack s w found fits refl (All-nil _)) (omega (arith, low)))
-  flat_leads (around (env name value) inner) s w found stack p n is older fits low =
-      let node = step {E = E} {H = H} (env name value) in
-      let found1 = found_within node (length p.items) found in
-      unclosed _ _ stack _ (flat_leads inner (scope_within node s) w found1 stack p n is older (scoped node p stack s w found fits refl (All-nil _)) (omega (arith, low)))
-  flat_leads (around (env_remove name) inner) s w found stack p n is older fits low =
-      let node = step {E = E} {H = H} (env_remove name) in
-      let found1 = found_within node (length p.items) found in
-      unclosed _ _ stack _ (flat_leads inner (scope_within node s) w found1 stack p n is older (scoped node p stack s w found fits refl (All-nil _)) (omega (arith, low)))
-  flat_leads (around (full_env vars) inner) s w found stack p n is older fits low =
-      let node = step {E = E} {H = H} (full_env vars) in
-      let found1 = found_within node (length p.items) found in
-      unclosed _ _ stack _ (flat_leads inner (scope_within node s) w found1 stack p n is older (scoped node p stack s w found fits refl (All-nil _)) (omega (arith, low)))
-  flat_leads (around unchecked inner) s w found stack p n is older fits low =
-      let found1 = found_within (step unchecked) (length p.items) found in
-      let fit = rewired (at_st stack p) s w (w) found found1 fits refl refl refl fits.input fits.output fits.error in
-      unclosed _ _ stack _ (flat_leads inner s _ found1 stack p n is older fit (omega (arith, low)))
-  flat_leads (around (before_spawn hook ends) inner) s w found stack p n is older fits low =
-      let node = step {E = E} {H = H} (before_spawn hook ends) in
-      let found1 = found_within node (length p.items) found in
-      unclosed _ _ stack _ (flat_leads inner (scope_within node s) w found1 stack p n is (all_back (λ end. number_of end < base) ends (ends_in inner) older) (scoped node p stack s w found fits refl
-      (All-cons (λ pair. All (λ end. number_of end < base) pair.1) (hook, ends) [] (all_front (λ end. number_of end < base) ends (ends_in inner) older) (All-nil (λ pair. All (λ end. number_of end < base) pair.1)))) (omega (arith, low)))
+  flat_leads (around modifier inner) s w found stack p n is older fits low =
+      let r = row modifier in
+      let law = lawful modifier in
+      let place = place_for (opening_of {E = E} {H = H} r.opens) p in
+      let p1 = opened (opening_of r.opens) p in
+      let tops = stack_in r.opens place stack in
+      let found1 = found_within (step modifier) place found in
+      let Below : E → Type 0 = λ end. number_of end < base in
+      let here = all_front Below (modifier_ends modifier) (ends_in inner) older in
+      let other = all_back Below (way_ends r.input) _ here in
+      let last = all_back Below (way_ends r.output) _ other in
+      let fits1 = fits_grow number_of base (at_st stack p) (at_st tops p1) s w found (opens_grow r.opens stack p) fits in
+      let input = wire_fits true r.input (at_st tops p1) s w found (opened_wire r.opens n) r.opens place law.0 (all_front Below (way_ends r.input) _ here) fits1 (opened_fits true r.opens stack p n is) in
+      let output = wire_fits false r.output (at_st tops p1) s w found (opened_wire r.opens n) r.opens place law.1 (all_front Below (way_ends r.output) _ other) fits1 (opened_fits false r.opens stack p n is) in
+      let error = wire_fits false r.error (at_st tops p1) s w found (opened_wire r.opens n) r.opens place law.2 (all_front Below (way_ends r.error) _ last) fits1 (opened_fits false r.opens stack p n is) in
+      let fit = scope_fits r.says (at_st tops p1) s w (wires_in r n w) found _ _ _ fits1 (hooks_below r.says (all_back Below (way_ends r.error) _ last)) input output error in
+      wraps r.opens stack p (walked found1 inner p1) _ n is (omega (arith, low))
+      (flat_leads inner (scope_if r.says s) (wires_in r n w) found1 tops p1 (deeper r.opens n) (length_in r.opens place stack n is)
+      (all_back Below (modifier_ends modifier) (ends_in inner) older) fit (omega (arith, low, deep r.opens n)))
 
 -- the list of a tree leads to its plan up to what is handed on at the end, and leaves nothing on the stack, which never holds more
 -- than twice the depth of the tree and three

@@ -1,11 +1,11 @@
 -- What a start leaves of a pool: sweeps one after the other, and then the children that it started.
-use Rattle.std.proofs.Common.{◌≡◌, ℕ, ◌+◌, ◌^◌, ◌<◌, List, [], ◌∷◌, ◌++◌, length, refl, ap, sym, ◌∙◌, arith, subst, inl, inr}
+use Rattle.std.proofs.Common.{◌≡◌, ℕ, ◌+◌, ◌^◌, ◌<◌, ◌≤◌, List, [], ◌∷◌, ◌++◌, length, refl, ap, sym, ◌∙◌, arith, subst, inl, inr}
 use Rattle.std.proofs.lemmas.Simd.{map-map}
 use Rattle.std.proofs.lemmas.List.{append-nil, map-append, length-map}
 use Rattle.std.specs.List.{All}
 use Rattle.std.proofs.lemmas.List.Elements.{All-cons, All-nil, All-head, All-tail}
 use Rattle.std.specs.Prelude.{map, Ok, Err, Some, None}
-use Rattle.duct_base.proofs.Sieving.{counted_more}
+use Rattle.duct_base.proofs.Sieving.{counted_more, sieves_fewer}
 use Rattle.duct_base.specs.Pool.{PoolView, AsksAll, IsSwept, IsGiven, Sieves, Takes, counted}
 use Rattle.duct_system.specs.Child.{Answer, ChildView, PollsChild, IsUnasked}
 use Rattle.duct_system.specs.EntryView.{EntryView}
@@ -85,6 +85,14 @@ module _ (may : ℕ → Answer → Type 0) where
     reaped_is = refl;
     lost_is = refl;
   }
+
+  -- where nothing was given there are no more children than before
+  pub leaves_fewer : (before after : PoolView ChildView) → Leaves may [] before after
+      → length after.children ≤ length before.children
+  leaves_fewer before after leaves =
+      let none = leaves.new_are in
+      let left : after.children ≡ leaves.old = leaves.children_are ∙ ap (λ (l : List ChildView). leaves.old ++ l) none.0 ∙ append-nil leaves.old in
+      omega (arith, ap (λ (l : List ChildView). length l) left, sieves_fewer MayChild StaysInPool before.children leaves.old leaves.reaped leaves.lost leaves.old_are)
 
   -- first nothing was given, and then these children
   pub leaves_on : (given : List ChildView) (before mid after : PoolView ChildView)
@@ -194,16 +202,22 @@ module _ (may : ℕ → Answer → Type 0) where
       leaves_on (map view children) (pool_view view before) (pool_view view mid) (pool_view view after) swept (leaves_taken children mid after takes),
     )
 
-    -- the same, where the children fit beside all that the pool was ever given
+    -- where nothing was given the pool keeps no more children than before
+    pub keeps_fewer : (before mid : PoolView C)
+        → Leaves may [] (pool_view view before) (pool_view view mid)
+        → length mid.children ≤ length before.children
+    keeps_fewer before mid swept = omega (arith, leaves_fewer (pool_view view before) (pool_view view mid) swept, length-map before.children view, length-map mid.children view)
+
+    -- the same, where the children fit beside those that the pool keeps
     pub leaves_refused : (children : List C) (added : List EntryView)
         (before mid after : PoolView C)
         → Leaves may [] (pool_view view before) (pool_view view mid)
         → IsGiven may view children mid after
         → map (λ c. (view c).number) children ≡ children_in added
         → All (λ c. IsUnasked (view c)) children
-        → before.given + length (children_in added) < 2 ^ 63
+        → length before.children + length (children_in added) < 2 ^ 63
         → LeavesStarted may view added before after
     leaves_refused children added before mid after swept given numbers unasked fits =
         let many : length children ≡ length (children_in added) = sym (length-map children (λ c. (view c).number)) ∙ ap (λ (l : List ℕ). length l) numbers in
-        let low : mid.given + length children < 2 ^ 63 = omega (arith, fits, many, swept.given_is) in
+        let low : length mid.children + length children < 2 ^ 63 = omega (arith, fits, many, keeps_fewer before mid swept) in
         leaves_started children added before mid after swept (given.takes low) numbers unasked

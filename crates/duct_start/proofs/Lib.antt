@@ -8,6 +8,7 @@ pub mod Commanded
 pub mod Commanding
 pub mod Counted
 pub mod Counts
+pub mod Duplicates
 pub mod Ending
 pub mod Fetched
 pub mod Going
@@ -24,6 +25,7 @@ pub mod Resolved
 pub mod Running
 pub mod ScopeIn
 pub mod Settling
+pub mod Sources
 pub mod Spawning
 pub mod Stacks
 pub mod Standing

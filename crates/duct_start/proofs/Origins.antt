@@ -1,5 +1,5 @@
 -- The origin of a number and the end at a place stay, whatever comes later.
-use Rattle.std.proofs.Common.{◌≡◌, ℕ, ◌+◌, ◌<◌, List, [], ◌∷◌, ◌++◌, length, refl, ap, ◌∙◌, arith, append_assoc}
+use Rattle.std.proofs.Common.{◌≡◌, ℕ, ◌+◌, ◌<◌, List, [], ◌∷◌, ◌++◌, length, refl, ap, sym, ◌∙◌, arith, append_assoc}
 use Rattle.std.proofs.lemmas.Grind.{flat_map-append}
 use Rattle.std.proofs.lemmas.List.{reverse-append, append-nil}
 use Rattle.std.proofs.lemmas.List.Elements.{filter-append}
@@ -31,7 +31,7 @@ pub count_spent-append : (n : ℕ) (xs ys : List EntryView)
     → count_of n (spent (xs ++ ys)) ≡ count_of n (spent xs) + count_of n (spent ys)
 count_spent-append n xs ys = ap (λ (l : List ℕ). count_of n l) (spent-append xs ys) ∙ count-append n (spent xs) (spent ys)
 
-count_got-reverse : (n : ℕ) (xs : List EntryView)
+pub count_got-reverse : (n : ℕ) (xs : List EntryView)
     → count_of n (got (reverse xs)) ≡ count_of n (got xs)
 count_got-reverse n [] = refl
 count_got-reverse n (x ∷ xs) =
@@ -64,6 +64,11 @@ skip n (Duplicate lent (Ok end) ∷ entries) before none =
     let rest : count_of n (got entries) ≡ 0 = omega (arith, count-cons n end (got entries)) in
     rw r (skip n entries before rest)
 skip n (entry ∷ entries) before none = skip n entries before none
+
+-- a number that none of these got is somebody else's
+pub lent_before : (n : ℕ) (entries : List EntryView) → count_of n (got entries) ≡ 0
+    → origin_before entries n ≡ Lent n
+lent_before n entries none = ap (λ (l : List EntryView). origin_before l n) (sym (append-nil entries)) ∙ skip n entries [] none
 
 -- a number that is not got later keeps its origin
 pub origin_stays : (n : ℕ) (xs more : List EntryView) → count_of n (got more) ≡ 0
@@ -103,7 +108,6 @@ pub later_more : (course : Course) (next then : ℕ) (entry : EntryView) (more :
     → AreFresh next then (got_by entry) → IsLater course then more
     → IsLater course next (entry ∷ more)
 later_more course next then entry more fresh later = record {
-  early = later.early;
   fresh = λ n lt.
       let lt' : n < then = omega (arith, fresh.newer) in
       omega (arith, count_got-append n (entry ∷ []) more, count_got-append n [] (entry ∷ []), fresh.above n lt, later.fresh n lt', ap (λ (l : List ℕ). count_of n l) (append-nil (got_by entry)));

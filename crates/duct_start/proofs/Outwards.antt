@@ -1,11 +1,12 @@
 -- In the list of a tree each scope stands behind the one outside of it.
 use Rattle.std.proofs.Common.{◌≡◌, ℕ, zero, suc, ◌+◌, ◌≤◌, List, [], ◌∷◌, ◌++◌, length, refl, ap, arith}
-use Rattle.std.specs.Prelude.{Some, slice_get}
-use Rattle.duct_system.specs.declared.system.Side.TheVariants as side
+use Rattle.std.specs.Prelude.{None, Some, slice_get}
+use Rattle.std.specs.declared.option.Option.{Option}
 use Rattle.duct_start.specs.Actions.{Three}
-use Rattle.duct_start.specs.Flat.{Wire, nothing, slot, captured, lent, inputs, outputs, errors, outside}
-use Rattle.duct_start.specs.Listed.{AreOutwards, ListedScope, listed, listed_of}
-use Rattle.duct_start.specs.TreeView.{TreeView, command, pipe, around, stdin_bytes, stdin_path, stdin_file, stdin_null, stdout_path, stdout_file, stdout_null, stdout_capture, stdout_to_stderr, stderr_path, stderr_file, stderr_null, stderr_capture, stderr_to_stdout, stdout_stderr_swap, dir, env, env_remove, full_env, unchecked, before_spawn}
+use Rattle.duct_start.specs.Flat.{Wire, slot, deeper, inputs, outputs, outside, wires_in}
+use Rattle.duct_start.specs.Listed.{AreOutwards, ListedScope, listed, listed_of, next_index, scope_index, scoped}
+use Rattle.duct_start.specs.Row.{Says, row}
+use Rattle.duct_start.specs.TreeView.{TreeView, command, pipe, around}
 
 module _ {E H : Type 0} where
   -- the same of scopes that stand behind so many others
@@ -30,6 +31,16 @@ module _ {E H : Type 0} where
   outwards-append base next (scope ∷ some) more is first second =
       (first.0, outwards-append (base + 1) next some more (omega arith) first.1 second)
 
+  -- so does the scope of a node, with what stands inside of it
+  outwards_row : (says : Option (Says E H)) (base i next : ℕ) (w : Three (Wire E))
+      (inner : TreeView E H) (n : ℕ) → i ≤ base → next ≡ base + 1
+      → ((base i : ℕ) (w : Three (Wire E)) (n next : ℕ) → i ≤ base → next ≡ base + 1
+      → AreOutwardsFrom base (listed i w inner n next).scopes)
+      → AreOutwardsFrom base (scoped says i (listed (scope_index says i next) w inner n (next_index says next)).scopes)
+  outwards_row None base i next w inner n low is inside = inside base i w n next low is
+  outwards_row (Some said) base i next w inner n low is inside =
+      (low, inside (base + 1) next w n (next + 1) (omega (arith, is)) (omega (arith, is)))
+
   -- so many scopes stand in the list before those of a tree, and the scope that it is inside of is one of them, or the root's
   outwards : (tree : TreeView E H) (base i : ℕ) (w : Three (Wire E)) (n next : ℕ) → i ≤ base
       → next ≡ base + 1 → AreOutwardsFrom base (listed i w tree n next).scopes
@@ -41,47 +52,10 @@ module _ {E H : Type 0} where
       (outwards left base i (outputs (slot (n + 1)) w) (n + 2) next low is)
       (outwards right (base + length some) i (inputs (slot n) w) (n + 1) (next + length some)
       (omega arith) (omega arith))
-  outwards (around (stdin_bytes bytes) inner) base i w n next low is =
-      outwards inner base i (inputs (slot (n + 1)) w) (n + 2) next low is
-  outwards (around (stdin_path path) inner) base i w n next low is =
-      outwards inner base i (inputs (slot n) w) (n + 1) next low is
-  outwards (around (stdin_file end) inner) base i w n next low is =
-      outwards inner base i (inputs (lent end) w) n next low is
-  outwards (around stdin_null inner) base i w n next low is =
-      outwards inner base i (inputs nothing w) n next low is
-  outwards (around (stdout_path path) inner) base i w n next low is =
-      outwards inner base i (outputs (slot n) w) (n + 1) next low is
-  outwards (around (stdout_file end) inner) base i w n next low is =
-      outwards inner base i (outputs (lent end) w) n next low is
-  outwards (around stdout_null inner) base i w n next low is =
-      outwards inner base i (outputs nothing w) n next low is
-  outwards (around stdout_capture inner) base i w n next low is =
-      outwards inner base i (outputs (captured side.Out) w) n next low is
-  outwards (around stdout_to_stderr inner) base i w n next low is =
-      outwards inner base i (outputs w.error w) n next low is
-  outwards (around (stderr_path path) inner) base i w n next low is =
-      outwards inner base i (errors (slot n) w) (n + 1) next low is
-  outwards (around (stderr_file end) inner) base i w n next low is =
-      outwards inner base i (errors (lent end) w) n next low is
-  outwards (around stderr_null inner) base i w n next low is =
-      outwards inner base i (errors nothing w) n next low is
-  outwards (around stderr_capture inner) base i w n next low is =
-      outwards inner base i (errors (captured side.Err) w) n next low is
-  outwards (around stderr_to_stdout inner) base i w n next low is =
-      outwards inner base i (errors w.output w) n next low is
-  outwards (around stdout_stderr_swap inner) base i w n next low is =
-      outwards inner base i (record w { output = w.error; error = w.output }) n next low is
-  outwards (around (dir path) inner) base i w n next low is =
-      (low, outwards inner (base + 1) next w n (next + 1) (omega arith) (omega arith))
-  outwards (around (env name value) inner) base i w n next low is =
-      (low, outwards inner (base + 1) next w n (next + 1) (omega arith) (omega arith))
-  outwards (around (env_remove name) inner) base i w n next low is =
-      (low, outwards inner (base + 1) next w n (next + 1) (omega arith) (omega arith))
-  outwards (around (full_env vars) inner) base i w n next low is =
-      (low, outwards inner (base + 1) next w n (next + 1) (omega arith) (omega arith))
-  outwards (around unchecked inner) base i w n next low is = outwards inner base i w n next low is
-  outwards (around (before_spawn hook ends) inner) base i w n next low is =
-      (low, outwards inner (base + 1) next w n (next + 1) (omega arith) (omega arith))
+  outwards (around modifier inner) base i w n next low is =
+      let r = row modifier in
+      outwards_row r.says base i next (wires_in r n w) inner (deeper r.opens n) low is
+      (outwards inner)
 
 -- the list of a whole tree
 pub listed_outwards : {E H : Type 0} (tree : TreeView E H) → AreOutwards (listed_of tree).scopes

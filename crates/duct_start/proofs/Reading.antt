@@ -13,8 +13,8 @@ use Rattle.duct_start.specs.Plan.{reads}
 use Rattle.duct_start.specs.Ran.{Ending, MadeReader, Runs, SomeLeads, course_of, read}
 use Rattle.duct_start.specs.Standing.{Course, IsLater, Stands}
 use Rattle.duct_start.specs.Step.{Item, AskReader}
-use Rattle.duct_start.proofs.Captured.{closes_out, mid_out, some_place, top_some, without_out}
-use Rattle.duct_start.proofs.Going.{pop_changes, popped}
+use Rattle.duct_start.proofs.Captured.{closes_out, mid_out, some_place, without_out}
+use Rattle.duct_start.proofs.Going.{pop_changes}
 use Rattle.duct_start.proofs.Standing.{Changes, few_of, sources_now, stands_more}
 use Rattle.duct_start.proofs.Whole.{segment-added}
 
@@ -37,8 +37,8 @@ module _ {E H : Type 0} (allows : Allows H) (number_of : E → ℕ) (r w : ℕ) 
       let same : then_st ≡ record { stack = st.stack; plan = read st.plan } = ap (λ (o : Option ℕ). record { stack = st.stack; plan = record { items = (reads o st.plan).items; out = None; err = st.plan.err } }) (sym open') in
       subst (λ (s : State E H). Stands allows number_of course s next kept) same
       (stands_more allows number_of course one then_st asked mid next before kept entry first refl ch (few_of course.bound kept (omega (arith, stands.shaped.stack, low))) (record { stack = stands.shaped.stack; out = refl; err = stands.shaped.err }) refl refl
-      (λ more later. (top_some _ _ _ _ (from more later).stack, tt))
-      (λ more later. let z = from more later in record { stack = popped _ _ r held.stack one.stack z.stack; out = tt; err = z.err }))
+      (λ more later. ((from more later).stack.0.0, tt))
+      (λ more later. let z = from more later in record { stack = z.stack.1; out = tt; err = z.err }))
 
   module _ (ending : Ending E H) (actions : List (Action E H)) (old : JournalView) (runs : Runs allows number_of ending actions old now held) where
     pub run_reads : Runs allows number_of (λ plan. read (ending plan)) actions old next

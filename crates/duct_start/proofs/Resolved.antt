@@ -1,16 +1,17 @@
 -- The list of a tree, with the scopes that its commands name, is its flat plan.
 use Rattle.std.proofs.Common.{◌≡◌, ℕ, ◌+◌, List, [], ◌∷◌, ◌++◌, length, refl, ap, sym, ◌∙◌, arith, length-append}
-use Rattle.std.specs.Prelude.{Some, slice_get, unwrap_or}
+use Rattle.std.specs.Prelude.{None, Some, slice_get, unwrap_or}
+use Rattle.std.specs.declared.option.Option.{Option}
 use Rattle.std.proofs.lemmas.List.{map-append}
 use Rattle.duct_system.specs.declared.spec.Stream.{Stream}
 use Rattle.duct_system.specs.declared.spec.Stream.TheVariants.{In, Out, Err}
-use Rattle.duct_system.specs.declared.system.Side.TheVariants as side
 use Rattle.duct_start.specs.Actions as action
 use Rattle.duct_start.specs.Actions.{Action, ActionOf, Scope, Three}
-use Rattle.duct_start.specs.Flat.{Wire, parents, nothing, slot, captured, lent, fetches, commands, ports_at, inputs, outputs, errors, flat, flat_of, rooted, outside, scope_within}
-use Rattle.duct_start.specs.Listed.{ListedScope, listed, listed_of, scope_at, with_scope, scopes_from, resolved, resolved_all}
-use Rattle.duct_start.specs.Step.{step}
-use Rattle.duct_start.specs.TreeView.{TreeView, command, pipe, around, stdin_bytes, stdin_path, stdin_file, stdin_null, stdout_path, stdout_file, stdout_null, stdout_capture, stdout_to_stderr, stderr_path, stderr_file, stderr_null, stderr_capture, stderr_to_stdout, stdout_stderr_swap, dir, env, env_remove, full_env, unchecked, before_spawn}
+use Rattle.duct_start.specs.Flat.{Wire, parents, nothing, slot, captured, lent, fetches, commands, deeper, ports_at, inputs, outputs, flat, flat_of, rooted, outside, scope_if, scope_within, wires_in, wrapped}
+use Rattle.duct_start.specs.Listed.{ListedScope, listed, listed_of, next_index, scope_at, scope_index, scoped, with_scope, scopes_from, resolved, resolved_all}
+use Rattle.duct_start.specs.Row.{Obtains, Says, opens_nothing, opens_input, opens_read, opens_create, opens_capture, row}
+use Rattle.duct_start.specs.Step.{said}
+use Rattle.duct_start.specs.TreeView.{TreeView, command, pipe, around}
 use Rattle.duct_start.proofs.ScopeIn.{known_stays}
 use Rattle.duct_start.proofs.Stacks.{get_seam}
 
@@ -24,7 +25,7 @@ module _ {E H : Type 0} where
       → length (scopes_from known scopes) ≡ length known + length scopes
   length_from known [] = omega arith
   length_from known (scope ∷ scopes) =
-      let x = scope_within (step scope.0) (scope_at known scope.1) in
+      let x = scope_within (said scope.0) (scope_at known scope.1) in
       omega (arith, length_from (known ++ x ∷ []) scopes, length-append known (x ∷ []))
 
   fetches_same : (scopes : List (Scope E H)) (w : Wire E) (stream : Stream)
@@ -54,6 +55,34 @@ module _ {E H : Type 0} where
       (joined_same scopes _ _ _ _ (fetches_same scopes w.output Out)
       (joined_same scopes _ _ _ _ (fetches_same scopes w.error Err) (ap (λ o. action.spawn (unwrap_or o rooted) words (ports_at w) ∷ []) here)))
 
+  wrapped_same : (scopes : List (Scope E H)) (opens : Obtains) (inside : List (ActionOf E ℕ))
+      (same : List (Action E H)) → resolved_all scopes inside ≡ same
+      → resolved_all scopes (wrapped opens inside) ≡ wrapped opens same
+  wrapped_same scopes opens_nothing inside same is = is
+  wrapped_same scopes (opens_input bytes) inside same is = ap (λ xs. action.input ∷ xs) (joined_same scopes inside same (action.close ∷ action.feed bytes ∷ []) (action.close ∷ action.feed bytes ∷ []) is refl)
+  wrapped_same scopes (opens_read path) inside same is = ap (λ xs. action.open_read path ∷ xs) (joined_same scopes inside same (action.close ∷ []) (action.close ∷ []) is refl)
+  wrapped_same scopes (opens_create path) inside same is = ap (λ xs. action.create path ∷ xs) (joined_same scopes inside same (action.close ∷ []) (action.close ∷ []) is refl)
+  wrapped_same scopes (opens_capture which) inside same is = ap (λ xs. action.capture which ∷ xs) is
+
+  resolves_row : (says : Option (Says E H)) (known : List (Scope E H)) (i next : ℕ) (s : Scope E H)
+      (later : List (ListedScope E H)) (w : Three (Wire E)) (inner : TreeView E H) (n : ℕ)
+      → next ≡ length known → slice_get known i ≡ Some s
+      → ((known : List (Scope E H)) (i : ℕ) (w : Three (Wire E)) (n next : ℕ) (s : Scope E H)
+      (later : List (ListedScope E H)) → next ≡ length known → slice_get known i ≡ Some s
+      → resolved_all (scopes_from (scopes_from known (listed i w inner n next).scopes) later) (listed i w inner n next).actions ≡ flat s w inner n)
+      → resolved_all
+      (scopes_from (scopes_from known (scoped says i (listed (scope_index says i next) w inner n (next_index says next)).scopes)) later)
+      (listed (scope_index says i next) w inner n (next_index says next)).actions
+      ≡ flat (scope_if says s) w inner n
+  resolves_row None known i next s later w inner n is here inside = inside known i w n next s later is here
+  resolves_row (Some says) known i next s later w inner n is here inside =
+      let node = said {E = E} {H = H} says in
+      let found = ap (λ o. unwrap_or o rooted) here in
+      let more = known ++ scope_within node (scope_at known i) ∷ [] in
+      inside more next w n (next + 1) (scope_within node s) later
+      (omega (arith, is, length-append known (scope_within node (scope_at known i) ∷ [])))
+      (ap (slice_get more) is ∙ get_seam known (scope_within node (scope_at known i)) ∙ ap (λ x. Some (scope_within node x)) found)
+
   -- whatever scopes come later
   resolves : (tree : TreeView E H) (known : List (Scope E H)) (i : ℕ) (w : Three (Wire E))
       (n next : ℕ) (s : Scope E H) (later : List (ListedScope E H)) → next ≡ length known →
@@ -75,71 +104,14 @@ module _ {E H : Type 0} where
       ∙ resolves right more i down (n + 1) (next + length a.scopes) s later (omega (arith, is, length_from known a.scopes)) (known_stays known a.scopes i s here) in
       ap (λ xs. action.pipe ∷ xs)
       (joined_same all a.actions _ _ _ one (ap (λ xs. action.close ∷ xs) (joined_same all b.actions _ (action.close ∷ []) (action.close ∷ []) other refl)))
-  resolves (around (stdin_bytes bytes) inner) known i w n next s later is here =
-      let l = listed {E = E} {H = H} i (inputs (slot (n + 1)) w) inner (n + 2) next in
-      let rest = resolves inner known i (inputs (slot (n + 1)) w) (n + 2) next s later is here in
-      ap (λ xs. action.input ∷ xs) (map-append _ l.actions (action.close ∷ action.feed bytes ∷ []) ∙ ap (λ xs. xs ++ (action.close ∷ action.feed bytes ∷ [])) rest)
-  resolves (around (stdin_path path) inner) known i w n next s later is here =
-      let l = listed {E = E} {H = H} i (inputs (slot n) w) inner (n + 1) next in
-      let rest = resolves inner known i (inputs (slot n) w) (n + 1) next s later is here in
-      ap (λ xs. action.open_read path ∷ xs) (map-append _ l.actions (action.close ∷ []) ∙ ap (λ xs. xs ++ (action.close ∷ [])) rest)
-  resolves (around (stdin_file end) inner) known i w n next s later is here = resolves inner known i (inputs (lent end) w) n next s later is here
-  resolves (around stdin_null inner) known i w n next s later is here = resolves inner known i (inputs nothing w) n next s later is here
-  resolves (around (stdout_path path) inner) known i w n next s later is here =
-      let l = listed {E = E} {H = H} i (outputs (slot n) w) inner (n + 1) next in
-      let rest = resolves inner known i (outputs (slot n) w) (n + 1) next s later is here in
-      ap (λ xs. action.create path ∷ xs) (map-append _ l.actions (action.close ∷ []) ∙ ap (λ xs. xs ++ (action.close ∷ [])) rest)
-  resolves (around (stdout_file end) inner) known i w n next s later is here = resolves inner known i (outputs (lent end) w) n next s later is here
-  resolves (around stdout_null inner) known i w n next s later is here = resolves inner known i (outputs nothing w) n next s later is here
-  resolves (around stdout_capture inner) known i w n next s later is here =
-      ap (λ xs. action.capture side.Out ∷ xs) (resolves inner known i (outputs (captured side.Out) w) n next s later is here)
-  resolves (around stdout_to_stderr inner) known i w n next s later is here = resolves inner known i (outputs w.error w) n next s later is here
-  resolves (around (stderr_path path) inner) known i w n next s later is here =
-      let l = listed {E = E} {H = H} i (errors (slot n) w) inner (n + 1) next in
-      let rest = resolves inner known i (errors (slot n) w) (n + 1) next s later is here in
-      ap (λ xs. action.create path ∷ xs) (map-append _ l.actions (action.close ∷ []) ∙ ap (λ xs. xs ++ (action.close ∷ [])) rest)
-  resolves (around (stderr_file end) inner) known i w n next s later is here = resolves inner known i (errors (lent end) w) n next s later is here
-  resolves (around stderr_null inner) known i w n next s later is here = resolves inner known i (errors nothing w) n next s later is here
-  resolves (around stderr_capture inner) known i w n next s later is here =
-      ap (λ xs. action.capture side.Err ∷ xs) (resolves inner known i (errors (captured side.Err) w) n next s later is here)
-  resolves (around stderr_to_stdout inner) known i w n next s later is here = resolves inner known i (errors w.output w) n next s later is here
-  resolves (around stdout_stderr_swap inner) known i w n next s later is here = resolves inner known i (record w { output = w.error; error = w.output }) n next s later is here
-  resolves (around (dir path) inner) known i w n next s later is here =
-      let node = step {E = E} {H = H} (dir path) in
-      let found = ap (λ o. unwrap_or o rooted) here in
-      let more = known ++ scope_within node (scope_at known i) ∷ [] in
-      resolves inner more next w n (next + 1) (scope_within node s) later
-      (omega (arith, is, length-append known (scope_within node (scope_at known i) ∷ [])))
-      (ap (slice_get more) is ∙ get_seam known (scope_within node (scope_at known i)) ∙ ap (λ x. Some (scope_within node x)) found)
-  resolves (around (env name value) inner) known i w n next s later is here =
-      let node = step {E = E} {H = H} (env name value) in
-      let found = ap (λ o. unwrap_or o rooted) here in
-      let more = known ++ scope_within node (scope_at known i) ∷ [] in
-      resolves inner more next w n (next + 1) (scope_within node s) later
-      (omega (arith, is, length-append known (scope_within node (scope_at known i) ∷ [])))
-      (ap (slice_get more) is ∙ get_seam known (scope_within node (scope_at known i)) ∙ ap (λ x. Some (scope_within node x)) found)
-  resolves (around (env_remove name) inner) known i w n next s later is here =
-      let node = step {E = E} {H = H} (env_remove name) in
-      let found = ap (λ o. unwrap_or o rooted) here in
-      let more = known ++ scope_within node (scope_at known i) ∷ [] in
-      resolves inner more next w n (next + 1) (scope_within node s) later
-      (omega (arith, is, length-append known (scope_within node (scope_at known i) ∷ [])))
-      (ap (slice_get more) is ∙ get_seam known (scope_within node (scope_at known i)) ∙ ap (λ x. Some (scope_within node x)) found)
-  resolves (around (full_env vars) inner) known i w n next s later is here =
-      let node = step {E = E} {H = H} (full_env vars) in
-      let found = ap (λ o. unwrap_or o rooted) here in
-      let more = known ++ scope_within node (scope_at known i) ∷ [] in
-      resolves inner more next w n (next + 1) (scope_within node s) later
-      (omega (arith, is, length-append known (scope_within node (scope_at known i) ∷ [])))
-      (ap (slice_get more) is ∙ get_seam known (scope_within node (scope_at known i)) ∙ ap (λ x. Some (scope_within node x)) found)
-  resolves (around unchecked inner) known i w n next s later is here = resolves inner known i (w) n next s later is here
-  resolves (around (before_spawn hook ends) inner) known i w n next s later is here =
-      let node = step {E = E} {H = H} (before_spawn hook ends) in
-      let found = ap (λ o. unwrap_or o rooted) here in
-      let more = known ++ scope_within node (scope_at known i) ∷ [] in
-      resolves inner more next w n (next + 1) (scope_within node s) later
-      (omega (arith, is, length-append known (scope_within node (scope_at known i) ∷ [])))
-      (ap (slice_get more) is ∙ get_seam known (scope_within node (scope_at known i)) ∙ ap (λ x. Some (scope_within node x)) found)
+  resolves (around modifier inner) known i w n next s later is here =
+      let r = row modifier in
+      let wires = wires_in r n w in
+      let depth = deeper r.opens n in
+      let inside = listed {E = E} {H = H} (scope_index r.says i next) wires inner depth (next_index r.says next) in
+      let scopes = scopes_from (scopes_from known (scoped r.says i inside.scopes)) later in
+      wrapped_same scopes r.opens inside.actions _
+      (resolves_row r.says known i next s later wires inner depth is here (resolves inner))
 
   -- the whole list of a tree is its flat plan
   pub list_resolves : (tree : TreeView E H)

@@ -65,7 +65,7 @@ module _ (course : Course) (now : JournalView) where
       begins = λ more. refl;
       starts = (_, ap (λ l. l ++ Environment (Ok course.pairs) ∷ []) (sym none));
       answers = λ more later. (tt, tt);
-      sources = λ more later. record { stack = refl; out = tt; err = tt };
+      sources = λ more later. record { stack = tt; out = tt; err = tt };
       clean = (refl, tt);
     }
 

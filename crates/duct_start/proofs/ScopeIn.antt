@@ -5,7 +5,7 @@ use Rattle.std.proofs.lemmas.Option.{slice_get_cases}
 use Rattle.duct_start.specs.Actions.{Scope}
 use Rattle.duct_start.specs.Flat.{rooted, scope_within}
 use Rattle.duct_start.specs.Listed.{AreOutwards, ListedScope, scope_at, scope_in, scopes_from, with_scope}
-use Rattle.duct_start.specs.Step.{step}
+use Rattle.duct_start.specs.Step.{said}
 use Rattle.duct_start.proofs.Stacks.{get_front, get_seam}
 
 module _ {E H : Type 0} where
@@ -26,19 +26,19 @@ module _ {E H : Type 0} where
   stands_behind : (known : List (Scope E H)) (scopes : List (ListedScope E H)) (k n : ℕ)
       (scope : ListedScope E H) →
       slice_get scopes k ≡ Some scope → n ≡ length known + k → scope.1 < n →
-      slice_get (scopes_from known scopes) n ≡ Some (scope_within (step scope.0) (scope_at (scopes_from known scopes) scope.1))
+      slice_get (scopes_from known scopes) n ≡ Some (scope_within (said scope.0) (scope_at (scopes_from known scopes) scope.1))
   stands_behind known [] k n scope here is outwards = absurd (cc)
   stands_behind known (x ∷ scopes) zero n scope here is outwards =
       let same : x ≡ scope = cc in
-      let made = scope_within (step x.0) (scope_at known x.1) in
+      let made = scope_within (said x.0) (scope_at known x.1) in
       let stays : scope_at known x.1 ≡ scope_at (scopes_from (with_scope known x) scopes) x.1 = scope_stays known (x ∷ scopes) x.1 (omega (arith, ap (λ (s : ListedScope E H). s.1) same)) in
       let last : n ≡ length known = omega arith in
       known_stays (with_scope known x) scopes n made (ap (λ k. slice_get (known ++ made ∷ []) k) last ∙ get_seam known made)
-      ∙ ap (λ s. Some (scope_within (step x.0) s)) stays
-      ∙ ap (λ (s : ListedScope E H). Some (scope_within (step s.0) (scope_at (scopes_from (with_scope known x) scopes) s.1))) same
+      ∙ ap (λ s. Some (scope_within (said x.0) s)) stays
+      ∙ ap (λ (s : ListedScope E H). Some (scope_within (said s.0) (scope_at (scopes_from (with_scope known x) scopes) s.1))) same
   stands_behind known (x ∷ scopes) (suc k) n scope here is outwards =
       stands_behind (with_scope known x) scopes k n scope here
-      (omega (arith, length-append known (scope_within (step x.0) (scope_at known x.1) ∷ []))) outwards
+      (omega (arith, length-append known (scope_within (said x.0) (scope_at known x.1) ∷ []))) outwards
 
   -- nothing stands round the root
   pub scope_in_root : (scopes : List (ListedScope E H)) → scope_in scopes 0 ≡ rooted
@@ -47,7 +47,7 @@ module _ {E H : Type 0} where
   -- a scope is that of its node inside the one outside of it
   pub scope_in_next : (scopes : List (ListedScope E H)) (k : ℕ) (scope : ListedScope E H)
       → AreOutwards scopes → slice_get scopes k ≡ Some scope
-      → scope_in scopes (k + 1) ≡ scope_within (step scope.0) (scope_in scopes scope.1)
+      → scope_in scopes (k + 1) ≡ scope_within (said scope.0) (scope_in scopes scope.1)
   scope_in_next scopes k scope outwards here =
       let low = outwards k scope here in
       ap (λ o. unwrap_or o rooted) (stands_behind (rooted ∷ []) scopes k (k + 1) scope here (omega arith) (omega arith))

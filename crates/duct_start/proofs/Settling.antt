@@ -1,6 +1,5 @@
 -- The streams of a command stand among the ends on a stack, and each may be turned to another end.
 use Rattle.std.proofs.Common.{◌≡◌, ℕ, suc, zero, ◌<◌, ◌≤◌, List, [], ◌∷◌, ◌++◌, length, refl, ap, sym, ◌∙◌, arith, subst, length-append, get_or}
-use Rattle.std.proofs.lemmas.List.{length-map, map-append}
 use Rattle.std.proofs.lemmas.List.Elements.{All-head, All-tail}
 use Rattle.std.proofs.lemmas.Bool.Decides.{nat_tests}
 use Rattle.std.proofs.lemmas.Option.{slice_get-get_or, slice_get-map}
@@ -22,9 +21,10 @@ use Rattle.duct_start.specs.Chain.{Allows, end_of_place, missing_at, settled}
 use Rattle.duct_start.specs.Commands.{IsAlike, LetsGo, Settles, Unsettled, holding, with_stack}
 use Rattle.duct_start.specs.Found.{Target, Lends}
 use Rattle.duct_start.specs.Holdings.{Holdings, ends, pair_of}
-use Rattle.duct_start.specs.Standing.{Course, Stands}
+use Rattle.duct_start.specs.Standing.{Course, IsEarly, IsFrom, Stands}
 use Rattle.duct_start.proofs.Counts.{count-append}
 use Rattle.duct_start.proofs.Going.{close_goes, duplicate_quits, lend_goes}
+use Rattle.duct_start.proofs.Sources.{pair_swapped}
 
 -- two lists that are put together of parts of the same lengths
 pub split_first : {A : Type 0} (xs us ys vs : List A) → length xs ≡ length us → xs ++ ys ≡ us ++ vs
@@ -47,20 +47,6 @@ split_second (x ∷ xs) (u ∷ us) ys vs same is =
     let rest : length xs ≡ length us = omega (arith, same) in
     let tail : xs ++ ys ≡ us ++ vs = cc in
     split_second xs us ys vs rest tail
-
--- the same parts in another order on both sides
-swapped_map : {A B C : Type 0} (f : A → C) (g : B → C) (a b c : List A) (x y z : List B)
-    → length a ≡ length x → length b ≡ length y →
-    map f (a ++ (b ++ c)) ≡ map g (x ++ (y ++ z)) → map f (b ++ (a ++ c)) ≡ map g (y ++ (x ++ z))
-swapped_map {A} {B} {C} f g a b c x y z one other is =
-    let la : length (map f a) ≡ length (map g x) = omega (arith, one, length-map a f, length-map x g) in
-    let lb : length (map f b) ≡ length (map g y) = omega (arith, other, length-map b f, length-map y g) in
-    let whole : map f a ++ map f (b ++ c) ≡ map g x ++ map g (y ++ z) = sym (map-append f a (b ++ c)) ∙ is ∙ map-append g x (y ++ z) in
-    let first = split_first (map f a) (map g x) (map f (b ++ c)) (map g (y ++ z)) la whole in
-    let rest : map f b ++ map f c ≡ map g y ++ map g z = sym (map-append f b c) ∙ split_second (map f a) (map g x) (map f (b ++ c)) (map g (y ++ z)) la whole ∙ map-append g y z in
-    let second = split_first (map f b) (map g y) (map f c) (map g z) lb rest in
-    let third = split_second (map f b) (map g y) (map f c) (map g z) lb rest in
-    map-append f b (a ++ c) ∙ (λ i. second i ++ map-append f a c i) ∙ (λ i. map g y ++ (first i ++ third i)) ∙ sym (map-append g y (x ++ z) ∙ ap (λ l. map g y ++ l) (map-append g x z))
 
 module _ {E H : Type 0} (allows : Allows H) (number_of : E → ℕ) where
   -- ends that stand one behind the other change their places
@@ -103,7 +89,7 @@ module _ {E H : Type 0} (allows : Allows H) (number_of : E → ℕ) where
         begins = stands.begins;
         starts = stands.starts;
         answers = stands.answers;
-        sources = λ more later. let s = stands.sources more later in record { stack = swapped_map _ _ a b c x y z one other s.stack; out = s.out; err = s.err };
+        sources = λ more later. let s = stands.sources more later in record { stack = pair_swapped (IsFrom (IsEarly course) number_of (stands.added ++ more)) a b c x y z one other s.stack; out = s.out; err = s.err };
         clean = stands.clean;
       }
 

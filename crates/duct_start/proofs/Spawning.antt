@@ -1,13 +1,13 @@
 -- The spawn of a command, after its canonical name and its hooks.
 use Rattle.std.proofs.Common.{◌≡◌, ℕ, zero, suc, inl, inr, ◌+◌, ◌-◌, ◌<◌, ◌≤◌, List, [], ◌∷◌, ◌++◌, length, refl, ap, sym, ◌∙◌, arith, subst, append_assoc, length-append}
-use Rattle.std.proofs.lemmas.List.{append-nil, length-map, map-append, nil_from_length}
+use Rattle.std.proofs.lemmas.List.{append-nil, nil_from_length}
 use Rattle.std.specs.declared.option.Option.{Option}
 use Rattle.std.specs.declared.result.Result.{Result}
-use Rattle.std.specs.Prelude.{Bool, true, false, Err, None, Ok, Some, if◌then◌else◌, map, slice_get, unwrap_or}
+use Rattle.std.specs.Prelude.{Bool, true, false, Err, Ok, Some, if◌then◌else◌, map, slice_get}
 use Rattle.duct_system.specs.EntryView.{EntryView, Spawn}
 use Rattle.duct_system.specs.Journal.{JournalView, GivesEnds, IsRefused}
 use Rattle.duct_system.specs.Ledger.{count_of, spent_by}
-use Rattle.duct_system.specs.Origin.{Origin, Opened, origin}
+use Rattle.duct_system.specs.Origin.{origin}
 use Rattle.duct_system.specs.SpecView.{SpecView}
 use Rattle.duct_system.specs.Started.{child_by}
 use Rattle.duct_system.specs.Streams.{end_of, ends_of, stream_of}
@@ -26,18 +26,19 @@ use Rattle.duct_start.specs.Asked.{IsAsked}
 use Rattle.duct_start.specs.Causes.{StoppedBy}
 use Rattle.duct_start.specs.Chain.{Allows, Refuses, Chain, ChainStops, WiredTo, lent}
 use Rattle.duct_start.specs.Commands.{AreAlike, Halts, IsAlike, Refused, Staged, handed, holding, is_named, lends, named, program_in, streams_in, taken_by, with_stack}
-use Rattle.duct_start.specs.Follows.{IsAskedAt, IsSpawnedAt, pairs_in, program_at, text_in}
+use Rattle.duct_start.specs.Follows.{IsAskedAt, IsSpawnedBy, pairs_in, program_at, text_in}
 use Rattle.duct_start.specs.Found.{Found, Target, Parents, Nothing, ReaderAt, WriterAt, FileAt, Lends}
 use Rattle.duct_start.specs.Holdings.{Holdings, pair_of}
 use Rattle.duct_start.specs.Plan.{Plan, asks, program_of}
-use Rattle.duct_start.specs.Standing.{Course, IsHooks, IsLater, Sourced, Stands, Stopped, hooked, origin_to}
+use Rattle.duct_start.specs.Sources.{IsGivenFrom, Pairwise}
+use Rattle.duct_start.specs.Standing.{Course, GivesUnder, IsEarly, IsFrom, IsHooks, IsLater, Sourced, Stands, Stopped, hooked, origin_to}
 use Rattle.duct_start.specs.Step.{Item, AskCanonicalize, AskSpawn}
 use Rattle.duct_start.proofs.Chained.{chain_as, chain_stops_as, lends_lent, wired_as}
 use Rattle.duct_start.proofs.Changing.{alike_long, handed_long}
 use Rattle.duct_start.proofs.Counts.{count-append, fresh_none}
 use Rattle.duct_start.proofs.Going.{adds_as}
 use Rattle.duct_start.proofs.Origins.{trace-append}
-use Rattle.duct_start.proofs.Settling.{split_first, split_second}
+use Rattle.duct_start.proofs.Sources.{known, pair_first, pair_second}
 use Rattle.duct_start.proofs.Stacks.{get_seam}
 use Rattle.duct_start.proofs.Standing.{Changes, as_many, answers_front, few_of, sources_now, stands_more, stops_more, stops_unasked}
 use Rattle.duct_start.proofs.Wires.{origin_of, streams_taken}
@@ -56,11 +57,11 @@ onwards course front = record course { front = front }
 module _ {E H : Type 0} (allows : Allows H) (number_of : E → ℕ) (course : Course) (front : List EntryView) where
   later_as : (next : ℕ) (more : List EntryView) → IsLater course next more
       → IsLater (onwards course front) next more
-  later_as next more later = record { early = later.early; fresh = later.fresh }
+  later_as next more later = record { fresh = later.fresh }
 
   later_back : (next : ℕ) (more : List EntryView) → IsLater (onwards course front) next more
       → IsLater course next more
-  later_back next more later = record { early = later.early; fresh = later.fresh }
+  later_back next more later = record { fresh = later.fresh }
 
   pub stands_onwards : (state : State E H) (now : JournalView) (held : Holdings)
       (stands : Stands allows number_of course state now held) → stands.added ≡ front
@@ -110,75 +111,57 @@ module _ {E H : Type 0} (allows : Allows H) (number_of : E → ℕ) (course : Co
     ended = stopped.ended;
   }
 
-module _ {E : Type 0} (number_of : E → ℕ) where
-  some_any : (e other : List EntryView) (o : Origin) (t : Target E)
-      → Some o ≡ origin_to e number_of t
+module _ {E : Type 0} (early : Type 0) (number_of : E → ℕ) where
+  some_any : (L other : List EntryView) (n : ℕ) (t : Target E) → IsFrom early number_of L n t
       → Some (origin_of other number_of t) ≡ origin_to other number_of t
-  some_any e other o (Parents stream.In) is = absurd (cc)
-  some_any e other o (Parents stream.Out) is = refl
-  some_any e other o (Parents stream.Err) is = refl
-  some_any e other o Nothing is = absurd (cc)
-  some_any e other o (ReaderAt place) is = refl
-  some_any e other o (WriterAt place) is = refl
-  some_any e other o (FileAt place) is = refl
-  some_any e other o (Lends end) is = refl
+  some_any L other n (Parents stream.In) is = absurd is
+  some_any L other n (Parents stream.Out) is = refl
+  some_any L other n (Parents stream.Err) is = refl
+  some_any L other n Nothing is = absurd is
+  some_any L other n (ReaderAt place) is = refl
+  some_any L other n (WriterAt place) is = refl
+  some_any L other n (FileAt place) is = refl
+  some_any L other n (Lends end) is = refl
 
-  -- what has an origin by one trace has one by any
-  origins_any : (e other : List EntryView) (numbers : List Origin) (stack : List (Target E))
-      → map (λ o. Some o) numbers ≡ map (origin_to e number_of) stack →
+  -- what comes from somewhere by one trace has an origin by any
+  origins_any : (L other : List EntryView) (numbers : List ℕ) (stack : List (Target E))
+      → Pairwise (IsFrom early number_of L) numbers stack →
       map (λ o. Some o) (map (origin_of other number_of) stack) ≡ map (origin_to other number_of) stack
-  origins_any e other numbers [] is = refl
-  origins_any e other [] (t ∷ stack) is = absurd (cc)
-  origins_any e other (o ∷ numbers) (t ∷ stack) is =
-      let head : Some o ≡ origin_to e number_of t = cc in
-      let tail : map (λ o. Some o) numbers ≡ map (origin_to e number_of) stack = cc in
-      λ i. some_any e other o t head i ∷ origins_any e other numbers stack tail i
+  origins_any L other [] [] is = refl
+  origins_any L other (n ∷ numbers) [] is = absurd is
+  origins_any L other [] (t ∷ stack) is = absurd is
+  origins_any L other (n ∷ numbers) (t ∷ stack) is = λ i. some_any L other n t is.0 i ∷ origins_any L other numbers stack is.1 i
 
   -- a stream comes from where it should
   alike_origin : (L : List EntryView) (s : Stdio ℕ) (t : Stdio (Target E)) → IsAlike s t
-      → map (λ n. Some (origin L n)) (end_of s) ≡ map (origin_to (trace L) number_of) (end_of t) →
-      stream_of (origin L) s ≡ stream_of (origin_of (trace L) number_of) t
-  alike_origin L Inherit Inherit alike is = refl
+      → Pairwise (IsFrom early number_of L) (end_of s) (end_of t)
+      → IsGivenFrom L s (stream_of (origin_of (trace L) number_of) t)
+      × (early → stream_of (origin L) s ≡ stream_of (origin_of (trace L) number_of) t)
+  alike_origin L Inherit Inherit alike is = (tt, λ e. refl)
   alike_origin L Inherit Null alike is = absurd alike
   alike_origin L Inherit (End t) alike is = absurd alike
   alike_origin L Null Inherit alike is = absurd alike
-  alike_origin L Null Null alike is = refl
+  alike_origin L Null Null alike is = (tt, λ e. refl)
   alike_origin L Null (End t) alike is = absurd alike
   alike_origin L (End n) Inherit alike is = absurd alike
   alike_origin L (End n) Null alike is = absurd alike
-  alike_origin L (End n) (End t) alike is =
-      let top : Some (origin L n) ≡ origin_to (trace L) number_of t = cc in
-      let same : origin L n ≡ origin_of (trace L) number_of t = unwrapped (origin_to (trace L) number_of t) (origin L n) top in
-      ap End same
-    where
-      unwrapped : (o : Option Origin) (x : Origin) → Some x ≡ o → x ≡ unwrap_or o (Opened 0)
-      unwrapped None x is = cc
-      unwrapped (Some y) x is = cc
+  alike_origin L (End n) (End t) alike is = let there = known early L n (origin_to (trace L) number_of t) is.0 in (there.0, λ e. ap End (there.1 e))
 
   -- three streams and what is below them
   pub alike_origins : (L : List EntryView) (s : Three (Stdio ℕ)) (t : Three (Stdio (Target E)))
       (numbers : List ℕ) (targets : List (Target E)) → AreAlike s t
-      → map (λ n. Some (origin L n)) (handed s numbers)
-      ≡ map (origin_to (trace L) number_of) (handed t targets)
-      → (stream_of (origin L) s.input ≡ stream_of (origin_of (trace L) number_of) t.input)
-      × (stream_of (origin L) s.output ≡ stream_of (origin_of (trace L) number_of) t.output)
-      × (stream_of (origin L) s.error ≡ stream_of (origin_of (trace L) number_of) t.error)
-      × (map (λ n. Some (origin L n)) numbers ≡ map (origin_to (trace L) number_of) targets)
+      → Pairwise (IsFrom early number_of L) (handed s numbers) (handed t targets)
+      → GivesUnder early L (s.input ∷ s.output ∷ s.error ∷ [])
+      (map (stream_of (origin_of (trace L) number_of)) (t.input ∷ t.output ∷ t.error ∷ []))
+      × Pairwise (IsFrom early number_of L) numbers targets
   alike_origins L s t numbers targets alike is =
-      let f = λ (n : ℕ). Some (origin L n) in
-      let g = origin_to (trace L) number_of in
-      let e = parts f g (end_of s.error) (end_of t.error) _ _ (alike_long s.error t.error alike.error) is in
-      let o = parts f g (end_of s.output) (end_of t.output) _ _ (alike_long s.output t.output alike.output) e.1 in
-      let i = parts f g (end_of s.input) (end_of t.input) numbers targets (alike_long s.input t.input alike.input) o.1 in
-      (alike_origin L s.input t.input alike.input i.0, alike_origin L s.output t.output alike.output o.0, alike_origin L s.error t.error alike.error e.0, i.1)
-    where
-      parts : {A B C : Type 0} (f : A → C) (g : B → C) (xs : List A) (us : List B) (ys : List A)
-          (vs : List B) → length xs ≡ length us → map f (xs ++ ys) ≡ map g (us ++ vs) →
-          (map f xs ≡ map g us) × (map f ys ≡ map g vs)
-      parts f g xs us ys vs same is =
-          let long : length (map f xs) ≡ length (map g us) = omega (arith, same, length-map xs f, length-map us g) in
-          let all : map f xs ++ map f ys ≡ map g us ++ map g vs = sym (map-append f xs ys) ∙ is ∙ map-append g us vs in
-          (split_first (map f xs) (map g us) (map f ys) (map g vs) long all, split_second (map f xs) (map g us) (map f ys) (map g vs) long all)
+      let R = IsFrom early number_of L in
+      let e = alike_origin L s.error t.error alike.error (pair_first R (end_of s.error) _ (end_of t.error) _ (alike_long s.error t.error alike.error) is) in
+      let one = pair_second R (end_of s.error) _ (end_of t.error) _ (alike_long s.error t.error alike.error) is in
+      let o = alike_origin L s.output t.output alike.output (pair_first R (end_of s.output) _ (end_of t.output) _ (alike_long s.output t.output alike.output) one) in
+      let two = pair_second R (end_of s.output) _ (end_of t.output) _ (alike_long s.output t.output alike.output) one in
+      let i = alike_origin L s.input t.input alike.input (pair_first R (end_of s.input) numbers (end_of t.input) targets (alike_long s.input t.input alike.input) two) in
+      (((i.0, (o.0, (e.0, tt))), λ early. λ j. i.1 early j ∷ o.1 early j ∷ e.1 early j ∷ []), pair_second R (end_of s.input) numbers (end_of t.input) targets (alike_long s.input t.input alike.input) two)
 
 -- what the entry of a spawn changes
 spawn_changes : (spec : SpecView) (s : Three (Stdio ℕ)) (answer : Result ℕ Fault) (count : ℕ)
@@ -240,7 +223,7 @@ stopped_front allows number_of course items more now held e stopped = record {
   added = stopped.added;
   books = stopped.books;
   few = stopped.few;
-  answers = λ l later. answers_front allows number_of (stopped.added ++ l) 0 items more (trace stopped.added) (stopped.answers l later);
+  answers = λ l later. answers_front (GivesUnder (IsEarly course) (stopped.added ++ l)) allows number_of (stopped.added ++ l) 0 items more (trace stopped.added) (stopped.answers l later);
   ended = stopped.ended;
 }
 
@@ -264,7 +247,7 @@ module _ {E H : Type 0} (allows : Allows H) (number_of : E → ℕ) (course : Co
     (asked : SpecView) (program : List ℕ) (front : List EntryView) (full : many ports.input + (many ports.output + many ports.error) ≤ length state.stack)
     (can : action.CanSpawn number_of course.base course.bound state.stack scope ports) (asked_is : IsAsked course.pairs program (found_by scope ports state.stack) words asked)
     (long_is : length (trace front) ≡ length (named scope words state).plan.items) (named_is : program_in (is_named scope words) (trace front) words ≡ program)
-    (tops : course.base ≤ course.old.next → (e : List EntryView) × (numbers : List Origin) × (map (λ o. Some o) numbers ≡ map (origin_to e number_of) state.stack)) where
+    (tops : (L : List EntryView) × (numbers : List ℕ) × Pairwise (IsFrom (IsEarly course) number_of L) numbers state.stack) where
   abbrev found : Found E H
   found = found_by scope ports state.stack
 
@@ -281,9 +264,9 @@ module _ {E H : Type 0} (allows : Allows H) (number_of : E → ℕ) (course : Co
   low = holding (left_by ports held.stack) held
 
   asked_at : (L rest : List EntryView) → trace L ≡ trace front ++ rest
-      → pairs_in (trace L) ≡ course.pairs → course.base ≤ course.old.next →
+      → pairs_in (trace L) ≡ course.pairs →
       IsAskedAt (trace L) number_of (length (named scope words state).plan.items) found words (wired_as (origin_of (trace L) number_of) before)
-  asked_at L rest is pairs early =
+  asked_at L rest is pairs =
       let entries = trace L in
       let place = length (named scope words state).plan.items in
       let there : program_at entries place found words ≡ program =
@@ -291,8 +274,7 @@ module _ {E H : Type 0} (allows : Allows H) (number_of : E → ℕ) (course : Co
       ∙ program_there (is_named scope words) (trace front) rest words place long_is (named_positive (is_named scope words) state.plan (AskCanonicalize (program_of words))) ∙ named_is in
       let spec : IsAsked (pairs_in entries) (program_at entries place found words) found words asked =
       subst (λ ps. IsAsked ps (program_at entries place found words) found words asked) (sym pairs) (subst (λ p. IsAsked course.pairs p found words asked) (sym there) asked_is) in
-      let top = tops early in
-      record { spec_is = spec; streams_are = streams_taken entries number_of scope ports state.stack full can.ports_are (origins_any number_of top.0 entries top.1 state.stack top.2) }
+      record { spec_is = spec; streams_are = streams_taken entries number_of scope ports state.stack full can.ports_are (origins_any (IsEarly course) number_of tops.0 entries tops.1 state.stack tops.2) }
 
   -- a command after all of its hooks
   module _ (now next : JournalView) (spec : SpecView) (s : Three (Stdio ℕ)) (staged : Staged allows number_of (onwards course front) below low before scope.hooks now spec s) where
@@ -312,18 +294,18 @@ module _ {E H : Type 0} (allows : Allows H) (number_of : E → ℕ) (course : Co
       abbrev whole : List EntryView
       whole = (staged.stands.added ++ entry answer ∷ []) ++ more
 
-      sourced : Sourced number_of whole begins_with handed_now
+      sourced : Sourced (IsEarly course) number_of whole begins_with handed_now
       sourced = sources_now allows number_of (onwards course front) begins_with ends_with (AskSpawn found words ∷ []) now next handed_now kept (entry answer) staged.stands refl ch more later
 
-      origins : (stream_of (origin whole) s.input ≡ stream_of (origin_of (trace whole) number_of) staged.wired.input)
-          × (stream_of (origin whole) s.output ≡ stream_of (origin_of (trace whole) number_of) staged.wired.output)
-          × (stream_of (origin whole) s.error ≡ stream_of (origin_of (trace whole) number_of) staged.wired.error)
-          × (map (λ n. Some (origin whole n)) low.stack ≡ map (origin_to (trace whole) number_of) below.stack)
-      origins = alike_origins number_of whole s (streams_in staged.wired) low.stack below.stack staged.alike sourced.stack
+      origins : GivesUnder (IsEarly course) whole (s.input ∷ s.output ∷ s.error ∷ [])
+          (map (stream_of (origin_of (trace whole) number_of))
+          (staged.wired.input ∷ staged.wired.output ∷ staged.wired.error ∷ []))
+          × Pairwise (IsFrom (IsEarly course) number_of whole) low.stack below.stack
+      origins = alike_origins (IsEarly course) number_of whole s (streams_in staged.wired) low.stack below.stack staged.alike sourced.stack
 
-      given_there : IsSpawnedAt allows number_of (trace whole)
-          (length below.plan.items) found words spec
-          (map (stream_of (origin whole)) (s.input ∷ s.output ∷ s.error ∷ []))
+      given_there : IsSpawnedBy
+          (λ wanted. GivesUnder (IsEarly course) whole (s.input ∷ s.output ∷ s.error ∷ []) wanted)
+          allows number_of (trace whole) (length below.plan.items) found words spec
       given_there =
           let rest = staged.stands.starts.0 ++ entry answer ∷ more in
           let split : whole ≡ front ++ rest =
@@ -333,7 +315,7 @@ module _ {E H : Type 0} (allows : Allows H) (number_of : E → ℕ) (course : Co
           let f = origin_of (trace whole) number_of in
           let chain : Chain allows (lent number_of scope.hooks) (wired_as f before) (wired_as f staged.wired) =
           subst (λ l. Chain allows l (wired_as f before) (wired_as f staged.wired)) (lends_lent (trace whole) number_of scope.hooks) (chain_as f allows (lends scope.hooks) before staged.wired staged.chain) in
-          (wired_as f before, wired_as f staged.wired, asked_at whole (trace rest) traced pairs later.early, chain, sym staged.spec_is, λ j. origins.0 j ∷ origins.1 j ∷ origins.2 j ∷ [])
+          (wired_as f before, wired_as f staged.wired, asked_at whole (trace rest) traced pairs, chain, sym staged.spec_is, origins.0)
 
     low_few : length low.stack + 3 < course.bound
     low_few =
@@ -371,7 +353,7 @@ module _ {E H : Type 0} (allows : Allows H) (number_of : E → ℕ) (course : Co
         stands_more allows number_of (onwards course front) begins_with ends_with (AskSpawn found words ∷ []) now next handed_now kept (entry (Ok number)) staged.stands refl ch
         (few_of course.bound kept (omega (arith, low_few))) (record { stack = low_long; out = staged.stands.shaped.out; err = staged.stands.shaped.err }) refl refl
         (λ more later. (given_there (Ok number) kept ch more later, tt))
-        (λ more later. let z = sourced (Ok number) kept ch more later in record { stack = (origins (Ok number) kept ch more later).3; out = z.out; err = z.err })
+        (λ more later. let z = sourced (Ok number) kept ch more later in record { stack = (origins (Ok number) kept ch more later).1; out = z.out; err = z.err })
 
     -- the system refused the child
     pub spawn_quits : (fault : Fault) (count : ℕ)
@@ -421,7 +403,7 @@ module _ {E H : Type 0} (allows : Allows H) (number_of : E → ℕ) (course : Co
             let stops : ChainStops allows refuses (lent number_of scope.hooks) (wired_as f before) e =
             subst (λ l. ChainStops allows refuses l (wired_as f before) e) (lends_lent entries number_of scope.hooks) (chain_stops_as f allows refuses (lends scope.hooks) before e stopping.stops) in
             let there : StoppedBy allows refuses number_of entries (length below.plan.items) (Some (AskSpawn found words)) e =
-            (wired_as f before, asked_at (stands.added ++ more) (trace rest) traced (stands.begins more) later.early, stops) in
+            (wired_as f before, asked_at (stands.added ++ more) (trace rest) traced (stands.begins more), stops) in
             subst (λ n. StoppedBy allows refuses number_of entries n (slice_get items n) e) (sym (as_many stands))
             (subst (λ (o : Option (Item E H)). StoppedBy allows refuses number_of entries (length below.plan.items) o e) (sym (get_seam below.plan.items (AskSpawn found words))) there);
       }

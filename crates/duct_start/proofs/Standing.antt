@@ -15,10 +15,10 @@ use Rattle.duct_system.specs.declared.error.Error.TheVariants.{System}
 use Rattle.duct_system.specs.declared.system.Fault.{Fault}
 use Rattle.duct_start.specs.Actions.{State}
 use Rattle.duct_start.specs.Chain.{Allows}
-use Rattle.duct_start.specs.Follows.{AnswersFrom, pairs_in}
+use Rattle.duct_start.specs.Follows.{AnswersFromBy, Gives, pairs_in}
 use Rattle.duct_start.specs.Holdings.{Holdings, ends, pair_of}
 use Rattle.duct_start.specs.Kinds.{Kind, entry_kind, item_kind}
-use Rattle.duct_start.specs.Standing.{AreFresh, Course, HeldFew, IsLater, IsShaped, Books, Sourced, Stands, Stopped, refused, unasked, IsWantOfMemory}
+use Rattle.duct_start.specs.Standing.{AnswersUnder, AreFresh, Course, HeldFew, IsEarly, IsLater, IsShaped, Books, GivesUnder, Sourced, Stands, Stopped, refused, unasked, IsWantOfMemory}
 use Rattle.duct_start.specs.Step.{Item}
 use Rattle.duct_start.proofs.Counts.{once_of}
 use Rattle.duct_start.proofs.Origins.{got-append, spent-append, count_got-append, count_spent-append, trace-append, later_more}
@@ -31,22 +31,22 @@ pub as_many : {E H : Type 0} {allows : Allows H} {number_of : E → ℕ} {course
 as_many {E} {H} {allows} {number_of} {course} {state} {now} {held} stands =
     sym (length-map (trace stands.added) entry_kind) ∙ ap (λ (l : List Kind). length l) stands.kinds ∙ length-map state.plan.items item_kind
 
-module _ {E H : Type 0} (allows : Allows H) (number_of : E → ℕ) where
+module _ {E H : Type 0} (gives : Gives) (allows : Allows H) (number_of : E → ℕ) where
   -- the entries that some items are answered by, one after the other
   answers-append : (L : List EntryView) (place : ℕ) (items more : List (Item E H))
       (entries rest : List EntryView) → length entries ≡ length items →
-      AnswersFrom allows number_of L place items entries → AnswersFrom allows number_of L (place + length items) more rest → AnswersFrom allows number_of L place (items ++ more) (entries ++ rest)
-  answers-append L place [] more [] rest same first second = subst (λ (k : ℕ). AnswersFrom allows number_of L k more rest) (omega arith) second
+      AnswersFromBy gives allows number_of L place items entries → AnswersFromBy gives allows number_of L (place + length items) more rest → AnswersFromBy gives allows number_of L place (items ++ more) (entries ++ rest)
+  answers-append L place [] more [] rest same first second = subst (λ (k : ℕ). AnswersFromBy gives allows number_of L k more rest) (omega arith) second
   answers-append L place [] more (entry ∷ entries) rest same first second = absurd first
   answers-append L place (item ∷ items) more [] rest same first second = absurd (omega (arith, same))
   answers-append L place (item ∷ items) more (entry ∷ entries) rest same first second =
       let less : length entries ≡ length items = omega (arith, same) in
-      (first.0, answers-append L (place + 1) items more entries rest less first.1 (subst (λ (k : ℕ). AnswersFrom allows number_of L k more rest) (omega arith) second))
+      (first.0, answers-append L (place + 1) items more entries rest less first.1 (subst (λ (k : ℕ). AnswersFromBy gives allows number_of L k more rest) (omega arith) second))
 
   -- a front of what was asked
   pub answers_front : (L : List EntryView) (place : ℕ) (items more : List (Item E H))
-      (entries : List EntryView) → AnswersFrom allows number_of L place items entries
-      → AnswersFrom allows number_of L place (items ++ more) entries
+      (entries : List EntryView) → AnswersFromBy gives allows number_of L place items entries
+      → AnswersFromBy gives allows number_of L place (items ++ more) entries
   answers_front L place items more [] first = tt
   answers_front L place [] more (entry ∷ entries) first = absurd first
   answers_front L place (item ∷ items) more (entry ∷ entries) first = (first.0, answers_front L (place + 1) items more entries first.1)
@@ -141,31 +141,31 @@ module _ {E H : Type 0} (allows : Allows H) (number_of : E → ℕ) (course : Co
 
   -- what the sources are, where this comes later
   pub sources_now : (more : List EntryView) → IsLater course then.next more
-      → Sourced number_of (then_added ++ more) state held
+      → Sourced (IsEarly course) number_of (then_added ++ more) state held
   sources_now more later =
-      subst (λ (l : List EntryView). Sourced number_of l state held) (sym (append_assoc stands.added (entry ∷ []) more))
+      subst (λ (l : List EntryView). Sourced (IsEarly course) number_of l state held) (sym (append_assoc stands.added (entry ∷ []) more))
       (stands.sources (entry ∷ more) (later_more course now.next then.next entry more ch.fresh later))
 
-  answers_then : ((more : List EntryView) → IsLater course then.next more → AnswersFrom allows number_of (then_added ++ more) (length state.plan.items) asked (trace (entry ∷ []))) →
-      (more : List EntryView) → IsLater course then.next more → AnswersFrom allows number_of (then_added ++ more) 0 then_state.plan.items (trace then_added)
+  answers_then : ((more : List EntryView) → IsLater course then.next more → AnswersUnder course allows number_of (then_added ++ more) (length state.plan.items) asked (trace (entry ∷ []))) →
+      (more : List EntryView) → IsLater course then.next more → AnswersUnder course allows number_of (then_added ++ more) 0 then_state.plan.items (trace then_added)
   answers_then matches = λ more later.
-      let before : AnswersFrom allows number_of (then_added ++ more) 0 state.plan.items (trace stands.added) =
-      subst (λ (l : List EntryView). AnswersFrom allows number_of l 0 state.plan.items (trace stands.added)) (sym (append_assoc stands.added (entry ∷ []) more))
+      let before : AnswersUnder course allows number_of (then_added ++ more) 0 state.plan.items (trace stands.added) =
+      subst (λ (l : List EntryView). AnswersUnder course allows number_of l 0 state.plan.items (trace stands.added)) (sym (append_assoc stands.added (entry ∷ []) more))
       (stands.answers (entry ∷ more) (later_more course now.next then.next entry more ch.fresh later)) in
-      subst (λ (l : List (Item E H)). AnswersFrom allows number_of (then_added ++ more) 0 l (trace then_added)) (sym items_are)
-      (subst (λ (l : List EntryView). AnswersFrom allows number_of (then_added ++ more) 0 (state.plan.items ++ asked) l) (sym (trace-append stands.added (entry ∷ [])))
-      (answers-append allows number_of (then_added ++ more) 0 state.plan.items asked (trace stands.added) (trace (entry ∷ [])) (as_many stands) before
-      (subst (λ (k : ℕ). AnswersFrom allows number_of (then_added ++ more) k asked (trace (entry ∷ []))) (omega arith) (matches more later))))
+      subst (λ (l : List (Item E H)). AnswersUnder course allows number_of (then_added ++ more) 0 l (trace then_added)) (sym items_are)
+      (subst (λ (l : List EntryView). AnswersUnder course allows number_of (then_added ++ more) 0 (state.plan.items ++ asked) l) (sym (trace-append stands.added (entry ∷ [])))
+      (answers-append (GivesUnder (IsEarly course) (then_added ++ more)) allows number_of (then_added ++ more) 0 state.plan.items asked (trace stands.added) (trace (entry ∷ [])) (as_many stands) before
+      (subst (λ (k : ℕ). AnswersUnder course allows number_of (then_added ++ more) k asked (trace (entry ∷ []))) (omega arith) (matches more later))))
 
   -- one entry that went well
   pub stands_more : length (ends kept) ≤ course.bound + 8 → IsShaped then_state kept
       → fault_of entry ≡ None
       → map entry_kind (trace (entry ∷ [])) ≡ map item_kind asked
       → ((more : List EntryView) → IsLater course then.next more
-      → AnswersFrom allows number_of (then_added ++ more) (length state.plan.items) asked
+      → AnswersUnder course allows number_of (then_added ++ more) (length state.plan.items) asked
       (trace (entry ∷ [])))
       → ((more : List EntryView) → IsLater course then.next more
-      → Sourced number_of (then_added ++ more) then_state kept)
+      → Sourced (IsEarly course) number_of (then_added ++ more) then_state kept)
       → Stands allows number_of course then_state then kept
   stands_more few shaped clean kinds matches sourced = record {
     added = then_added;
@@ -185,7 +185,7 @@ module _ {E H : Type 0} (allows : Allows H) (number_of : E → ℕ) (course : Co
   pub stops_more : length (ends kept) ≤ course.bound + 8 → (fault : Fault)
       → fault_of entry ≡ Some fault
       → ((more : List EntryView) → IsLater course then.next more
-      → AnswersFrom allows number_of (then_added ++ more) (length state.plan.items) asked
+      → AnswersUnder course allows number_of (then_added ++ more) (length state.plan.items) asked
       (trace (entry ∷ [])))
       → Stopped allows number_of course then_state.plan.items then kept (System fault)
   stops_more few fault refuses matches = record {
@@ -199,7 +199,7 @@ module _ {E H : Type 0} (allows : Allows H) (number_of : E → ℕ) (course : Co
 -- what comes later than a number comes later than a smaller one
 later_still : (course : Course) (next then : ℕ) (more : List EntryView) → next ≤ then
     → IsLater course then more → IsLater course next more
-later_still course next then more le later = record { early = later.early; fresh = λ n lt. let lt' : n < then = omega (arith, le) in later.fresh n lt' }
+later_still course next then more le later = record { fresh = λ n lt. let lt' : n < then = omega (arith, le) in later.fresh n lt' }
 
 -- nothing was asked, for want of memory
 pub stops_unasked : {E H : Type 0} (allows : Allows H) (number_of : E → ℕ) (course : Course)
@@ -228,7 +228,7 @@ stops_unasked {E} {H} allows number_of course state items more_items now then he
         drains_are = b.drains_are;
       };
       few = stands.few;
-      answers = λ more l. subst (λ (x : List (Item E H)). AnswersFrom allows number_of (stands.added ++ more) 0 x (trace stands.added)) (sym is)
-          (answers_front allows number_of (stands.added ++ more) 0 state.plan.items more_items (trace stands.added) (stands.answers more (later more l)));
+      answers = λ more l. subst (λ (x : List (Item E H)). AnswersUnder course allows number_of (stands.added ++ more) 0 x (trace stands.added)) (sym is)
+          (answers_front (GivesUnder (IsEarly course) (stands.added ++ more)) allows number_of (stands.added ++ more) 0 state.plan.items more_items (trace stands.added) (stands.answers more (later more l)));
       ended = unasked stands.clean un;
     }

@@ -7,16 +7,17 @@ use Rattle.duct_system.specs.Ledger.{IsBalanced, count_of}
 use Rattle.duct_system.specs.Trace.{IsClean, segment, trace}
 use Rattle.duct_start.specs.Actions.{State}
 use Rattle.duct_start.specs.Chain.{Allows}
-use Rattle.duct_start.specs.Follows.{AnswersFrom, FollowsWhole}
+use Rattle.duct_start.specs.Follows.{AsksPlan, FollowsWhole}
 use Rattle.duct_start.specs.Holdings.{Holdings, ends}
 use Rattle.duct_start.specs.Kinds.{entry_kind, item_kind}
 use Rattle.duct_start.specs.Plan.{Plan}
-use Rattle.duct_start.specs.Standing.{Course, IsLater, Stands}
-use Rattle.duct_start.specs.Start.{AreEarlier, Grows, HoldsFew, StartSucceeds, ceiling, depth}
+use Rattle.duct_start.specs.Standing.{AnswersUnder, Course, IsLater, Stands}
+use Rattle.duct_start.specs.Start.{AreEarlier, GotNew, Grows, HoldsFew, StartSucceeds, ceiling, depth}
 use Rattle.duct_start.specs.Step.{Item}
 use Rattle.duct_start.specs.TreeView.{TreeView}
 use Rattle.duct_start.proofs.Ceiling.{ceiling_low}
 use Rattle.duct_start.proofs.Ending.{clean_stops}
+use Rattle.duct_start.proofs.Sources.{exactly_answered, plan_asked}
 use Rattle.duct_start.proofs.Standing.{as_many}
 
 pub segment-added : (old added : List EntryView) → segment old (old ++ added) ≡ added
@@ -40,9 +41,8 @@ grows_by_added old new added entries_are counted next room =
     }
 
 -- nothing comes later
-pub nothing_later : (course : Course) (next : ℕ) → course.base ≤ course.old.next
-    → IsLater course next []
-nothing_later course next early = record { early = early; fresh = λ number lt. refl }
+pub nothing_later : (course : Course) (next : ℕ) → IsLater course next []
+nothing_later course next = record { fresh = λ number lt. refl }
 
 module _ {E H : Type 0} (allows : Allows H) (number_of : E → ℕ) (tree : TreeView E H) (plan : Plan E H) (course : Course) (state : State E H) (old now : JournalView) (held : Holdings)
     (stands : Stands allows number_of course state now held)
@@ -53,18 +53,23 @@ module _ {E H : Type 0} (allows : Allows H) (number_of : E → ℕ) (tree : Tree
   early : AreEarlier number_of course.old tree → course.base ≤ course.old.next
   early earlier = omega (arith, base_is, ceiling_low number_of tree course.old earlier)
 
+  answered : AnswersUnder course allows number_of stands.added 0 plan.items (trace stands.added)
+  answered =
+      subst (λ (items : List (Item E H)). AnswersUnder course allows number_of stands.added 0 items (trace stands.added)) items_are
+      (subst (λ (l : List EntryView). AnswersUnder course allows number_of l 0 state.plan.items (trace stands.added)) (append-nil stands.added) (stands.answers [] (nothing_later course now.next)))
+
+  asks : AsksPlan allows number_of plan stands.added
+  asks = plan_asked course allows number_of stands.added plan.items (trace stands.added) answered
+
   whole : AreEarlier number_of course.old tree → FollowsWhole allows number_of plan stands.added
-  whole earlier =
-      let all = stands.answers [] (nothing_later course now.next (early earlier)) in
-      record {
-        follows = record {
-          answers = subst (λ (items : List (Item E H)). AnswersFrom allows number_of stands.added 0 items (trace stands.added)) items_are
-              (subst (λ (l : List EntryView). AnswersFrom allows number_of l 0 state.plan.items (trace stands.added)) (append-nil stands.added) all);
-          stops = clean_stops stands.added stands.clean;
-        };
-        whole = as_many stands ∙ ap (λ (items : List (Item E H)). length items) items_are;
-        clean = stands.clean;
-      }
+  whole earlier = record {
+    follows = record {
+      answers = exactly_answered course allows number_of stands.added plan.items (trace stands.added) (early earlier) answered;
+      stops = clean_stops stands.added stands.clean;
+    };
+    whole = as_many stands ∙ ap (λ (items : List (Item E H)). length items) items_are;
+    clean = stands.clean;
+  }
 
   succeeds : StartSucceeds allows number_of tree plan course.old now
   succeeds =
@@ -73,8 +78,10 @@ module _ {E H : Type 0} (allows : Allows H) (number_of : E → ℕ) (tree : Tree
         grows = grows_by_added course.old now stands.added books.entries_are books.counted books.next_grows (omega (arith, books.room_is));
         clean = subst IsClean same stands.clean;
         kinds = ap (λ (l : List EntryView). map entry_kind (trace l)) (sym same) ∙ stands.kinds ∙ ap (λ (l : List (Item E H)). map item_kind l) items_are;
+        asks = subst (λ (l : List EntryView). AsksPlan allows number_of plan l) same asks;
         whole = λ earlier. subst (λ (l : List EntryView). FollowsWhole allows number_of plan l) same (whole earlier);
         balanced = subst IsBalanced same (λ n. (omega (arith, books.even n, none_held n), books.once n));
+        got_new = subst (λ (l : List EntryView). GotNew course.old l) same books.above;
         few = subst (λ (l : List EntryView). HoldsFew tree l) same (λ count. omega (arith, bound_is, stands.few count));
       }
 

@@ -5,11 +5,14 @@ use Rattle.std.specs.List.{All}
 use Rattle.duct_system.specs.declared.spec.Stream.{Stream}
 use Rattle.duct_system.specs.declared.spec.Stream.TheVariants.{In, Out, Err}
 use Rattle.duct_system.specs.declared.system.Side.TheVariants as side
+use Rattle.std.specs.Prelude.{None, Some}
+use Rattle.std.specs.declared.option.Option.{Option}
 use Rattle.duct_start.specs.Actions as action
 use Rattle.duct_start.specs.Actions.{ActionOf, Three}
-use Rattle.duct_start.specs.Flat.{Wire, parents, nothing, slot, captured, lent, fetches, inputs, outputs, errors, outside, ports_at}
-use Rattle.duct_start.specs.Listed.{IsWithin, listed, listed_of}
-use Rattle.duct_start.specs.TreeView.{TreeView, command, pipe, around, stdin_bytes, stdin_path, stdin_file, stdin_null, stdout_path, stdout_file, stdout_null, stdout_capture, stdout_to_stderr, stderr_path, stderr_file, stderr_null, stderr_capture, stderr_to_stdout, stdout_stderr_swap, dir, env, env_remove, full_env, unchecked, before_spawn}
+use Rattle.duct_start.specs.Flat.{Wire, parents, nothing, slot, captured, lent, fetches, deeper, inputs, outputs, outside, ports_at, wires_in, wrapped}
+use Rattle.duct_start.specs.Listed.{IsWithin, listed, listed_of, next_index, scope_index, scoped}
+use Rattle.duct_start.specs.Row.{Obtains, Says, opens_nothing, opens_input, opens_read, opens_create, opens_capture, row}
+use Rattle.duct_start.specs.TreeView.{TreeView, command, pipe, around}
 
 module _ {E : Type 0} (count : ℕ) where
   abbrev P : ActionOf E ℕ → Type 0
@@ -42,7 +45,25 @@ module _ {E : Type 0} (count : ℕ) where
       → All P (act ∷ (acts ++ action.close ∷ []))
   closed act acts first inside = cons act (acts ++ action.close ∷ []) first (join acts (action.close ∷ []) inside (cons action.close [] tt nil))
 
+  wrapped_within : (opens : Obtains) (inside : List (ActionOf E ℕ)) → All P inside
+      → All P (wrapped opens inside)
+  wrapped_within opens_nothing inside all = all
+  wrapped_within (opens_input bytes) inside all = cons action.input _ tt (join inside (action.close ∷ action.feed bytes ∷ []) all (cons action.close (action.feed bytes ∷ []) tt (cons (action.feed bytes) [] tt nil)))
+  wrapped_within (opens_read path) inside all = closed (action.open_read path) inside tt all
+  wrapped_within (opens_create path) inside all = closed (action.create path) inside tt all
+  wrapped_within (opens_capture which) inside all = cons (action.capture which) inside tt all
+
 module _ {E H : Type 0} (count : ℕ) where
+  within_row : (says : Option (Says E H)) (i next : ℕ) (w : Three (Wire E)) (inner : TreeView E H)
+      (n : ℕ) → i ≤ count
+      → next + length (scoped says i (listed (scope_index says i next) w inner n (next_index says next)).scopes) ≤ count + 1
+      → ((i : ℕ) (w : Three (Wire E)) (n next : ℕ) → i ≤ count
+      → next + length (listed i w inner n next).scopes ≤ count + 1
+      → All (λ act. IsWithin count act) (listed i w inner n next).actions)
+      → All (λ act. IsWithin count act) (listed (scope_index says i next) w inner n (next_index says next)).actions
+  within_row None i next w inner n low few inside = inside i w n next low few
+  within_row (Some said) i next w inner n low few inside = inside next w n (next + 1) (omega (arith, few)) (omega (arith, few))
+
   within : (tree : TreeView E H) (i : ℕ) (w : Three (Wire E)) (n next : ℕ) → i ≤ count
       → next + length (listed i w tree n next).scopes ≤ count + 1
       → All (λ act. IsWithin count act) (listed i w tree n next).actions
@@ -56,30 +77,10 @@ module _ {E H : Type 0} (count : ℕ) where
       let one = within left i (outputs (slot (n + 1)) w) (n + 2) next low (omega (arith, few, all)) in
       let two = within right i (inputs (slot n) w) (n + 1) (next + length a.scopes) low (omega (arith, few, all)) in
       cons count action.pipe (a.actions ++ (action.close ∷ (b.actions ++ action.close ∷ []))) tt (join count a.actions (action.close ∷ (b.actions ++ action.close ∷ [])) one (closed count action.close b.actions tt two))
-  within (around (stdin_bytes bytes) inner) i w n next low few =
-      let a = (listed {E = E} {H = H} i (inputs (slot (n + 1)) w) inner (n + 2) next).actions in
-      cons count action.input (a ++ (action.close ∷ action.feed bytes ∷ [])) tt
-      (join count a (action.close ∷ action.feed bytes ∷ []) (within inner i (inputs (slot (n + 1)) w) (n + 2) next low few) (cons count action.close (action.feed bytes ∷ []) tt (cons count (action.feed bytes) [] tt (nil count))))
-  within (around (stdin_path path) inner) i w n next low few = closed count (action.open_read path) _ tt (within inner i (inputs (slot n) w) (n + 1) next low few)
-  within (around (stdin_file end) inner) i w n next low few = within inner i (inputs (lent end) w) n next low few
-  within (around stdin_null inner) i w n next low few = within inner i (inputs nothing w) n next low few
-  within (around (stdout_path path) inner) i w n next low few = closed count (action.create path) _ tt (within inner i (outputs (slot n) w) (n + 1) next low few)
-  within (around (stdout_file end) inner) i w n next low few = within inner i (outputs (lent end) w) n next low few
-  within (around stdout_null inner) i w n next low few = within inner i (outputs nothing w) n next low few
-  within (around stdout_capture inner) i w n next low few = cons count (action.capture side.Out) _ tt (within inner i (outputs (captured side.Out) w) n next low few)
-  within (around stdout_to_stderr inner) i w n next low few = within inner i (outputs w.error w) n next low few
-  within (around (stderr_path path) inner) i w n next low few = closed count (action.create path) _ tt (within inner i (errors (slot n) w) (n + 1) next low few)
-  within (around (stderr_file end) inner) i w n next low few = within inner i (errors (lent end) w) n next low few
-  within (around stderr_null inner) i w n next low few = within inner i (errors nothing w) n next low few
-  within (around stderr_capture inner) i w n next low few = cons count (action.capture side.Err) _ tt (within inner i (errors (captured side.Err) w) n next low few)
-  within (around stderr_to_stdout inner) i w n next low few = within inner i (errors w.output w) n next low few
-  within (around stdout_stderr_swap inner) i w n next low few = within inner i (record w { output = w.error; error = w.output }) n next low few
-  within (around (dir path) inner) i w n next low few = within inner next w n (next + 1) (omega (arith, few)) (omega (arith, few))
-  within (around (env name value) inner) i w n next low few = within inner next w n (next + 1) (omega (arith, few)) (omega (arith, few))
-  within (around (env_remove name) inner) i w n next low few = within inner next w n (next + 1) (omega (arith, few)) (omega (arith, few))
-  within (around (full_env vars) inner) i w n next low few = within inner next w n (next + 1) (omega (arith, few)) (omega (arith, few))
-  within (around unchecked inner) i w n next low few = within inner i w n next low few
-  within (around (before_spawn hook ends) inner) i w n next low few = within inner next w n (next + 1) (omega (arith, few)) (omega (arith, few))
+  within (around modifier inner) i w n next low few =
+      let r = row modifier in
+      wrapped_within count r.opens _
+      (within_row r.says i next (wires_in r n w) inner (deeper r.opens n) low few (within inner))
 
 -- in the list of a whole tree
 pub listed_within : {E H : Type 0} (tree : TreeView E H)

@@ -1,6 +1,7 @@
 -- The flat plan of a tree: a list of actions over a stack of this depth, which they leave as it was.
 use Rattle.std.specs.Prelude.{ℕ, ◌+◌, ◌<◌, ◌≡◌, Bool, true, false, List, [], ◌∷◌, ◌++◌, None, Some}
 use Rattle.std.specs.Option.{option_or}
+use Rattle.std.specs.declared.option.Option.{Option}
 use Rattle.duct_system.specs.declared.spec.Port.{Port}
 use Rattle.duct_system.specs.declared.spec.Port.TheVariants as port
 use Rattle.duct_system.specs.declared.spec.Stream.{Stream}
@@ -10,8 +11,9 @@ use Rattle.duct_system.specs.declared.system.Side.TheVariants as side
 use Rattle.duct_start.specs.Actions as action
 use Rattle.duct_start.specs.Actions.{Action, ActionOf, AreBelow, Scope, State, Three, capture_at, level}
 use Rattle.duct_start.specs.Found.{Found, Target, Parents, Nothing, ReaderAt, WriterAt, FileAt, Lends}
-use Rattle.duct_start.specs.Step.{Step, step}
-use Rattle.duct_start.specs.TreeView.{TreeView, command, pipe, around, stdin_bytes, stdin_path, stdin_file, stdin_null, stdout_path, stdout_file, stdout_null, stdout_capture, stdout_to_stderr, stderr_path, stderr_file, stderr_null, stderr_capture, stderr_to_stdout, stdout_stderr_swap, dir, env, env_remove, full_env, unchecked, before_spawn}
+use Rattle.duct_start.specs.Row.{Obtains, Row, Says, Way, opens_nothing, opens_input, opens_read, opens_create, opens_capture, as_outside, to_nothing, to_lent, to_opened, row}
+use Rattle.duct_start.specs.Step.{Step, said}
+use Rattle.duct_start.specs.TreeView.{TreeView, command, pipe, around}
 
 -- how a stream gets where it goes: by the parent's stream, by nothing, by the end at a depth of the stack, by a capture pipe, or
 -- by an end of the caller
@@ -80,43 +82,64 @@ outputs x three = record three { output = x }
 abbrev pub errors : {X : Type 0} → X → Three X → Three X
 errors x three = record three { error = x }
 
+-- how many ends stand on the stack inside of a node
+abbrev pub deeper : Obtains → ℕ → ℕ
+deeper opens_nothing n = n
+deeper (opens_input bytes) n = n + 2
+deeper (opens_read path) n = n + 1
+deeper (opens_create path) n = n + 1
+deeper (opens_capture which) n = n
+
+-- how a stream gets what a node opens over a stack of this depth
+abbrev pub opened_wire : {E : Type 0} → Obtains → ℕ → Wire E
+opened_wire opens_nothing n = nothing
+opened_wire (opens_input bytes) n = slot (n + 1)
+opened_wire (opens_read path) n = slot n
+opened_wire (opens_create path) n = slot n
+opened_wire (opens_capture which) n = captured which
+
+-- how a stream gets where it goes inside of a node, by what the node opens and by the wires outside of it
+abbrev pub wired : {E : Type 0} → Way E → Wire E → Three (Wire E) → Wire E
+wired (as_outside In) opened w = w.input
+wired (as_outside Out) opened w = w.output
+wired (as_outside Err) opened w = w.error
+wired to_nothing opened w = nothing
+wired (to_lent end) opened w = lent end
+wired to_opened opened w = opened
+
+-- the wires inside of a node of this row
+abbrev pub wires_in : {E H : Type 0} → Row E H → ℕ → Three (Wire E) → Three (Wire E)
+wires_in row n w =
+    let opened = opened_wire row.opens n in
+    record {
+      input = wired row.input opened w;
+      output = wired row.output opened w;
+      error = wired row.error opened w;
+    }
+
+-- some actions with those for what a node opens round them
+abbrev pub wrapped : {E K : Type 0} → Obtains → List (ActionOf E K) → List (ActionOf E K)
+wrapped opens_nothing inside = inside
+wrapped (opens_input bytes) inside =
+    action.input ∷ (inside ++ (action.close ∷ action.feed bytes ∷ []))
+wrapped (opens_read path) inside = action.open_read path ∷ (inside ++ action.close ∷ [])
+wrapped (opens_create path) inside = action.create path ∷ (inside ++ action.close ∷ [])
+wrapped (opens_capture which) inside = action.capture which ∷ inside
+
+-- the scope inside of a node that says this
+abbrev pub scope_if : {E H : Type 0} → Option (Says E H) → Scope E H → Scope E H
+scope_if None scope = scope
+scope_if (Some says) scope = scope_within (said says) scope
+
 -- the actions of a tree inside this scope and these wires, over a stack of this depth
 abbrev pub flat : {E H : Type 0} → Scope E H → Three (Wire E) → TreeView E H → ℕ → List (Action E H)
 flat s w (command words) n = commands s w words
 flat s w (pipe left right) n =
     action.pipe ∷ (flat s (outputs (slot (n + 1)) w) left (n + 2)
     ++ (action.close ∷ (flat s (inputs (slot n) w) right (n + 1) ++ action.close ∷ [])))
-flat s w (around (stdin_bytes bytes) inner) n =
-    action.input ∷ (flat s (inputs (slot (n + 1)) w) inner (n + 2)
-    ++ (action.close ∷ action.feed bytes ∷ []))
-flat s w (around (stdin_path path) inner) n =
-    action.open_read path ∷ (flat s (inputs (slot n) w) inner (n + 1) ++ action.close ∷ [])
-flat s w (around (stdin_file end) inner) n = flat s (inputs (lent end) w) inner n
-flat s w (around stdin_null inner) n = flat s (inputs nothing w) inner n
-flat s w (around (stdout_path path) inner) n =
-    action.create path ∷ (flat s (outputs (slot n) w) inner (n + 1) ++ action.close ∷ [])
-flat s w (around (stdout_file end) inner) n = flat s (outputs (lent end) w) inner n
-flat s w (around stdout_null inner) n = flat s (outputs nothing w) inner n
-flat s w (around stdout_capture inner) n =
-    action.capture side.Out ∷ flat s (outputs (captured side.Out) w) inner n
-flat s w (around stdout_to_stderr inner) n = flat s (outputs w.error w) inner n
-flat s w (around (stderr_path path) inner) n =
-    action.create path ∷ (flat s (errors (slot n) w) inner (n + 1) ++ action.close ∷ [])
-flat s w (around (stderr_file end) inner) n = flat s (errors (lent end) w) inner n
-flat s w (around stderr_null inner) n = flat s (errors nothing w) inner n
-flat s w (around stderr_capture inner) n =
-    action.capture side.Err ∷ flat s (errors (captured side.Err) w) inner n
-flat s w (around stderr_to_stdout inner) n = flat s (errors w.output w) inner n
-flat s w (around stdout_stderr_swap inner) n =
-    flat s (record w { output = w.error; error = w.output }) inner n
-flat s w (around (dir path) inner) n = flat (scope_within (step (dir path)) s) w inner n
-flat s w (around (env name value) inner) n = flat (scope_within (step (env name value)) s) w inner n
-flat s w (around (env_remove name) inner) n =
-    flat (scope_within (step (env_remove name)) s) w inner n
-flat s w (around (full_env vars) inner) n = flat (scope_within (step (full_env vars)) s) w inner n
-flat s w (around unchecked inner) n = flat s w inner n
-flat s w (around (before_spawn hook ends) inner) n =
-    flat (scope_within (step (before_spawn hook ends)) s) w inner n
+flat s w (around modifier inner) n =
+    let r = row modifier in
+    wrapped r.opens (flat (scope_if r.says s) (wires_in r n w) inner (deeper r.opens n))
 
 -- nothing stands round the root
 abbrev pub rooted : {E H : Type 0} → Scope E H

@@ -11,6 +11,7 @@ use Rattle.duct_start.specs.Asked.{IsAsked, end_at, streams_to}
 use Rattle.duct_start.specs.Chain.{Wired, Allows, Chain, lent}
 use Rattle.duct_start.specs.Found.{Found}
 use Rattle.duct_start.specs.Plan.{Plan, is_canonical, program_of}
+use Rattle.duct_start.specs.Sources.{IsGivenFrom, Pairwise}
 use Rattle.duct_start.specs.Step.{Item, AskEnvironment, AskPipe, AskOpenRead, AskCreate, AskCanonicalize, AskSpawn, AskFeed, AskDrain, AskReader}
 
 -- the variables that the system answered, at the front of a trace
@@ -36,42 +37,75 @@ pub record IsAskedAt {E H : Type 0} (entries : List EntryView) (number_of : E �
   pub streams_are : wired.input ∷ wired.output ∷ wired.error ∷ []
       ≡ streams_to entries number_of found
 
--- the spawn at this place is given what the hooks of the command make of what the tree asks for it
+-- what is to hold of the streams that a spawn is given, by their numbers, and of where they are to come from
+abbrev pub Gives : Type 1
+Gives = List (Stdio ℕ) → List (Stdio Origin) → Type 0
+
+-- the spawn at this place is given what the hooks of the command make of what the tree asks for it; of the streams this holds
+abbrev pub IsSpawnedBy : {E H : Type 0} → (List (Stdio Origin) → Type 0) → Allows H → (E → ℕ)
+    → List EntryView → ℕ → Found E H → List (List ℕ) → SpecView → Type 0
+IsSpawnedBy gives allows number_of entries place found words spec =
+    (before : Wired) × (after : Wired) × IsAskedAt entries number_of place found words before
+    × Chain allows (lent number_of found.hooks) before after
+    × (spec ≡ after.spec) × gives (after.input ∷ after.output ∷ after.error ∷ [])
+
+-- the same, with streams that come from exactly there
 abbrev pub IsSpawnedAt : {E H : Type 0} → Allows H → (E → ℕ) → List EntryView → ℕ → Found E H
     → List (List ℕ) → SpecView → List (Stdio Origin) → Type 0
 IsSpawnedAt allows number_of entries place found words spec streams =
-    (before : Wired) × (after : Wired) × IsAskedAt entries number_of place found words before
-    × Chain allows (lent number_of found.hooks) before after
-    × (spec ≡ after.spec) × (streams ≡ after.input ∷ after.output ∷ after.error ∷ [])
+    IsSpawnedBy (λ wanted. streams ≡ wanted) allows number_of entries place found words spec
 
 -- an entry of the trace answers the item at its place; a worker and the reader get an end of their own pipe
-abbrev pub Answers : {E H : Type 0} → Allows H → (E → ℕ) → List EntryView → ℕ → Item E H → EntryView
-    → Type 0
-Answers allows number_of added place AskEnvironment (Environment answer) = Unit {0}
-Answers allows number_of added place AskPipe (Pipe answer) = Unit {0}
-Answers allows number_of added place (AskOpenRead path) (OpenRead opened answer) = opened ≡ path
-Answers allows number_of added place (AskCreate path) (Create made answer) = made ≡ path
-Answers allows number_of added place (AskCanonicalize program) (Canonicalize path answer) =
+abbrev pub AnswersBy : {E H : Type 0} → Gives → Allows H → (E → ℕ) → List EntryView → ℕ → Item E H
+    → EntryView → Type 0
+AnswersBy gives allows number_of added place AskEnvironment (Environment answer) = Unit {0}
+AnswersBy gives allows number_of added place AskPipe (Pipe answer) = Unit {0}
+AnswersBy gives allows number_of added place (AskOpenRead path) (OpenRead opened answer) =
+    opened ≡ path
+AnswersBy gives allows number_of added place (AskCreate path) (Create made answer) = made ≡ path
+AnswersBy gives allows number_of added place (AskCanonicalize program) (Canonicalize path answer) =
     path ≡ program
-Answers allows number_of added place (AskSpawn found words) (Spawn spec io answer) =
-    IsSpawnedAt allows number_of (trace added) place found words spec
-    (map (stream_of (origin added)) io)
-Answers allows number_of added place (AskFeed pipe bytes) (Feed end fed answer) =
+AnswersBy gives allows number_of added place (AskSpawn found words) (Spawn spec io answer) =
+    IsSpawnedBy (λ wanted. gives io wanted) allows number_of (trace added) place found words spec
+AnswersBy gives allows number_of added place (AskFeed pipe bytes) (Feed end fed answer) =
     (fed ≡ bytes) × (origin added end ≡ Opened (end_at (trace added) pipe 1))
-Answers allows number_of added place (AskDrain pipe) (Drain end answer) =
+AnswersBy gives allows number_of added place (AskDrain pipe) (Drain end answer) =
     origin added end ≡ Opened (end_at (trace added) pipe 0)
-Answers allows number_of added place (AskReader pipe) (Reader end) =
+AnswersBy gives allows number_of added place (AskReader pipe) (Reader end) =
     origin added end ≡ Opened (end_at (trace added) pipe 0)
-Answers allows number_of added place item entry = ⊥
+AnswersBy gives allows number_of added place item entry = ⊥
 
 -- the entries from this place on answer the items from there on, as far as they go
+abbrev pub AnswersFromBy : {E H : Type 0} → Gives → Allows H → (E → ℕ) → List EntryView → ℕ
+    → List (Item E H) → List EntryView → Type 0
+AnswersFromBy gives allows number_of added place items [] = Unit {0}
+AnswersFromBy gives allows number_of added place [] (entry ∷ entries) = ⊥
+AnswersFromBy gives allows number_of added place (item ∷ items) (entry ∷ entries) =
+    AnswersBy gives allows number_of added place item entry
+    × AnswersFromBy gives allows number_of added (place + 1) items entries
+
+-- the streams come from exactly there
+abbrev pub GivesExactly : List EntryView → Gives
+GivesExactly added io wanted = map (stream_of (origin added)) io ≡ wanted
+
+-- the same with streams that come from exactly there
+abbrev pub Answers : {E H : Type 0} → Allows H → (E → ℕ) → List EntryView → ℕ → Item E H → EntryView
+    → Type 0
+Answers allows number_of added place item entry =
+    AnswersBy (GivesExactly added) allows number_of added place item entry
+
 abbrev pub AnswersFrom : {E H : Type 0} → Allows H → (E → ℕ) → List EntryView → ℕ → List (Item E H)
     → List EntryView → Type 0
-AnswersFrom allows number_of added place items [] = Unit {0}
-AnswersFrom allows number_of added place [] (entry ∷ entries) = ⊥
-AnswersFrom allows number_of added place (item ∷ items) (entry ∷ entries) =
-    Answers allows number_of added place item entry
-    × AnswersFrom allows number_of added (place + 1) items entries
+AnswersFrom allows number_of added place items entries =
+    AnswersFromBy (GivesExactly added) allows number_of added place items entries
+
+-- what was added asks a front of the plan: each request is of the kind, the words, the paths, the folder, the variables and the
+-- bytes that the plan has there, and each stream comes from where the plan says; one that goes to an end of the caller is a
+-- duplicate of that end's number, whoever gave that number
+abbrev pub AsksPlan : {E H : Type 0} → Allows H → (E → ℕ) → Plan E H → List EntryView → Type 0
+AsksPlan allows number_of plan added =
+    AnswersFromBy (λ io wanted. Pairwise (IsGivenFrom added) io wanted) allows number_of added 0
+    plan.items (trace added)
 
 -- what was added follows a front of the plan
 pub record Follows {E H : Type 0} (allows : Allows H) (number_of : E → ℕ) (plan : Plan E H)

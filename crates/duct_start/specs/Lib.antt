@@ -16,8 +16,10 @@ pub mod Lookup
 pub mod Path
 pub mod Plan
 pub mod Ran
+pub mod Row
 pub mod Running
 pub mod ShapeOfTree
+pub mod Sources
 pub mod Standing
 pub mod Start
 pub mod Step

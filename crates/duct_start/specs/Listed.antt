@@ -1,32 +1,37 @@
 -- The flat plan with what stands round a command by index: a list of actions, and the list of scopes that they name.
-use Rattle.std.specs.Prelude.{ℕ, ◌+◌, ◌≤◌, ◌≡◌, Some, List, [], ◌∷◌, ◌++◌, length, map, slice_get, unwrap_or}
-use Rattle.duct_system.specs.declared.system.Side.TheVariants as side
+use Rattle.std.specs.Prelude.{ℕ, ◌+◌, ◌≤◌, ◌≡◌, None, Some, List, [], ◌∷◌, ◌++◌, length, map, slice_get, unwrap_or}
+use Rattle.std.specs.declared.option.Option.{Option}
 use Rattle.duct_start.specs.Actions as action
 use Rattle.duct_start.specs.Actions.{Action, ActionOf, Scope, Three}
-use Rattle.duct_start.specs.Flat.{Wire, nothing, slot, captured, lent, commands, inputs, outputs, errors, outside, rooted, scope_within}
-use Rattle.duct_start.specs.Step.{step}
-use Rattle.duct_start.specs.TreeView.{ModifierView, TreeView, command, pipe, around, stdin_bytes, stdin_path, stdin_file, stdin_null, stdout_path, stdout_file, stdout_null, stdout_capture, stdout_to_stderr, stderr_path, stderr_file, stderr_null, stderr_capture, stderr_to_stdout, stdout_stderr_swap, dir, env, env_remove, full_env, unchecked, before_spawn}
+use Rattle.duct_start.specs.Flat.{Wire, slot, commands, deeper, inputs, outputs, outside, rooted, scope_within, wires_in, wrapped}
+use Rattle.duct_start.specs.Row.{Says, row}
+use Rattle.duct_start.specs.Step.{said}
+use Rattle.duct_start.specs.TreeView.{TreeView, command, pipe, around}
 
--- a scope as it stands in a list: its node, and the index of the scope outside of it
+-- a scope as it stands in a list: what its node says, and the index of the scope outside of it
 abbrev pub ListedScope : Type 0 → Type 0 → Type 0
-ListedScope E H = ModifierView E H × ℕ
+ListedScope E H = Says E H × ℕ
 
 -- actions, and the scopes that were added for them
 pub record Listed (E H : Type 0) : Type 0 where
   pub actions : List (ActionOf E ℕ)
   pub scopes : List (ListedScope E H)
 
--- an action before some actions, and others behind them
-abbrev pub between : {E H : Type 0} → ActionOf E ℕ → Listed E H → List (ActionOf E ℕ) → Listed E H
-between first inside last = record inside { actions = first ∷ (inside.actions ++ last) }
+-- with the scope of a node, if it says something, before those of what stands inside of it
+abbrev pub scoped : {E H : Type 0} → Option (Says E H) → ℕ → List (ListedScope E H)
+    → List (ListedScope E H)
+scoped None outer inside = inside
+scoped (Some says) outer inside = (says, outer) ∷ inside
 
--- an action before some actions
-abbrev pub ahead : {E H : Type 0} → ActionOf E ℕ → Listed E H → Listed E H
-ahead first inside = record inside { actions = first ∷ inside.actions }
+-- the index of the scope inside of a node, where that of the next scope is this
+abbrev pub scope_index : {A : Type 0} → Option A → ℕ → ℕ → ℕ
+scope_index None outer next = outer
+scope_index (Some says) outer next = next
 
--- a scope more, before those of what stands inside of it
-abbrev pub scoped : {E H : Type 0} → ListedScope E H → Listed E H → Listed E H
-scoped scope inside = record inside { scopes = scope ∷ inside.scopes }
+-- that of the next scope then
+abbrev pub next_index : {A : Type 0} → Option A → ℕ → ℕ
+next_index None next = next
+next_index (Some says) next = next + 1
 
 -- the actions of a tree inside the scope of this index, over a stack of this depth, where the next scope has this index
 abbrev pub listed : {E H : Type 0} → ℕ → Three (Wire E) → TreeView E H → ℕ → ℕ → Listed E H
@@ -38,44 +43,11 @@ listed i w (pipe left right) n next =
       actions = action.pipe ∷ (a.actions ++ (action.close ∷ (b.actions ++ action.close ∷ [])));
       scopes = a.scopes ++ b.scopes;
     }
-listed i w (around (stdin_bytes bytes) inner) n next =
-    between action.input (listed i (inputs (slot (n + 1)) w) inner (n + 2) next)
-    (action.close ∷ action.feed bytes ∷ [])
-listed i w (around (stdin_path path) inner) n next =
-    between (action.open_read path) (listed i (inputs (slot n) w) inner (n + 1) next)
-    (action.close ∷ [])
-listed i w (around (stdin_file end) inner) n next = listed i (inputs (lent end) w) inner n next
-listed i w (around stdin_null inner) n next = listed i (inputs nothing w) inner n next
-listed i w (around (stdout_path path) inner) n next =
-    between (action.create path) (listed i (outputs (slot n) w) inner (n + 1) next)
-    (action.close ∷ [])
-listed i w (around (stdout_file end) inner) n next =
-    listed i (outputs (lent end) w) inner n next
-listed i w (around stdout_null inner) n next = listed i (outputs nothing w) inner n next
-listed i w (around stdout_capture inner) n next =
-    ahead (action.capture side.Out) (listed i (outputs (captured side.Out) w) inner n next)
-listed i w (around stdout_to_stderr inner) n next = listed i (outputs w.error w) inner n next
-listed i w (around (stderr_path path) inner) n next =
-    between (action.create path) (listed i (errors (slot n) w) inner (n + 1) next)
-    (action.close ∷ [])
-listed i w (around (stderr_file end) inner) n next = listed i (errors (lent end) w) inner n next
-listed i w (around stderr_null inner) n next = listed i (errors nothing w) inner n next
-listed i w (around stderr_capture inner) n next =
-    ahead (action.capture side.Err) (listed i (errors (captured side.Err) w) inner n next)
-listed i w (around stderr_to_stdout inner) n next = listed i (errors w.output w) inner n next
-listed i w (around stdout_stderr_swap inner) n next =
-    listed i (record w { output = w.error; error = w.output }) inner n next
-listed i w (around (dir path) inner) n next =
-    scoped (dir path, i) (listed next w inner n (next + 1))
-listed i w (around (env name value) inner) n next =
-    scoped (env name value, i) (listed next w inner n (next + 1))
-listed i w (around (env_remove name) inner) n next =
-    scoped (env_remove name, i) (listed next w inner n (next + 1))
-listed i w (around (full_env vars) inner) n next =
-    scoped (full_env vars, i) (listed next w inner n (next + 1))
-listed i w (around unchecked inner) n next = listed i w inner n next
-listed i w (around (before_spawn hook ends) inner) n next =
-    scoped (before_spawn hook ends, i) (listed next w inner n (next + 1))
+listed i w (around modifier inner) n next =
+    let r = row modifier in
+    let a = listed (scope_index r.says i next) (wires_in r n w) inner (deeper r.opens n)
+    (next_index r.says next) in
+    record { actions = wrapped r.opens a.actions; scopes = scoped r.says i a.scopes }
 
 -- the scope of an index; the first is that of the root
 abbrev pub scope_at : {E H : Type 0} → List (Scope E H) → ℕ → Scope E H
@@ -83,7 +55,7 @@ scope_at scopes i = unwrap_or (slice_get scopes i) rooted
 
 -- with one scope more behind those that are known
 abbrev pub with_scope : {E H : Type 0} → List (Scope E H) → ListedScope E H → List (Scope E H)
-with_scope known scope = known ++ scope_within (step scope.0) (scope_at known scope.1) ∷ []
+with_scope known scope = known ++ scope_within (said scope.0) (scope_at known scope.1) ∷ []
 
 -- the scopes of a list behind those that are known
 abbrev pub scopes_from : {E H : Type 0} → List (Scope E H) → List (ListedScope E H)

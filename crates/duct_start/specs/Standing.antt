@@ -18,10 +18,11 @@ use Rattle.duct_start.specs.Actions as action
 use Rattle.duct_start.specs.Actions.{Action, State, IsReady, AreReady, advance, after}
 use Rattle.duct_start.specs.Asked.{end_at}
 use Rattle.duct_start.specs.Chain.{Allows}
-use Rattle.duct_start.specs.Follows.{AnswersFrom, pairs_in}
+use Rattle.duct_start.specs.Follows.{AnswersFromBy, Gives, GivesExactly, pairs_in}
 use Rattle.duct_start.specs.Found.{Target, Parents, Nothing, ReaderAt, WriterAt, FileAt, Lends}
 use Rattle.duct_start.specs.Holdings.{Holdings, ends}
 use Rattle.duct_start.specs.Kinds.{entry_kind, item_kind}
+use Rattle.duct_start.specs.Sources.{ComesFrom, IsGivenFrom, Pairwise}
 use Rattle.duct_start.specs.Step.{Item}
 
 -- where an end comes from that stands for this target, by the numbers of a trace
@@ -51,9 +52,12 @@ pub record Course : Type 0 where
   pub pairs : Vars
   pub front : List EntryView
 
--- none of these entries got a number below this one, and the caller's ends came before the run
+-- the caller's ends came before the run
+abbrev pub IsEarly : Course → Type 0
+IsEarly course = course.base ≤ course.old.next
+
+-- none of these entries got a number below this one
 pub record IsLater (course : Course) (next : ℕ) (more : List EntryView) : Type 0 where
-  pub early : course.base ≤ course.old.next
   pub fresh : (number : ℕ) → number < next → count_of number (got more) ≡ 0
 
 -- the ends of a capture pipe are those of the request at its place
@@ -64,11 +68,32 @@ IsPair added (Some place) (Some pair) =
     × (origin added pair.1 ≡ Opened (end_at (trace added) place 1))
 IsPair added place pair = ⊥
 
+-- the end of a number comes from there, and exactly from there under this premise
+abbrev pub HasOrigin : Type 0 → List EntryView → ℕ → Option Origin → Type 0
+HasOrigin early added number None = ⊥
+HasOrigin early added number (Some source) =
+    ComesFrom added number source × (early → origin added number ≡ source)
+
+-- it comes from where a target says
+abbrev pub IsFrom : {E : Type 0} → Type 0 → (E → ℕ) → List EntryView → ℕ → Target E → Type 0
+IsFrom early number_of added number target =
+    HasOrigin early added number (origin_to (trace added) number_of target)
+
+-- the streams come from there, and exactly from there under this premise
+abbrev pub GivesUnder : Type 0 → List EntryView → Gives
+GivesUnder early added io wanted =
+    Pairwise (IsGivenFrom added) io wanted × (early → GivesExactly added io wanted)
+
+-- the entries from a place on answer the items from there on, with streams that come from where they should
+abbrev pub AnswersUnder : {E H : Type 0} → Course → Allows H → (E → ℕ) → List EntryView → ℕ
+    → List (Item E H) → List EntryView → Type 0
+AnswersUnder course allows number_of added place items entries =
+    AnswersFromBy (GivesUnder (IsEarly course) added) allows number_of added place items entries
+
 -- each end that is held comes from where its target says
-pub record Sourced {E H : Type 0} (number_of : E → ℕ) (added : List EntryView)
+pub record Sourced {E H : Type 0} (early : Type 0) (number_of : E → ℕ) (added : List EntryView)
     (state : State E H) (held : Holdings) : Type 0 where
-  pub stack : map (λ number. Some (origin added number)) held.stack
-      ≡ map (origin_to (trace added) number_of) state.stack
+  pub stack : Pairwise (IsFrom early number_of added) held.stack state.stack
   pub out : IsPair added state.plan.out held.out
   pub err : IsPair added state.plan.err held.err
 
@@ -110,9 +135,9 @@ pub record Stands {E H : Type 0} (allows : Allows H) (number_of : E → ℕ) (co
   pub begins : (more : List EntryView) → pairs_in (trace (added ++ more)) ≡ course.pairs
   pub starts : (later : List EntryView) × (added ≡ course.front ++ later)
   pub answers : (more : List EntryView) → IsLater course now.next more
-      → AnswersFrom allows number_of (added ++ more) 0 state.plan.items (trace added)
+      → AnswersUnder course allows number_of (added ++ more) 0 state.plan.items (trace added)
   pub sources : (more : List EntryView) → IsLater course now.next more
-      → Sourced number_of (added ++ more) state held
+      → Sourced (IsEarly course) number_of (added ++ more) state held
   pub clean : IsClean added
 
 -- an error that comes with no entry: want of memory
@@ -143,7 +168,7 @@ pub record Stopped {E H : Type 0} (allows : Allows H) (number_of : E → ℕ) (c
   pub books : Books course.old now added held
   pub few : HeldFew course.bound added
   pub answers : (more : List EntryView) → IsLater course now.next more
-      → AnswersFrom allows number_of (added ++ more) 0 items (trace added)
+      → AnswersUnder course allows number_of (added ++ more) 0 items (trace added)
   pub ended : Ended added error
 
 -- an action goes on from wherever a run stands

@@ -1,40 +1,37 @@
 -- What a start promises of the journal.
-use Rattle.std.specs.Prelude.{ℕ, ◌+◌, ◌*◌, ◌<◌, ◌≤◌, max, List, [], ◌∷◌, ◌++◌, ◌≡◌, length, map, take, All}
+use Rattle.std.specs.Prelude.{ℕ, ◌+◌, ◌*◌, ◌<◌, ◌≤◌, max, List, [], ◌∷◌, ◌++◌, ◌≡◌, length, map, take, All, Some}
+use Rattle.std.specs.declared.option.Option.{Option}
 use Rattle.duct_system.specs.Journal.{JournalView}
-use Rattle.duct_system.specs.Ledger.{IsBalanced, held}
+use Rattle.duct_system.specs.Ledger.{IsBalanced, count_of, got, held}
 use Rattle.duct_system.specs.EntryView.{EntryView}
 use Rattle.duct_system.specs.Trace.{IsClean, StopsAtFault, segment, trace}
 use Rattle.duct_system.specs.declared.error.Error.{Error}
 use Rattle.duct_start.specs.Causes.{HasCause, MayAnswer, AnswersLastFault}
 use Rattle.duct_start.specs.Chain.{Allows, Refuses}
-use Rattle.duct_start.specs.Follows.{Follows, FollowsWhole}
+use Rattle.duct_start.specs.Follows.{AsksPlan, Follows, FollowsWhole}
 use Rattle.duct_start.specs.Kinds.{entry_kind, item_kind}
 use Rattle.duct_start.specs.Plan.{Plan}
-use Rattle.duct_start.specs.TreeView.{ModifierView, TreeView, command, pipe, around, stdin_bytes, stdin_path, stdin_file, stdin_null, stdout_path, stdout_file, stdout_null, stdout_capture, stdout_to_stderr, stderr_path, stderr_file, stderr_null, stderr_capture, stderr_to_stdout, stdout_stderr_swap, dir, env, env_remove, full_env, unchecked, before_spawn}
+use Rattle.duct_start.specs.Row.{Obtains, Row, Says, Way, opens_nothing, opens_input, opens_read, opens_create, opens_capture, to_lent, says_hook, row}
+use Rattle.duct_start.specs.TreeView.{ModifierView, TreeView, command, pipe, around}
+
+-- the ends of the caller that a way leads to
+abbrev pub way_ends : {E : Type 0} → Way E → List E
+way_ends (to_lent end) = end ∷ []
+way_ends _ = []
+
+-- and those that stand beside a hook
+abbrev pub said_ends : {E H : Type 0} → Option (Says E H) → List E
+said_ends (Some (says_hook hook ends)) = ends
+said_ends _ = []
+
+-- the ends of the caller that a node of this row holds
+abbrev pub row_ends : {E H : Type 0} → Row E H → List E
+row_ends row =
+    way_ends row.input ++ (way_ends row.output ++ (way_ends row.error ++ said_ends row.says))
 
 -- the ends of the caller that a node holds
 abbrev pub modifier_ends : {E H : Type 0} → ModifierView E H → List E
-modifier_ends (stdin_bytes bytes) = []
-modifier_ends (stdin_path path) = []
-modifier_ends (stdin_file end) = end ∷ []
-modifier_ends stdin_null = []
-modifier_ends (stdout_path path) = []
-modifier_ends (stdout_file end) = end ∷ []
-modifier_ends stdout_null = []
-modifier_ends stdout_capture = []
-modifier_ends stdout_to_stderr = []
-modifier_ends (stderr_path path) = []
-modifier_ends (stderr_file end) = end ∷ []
-modifier_ends stderr_null = []
-modifier_ends stderr_capture = []
-modifier_ends stderr_to_stdout = []
-modifier_ends stdout_stderr_swap = []
-modifier_ends (dir path) = []
-modifier_ends (env name value) = []
-modifier_ends (env_remove name) = []
-modifier_ends (full_env vars) = []
-modifier_ends unchecked = []
-modifier_ends (before_spawn hook ends) = ends
+modifier_ends modifier = row_ends (row modifier)
 
 -- the ends of the caller that a tree holds
 abbrev pub ends_in : {E H : Type 0} → TreeView E H → List E
@@ -55,29 +52,24 @@ least_above number_of (end ∷ ends) = max (number_of end + 1) (least_above numb
 abbrev pub ceiling : {E H : Type 0} → (E → ℕ) → TreeView E H → ℕ
 ceiling number_of tree = least_above number_of (ends_in tree)
 
+-- how many ends stay open for what is opened
+abbrev pub opens_depth : Obtains → ℕ
+opens_depth opens_nothing = 0
+opens_depth (opens_input bytes) = 1
+opens_depth (opens_read path) = 1
+opens_depth (opens_create path) = 1
+opens_depth (opens_capture which) = 0
+
+-- how many ends a way lends
+abbrev pub way_depth : {E : Type 0} → Way E → ℕ
+way_depth (to_lent end) = 1
+way_depth _ = 0
+
 -- how many ends a node adds to those that may be open while a command inside of it starts
 abbrev pub modifier_depth : {E H : Type 0} → ModifierView E H → ℕ
-modifier_depth (stdin_bytes bytes) = 1
-modifier_depth (stdin_path path) = 1
-modifier_depth (stdin_file end) = 1
-modifier_depth stdin_null = 0
-modifier_depth (stdout_path path) = 1
-modifier_depth (stdout_file end) = 1
-modifier_depth stdout_null = 0
-modifier_depth stdout_capture = 0
-modifier_depth stdout_to_stderr = 0
-modifier_depth (stderr_path path) = 1
-modifier_depth (stderr_file end) = 1
-modifier_depth stderr_null = 0
-modifier_depth stderr_capture = 0
-modifier_depth stderr_to_stdout = 0
-modifier_depth stdout_stderr_swap = 0
-modifier_depth (dir path) = 0
-modifier_depth (env name value) = 0
-modifier_depth (env_remove name) = 0
-modifier_depth (full_env vars) = 0
-modifier_depth unchecked = 0
-modifier_depth (before_spawn hook ends) = 0
+modifier_depth modifier =
+    let r = row modifier in
+    opens_depth r.opens + (way_depth r.input + (way_depth r.output + way_depth r.error))
 
 -- the most pipes, inputs, paths and files on one command's way
 abbrev pub depth : {E H : Type 0} → TreeView E H → ℕ
@@ -96,6 +88,10 @@ pub record Grows (old new : JournalView) : Type 0 where
   pub next_grows : old.next ≤ new.next
   pub room_grows : old.room ≤ new.room
 
+-- each number that these entries got was given after all that came before this journal's next one
+abbrev pub GotNew : JournalView → List EntryView → Type 0
+GotNew old added = (number : ℕ) → number < old.next → count_of number (got added) ≡ 0
+
 -- a start that succeeds: the journal has grown, by entries none of which was refused, as many of each kind as the plan asks and in its
 -- order, which follow the whole plan; each end got was spent
 pub record StartSucceeds {E H : Type 0} (allows : Allows H) (number_of : E → ℕ)
@@ -104,9 +100,11 @@ pub record StartSucceeds {E H : Type 0} (allows : Allows H) (number_of : E → �
   pub clean : IsClean (segment old.entries new.entries)
   pub kinds : map entry_kind (trace (segment old.entries new.entries))
       ≡ map item_kind plan.items
+  pub asks : AsksPlan allows number_of plan (segment old.entries new.entries)
   pub whole : AreEarlier number_of old tree
       → FollowsWhole allows number_of plan (segment old.entries new.entries)
   pub balanced : IsBalanced (segment old.entries new.entries)
+  pub got_new : GotNew old (segment old.entries new.entries)
   pub few : HoldsFew tree (segment old.entries new.entries)
 
 -- a start that is refused: the journal has grown, by what follows the plan up to the refusal, where the error has its cause, and after a
@@ -117,10 +115,11 @@ pub record StartRefused {E H : Type 0} (allows : Allows H) (refuses : Refuses H)
   pub grows : Grows old new
   pub stops : StopsAtFault (segment old.entries new.entries)
   pub reason : MayAnswer (segment old.entries new.entries) error
+  pub asks : AsksPlan allows number_of plan (segment old.entries new.entries)
   pub follows : AreEarlier number_of old tree
       → Follows allows number_of plan (segment old.entries new.entries)
-  pub cause : AreEarlier number_of old tree
-      → HasCause allows refuses number_of plan (segment old.entries new.entries) error
+  pub cause : HasCause allows refuses number_of plan (segment old.entries new.entries) error
   pub last_fault : AnswersLastFault (segment old.entries new.entries) error
   pub balanced : IsBalanced (segment old.entries new.entries)
+  pub got_new : GotNew old (segment old.entries new.entries)
   pub few : HoldsFew tree (segment old.entries new.entries)

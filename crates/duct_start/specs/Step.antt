@@ -3,8 +3,10 @@ use Rattle.std.specs.Prelude.{ℕ, List, [], ◌∷◌, Some, None}
 use Rattle.std.specs.declared.option.Option.{Option}
 use Rattle.duct_system.specs.declared.spec.Stream.{Stream}
 use Rattle.duct_system.specs.declared.spec.Stream.TheVariants.{In, Out, Err}
-use Rattle.duct_start.specs.Found.{Found, Target, Nothing, ReaderAt, WriterAt, FileAt, Lends, Change, Sets, Removes, Replaces}
-use Rattle.duct_start.specs.TreeView.{ModifierView, stdin_bytes, stdin_path, stdin_file, stdin_null, stdout_path, stdout_file, stdout_null, stdout_capture, stdout_to_stderr, stderr_path, stderr_file, stderr_null, stderr_capture, stderr_to_stdout, stdout_stderr_swap, dir, env, env_remove, full_env, unchecked, before_spawn}
+use Rattle.duct_system.specs.declared.system.Side.TheVariants as side
+use Rattle.duct_start.specs.Found.{Found, Target, Nothing, ReaderAt, WriterAt, FileAt, Lends, Change}
+use Rattle.duct_start.specs.Row.{Obtains, Row, Says, Way, opens_nothing, opens_input, opens_read, opens_create, opens_capture, as_outside, to_nothing, to_lent, to_opened, says_folder, says_change, says_hook, row, way_of}
+use Rattle.duct_start.specs.TreeView.{ModifierView}
 
 -- one request: a canonical name is asked for a program, a spawn for what its command finds outwards and its words; a worker and
 -- the reader get an end of the pipe that the item at this place got
@@ -52,18 +54,6 @@ at_stdout turn In = Follows In
 at_stdout turn Out = turn
 at_stdout turn Err = Follows Err
 
--- that of stderr alone
-abbrev pub at_stderr : {E : Type 0} → Turn E → Stream → Turn E
-at_stderr turn In = Follows In
-at_stderr turn Out = Follows Out
-at_stderr turn Err = turn
-
--- stdout and stderr exchanged
-abbrev pub exchanged : {E : Type 0} → Stream → Turn E
-exchanged In = Follows In
-exchanged Out = Follows Err
-exchanged Err = Follows Out
-
 -- a node that does nothing
 abbrev pub idle : {E H : Type 0} → Step E H
 idle = record {
@@ -82,47 +72,53 @@ left_step = record idle { turn = λ place. at_stdout (Decides (WriterAt place)) 
 abbrev pub right_step : {E H : Type 0} → Step E H
 right_step = record idle { turn = λ place. at_stdin (Decides (ReaderAt place)) }
 
+-- what it asks for what it opens
+abbrev pub opening_of : {E H : Type 0} → Obtains → Opening E H
+opening_of opens_nothing = OpensNothing
+opening_of (opens_input bytes) = Opens AskPipe
+opening_of (opens_read path) = Opens (AskOpenRead path)
+opening_of (opens_create path) = Opens (AskCreate path)
+opening_of (opens_capture side.Out) = CapturesOut
+opening_of (opens_capture side.Err) = CapturesErr
+
+-- and afterwards
+abbrev pub closing_of : {E H : Type 0} → Obtains → ℕ → List (Item E H)
+closing_of (opens_input bytes) place = AskFeed place bytes ∷ []
+closing_of _ place = []
+
+-- the end that what it opens at this place gives
+abbrev pub end_of : {E : Type 0} → Obtains → ℕ → Target E
+end_of opens_nothing place = Nothing
+end_of (opens_input bytes) place = ReaderAt place
+end_of (opens_read path) place = FileAt place
+end_of (opens_create path) place = FileAt place
+end_of (opens_capture which) place = WriterAt place
+
+-- what it says of a stream that goes this way
+abbrev pub turn_of : {E : Type 0} → Obtains → ℕ → Way E → Turn E
+turn_of opens place (as_outside stream) = Follows stream
+turn_of opens place to_nothing = Decides Nothing
+turn_of opens place (to_lent end) = Decides (Lends end)
+turn_of opens place to_opened = Decides (end_of opens place)
+
+-- what it says of folder, variables and hooks
+abbrev pub said : {E H : Type 0} → Says E H → Step E H
+said (says_folder path) = record idle { folder = Some path }
+said (says_change change) = record idle { changes = change ∷ [] }
+said (says_hook hook ends) = record idle { hooks = (hook, ends) ∷ [] }
+
+abbrev pub said_if : {E H : Type 0} → Option (Says E H) → Step E H
+said_if None = idle
+said_if (Some says) = said says
+
+-- what a node of this row does
+abbrev pub step_of_row : {E H : Type 0} → Row E H → Step E H
+step_of_row row = record (said_if row.says) {
+  opening = opening_of row.opens;
+  closing = closing_of row.opens;
+  turn = λ place stream. turn_of row.opens place (way_of row stream);
+}
+
 -- each kind of node round one expression
 abbrev pub step : {E H : Type 0} → ModifierView E H → Step E H
-step (stdin_bytes bytes) = record idle {
-  opening = Opens AskPipe;
-  closing = λ place. AskFeed place bytes ∷ [];
-  turn = λ place. at_stdin (Decides (ReaderAt place));
-}
-step (stdin_path path) =
-    record idle {
-      opening = Opens (AskOpenRead path);
-      turn =
-          λ place. at_stdin (Decides (FileAt place));
-    }
-step (stdin_file end) = record idle { turn = λ place. at_stdin (Decides (Lends end)) }
-step stdin_null = record idle { turn = λ place. at_stdin (Decides Nothing) }
-step (stdout_path path) =
-    record idle {
-      opening = Opens (AskCreate path);
-      turn =
-          λ place. at_stdout (Decides (FileAt place));
-    }
-step (stdout_file end) = record idle { turn = λ place. at_stdout (Decides (Lends end)) }
-step stdout_null = record idle { turn = λ place. at_stdout (Decides Nothing) }
-step stdout_capture =
-    record idle { opening = CapturesOut; turn = λ place. at_stdout (Decides (WriterAt place)) }
-step stdout_to_stderr = record idle { turn = λ place. at_stdout (Follows Err) }
-step (stderr_path path) =
-    record idle {
-      opening = Opens (AskCreate path);
-      turn =
-          λ place. at_stderr (Decides (FileAt place));
-    }
-step (stderr_file end) = record idle { turn = λ place. at_stderr (Decides (Lends end)) }
-step stderr_null = record idle { turn = λ place. at_stderr (Decides Nothing) }
-step stderr_capture =
-    record idle { opening = CapturesErr; turn = λ place. at_stderr (Decides (WriterAt place)) }
-step stderr_to_stdout = record idle { turn = λ place. at_stderr (Follows Out) }
-step stdout_stderr_swap = record idle { turn = λ place. exchanged }
-step (dir path) = record idle { folder = Some path }
-step (env name value) = record idle { changes = Sets name value ∷ [] }
-step (env_remove name) = record idle { changes = Removes name ∷ [] }
-step (full_env vars) = record idle { changes = Replaces vars ∷ [] }
-step unchecked = idle
-step (before_spawn hook ends) = record idle { hooks = (hook, ends) ∷ [] }
+step modifier = step_of_row (row modifier)

@@ -1,4 +1,5 @@
 pub mod ActionCounts
+pub mod EffectView
 pub mod InsideView
 pub mod ListingView
 pub mod NodeView

@@ -1,9 +1,11 @@
 -- The list that the first pass of a start makes, as contracts see it, and how it goes on.
-use Rattle.std.specs.Prelude.{ℕ, ◌+◌, List, [], ◌∷◌, ◌++◌, length}
+use Rattle.std.specs.Prelude.{ℕ, ◌+◌, List, [], ◌∷◌, ◌++◌, length, Some, None}
+use Rattle.std.specs.declared.option.Option.{Option}
 use Rattle.duct_start.specs.Actions as action
 use Rattle.duct_start.specs.Actions.{ActionOf}
-use Rattle.duct_start.specs.Listed.{Listed, listed}
-use Rattle.duct_start.specs.TreeView.{ModifierView, TreeView, stdin_bytes, stdin_path, stdin_file, stdin_null, stdout_path, stdout_file, stdout_null, stdout_capture, stdout_to_stderr, stderr_path, stderr_file, stderr_null, stderr_capture, stderr_to_stdout, stdout_stderr_swap, dir, env, env_remove, full_env, unchecked, before_spawn}
+use Rattle.duct_start.specs.Listed.{Listed, ListedScope, listed}
+use Rattle.duct_start.specs.Row.{Obtains, Says, opens_nothing, opens_input, opens_read, opens_create, opens_capture, row}
+use Rattle.duct_start.specs.TreeView.{ModifierView, TreeView}
 use Rattle.duct_run.specs.ActionView.{actions_view}
 use Rattle.duct_run.specs.ScopeView.{scopes_view}
 use Rattle.duct_tree.specs.InsideView.{wires_view}
@@ -27,30 +29,29 @@ with_tree inside tree list =
       scopes = list.scopes ++ added.scopes;
     }
 
--- a list with these actions
-abbrev pub with_actions : {E H : Type 0} → List (ActionOf E ℕ) → Listed E H → Listed E H
-with_actions actions list = record list { actions = list.actions ++ actions }
+-- with the scope of a node that says this, which stands inside of the scope of this index
+abbrev pub with_scope : {E H : Type 0} → Option (Says E H) → ℕ → List (ListedScope E H)
+    → List (ListedScope E H)
+with_scope None outer scopes = scopes
+with_scope (Some says) outer scopes = scopes ++ (says, outer) ∷ []
+
+-- with the actions for what a node opens before what stands inside of it
+abbrev pub openings : {E : Type 0} → Obtains → List (ActionOf E ℕ) → List (ActionOf E ℕ)
+openings opens_nothing actions = actions
+openings (opens_input bytes) actions = actions ++ action.input ∷ []
+openings (opens_read path) actions = actions ++ action.open_read path ∷ []
+openings (opens_create path) actions = actions ++ action.create path ∷ []
+openings (opens_capture which) actions = actions ++ action.capture which ∷ []
+
+-- and behind it
+abbrev pub closings : {E : Type 0} → Obtains → List (ActionOf E ℕ) → List (ActionOf E ℕ)
+closings opens_nothing actions = actions
+closings (opens_input bytes) actions = actions ++ (action.close ∷ action.feed bytes ∷ [])
+closings (opens_read path) actions = actions ++ action.close ∷ []
+closings (opens_create path) actions = actions ++ action.close ∷ []
+closings (opens_capture which) actions = actions
 
 -- a list with the actions of a modifier that come behind what stands inside of it
 abbrev pub with_ending : {E H : Type 0} → ModifierView E H → Listed E H → Listed E H
-with_ending (stdin_bytes bytes) list = with_actions (action.close ∷ action.feed bytes ∷ []) list
-with_ending (stdin_path path) list = with_actions (action.close ∷ []) list
-with_ending (stdin_file end) list = list
-with_ending stdin_null list = list
-with_ending (stdout_path path) list = with_actions (action.close ∷ []) list
-with_ending (stdout_file end) list = list
-with_ending stdout_null list = list
-with_ending stdout_capture list = list
-with_ending stdout_to_stderr list = list
-with_ending (stderr_path path) list = with_actions (action.close ∷ []) list
-with_ending (stderr_file end) list = list
-with_ending stderr_null list = list
-with_ending stderr_capture list = list
-with_ending stderr_to_stdout list = list
-with_ending stdout_stderr_swap list = list
-with_ending (dir path) list = list
-with_ending (env name value) list = list
-with_ending (env_remove name) list = list
-with_ending (full_env vars) list = list
-with_ending unchecked list = list
-with_ending (before_spawn hook ends) list = list
+with_ending modifier list =
+    record list { actions = closings (row modifier).opens list.actions }

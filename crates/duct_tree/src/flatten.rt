@@ -1,17 +1,21 @@
 //! The first pass of a start: from a tree to a flat list of actions, and the scopes that they name. It asks nothing of any system.
-ghost use Rattle.std.specs.Prelude.{◌≡◌, ◌+◌, ◌++◌, [], ◌∷◌, map, string_bytes, IfOk, OnOk, IsOkUnless};
-ghost use Rattle.duct_start.specs.Flat.{commands, fetches, port_at};
-ghost use Rattle.duct_start.specs.Listed.{listed_of};
+ghost use Rattle.std.specs.Prelude.{ℕ, List, ◌≡◌, ◌+◌, ◌++◌, length, map, string_bytes, IfOk, OnOk, IsOkUnless};
+ghost use Rattle.std.specs.Option.{option_map, option_to_list};
+ghost use Rattle.duct_start.specs.Actions.{ActionOf};
+ghost use Rattle.duct_start.specs.Flat.{commands, deeper, fetches, opened_wire, port_at, wired};
+ghost use Rattle.duct_start.specs.Listed.{listed_of, scope_index};
 ghost use Rattle.duct_start.specs.TreeView.{TreeView, around, stdout_capture};
 ghost use Rattle.duct_run.specs.ActionView.{action_view, actions_view};
-ghost use Rattle.duct_run.specs.ScopeView.{scopes_view, setting_view};
+ghost use Rattle.duct_run.specs.ScopeView.{scopes_view};
+ghost use Rattle.duct_tree.specs.EffectView.{opening_view, says_view, way_view};
 ghost use Rattle.duct_tree.specs.InsideView.{wire_view, wires_view};
-ghost use Rattle.duct_tree.specs.ListingView.{listing_view, with_actions, with_ending, with_tree};
+ghost use Rattle.duct_tree.specs.ListingView.{closings, listing_view, openings, with_ending, with_scope, with_tree};
 ghost use Rattle.duct_tree.specs.NodeView.{modifier_view, node_view};
 
 mod inside;
 mod listing;
 
+use crate::effect::{Opening, Way, effect_of};
 use crate::flatten::inside::{Inside, Wire};
 use crate::flatten::listing::more;
 use crate::tree::{Modifier, Node};
@@ -97,86 +101,120 @@ fn enter<'a, E, H>(
         (listing_view list.old)) }
     ensures memory { IsOkUnless result Error.Memory }
 {
-    let depth = inside.depth;
-    match modifier {
-        Modifier::StdinBytes(_) => {
-            let over = opened(Action::Input, 2, inside, list)?;
-            let reader = more(depth, 1)?;
-            Ok(over.with_input(Wire::Slot(reader)))
-        }
-        Modifier::StdinPath(path) => {
-            let over = opened(Action::OpenRead(path.as_str()), 1, inside, list)?;
-            Ok(over.with_input(Wire::Slot(depth)))
-        }
-        Modifier::StdinFile(end) => Ok(inside.with_input(Wire::Lent(end))),
-        Modifier::StdinNull => Ok(inside.with_input(Wire::Nothing)),
-        Modifier::StdoutPath(path) => {
-            let over = opened(Action::Create(path.as_str()), 1, inside, list)?;
-            Ok(over.with_output(Wire::Slot(depth)))
-        }
-        Modifier::StdoutFile(end) => Ok(inside.with_output(Wire::Lent(end))),
-        Modifier::StdoutNull => Ok(inside.with_output(Wire::Nothing)),
-        Modifier::StdoutCapture => {
-            list.add(Action::Capture(Side::Out))?;
-            Ok(inside.with_output(Wire::Captured(Side::Out)))
-        }
-        Modifier::StdoutToStderr => Ok(inside.with_output(inside.error)),
-        Modifier::StderrPath(path) => {
-            let over = opened(Action::Create(path.as_str()), 1, inside, list)?;
-            Ok(over.with_error(Wire::Slot(depth)))
-        }
-        Modifier::StderrFile(end) => Ok(inside.with_error(Wire::Lent(end))),
-        Modifier::StderrNull => Ok(inside.with_error(Wire::Nothing)),
-        Modifier::StderrCapture => {
-            list.add(Action::Capture(Side::Err))?;
-            Ok(inside.with_error(Wire::Captured(Side::Err)))
-        }
-        Modifier::StderrToStdout => Ok(inside.with_error(inside.output)),
-        Modifier::StdoutStderrSwap => Ok(
-            inside.with_output(inside.error).with_error(inside.output),
-        ),
-        Modifier::Dir(path) => scoped(Setting::Dir(path.as_str()), inside, list),
-        Modifier::Env(name, value) => scoped(Setting::Env(name, value.as_str()), inside, list),
-        Modifier::EnvRemove(name) => scoped(Setting::EnvRemove(name), inside, list),
-        Modifier::FullEnv(vars) => scoped(Setting::FullEnv(vars), inside, list),
-        Modifier::Unchecked => Ok(inside),
-        Modifier::BeforeSpawn(hook, ends) => {
-            scoped(Setting::BeforeSpawn(hook, ends.as_slice()), inside, list)
-        }
+    let effect = effect_of(modifier);
+    let opened = open(effect.opening, inside.depth, list)?;
+    let scope = scoped(effect.setting, inside.scope, list)?;
+    Ok(Inside {
+        scope,
+        input: wire(effect.input, opened.wire, inside),
+        output: wire(effect.output, opened.wire, inside),
+        error: wire(effect.error, opened.wire, inside),
+        depth: opened.depth,
+    })
+}
+
+// What an opening leaves: how a stream gets what it opened, and how many ends stand on the stack then.
+#[derive(Drop)]
+struct Opened<'a, E> {
+    wire: Wire<'a, E>,
+    depth: usize,
+}
+
+// Adds the actions of an opening over a stack of this depth.
+fn open<'a, E, H>(
+    opening: Opening<'a>,
+    depth: usize,
+    list: &mut Listing<'a, E, H>,
+) -> Result<Opened<'a, E>, Error>
+    ensures wire { IfOk result
+        (λ opened. wire_view opened.wire ≡ opened_wire (opening_view opening.entry) depth) }
+    ensures depth { IfOk result (λ opened. opened.depth ≡ deeper (opening_view opening.entry) depth) }
+    ensures actions { OnOk result (actions_view list.new.actions.items
+        ≡ openings (opening_view opening.entry) (actions_view list.old.actions.items)) }
+    ensures scopes { list.new.scopes ≡ list.old.scopes }
+    ensures memory { IsOkUnless result Error.Memory }
+{
+    let deep = more(depth, pushed(opening))?;
+    if let Some(action) = first(opening) {
+        list.add(action)?;
+    }
+    Ok(Opened {
+        wire: top(opening, deep),
+        depth: deep,
+    })
+}
+
+// How many ends an opening leaves on the stack.
+fn pushed(opening: Opening<'_>) -> usize
+    ensures { (depth : ℕ) → depth + result ≡ deeper (opening_view opening.entry) depth }
+{
+    match opening {
+        Opening::Nothing | Opening::Capture(_) => 0,
+        Opening::Read(_) | Opening::Create(_) => 1,
+        Opening::Input(_) => 2,
     }
 }
 
-// Adds an action that leaves so many ends on the stack, and returns the same over them.
-fn opened<'a, E, H>(
-    action: Action<'a, E>,
-    ends: usize,
-    inside: Inside<'a, E>,
-    list: &mut Listing<'a, E, H>,
-) -> Result<Inside<'a, E>, Error>
-    ensures inside { IfOk result
-        (λ over. over ≡ record inside.entry { depth = inside.entry.depth + ends }) }
-    ensures list { OnOk result (listing_view list.new
-        ≡ with_actions (action_view action.entry ∷ []) (listing_view list.old)) }
-    ensures memory { IsOkUnless result Error.Memory }
+// The action of an opening.
+fn first<'a, E>(opening: Opening<'a>) -> Option<Action<'a, E>>
+    ensures { (actions : List (ActionOf E ℕ)) → actions ++ option_to_list (option_map action_view result)
+        ≡ openings (opening_view opening.entry) actions }
 {
-    list.add(action)?;
-    inside.deeper(ends)
+    match opening {
+        Opening::Nothing => None,
+        Opening::Input(_) => Some(Action::Input),
+        Opening::Read(path) => Some(Action::OpenRead(path)),
+        Opening::Create(path) => Some(Action::Create(path)),
+        Opening::Capture(which) => Some(Action::Capture(which)),
+    }
 }
 
-// Adds a scope inside of this, and answers what stands inside of it.
+// How a stream gets what was opened, over a stack of this depth with its ends.
+fn top<'a, E>(opening: Opening<'a>, deep: usize) -> Wire<'a, E>
+    ensures { (depth : ℕ) → deep ≡ deeper (opening_view opening.entry) depth
+        → wire_view result ≡ opened_wire (opening_view opening.entry) depth }
+{
+    match opening {
+        Opening::Nothing => Wire::Nothing,
+        Opening::Capture(which) => Wire::Captured(which),
+        Opening::Input(_) | Opening::Read(_) | Opening::Create(_) => Wire::Slot(deep.saturating_sub(
+            1,
+        )),
+    }
+}
+
+// Adds a scope inside of this, if there is one, and answers the index of the scope that a node leaves.
 fn scoped<'a, E, H>(
-    setting: Setting<'a, E, H>,
-    inside: Inside<'a, E>,
+    setting: Option<Setting<'a, E, H>>,
+    outer: usize,
     list: &mut Listing<'a, E, H>,
-) -> Result<Inside<'a, E>, Error>
-    ensures list { IfOk result (λ within. (tree : TreeView E H) →
-        with_tree within tree (listing_view list.new)
-        ≡ with_tree inside.entry (around (setting_view setting.entry) tree)
-        (listing_view list.old)) }
+) -> Result<usize, Error>
+    ensures index { IfOk result (λ index. index ≡ scope_index (says_view setting.entry) outer
+        (length (scopes_view list.old.scopes.items) + 1)) }
+    ensures scopes { OnOk result (scopes_view list.new.scopes.items
+        ≡ with_scope (says_view setting.entry) outer (scopes_view list.old.scopes.items)) }
+    ensures actions { list.new.actions ≡ list.old.actions }
     ensures memory { IsOkUnless result Error.Memory }
 {
-    let scope = list.add_scope(setting, inside.scope)?;
-    Ok(inside.with_scope(scope))
+    match setting {
+        None => Ok(outer),
+        Some(setting) => list.add_scope(setting, outer),
+    }
+}
+
+// How a stream that goes this way gets there.
+fn wire<'a, E>(way: Way<'a, E>, opened: Wire<'a, E>, inside: Inside<'a, E>) -> Wire<'a, E>
+    ensures { wire_view result
+        ≡ wired (way_view way.entry) (wire_view opened.entry) (wires_view inside.entry) }
+{
+    match way {
+        Way::Outside(Stream::In) => inside.input,
+        Way::Outside(Stream::Out) => inside.output,
+        Way::Outside(Stream::Err) => inside.error,
+        Way::Nothing => Wire::Nothing,
+        Way::Lent(end) => Wire::Lent(end),
+        Way::Opened => opened,
+    }
 }
 
 // Adds the actions of a modifier that come behind what stands inside of it.
@@ -185,31 +223,23 @@ fn leave<'a, E, H>(modifier: &'a Modifier<E, H>, list: &mut Listing<'a, E, H>) -
         ≡ with_ending (modifier_view modifier.now) (listing_view list.old)) }
     ensures memory { IsOkUnless result Error.Memory }
 {
-    match modifier {
-        Modifier::StdinBytes(bytes) => {
+    close(effect_of(modifier).opening, list)
+}
+
+// Adds the actions that come behind an opening.
+fn close<'a, E, H>(opening: Opening<'a>, list: &mut Listing<'a, E, H>) -> Result<(), Error>
+    ensures actions { OnOk result (actions_view list.new.actions.items
+        ≡ closings (opening_view opening.entry) (actions_view list.old.actions.items)) }
+    ensures scopes { list.new.scopes ≡ list.old.scopes }
+    ensures memory { IsOkUnless result Error.Memory }
+{
+    match opening {
+        Opening::Nothing | Opening::Capture(_) => Ok(()),
+        Opening::Read(_) | Opening::Create(_) => list.add(Action::Close),
+        Opening::Input(bytes) => {
             list.add(Action::Close)?;
             list.add(Action::Feed(bytes))
         }
-        Modifier::StdinPath(_) | Modifier::StdoutPath(_) | Modifier::StderrPath(_) => {
-            list.add(Action::Close)
-        }
-        Modifier::StdinFile(_)
-        | Modifier::StdinNull
-        | Modifier::StdoutFile(_)
-        | Modifier::StdoutNull
-        | Modifier::StdoutCapture
-        | Modifier::StdoutToStderr
-        | Modifier::StderrFile(_)
-        | Modifier::StderrNull
-        | Modifier::StderrCapture
-        | Modifier::StderrToStdout
-        | Modifier::StdoutStderrSwap
-        | Modifier::Dir(_)
-        | Modifier::Env(_, _)
-        | Modifier::EnvRemove(_)
-        | Modifier::FullEnv(_)
-        | Modifier::Unchecked
-        | Modifier::BeforeSpawn(_, _) => Ok(()),
     }
 }
 

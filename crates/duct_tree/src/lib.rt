@@ -2,6 +2,7 @@
 //! it. Nothing here asks anything of a system.
 #![tactic(auto)]
 
+mod effect;
 pub mod flatten;
 pub mod shape;
 pub mod tree;

@@ -1,9 +1,11 @@
 //! What of a tree counts for the answer of a start: its commands with their words, pipes, input and unchecked.
 ghost use Rattle.std.specs.Prelude.{◌≡◌, IfOk, IsOkUnless};
 ghost use Rattle.duct_status.specs.ShapeView.{shape_view};
-ghost use Rattle.duct_start.specs.ShapeOfTree.{shape_around, shape_of_tree};
+ghost use Rattle.duct_start.specs.ShapeOfTree.{marked, shape_around, shape_of_tree};
+ghost use Rattle.duct_tree.specs.EffectView.{mark_view};
 ghost use Rattle.duct_tree.specs.NodeView.{modifier_view, node_view};
 
+use crate::effect::{Mark, effect_of};
 use crate::tree::{Modifier, Node};
 use duct_base::error::Error;
 use duct_base::status::Shape;
@@ -34,27 +36,17 @@ fn around<E, H>(alloc: Global, modifier: &Modifier<E, H>, inner: Shape) -> Resul
         (λ shape. shape_view shape ≡ shape_around (modifier_view modifier.now) (shape_view inner)) }
     ensures memory { IsOkUnless result Error.Memory }
 {
-    match modifier {
-        Modifier::StdinBytes(_) => Ok(Shape::Input(Box::new(alloc, inner)?)),
-        Modifier::Unchecked => Ok(Shape::Unchecked(Box::new(alloc, inner)?)),
-        Modifier::StdinPath(_)
-        | Modifier::StdinFile(_)
-        | Modifier::StdinNull
-        | Modifier::StdoutPath(_)
-        | Modifier::StdoutFile(_)
-        | Modifier::StdoutNull
-        | Modifier::StdoutCapture
-        | Modifier::StdoutToStderr
-        | Modifier::StderrPath(_)
-        | Modifier::StderrFile(_)
-        | Modifier::StderrNull
-        | Modifier::StderrCapture
-        | Modifier::StderrToStdout
-        | Modifier::StdoutStderrSwap
-        | Modifier::Dir(_)
-        | Modifier::Env(_, _)
-        | Modifier::EnvRemove(_)
-        | Modifier::FullEnv(_)
-        | Modifier::BeforeSpawn(_, _) => Ok(inner),
+    marking(alloc, effect_of(modifier).mark, inner)
+}
+
+// The shape of a node of this mark round what has this shape.
+fn marking(alloc: Global, mark: Mark, inner: Shape) -> Result<Shape, Error>
+    ensures shape { IfOk result (λ shape. shape_view shape ≡ marked (mark_view mark) (shape_view inner)) }
+    ensures memory { IsOkUnless result Error.Memory }
+{
+    match mark {
+        Mark::Plain => Ok(inner),
+        Mark::Input => Ok(Shape::Input(Box::new(alloc, inner)?)),
+        Mark::Unchecked => Ok(Shape::Unchecked(Box::new(alloc, inner)?)),
     }
 }

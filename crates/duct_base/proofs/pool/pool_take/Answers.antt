@@ -1,12 +1,12 @@
 use Rattle.std.proofs.Common.{ap}
-use Rattle.duct_base.proofs.Sieving.{few_by_given, takes_kept, takes_reaped, takes_lost}
+use Rattle.duct_base.proofs.Sieving.{takes_kept, takes_reaped, takes_lost}
 use Rattle.duct_base.proofs.pool.pool_take.Goals as goal
 
 pub returns-in-Ok-None : goal.returns-in-Ok-None
 returns-in-Ok-None g c = record {
   counts = c.keep.ensures.counts;
   takes = λ fits.
-      takes_kept g.C.Child.may_answer g.C.Child.child_view _ _ _ _ (rw (c.in-Ok-None.field-0-is, c.place.view_is) at c.in-Ok-None.ensures) (c.keep.ensures.keeps (few_by_given _ _ c.pool.view_is c.pool.invariant.1 fits));
+      takes_kept g.C.Child.may_answer g.C.Child.child_view _ _ _ _ (rw (c.in-Ok-None.field-0-is, c.place.view_is) at c.in-Ok-None.ensures) (c.keep.ensures.keeps fits);
 }
 
 pub returns-in-Ok-Some : goal.returns-in-Ok-Some

@@ -1,10 +1,7 @@
 use Rattle.duct_run.proofs.requests.capture.Goals as goal
 
-pub returns-in-Out-clause-ok : goal.returns-in-Out-clause-ok
-returns-in-Out-clause-ok g c = rw c.in-Out.is c.capture_out.ensures.ok
+pub returns-in-Out : goal.returns-in-Out
+returns-in-Out g c = rw c.in-Out.is c.capture_out.ensures
 
-pub returns-in-Err-clause-ok : goal.returns-in-Err-clause-ok
-returns-in-Err-clause-ok g c = rw c.in-Err.is c.capture_err.ensures.ok
-
-pub returns-in-Out-clause-err : goal.returns-in-Out-clause-err
-returns-in-Out-clause-err g c = rw c.in-Out.is c.capture_out.ensures.err
+pub returns-in-Err : goal.returns-in-Err
+returns-in-Err g c = rw c.in-Err.is c.capture_err.ensures

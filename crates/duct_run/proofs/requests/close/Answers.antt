@@ -1,12 +1,14 @@
+use Rattle.std.proofs.Common.{rules}
 use Rattle.duct_run.specs.HeldView.{held_view, stack_view}
 use Rattle.duct_start.proofs.Going.{close_goes}
 use Rattle.duct_run.proofs.Pushed.{pushed}
+use Rattle.duct_run.proofs.Requesting.{goes_on}
 use Rattle.duct_run.proofs.requests.close.Goals as goal
 
-pub returns-clause-ok : goal.returns-clause-ok
-returns-clause-ok g c =
+pub returns : goal.returns
+returns g c =
     let num = g.S.End.Numbered.number_of in
     let allows = g.H.Hook.allows in
     let h = held_view num g.S.Child.Child.child_view g.S.Feed.Job.job_view g.S.Drain.Job.job_view c.args.held.now in
-    close_goes allows num (num c.top-end.result) (stack_view num c.top-end.new.stack.items) _ _ h
-    (pushed num c.top-end.new.stack.items c.args.held.now.stack.items c.top-end.result c.top-end.ensures.items) c.close.ensures
+    goes_on (close_goes allows num (num c.top-end.result) (stack_view num c.top-end.new.stack.items) _ _ h
+    (pushed num c.top-end.new.stack.items c.args.held.now.stack.items c.top-end.result c.top-end.ensures.items) c.close.ensures) (search rules) (search rules)

@@ -1,22 +1,23 @@
 use Rattle.std.proofs.lemmas.Result.{err_from_is_err_and}
 use Rattle.duct_run.specs.HeldView.{held_view}
 use Rattle.duct_start.specs.Actions as action
-use Rattle.std.proofs.Common.{refl, ap}
+use Rattle.std.proofs.Common.{rules, refl, ap}
 use Rattle.std.specs.Option.{option_map}
 use Rattle.duct_system.specs.declared.system.Side.TheVariants as side
 use Rattle.duct_start.proofs.Going.{duplicate_quits, tap_err_goes}
 use Rattle.duct_run.proofs.Pushed.{pushed, goes_over}
+use Rattle.duct_run.proofs.Requesting.{goes_on, stops}
 use Rattle.duct_run.proofs.requests.tap_err.Goals as goal
 
-pub returns-in_err-end-in-Some-clause-err : goal.returns-in_err-end-in-Some-clause-err
-returns-in_err-end-in-Some-clause-err g c =
+pub returns-in_err-end-in-Some : goal.returns-in_err-end-in-Some
+returns-in_err-end-in-Some g c =
     let p = err_from_is_err_and c.from_residual.result c.from_residual.ensures.1 in
-    rw (p.1, p.2) ((λ no. no), duplicate_quits g.H.Hook.allows g.S.End.Numbered.number_of _ _ _ _ (action.tap side.Err) _ (λ st. refl) c.in_err-end-in-Some.ensures.err)
+    rw (p.1, p.2) (stops ((λ no. no), duplicate_quits g.H.Hook.allows g.S.End.Numbered.number_of _ _ _ _ (action.tap side.Err) _ (λ st. refl) c.in_err-end-in-Some.ensures.err) (search rules) (search rules))
 
-pub returns-clause-ok : goal.returns-clause-ok
-returns-clause-ok g c =
+pub returns : goal.returns
+returns g c =
     let num = g.S.End.Numbered.number_of in
     let allows = g.H.Hook.allows in
     let h = held_view num g.S.Child.Child.child_view g.S.Feed.Job.job_view g.S.Drain.Job.job_view c.args.held.now in
-    goes_over allows num (action.tap side.Err) _ _ h _ _ (pushed num c.args.held.now.stack.items c.push_reserved.new.self.items c.in_ok-end-in-Some.end c.push_reserved.ensures.items)
-    (tap_err_goes allows num _ _ (num c.in_ok-end-in-Some.end) _ _ h (ap (λ o. option_map (λ pair. (num pair.0, num pair.1)) o) c.in-Some.is) c.in_ok-end-in-Some.ensures.ok)
+    goes_on (goes_over allows num (action.tap side.Err) _ _ h _ _ (pushed num c.args.held.now.stack.items c.push_reserved.new.self.items c.in_ok-end-in-Some.end c.push_reserved.ensures.items)
+    (tap_err_goes allows num _ _ (num c.in_ok-end-in-Some.end) _ _ h (ap (λ o. option_map (λ pair. (num pair.0, num pair.1)) o) c.in-Some.is) c.in_ok-end-in-Some.ensures.ok)) (search rules) (search rules)

@@ -112,7 +112,11 @@ returns-in_err-perform-clause-err g c =
     let kept = held_view num child feed drain c.make_room.new.held in
     rw (p.1, p.2) (λ course to same first.
     let stood = stood_same num child feed drain c.loop-action.held c.make_room.new.held c.make_room.ensures.same g.H.Hook.allows course to before now (c.loop-action.invariant.stood course to same first) in
-    refused_now g.H.Hook.allows g.H.Hook.refuses num course pairs same to before rest act now kept stood is _ _ _ c.in_err-perform.ensures.err)
+    refused_now g.H.Hook.allows g.H.Hook.refuses num course pairs same to before rest act now kept stood is _ _ _ c.in_err-perform.ensures.performed.err)
+
+pub returns-in_err-perform-clause-new : goal.returns-in_err-perform-clause-new
+returns-in_err-perform-clause-new g c = λ new. c.perform.ensures.performed.new
+    (new_same g.S.End.Numbered.number_of g.S.Child.Child.child_view g.S.Feed.Job.job_view g.S.Drain.Job.job_view c.loop-action.held c.make_room.new.held c.make_room.ensures.same (c.loop-action.invariant.new new))
 
 pub returns-in_err-perform-clause-pool : goal.returns-in_err-perform-clause-pool
 returns-in_err-perform-clause-pool g c = leaves_on _ [] _ _ _ c.loop-action.invariant.pool c.perform.ensures.pool
@@ -135,10 +139,10 @@ loop-action-preserved g c =
     record {
       stood = λ course to same first.
           let stood = stood_same num child feed drain c.loop-action.held c.make_room.new.held c.make_room.ensures.same g.H.Hook.allows course to before now (c.loop-action.invariant.stood course to same first) in
-          goes_on_saying g.H.Hook.allows g.H.Hook.refuses num course pairs same to before rest act now kept stood is _ _ c.in_ok-perform.ensures.ok;
-      new = λ new. c.perform.ensures.new (new_same num child feed drain c.loop-action.held c.make_room.new.held same_held (c.loop-action.invariant.new new));
+          goes_on_saying g.H.Hook.allows g.H.Hook.refuses num course pairs same to before rest act now kept stood is _ _ c.in_ok-perform.ensures.performed.ok;
+      new = λ new. c.perform.ensures.performed.new (new_same num child feed drain c.loop-action.held c.make_room.new.held same_held (c.loop-action.invariant.new new));
       workers = workers_on c.args.held.now c.make_room.new.held c.perform.new.held
-          (workers_on c.args.held.now c.loop-action.held c.make_room.new.held c.loop-action.invariant.workers (workers_same c.loop-action.held c.make_room.new.held same_held)) c.perform.ensures.workers;
+          (workers_on c.args.held.now c.loop-action.held c.make_room.new.held c.loop-action.invariant.workers (workers_same c.loop-action.held c.make_room.new.held same_held)) c.perform.ensures.performed.workers;
       pool = leaves_on _ [] _ _ _ c.loop-action.invariant.pool c.perform.ensures.pool;
     }
 

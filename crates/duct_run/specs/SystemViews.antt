@@ -1,0 +1,13 @@
+-- What contracts read of a system and of its handles.
+use Rattle.std.specs.Prelude.{ℕ}
+use Rattle.duct_system.specs.Child.{Answer, ChildView}
+use Rattle.duct_system.specs.Job.{JobView}
+use Rattle.duct_system.specs.Journal.{JournalView}
+
+pub record SystemViews (S E C F D V W : Type 0) : Type 1 where
+  pub journal : S → JournalView
+  pub number_of : E → ℕ
+  pub child : C → ChildView
+  pub may_answer : ℕ → Answer → Type 0
+  pub feed : F → JobView V
+  pub drain : D → JobView W

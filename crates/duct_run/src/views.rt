@@ -1,0 +1,25 @@
+//! What contracts read of a system and of its handles, in one word.
+ghost use Rattle.std.specs.declared.alloc.Global.{Global};
+ghost use Rattle.std.specs.declared.sync.Arc.{Arc};
+ghost use Rattle.std.specs.declared.vec.Vec.{Vec};
+ghost use Rattle.std.specs.Prelude.{ℕ};
+ghost use Rattle.duct_run.specs.SystemViews.{SystemViews};
+
+use duct_system::system::System;
+
+/// Nothing is bounded by it. Under the bound `S: System` a clause writes `⟦<S as Seen>⟧.views`.
+pub trait Seen: System {
+    ghost views: { SystemViews Self Self.End Self.Child Self.Feed Self.Drain (Unit {0})
+        (Arc (Vec ℕ Global) Global) };
+}
+
+impl<S: System> Seen for S {
+    ghost views = { record {
+      journal = S.journal_view;
+      number_of = S.End.number_of;
+      child = S.Child.child_view;
+      may_answer = S.Child.may_answer;
+      feed = S.Feed.job_view;
+      drain = S.Drain.job_view;
+    } };
+}

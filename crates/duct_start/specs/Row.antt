@@ -1,0 +1,89 @@
+-- What a node does, in one row for each kind. All else that is said of a kind of node is read off its row.
+use Rattle.std.specs.Prelude.{ℕ, List, Some, None}
+use Rattle.std.specs.declared.option.Option.{Option}
+use Rattle.duct_system.specs.declared.spec.Stream.{Stream}
+use Rattle.duct_system.specs.declared.spec.Stream.TheVariants.{In, Out, Err}
+use Rattle.duct_system.specs.declared.system.Side.{Side}
+use Rattle.duct_system.specs.declared.system.Side.TheVariants as side
+use Rattle.duct_start.specs.Found.{Change, Sets, Removes, Replaces}
+use Rattle.duct_start.specs.TreeView.{ModifierView, stdin_bytes, stdin_path, stdin_file, stdin_null, stdout_path, stdout_file, stdout_null, stdout_capture, stdout_to_stderr, stderr_path, stderr_file, stderr_null, stderr_capture, stderr_to_stdout, stdout_stderr_swap, dir, env, env_remove, full_env, unchecked, before_spawn}
+
+-- what a node opens before what it wraps: nothing, a pipe that is read and that these bytes are fed to afterwards, a file that is
+-- read, a file that is made, or the one capture pipe of a stream
+pub data Obtains : Type 0 where
+  opens_nothing : Obtains
+  opens_input : List ℕ → Obtains
+  opens_read : List ℕ → Obtains
+  opens_create : List ℕ → Obtains
+  opens_capture : Side → Obtains
+
+-- where a stream goes inside of a node: where this stream goes outside of it, to nothing, to an end of the caller, or to what the
+-- node opens
+pub data Way (E : Type 0) : Type 0 where
+  as_outside : Stream → Way E
+  to_nothing : Way E
+  to_lent : E → Way E
+  to_opened : Way E
+
+-- what a node says of folder, variables or hooks
+pub data Says (E H : Type 0) : Type 0 where
+  says_folder : List ℕ → Says E H
+  says_change : Change → Says E H
+  says_hook : H → List E → Says E H
+
+-- what the shape of a start shows of a node
+pub data Mark : Type 0 where
+  is_plain : Mark
+  is_input : Mark
+  is_unchecked : Mark
+
+-- what a node does
+pub record Row (E H : Type 0) : Type 0 where
+  pub opens : Obtains
+  pub input : Way E
+  pub output : Way E
+  pub error : Way E
+  pub says : Option (Says E H)
+  pub mark : Mark
+
+-- a node that does nothing
+abbrev pub idle_row : {E H : Type 0} → Row E H
+idle_row = record {
+  opens = opens_nothing;
+  input = as_outside In;
+  output = as_outside Out;
+  error = as_outside Err;
+  says = None;
+  mark = is_plain;
+}
+
+-- each kind of node round one expression
+abbrev pub row : {E H : Type 0} → ModifierView E H → Row E H
+row (stdin_bytes bytes) =
+    record idle_row { opens = opens_input bytes; input = to_opened; mark = is_input }
+row (stdin_path path) = record idle_row { opens = opens_read path; input = to_opened }
+row (stdin_file end) = record idle_row { input = to_lent end }
+row stdin_null = record idle_row { input = to_nothing }
+row (stdout_path path) = record idle_row { opens = opens_create path; output = to_opened }
+row (stdout_file end) = record idle_row { output = to_lent end }
+row stdout_null = record idle_row { output = to_nothing }
+row stdout_capture = record idle_row { opens = opens_capture side.Out; output = to_opened }
+row stdout_to_stderr = record idle_row { output = as_outside Err }
+row (stderr_path path) = record idle_row { opens = opens_create path; error = to_opened }
+row (stderr_file end) = record idle_row { error = to_lent end }
+row stderr_null = record idle_row { error = to_nothing }
+row stderr_capture = record idle_row { opens = opens_capture side.Err; error = to_opened }
+row stderr_to_stdout = record idle_row { error = as_outside Out }
+row stdout_stderr_swap = record idle_row { output = as_outside Err; error = as_outside Out }
+row (dir path) = record idle_row { says = Some (says_folder path) }
+row (env name value) = record idle_row { says = Some (says_change (Sets name value)) }
+row (env_remove name) = record idle_row { says = Some (says_change (Removes name)) }
+row (full_env vars) = record idle_row { says = Some (says_change (Replaces vars)) }
+row unchecked = record idle_row { mark = is_unchecked }
+row (before_spawn hook ends) = record idle_row { says = Some (says_hook hook ends) }
+
+-- where a stream goes inside of a node of this row
+abbrev pub way_of : {E H : Type 0} → Row E H → Stream → Way E
+way_of row In = row.input
+way_of row Out = row.output
+way_of row Err = row.error

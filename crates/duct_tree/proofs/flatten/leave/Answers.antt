@@ -1,0 +1,17 @@
+-- The list of a modifier's ending is that of its row.
+use Rattle.std.proofs.Common.{◌≡◌, ap, ◌∙◌}
+use Rattle.std.proofs.lemmas.Result.{on_ok_weaker}
+use Rattle.duct_run.specs.ActionView.{actions_view}
+use Rattle.duct_run.specs.ScopeView.{scopes_view}
+use Rattle.duct_start.specs.Row.{Row}
+use Rattle.duct_tree.specs.ListingView.{closings}
+use Rattle.duct_tree.proofs.flatten.leave.Goals as goal
+
+pub returns-clause-list : goal.returns-clause-list
+returns-clause-list g c =
+    let same : scopes_view c.close.new.list.scopes.items ≡ scopes_view c.args.list.now.scopes.items = cc in
+    let old = actions_view c.args.list.now.actions.items in
+    on_ok_weaker c.close.result (λ actions. λ j. record {
+      actions = (actions ∙ ap (λ (r : Row g.row.E.Denot g.row.H.Denot). closings r.opens old) c.effect_of.ensures) j;
+      scopes = same j;
+    }) c.close.ensures.actions

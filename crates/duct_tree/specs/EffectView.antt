@@ -1,0 +1,52 @@
+-- What a node does, as contracts see it.
+use Rattle.std.specs.Prelude.{Some, None}
+use Rattle.std.specs.declared.option.Option.{Option}
+use Rattle.std.specs.Arc.{arc_value}
+use Rattle.duct_start.specs.Row as row
+use Rattle.duct_start.specs.Row.{Row, Says}
+use Rattle.duct_run.specs.ScopeView.{setting_view}
+use Rattle.duct_run.specs.declared.scope.Setting.{Setting}
+use Rattle.duct_tree.specs.declared.effect.Effect.{Effect}
+use Rattle.duct_tree.specs.declared.effect.Mark.{Mark}
+use Rattle.duct_tree.specs.declared.effect.Mark.TheVariants as mark
+use Rattle.duct_tree.specs.declared.effect.Opening.{Opening}
+use Rattle.duct_tree.specs.declared.effect.Opening.TheVariants as opening
+use Rattle.duct_tree.specs.declared.effect.Way.{Way}
+use Rattle.duct_tree.specs.declared.effect.Way.TheVariants as way
+
+-- what it opens
+abbrev pub opening_view : Opening → row.Obtains
+opening_view opening.Nothing = row.opens_nothing
+opening_view (opening.Input bytes) = row.opens_input (arc_value bytes.now).items
+opening_view (opening.Read path) = row.opens_read path.now
+opening_view (opening.Create path) = row.opens_create path.now
+opening_view (opening.Capture which) = row.opens_capture which
+
+-- where a stream goes
+abbrev pub way_view : {E : Type 0} → Way E → row.Way E
+way_view (way.Outside stream) = row.as_outside stream
+way_view way.Nothing = row.to_nothing
+way_view (way.Lent end) = row.to_lent end.now
+way_view way.Opened = row.to_opened
+
+-- what it says of folder, variables and hooks
+abbrev pub says_view : {E H : Type 0} → Option (Setting E H) → Option (Says E H)
+says_view None = None
+says_view (Some setting) = Some (setting_view setting)
+
+-- what the shape says of it
+abbrev pub mark_view : Mark → row.Mark
+mark_view mark.Plain = row.is_plain
+mark_view mark.Input = row.is_input
+mark_view mark.Unchecked = row.is_unchecked
+
+-- what it does
+abbrev pub effect_view : {E H : Type 0} → Effect E H → Row E H
+effect_view effect = record {
+  opens = opening_view effect.opening;
+  input = way_view effect.input;
+  output = way_view effect.output;
+  error = way_view effect.error;
+  says = says_view effect.setting;
+  mark = mark_view effect.mark;
+}

@@ -1,0 +1,191 @@
+//! What each kind of modifier does, in one row.
+ghost use Rattle.std.specs.Prelude.{◌≡◌};
+ghost use Rattle.duct_start.specs.Row.{row};
+ghost use Rattle.duct_tree.specs.EffectView.{effect_view};
+ghost use Rattle.duct_tree.specs.NodeView.{modifier_view};
+
+use crate::tree::Modifier;
+use duct_base::spec::Stream;
+use duct_base::system::Side;
+use duct_run::scope::Setting;
+use std::alloc::AllocError;
+use std::sync::Arc;
+
+/// What a node opens before what stands inside of it.
+pub(crate) enum Opening<'a> {
+    Nothing,
+    /// A pipe: what stands inside reads from it, and these bytes are fed to it.
+    Input(&'a Arc<Vec<u8>>),
+    /// A file that is read.
+    Read(&'a str),
+    /// A file that is made.
+    Create(&'a str),
+    /// The capture pipe of a stream.
+    Capture(Side),
+}
+
+impl Clone for Opening<'_> {
+    fn clone(&self) -> Result<Self, AllocError> {
+        Ok(*self)
+    }
+}
+
+impl Copy for Opening<'_> {}
+
+/// Where a stream goes inside of a node.
+pub(crate) enum Way<'a, E> {
+    /// Where this stream goes outside of it.
+    Outside(Stream),
+    /// To nothing.
+    Nothing,
+    /// To an end of the caller.
+    Lent(&'a E),
+    /// To what the node opens.
+    Opened,
+}
+
+impl<E> Clone for Way<'_, E> {
+    fn clone(&self) -> Result<Self, AllocError> {
+        Ok(*self)
+    }
+}
+
+impl<E> Copy for Way<'_, E> {}
+
+/// What the shape of a start says of a node.
+#[derive(Clone, Copy)]
+pub(crate) enum Mark {
+    Plain,
+    Input,
+    Unchecked,
+}
+
+/// What a node does.
+pub(crate) struct Effect<'a, E, H> {
+    pub opening: Opening<'a>,
+    /// Where stdin goes.
+    pub input: Way<'a, E>,
+    /// Where stdout goes.
+    pub output: Way<'a, E>,
+    /// Where stderr goes.
+    pub error: Way<'a, E>,
+    /// What it says of folder, variables and hooks.
+    pub setting: Option<Setting<'a, E, H>>,
+    pub mark: Mark,
+}
+
+impl<E, H> Clone for Effect<'_, E, H> {
+    fn clone(&self) -> Result<Self, AllocError> {
+        Ok(*self)
+    }
+}
+
+impl<E, H> Copy for Effect<'_, E, H> {}
+
+/// What a modifier does.
+pub(crate) fn effect_of<E, H>(modifier: &Modifier<E, H>) -> Effect<'_, E, H>
+    ensures { effect_view result ≡ row (modifier_view modifier.now) }
+{
+    let idle = Effect {
+        opening: Opening::Nothing,
+        input: Way::Outside(Stream::In),
+        output: Way::Outside(Stream::Out),
+        error: Way::Outside(Stream::Err),
+        setting: None,
+        mark: Mark::Plain,
+    };
+    match modifier {
+        Modifier::StdinBytes(bytes) => Effect {
+            opening: Opening::Input(bytes),
+            input: Way::Opened,
+            mark: Mark::Input,
+            ..idle
+        },
+        Modifier::StdinPath(path) => Effect {
+            opening: Opening::Read(path.as_str()),
+            input: Way::Opened,
+            ..idle
+        },
+        Modifier::StdinFile(end) => Effect {
+            input: Way::Lent(end),
+            ..idle
+        },
+        Modifier::StdinNull => Effect {
+            input: Way::Nothing,
+            ..idle
+        },
+        Modifier::StdoutPath(path) => Effect {
+            opening: Opening::Create(path.as_str()),
+            output: Way::Opened,
+            ..idle
+        },
+        Modifier::StdoutFile(end) => Effect {
+            output: Way::Lent(end),
+            ..idle
+        },
+        Modifier::StdoutNull => Effect {
+            output: Way::Nothing,
+            ..idle
+        },
+        Modifier::StdoutCapture => Effect {
+            opening: Opening::Capture(Side::Out),
+            output: Way::Opened,
+            ..idle
+        },
+        Modifier::StdoutToStderr => Effect {
+            output: Way::Outside(Stream::Err),
+            ..idle
+        },
+        Modifier::StderrPath(path) => Effect {
+            opening: Opening::Create(path.as_str()),
+            error: Way::Opened,
+            ..idle
+        },
+        Modifier::StderrFile(end) => Effect {
+            error: Way::Lent(end),
+            ..idle
+        },
+        Modifier::StderrNull => Effect {
+            error: Way::Nothing,
+            ..idle
+        },
+        Modifier::StderrCapture => Effect {
+            opening: Opening::Capture(Side::Err),
+            error: Way::Opened,
+            ..idle
+        },
+        Modifier::StderrToStdout => Effect {
+            error: Way::Outside(Stream::Out),
+            ..idle
+        },
+        Modifier::StdoutStderrSwap => Effect {
+            output: Way::Outside(Stream::Err),
+            error: Way::Outside(Stream::Out),
+            ..idle
+        },
+        Modifier::Dir(path) => Effect {
+            setting: Some(Setting::Dir(path.as_str())),
+            ..idle
+        },
+        Modifier::Env(name, value) => Effect {
+            setting: Some(Setting::Env(name, value.as_str())),
+            ..idle
+        },
+        Modifier::EnvRemove(name) => Effect {
+            setting: Some(Setting::EnvRemove(name)),
+            ..idle
+        },
+        Modifier::FullEnv(vars) => Effect {
+            setting: Some(Setting::FullEnv(vars)),
+            ..idle
+        },
+        Modifier::Unchecked => Effect {
+            mark: Mark::Unchecked,
+            ..idle
+        },
+        Modifier::BeforeSpawn(hook, ends) => Effect {
+            setting: Some(Setting::BeforeSpawn(hook, ends.as_slice())),
+            ..idle
+        },
+    }
+}
