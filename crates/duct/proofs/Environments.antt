@@ -1,4 +1,5 @@
--- What a look-up finds of variables that are put in one after the other, and what a nearer change hides.
+-- What a lookup finds of variables that are inserted one after the other, and what a nearer change
+-- hides.
 use Rattle.std.specs.Prelude.{Bool, true, false, ℕ, List, [], ◌∷◌, ◌++◌, cond, fold, Some}
 use Rattle.std.specs.List.Sorted.{IsStrictlySortedBy}
 use Rattle.std.specs.Option.{option_map}
@@ -20,13 +21,14 @@ finds_all (p ∷ ps) vars said ordered finds name =
     ∙ sym (said_of-more other said p.0 p.1)) name
     ∙ ap (said_of name) (append_assoc said (p ∷ []) ps)
 
--- a full environment has of each name the first spelling and the last value of its pairs
+-- for each name a full environment has the first spelling and the last value of its pairs
 pub last_values_say : (pairs : Vars) (name : List ℕ)
     → variable_in name (last_values pairs) ≡ said_of name pairs
 unfolding IsStrictlySortedBy
 last_values_say pairs name = finds_all pairs [] [] tt (λ other. refl) name
 
--- the value of a name that the nearest change sets is that change's, whatever stands further out
+-- if the nearest change sets a name, the name's value is that of the change, whatever the outer
+-- changes are
 pub nearest_value : (pairs : Vars) (changes : List Change) (name nearest value : List ℕ)
     → is_same_name name nearest ≡ true
     → value_found pairs (Sets nearest value ∷ changes) name ≡ Some value
@@ -34,7 +36,7 @@ nearest_value pairs changes name nearest value same =
     let further = variable pairs changes name in
     ap (λ b. option_map (λ pair. pair.1) (cond b (Some (spelled nearest further, value)) further)) same
 
--- a variable hides one of its name that is set outside of it: no name's value changes with the outer one
+-- a variable hides an outer one of the same name: no name's value changes with the outer one
 pub inner_hides_outer : (pairs : Vars) (changes : List Change) (name : List ℕ)
     (inner value outer other : List ℕ) →
     is_same_name inner outer ≡ true

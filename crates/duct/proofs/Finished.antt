@@ -1,4 +1,4 @@
--- What a start that was waited for answers, and what it leaves of the pool.
+-- What a start that was waited for returns, and what it leaves of the pool.
 use Rattle.std.proofs.Common.{◌≡◌, ℕ, ◌+◌, ◌^◌, ◌<◌, Bool, List, [], ◌∷◌, length, refl, ap, sym, ◌∙◌, arith}
 use Rattle.std.proofs.lemmas.Simd.{map-map}
 use Rattle.std.proofs.lemmas.List.{length-map}
@@ -29,7 +29,7 @@ all_unordered [] all = All-nil IsUnordered
 all_unordered (child ∷ children) all =
     All-cons IsUnordered child children (All-head IsUnasked child children all).unordered (all_unordered children (All-tail IsUnasked child children all))
 
--- a child that was not asked has no order
+-- a child to which no call was made has no order
 pub given_started : {C : Type 0} (may : ℕ → Answer → Type 0) (view : C → ChildView)
     (added : List EntryView) (before after : PoolView C)
     → LeavesStarted may view added before after → LeavesGiven may view added before after
@@ -56,7 +56,7 @@ module _ {E H C F D V W : Type 0} (child : C → ChildView) (feed : F → JobVie
   pub started_numbers : AreNumbers output error added (numbers_in child feed drain running)
   started_numbers = are_numbers child feed drain tree output error added running (numbers_in child feed drain running) runs refl
 
-  -- over some sweeps the pool stayed, and then it was given what was waited for
+  -- the pool was swept, and then it was given what was waited for
   pub given_after : (may : ℕ → Answer → Type 0) (waited : RunningView C F D)
       (before mid after : PoolView C)
       → Leaves may [] (pool_view child before) (pool_view child mid)
@@ -75,7 +75,7 @@ module _ {E H C F D V W : Type 0} (child : C → ChildView) (feed : F → JobVie
         leaves_on may (map child waited.children) (pool_view child before) (pool_view child mid) (pool_view child after) swept (leaves_taken may child waited.children mid after (given.takes low)),
       )
 
--- what holds of an answer is kept by what follows from it
+-- a property of a value, or of an error, may be replaced by one that follows from it
 pub if_ok_with : {T F : Type 0} (r : Result T F) {P Q : T → Type 0}
     → ((value : T) → P value → Q value) → IfOk r P → IfOk r Q
 if_ok_with (Ok value) step holds = step value holds
@@ -86,7 +86,8 @@ pub if_err_with : {T F : Type 0} (r : Result T F) {P Q : F → Type 0}
 if_err_with (Ok value) step holds = tt
 if_err_with (Err error) step holds = step error holds
 
--- and what holds of whatever was answered is of an answer what follows from it, and so of a refusal
+-- a property of a whole result may be replaced by one of its value, or of its error, that follows
+-- from it
 pub told_ok : {T F : Type 0} (r : Result T F) (P : Result T F → Type 0) {Q : T → Type 0}
     → ((value : T) → P (Ok value) → Q value) → P r → IfOk r Q
 told_ok (Ok value) P step holds = step value holds

@@ -37,7 +37,7 @@ module _ {E H : Type 0} (tree : TreeView E H) (scopes : List (declared.Scope E H
       let count : length (listed_of tree).scopes ≡ length scopes = sym (sym (length-map scopes _) ∙ ap (λ (l : List (ListedScope E H)). length l) scopes_are) in
       subst (λ (n : ℕ). All (IsWithin n) (actions_view actions)) count (subst (λ (l : List (ActionOf E ℕ)). All (IsWithin (length (listed_of tree).scopes)) l) (sym actions_are) (listed_within tree))
 
-  -- whether a list opens a capture pipe is seen from its tree
+  -- its tree determines whether a list opens a capture pipe
   pub captured : (which : Side) → captures_in which (actions_view actions) ≡ is_some
       (capture_at which (planned [] tree begun))
   captured which = ap (λ (l : List (ActionOf E ℕ)). captures_in which l) actions_are ∙ sym (list_captures which tree)

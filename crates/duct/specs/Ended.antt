@@ -1,4 +1,4 @@
--- What is answered of a start that was waited for, by what its journal names.
+-- What is returned of a start that was waited for, by what its journal names.
 use Rattle.std.specs.Prelude.{ℕ, ◌+◌, ◌<◌, ◌^◌, ◌≡◌, Bool, List, [], All, length, map, Err, false}
 use Rattle.std.specs.declared.alloc.Global.{Global}
 use Rattle.std.specs.declared.option.Option.{Option}
@@ -23,20 +23,20 @@ use Rattle.duct_reader.specs.ReadsText.{ReadsText}
 
 module _ {E H : Type 0} (answer : ℕ → Answer → Type 0) (feed : ℕ → Said (Unit {0}) → Type 0)
     (drain : ℕ → Said Bytes → Type 0) (tree : TreeView E H) where
-  -- this was concluded of what was told of the numbers of the entries' children and workers; these truth values say whether stdout
-  -- and stderr have a capture worker
+  -- this reply was concluded from what the children and workers of the entries reported under their
+  -- numbers; these truth values say whether stdout and stderr have a capture worker
   abbrev pub Ended : Bool → Bool → List EntryView → ReplyView → Type 0
   Ended output error added reply =
       (numbers : NumbersView) × AreNumbers output error added numbers
       × WasConcluded answer feed drain (shape_of_tree tree) numbers reply
 
-  -- so was this error, or there was no memory
+  -- this error was concluded in the same way, or an allocation failed
   abbrev pub EndedBy : Bool → Bool → List EntryView → Error → Type 0
   EndedBy output error added e =
       (numbers : NumbersView) × AreNumbers output error added numbers
       × IsEnding answer feed drain (shape_of_tree tree) numbers (Err e)
 
-  -- what is answered of all that the entries' reader gave
+  -- what is returned of all bytes of the reader that the entries name
   abbrev pub WasRead : {R : Type 0} → (ℕ → R → Type 0) → (R → Option (List ℕ)) → Bool
       → List EntryView → Result (String Global) Error → Type 0
   WasRead {R} may remaining error added result =
@@ -44,7 +44,8 @@ module _ {E H : Type 0} (answer : ℕ → Answer → Type 0) (feed : ℕ → Sai
       × (reader : R) × MadeReader may added reader
       × ReadsText answer feed drain (shape_of_tree tree) numbers (remaining reader) result
 
--- a pool that was given each child that the entries name, in order; none of them had got an order
+-- the pool was given each child that the entries name, in order; none of them had been given an
+-- order
 abbrev pub LeavesGiven : {C : Type 0} → (ℕ → Answer → Type 0) → (C → ChildView) → List EntryView
     → PoolView C → PoolView C → Type 0
 LeavesGiven may view added before after =
@@ -52,6 +53,7 @@ LeavesGiven may view added before after =
     × All (λ child. child.orders ≡ []) given
     × Leaves may given (pool_view view before) (pool_view view after)
 
--- the pool's list has a place for each child that the entries name: below the bound of the standard library's lists
+-- the pool's list has room for each child that the entries name, below the bound of the standard
+-- library's lists
 abbrev pub PoolHasRoom : {C : Type 0} → List EntryView → PoolView C → Type 0
 PoolHasRoom added pool = length pool.children + length (children_in added) < 2 ^ 63

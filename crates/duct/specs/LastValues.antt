@@ -1,7 +1,8 @@
--- The variables that a list of names and values sets: in order of name, each name with its first spelling and its last value.
+-- The variables that a list of names and values sets: in order of name, each name with its first
+-- spelling and its last value.
 use Rattle.std.specs.Prelude.{[], fold}
 use Rattle.duct_system.specs.SpecView.{Vars, with_var}
 
--- the pairs are put in one after the other, and a value replaces the one that its name had
+-- the pairs are inserted one after the other, and a value replaces the earlier value of its name
 abbrev pub last_values : Vars → Vars
 last_values pairs = fold (λ vars pair. with_var pair.0 pair.1 vars) [] pairs

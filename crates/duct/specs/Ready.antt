@@ -26,14 +26,15 @@ use Rattle.duct_running.specs.declared.running.Room.{Room}
 use Rattle.duct.specs.Ended.{PoolHasRoom}
 use Rattle.duct.specs.declared.start.Ready.{Ready}
 
--- nothing stands in the room, which is enough for the ids of the commands of this shape, and for two capture workers
+-- the room is empty, and is enough for the ids of the commands of this shape and for two capture
+-- workers
 pub record FitsShape {D : Type 0} (shape : ShapeView) (room : Room D) : Type 0 where
   pub unnamed : room.ids.items ≡ []
   pub named : command_count shape ≤ vec_capacity room.ids
   pub empty : room.drains.items ≡ []
   pub drained : 2 ≤ vec_capacity room.drains
 
--- a core of this tree that was told nothing, with room that fits its shape, and nothing held
+-- a core for this tree that was told nothing, with room that fits its shape, and nothing held
 pub record IsPrepared {E H A C F D : Type 0} (tree : TreeView E H) (drains : Drains) (core : Core)
     (room : Room D) (held : Held A C F D) : Type 0 where
   pub shape : shape_in core ≡ shape_of_tree tree
@@ -41,7 +42,8 @@ pub record IsPrepared {E H A C F D : Type 0} (tree : TreeView E H) (drains : Dra
   pub fits : FitsShape (shape_in core) room
   pub nothing : IsEmpty held
 
--- the list of one tree, prepared for another; these truth values say whether stdout and stderr get a capture worker
+-- the list of one tree, prepared for another; these truth values say whether stdout and stderr get
+-- a capture worker
 pub record IsReady {E H C F D : Type 0} (tree listed : TreeView E H) (output error : Bool)
     (ready : Ready E H C F D) : Type 0 where
   pub actions : actions_view ready.list.actions.items ≡ (listed_of listed).actions
@@ -49,7 +51,7 @@ pub record IsReady {E H C F D : Type 0} (tree listed : TreeView E H) (output err
   pub prepared : IsPrepared tree (record { out = output; err = error }) ready.core ready.room
       ready.held
 
--- what a start that follows this plan returns and leaves, where what it made has to be so
+-- what a start that follows this plan returns and leaves; what it makes must have this property
 pub record Launched {E H C R : Type 0} (allows : Allows H) (refuses : Refuses H) (number_of : E → ℕ)
     (may : ℕ → Answer → Type 0) (view : C → ChildView) (tree : TreeView E H) (plan : Plan E H)
     (old new : JournalView) (before after : PoolView C) (is_so : R → Type 0)

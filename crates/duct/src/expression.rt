@@ -1,4 +1,4 @@
-//! An expression: a shared tree of commands, pipes between them, and modifiers round them.
+//! An expression: a shared tree of commands, pipes between them, and modifiers around them.
 ghost use Rattle.std.specs.Prelude.{◌≡◌, ◌∷◌, map, string_bytes, IfOk, IsOkUnless};
 ghost use Rattle.duct_system.specs.SpecView.{texts_of};
 ghost use Rattle.duct_start.specs.TreeView.{command};
@@ -15,13 +15,13 @@ use duct_tree::tree::Node;
 use std::alloc::{AllocError, Global};
 use std::sync::Arc;
 
-/// A command, a pipe of two expressions, or a modifier round one expression, with ends of type `E`
+/// A command, a pipe of two expressions, or a modifier around one expression, with ends of type `E`
 /// and hooks of type `H`. It describes commands: nothing runs before a start, and it may be started
 /// any number of times.
 ///
 /// Each call that makes an expression of this one adds one node and leaves this one as it was; the
-/// parts are shared. A modifier changes what it stands round. Of two modifiers of one stream,
-/// variable or folder, the inner one counts.
+/// parts are shared. A modifier changes what it wraps. Of two modifiers of one stream, variable or
+/// folder, the inner one counts.
 #[derive(Drop)]
 pub struct Expression<E, H = HookBox> {
     root: Arc<Node<E, H>>,
@@ -83,7 +83,7 @@ impl<E, H> Expression<E, H> {
         &self.root
     }
 
-    // What the expression takes its memory from.
+    // The allocator that the expression takes its memory from.
     pub(crate) fn allocator(&self) -> Global {
         self.alloc
     }

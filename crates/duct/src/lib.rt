@@ -1,4 +1,4 @@
-//! Commands, pipes between them and modifiers round them: a description of child processes, their
+//! Commands, pipes between them and modifiers around them: a description of child processes, their
 //! start, and how they ended.
 //!
 //! ```
@@ -14,7 +14,7 @@ mod expression;
 mod run;
 mod start;
 
-// An expression: a command, a pipe, or a modifier round an expression.
+// An expression: a command, a pipe, or a modifier around an expression.
 pub use duct_base::exe::{IntoExecutablePath, asks_canonical};
 pub use expression::{Expression, cmd};
 
@@ -26,7 +26,7 @@ pub mod tree {
 // What changes a command before it is started.
 pub use duct_base::spec::{CommandSpec, Hook, HookBox, Port, Stream};
 
-// What a start is lent: the operating system, and a pool for children that are given up.
+// What a start borrows: the operating system, and a pool for children that are given up.
 pub use duct_base::pool::{Place, Pool};
 pub use duct_base::system::{
     Child, Clock, Entry, Fault, Job, Kind, Numbered, Order, Said, Side, Stdio, System,
@@ -50,7 +50,7 @@ pub use duct_worker::spawn::{spawn_drain, spawn_feed};
 pub use duct_worker::transfer::{drain, feed};
 pub use duct_worker::worker::Worker;
 
-// How an expression ended, by what its commands and workers said.
+// How an expression ended, by what its commands and workers reported.
 pub use duct_base::status::{Core, Drains, Event, Reply, Shape, Word};
 
 /// A command: `cmd!(in alloc; program, arg, ..)` is `cmd(alloc, program, &[arg, ..])`. A trailing

@@ -1,4 +1,5 @@
-//! Starts that are waited for: the output of an expression, the text that it prints, or a reader of it.
+//! Starts that are waited for: the output of an expression, the text that it prints, or a reader of
+//! it.
 ghost use Rattle.std.specs.Prelude.{◌⊎◌, [], false, is_some, IfOk, IfErr, OnOk, OnErr, Ok, Err};
 ghost use Rattle.duct_system.specs.Trace.{segment};
 ghost use Rattle.duct_status.specs.ReplyView.{answered};
@@ -25,8 +26,8 @@ use std::sync::Wait;
 impl<E: Drop, H: Hook> Expression<E, H> {
     /// Starts the expression as `launch_reader` does, and returns a handle whose reads give what it
     /// writes to stdout. Reads block in the pipe, and a command that finds the pipe full blocks
-    /// until somebody reads. The handle keeps the runtime, by which it takes locks and pauses. What
-    /// it needs is allocated before the first request. It has to be spent, by
+    /// until somebody reads. The handle keeps the runtime, which it uses to take locks and to
+    /// pause. What it needs is allocated before the first request. It has to be spent, by
     /// `ReaderHandle::give_up`.
     ///
     /// Fails as `launch` does, and leaves the same.

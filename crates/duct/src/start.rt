@@ -1,4 +1,5 @@
-//! The start of an expression: what is asked of the system, and what is kept of it.
+//! The start of an expression: the requests that it makes to the system, and what it keeps of their
+//! results.
 ghost use Rattle.std.specs.Prelude.{◌≡◌, ◌≤◌, [], false, length, is_some, vec_capacity, IfOk, IfErr, OnOk, OnErr, IsOkUnless, None};
 ghost use Rattle.duct_system.specs.Trace.{segment};
 ghost use Rattle.duct_system.specs.declared.system.Side.TheVariants as side;
@@ -102,7 +103,7 @@ fn inputs_of(shape: &Shape) -> Result<usize, Error>
     }
 }
 
-// What a handle of this tree keeps beside its lock.
+// What a handle of this tree keeps outside its lock.
 pub(crate) fn room_beside<E: Drop, H, S: System>(
     alloc: Global,
     root: &Node<E, H>,
@@ -136,7 +137,7 @@ fn room_for<D: Drop>(alloc: Global, shape: &Shape) -> Result<Room<D>, Error>
     Ok(Room { ids, drains })
 }
 
-// What a start allocates before it asks anything: its list, a core for its tree, room for what
+// What a start allocates before its first request: its list, a core for its tree, room for what
 // runs, and nothing held, with room for what the list gets.
 #[derive(Drop)]
 struct Ready<'a, E, H, C, F, D> {
@@ -146,7 +147,7 @@ struct Ready<'a, E, H, C, F, D> {
     held: Held<E, C, F, D>,
 }
 
-// All of it but the list.
+// Allocates all of it but the list.
 fn prepare<E: Drop, H, C: Drop, F: Drop, D: Drop>(
     alloc: Global,
     root: &Node<E, H>,
@@ -169,7 +170,7 @@ fn prepare<E: Drop, H, C: Drop, F: Drop, D: Drop>(
     Ok((core, room, held))
 }
 
-// What runs, made of what a run of the list left.
+// Makes what runs from what a run of the list left.
 fn running<S: System>(
     core: Core,
     kept: Held<S::End, Place<S::Child>, S::Feed, S::Drain>,
@@ -207,20 +208,20 @@ impl<E: Drop, H: Hook> Expression<E, H> {
     /// wait for the commands. Over a `Host` it blocks only where it opens a FIFO, until the other
     /// side of that is opened.
     ///
-    /// It asks the system for the environment, then for what the nodes need, each before what it
-    /// wraps and the left side of a pipe before the right, and at the end for the workers of the
-    /// capture pipes. Before each command the pool is swept. The list of these requests, and the
-    /// room for what runs, are allocated before the first request. That the requests follow the
-    /// plan is promised where the ends in the expression are of this system, so that their numbers
-    /// are lower than the next one it gives.
+    /// It requests the environment, then what the nodes need, each before what it wraps and the
+    /// left side of a pipe before the right, and at the end the workers of the capture pipes.
+    /// Before each command the pool is swept. The list of these requests, and the room for what
+    /// runs, are allocated before the first request. That the requests follow the plan is promised
+    /// where the ends in the expression come from this system, so that their numbers are lower than
+    /// the next one it gives.
     ///
     /// Fails with `Error::System` where the system refuses a request, with `Error::Hook` and
-    /// `Error::HookEnd` where a hook stops a command, and with `Error::Memory`. After that only
-    /// closes are asked: each end that the start got is closed, each child that it had started is
-    /// polled once and goes into the pool if it runs, and a worker that it had started ends by
+    /// `Error::HookEnd` where a hook stops a command, and with `Error::Memory`. After that its only
+    /// requests are closes: each end that the start got is closed, each child that it had started
+    /// is polled once and goes into the pool if it runs, and a worker that it had started ends by
     /// itself.
     ///
-    /// What runs has to be spent: by `Running::give_up`, which leaves the children to a pool, or by
+    /// What runs has to be spent: by `Running::give_up`, which gives the children to a pool, or by
     /// `Running::into_parts`. A child that `into_parts` returns is not reaped if it is dropped
     /// before a poll saw it end: over a `Host` it stays a zombie until the program ends.
     ///
@@ -252,9 +253,9 @@ impl<E: Drop, H: Hook> Expression<E, H> {
         self.launch_ready(sys, pool, ready)
     }
 
-    /// Starts the expression as `launch` does, inside of one more `stdout_capture`, and returns
-    /// what runs and a reader of stdout's capture pipe, which has no worker. The reader is the last
-    /// that the start asks for. A command that finds the pipe full blocks until the caller reads.
+    /// Starts the expression as `launch` does, inside one more `stdout_capture`, and returns what
+    /// runs and a reader of stdout's capture pipe, which has no worker. The reader is the start's
+    /// last request. A command that finds the pipe full blocks until the caller reads.
     ///
     /// Fails as `launch` does, and leaves the same.
     pub fn launch_reader<S: System<End = E>>(

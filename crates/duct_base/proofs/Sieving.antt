@@ -1,4 +1,4 @@
--- Children that are asked one after the other, in a pool and as they are given to it.
+-- Children that are polled one after another, in a pool and as they are given to it.
 use Rattle.std.proofs.Common.{◌≡◌, ℕ, zero, suc, ◌+◌, ◌^◌, ◌<◌, ◌≤◌, List, [], ◌∷◌, ◌++◌, length, refl, ap, sym, ◌∙◌, arith, append_assoc, subst, inl, inr, take, drop, add-one, add-zero, zero-add}
 use Rattle.std.proofs.lemmas.List.{append-nil, take_all, drop_all}
 use Rattle.std.specs.Prelude.{map, Some, None, Ok, Err}
@@ -8,7 +8,7 @@ use Rattle.duct_base.specs.Pool.{PoolView, seated, counted, greatest, AddsUp, Si
 use Rattle.duct_system.specs.declared.system.ExitStatus.{ExitStatus}
 use Rattle.duct_system.specs.declared.system.Fault.{Fault}
 
--- two lists of children, one behind the other
+-- two lists of children, one after the other
 pub sieves-append : {A B : Type 0} (may : A → Answer → Type 0) (keeps : A → B → Type 0)
     (xs others : List A) (ls more : List B) (r l r' l' : ℕ) →
     Sieves may keeps xs ls r l → Sieves may keeps others more r' l' → Sieves may keeps (xs ++ others) (ls ++ more) (r + r') (l + l')
@@ -25,7 +25,7 @@ sieves-append {A} {B} may keeps (x ∷ xs) others ls more r l r' l' (inr (inr s)
     inr (inr (s.0, s.1 + l', s.2, omega (arith, s.3), sieves-append may keeps xs others ls more r s.1 r' l' s.4 second))
 
 module _ {C : Type 0} (may : ℕ → Answer → Type 0) (view : C → ChildView) (child : C) where
-  -- one child that said Running, ended, or answered a fault
+  -- one child that runs, has ended, or returned a fault
   one_kept : (kept : C) → PollsChild may (view child) (Ok None) (view kept)
       → AsksAll may view (child ∷ []) (kept ∷ []) 0 0
   one_kept kept polls = inl (kept, [], polls, refl, (refl, refl, refl))
@@ -93,7 +93,8 @@ seated-append [] child = refl
 seated-append {C} (Some other ∷ seats) child = ap (λ (l : List C). other ∷ l) (seated-append seats child)
 seated-append (None ∷ seats) child = seated-append seats child
 
--- the first child of a pool is asked: `view` is the pool by its seats, of which the first is that child's
+-- the first child of a pool is polled: the pool is given by its seats, and the first one is that
+-- child's
 module _ {C : Type 0} (may : ℕ → Answer → Type 0) (view : C → ChildView) (by_seats before after : PoolView C) (seats one rest : List (Option C)) (child : C)
     (same : by_seats ≡ before) (children : by_seats.children ≡ seated seats) (whole : seats ≡ one ++ rest) (first : one ≡ Some child ∷ []) where
   children_are : before.children ≡ child ∷ seated rest
@@ -146,7 +147,7 @@ module _ {C : Type 0} (may : ℕ → Answer → Type 0) (view : C → ChildView)
     lost_is = ap (λ (p : PoolView C). p.lost) is ∙ ap (λ (p : PoolView C). counted p.lost 1) same;
   }
 
--- a sweep, from its begin by one child more to its end
+-- a sweep, from its beginning to its end, one child at a time
 next_of : {C : Type 0} (xs : List C) (i : ℕ) → i < length xs
     → (x : C) × (drop i xs ≡ x ∷ drop (suc i) xs) × (take (suc i) xs ≡ take i xs ++ x ∷ [])
 next_of [] i within = absurd (omega arith)
@@ -226,7 +227,7 @@ one_seat {C} seats (None ∷ []) rest full whole long = no_none (seated seats) r
     no_none (x ∷ xs) rest is = absurd (cc)
 one_seat seats (o ∷ p ∷ one) rest full whole long = absurd (omega (arith, long))
 
--- no more children are left than were asked
+-- at most as many children are left as were polled
 pub sieves_fewer : {A B : Type 0} (may : A → Answer → Type 0) (keeps : A → B → Type 0)
     (children : List A) (left : List B) (r l : ℕ) → Sieves may keeps children left r l
     → length left ≤ length children

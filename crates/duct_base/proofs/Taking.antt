@@ -1,4 +1,4 @@
--- Children that are given to a pool one after the other.
+-- Children that are given to a pool one after another.
 use Rattle.std.proofs.Common.{ℕ, zero, suc, ◌≡◌, ◌+◌, ◌^◌, ◌<◌, ◌≤◌, List, [], ◌∷◌, ◌++◌, length, ap, sym, ◌∙◌, arith, append_assoc, length-append}
 use Rattle.std.specs.Prelude.{Ok, None}
 use Rattle.duct_system.specs.Child.{Answer, ChildView, PollsChild}

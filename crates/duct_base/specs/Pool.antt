@@ -1,4 +1,5 @@
--- What contracts see of a pool of abandoned children, and what a sweep and further children make of it.
+-- What contracts see of a pool of abandoned children, and how a sweep and further children change
+-- it.
 use Rattle.std.specs.Prelude.{ℕ, zero, suc, ◌+◌, ◌-◌, ◌^◌, ◌<◌, ◌≡◌, ◌⊎◌, min, List, [], ◌∷◌, ◌++◌, flat_map, length, take, drop, Ok, Err, Some, None}
 use Rattle.std.specs.declared.option.Option.{Option}
 use Rattle.std.specs.Option.{option_to_list}
@@ -6,14 +7,15 @@ use Rattle.duct_system.specs.Child.{Answer, ChildView, PollsChild}
 use Rattle.duct_system.specs.declared.system.ExitStatus.{ExitStatus}
 use Rattle.duct_system.specs.declared.system.Fault.{Fault}
 
--- the children that it keeps, in order, and how many were ever given to it, found ended, and lost to a fault
+-- the children that it keeps, in order, and how many were ever given to it, reaped, and lost to a
+-- fault
 pub record PoolView (C : Type 0) : Type 0 where
   pub children : List C
   pub given : ℕ
   pub reaped : ℕ
   pub lost : ℕ
 
--- the children in some seats
+-- the children in these seats
 abbrev pub seated : {C : Type 0} → List (Option C) → List C
 seated seats = flat_map option_to_list seats
 
@@ -21,17 +23,18 @@ seated seats = flat_map option_to_list seats
 abbrev pub greatest : ℕ
 greatest = 2 ^ 64 - 1
 
--- a count after some more, or the greatest
+-- a count plus this many more, at most the greatest count
 abbrev pub counted : ℕ → ℕ → ℕ
 counted count zero = count
 counted count (suc more) = min (count + suc more) greatest
 
--- each child that a pool was given it keeps, or it was found ended, or lost, as long as the first can be counted
+-- each child that was given to a pool is kept, or was reaped, or was lost, while the count of given
+-- children is below the greatest count
 abbrev pub AddsUp : {C : Type 0} → PoolView C → Type 0
 AddsUp pool = pool.given < greatest → pool.given ≡ length pool.children + pool.reaped + pool.lost
 
--- some children by one answer of each, which it may give: those that are left as they are kept, and how many were found ended and
--- how many lost
+-- some children, polled once each, with a result that each may return: those that are left, as they
+-- are kept, and how many were reaped and how many were lost
 abbrev pub Sieves : {A B : Type 0} → (A → Answer → Type 0) → (A → B → Type 0) → List A → List B → ℕ
     → ℕ → Type 0
 Sieves may keeps [] left reaped lost = (left ≡ []) × (reaped ≡ 0) × (lost ≡ 0)
@@ -43,14 +46,14 @@ Sieves {A} {B} may keeps (child ∷ children) left reaped lost =
     ⊎ ((fault : Fault) × (fewer : ℕ) × may child (Err fault) × (lost ≡ fewer + 1)
     × Sieves may keeps children left reaped fewer)
 
--- some children by one answer of each: those that said Running are left, with nothing else of them changed
+-- some children, polled once each: those that run are left, and nothing else of them has changed
 abbrev pub AsksAll : {C : Type 0} → (ℕ → Answer → Type 0) → (C → ChildView) → List C → List C → ℕ
     → ℕ → Type 0
 AsksAll may view =
     Sieves (λ child. may (view child).number)
     (λ child kept. PollsChild may (view child) (Ok None) (view kept))
 
--- the pool after its first children were asked: those that said Running stand behind the others
+-- the pool after its first children were polled: those that run come after the others
 pub record Sweeps {C : Type 0} (may : ℕ → Answer → Type 0) (view : C → ChildView) (many : ℕ)
     (before after : PoolView C) : Type 0 where
   pub kept : List C
@@ -62,7 +65,7 @@ pub record Sweeps {C : Type 0} (may : ℕ → Answer → Type 0) (view : C → C
   pub reaped_is : after.reaped ≡ counted before.reaped reaped
   pub lost_is : after.lost ≡ counted before.lost lost
 
--- the pool after each of its children was asked: those that said Running stay, in order
+-- the pool after each of its children was polled: those that run stay, in order
 pub record IsSwept {C : Type 0} (may : ℕ → Answer → Type 0) (view : C → ChildView)
     (before after : PoolView C) : Type 0 where
   pub reaped : ℕ
@@ -72,7 +75,8 @@ pub record IsSwept {C : Type 0} (may : ℕ → Answer → Type 0) (view : C → 
   pub reaped_is : after.reaped ≡ counted before.reaped reaped
   pub lost_is : after.lost ≡ counted before.lost lost
 
--- the pool after these children were given to it, and asked: those that said Running stand behind the old ones, in order
+-- the pool after these children were given to it and polled: those that run come after the old
+-- ones, in order
 pub record Takes {C : Type 0} (may : ℕ → Answer → Type 0) (view : C → ChildView) (taken : List C)
     (before after : PoolView C) : Type 0 where
   pub kept : List C
@@ -84,7 +88,8 @@ pub record Takes {C : Type 0} (may : ℕ → Answer → Type 0) (view : C → Ch
   pub reaped_is : after.reaped ≡ counted before.reaped reaped
   pub lost_is : after.lost ≡ counted before.lost lost
 
--- these children were given to a pool: each is counted, and taken where its list has a place for each of them
+-- these children were given to a pool: each is counted, and all are taken if the list of the pool
+-- has room for all of them
 pub record IsGiven {C : Type 0} (may : ℕ → Answer → Type 0) (view : C → ChildView)
     (children : List C) (before after : PoolView C) : Type 0 where
   pub counts : after.given ≡ counted before.given (length children)

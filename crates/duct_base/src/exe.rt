@@ -7,13 +7,15 @@ use duct_system::error::Error;
 use std::alloc::Global;
 use std::path::{Path, PathBuf};
 
-/// What names a program. A text names it as it stands. A path that does not begin with `/` names it after `./`, so that a
-/// file of the present folder is started and not one that the system finds elsewhere.
+/// A name of a program. A text is used unchanged. A path that doesn't begin with `/` gets the
+/// prefix `./`, so that a file of the current folder is started and not one that the system finds
+/// elsewhere.
 pub trait IntoExecutablePath {
-    /// The text of the program.
+    /// The program as a text.
     ghost executable: { Self → List ℕ };
 
-    /// The text of the program. Refused, by `Error::Memory`, only for want of memory; what was handed in is then dropped.
+    /// Returns the program as a text. Fails only with `Error::Memory`, at an allocation failure;
+    /// the name that was passed in is then dropped.
     fn to_executable(self, alloc: Global) -> Result<String, Error>
         ensures text { IfOk result (λ text. string_bytes text ≡ executable self) }
         ensures memory { IsOkUnless result Error.Memory };
@@ -67,7 +69,7 @@ impl IntoExecutablePath for &PathBuf {
     }
 }
 
-// The path, after `./` where it does not begin with `/`.
+// Returns the path, with the prefix `./` if it doesn't begin with `/`.
 fn dot(alloc: Global, path: &str) -> Result<String, Error>
     ensures text { IfOk result (λ text. string_bytes text ≡ dotted path.now) }
     ensures memory { IsOkUnless result Error.Memory }
@@ -86,8 +88,8 @@ fn begins_with_slash(text: &str) -> bool
     matches!(text.as_bytes(), [b'/', ..])
 }
 
-/// Whether a start makes a program canonical before it starts it: a folder is set, and the program has a `/`, not at its
-/// front.
+/// Returns whether a start requests the canonical path of a program before it spawns it: a folder
+/// is set, and the program has a `/`, but doesn't begin with it.
 pub fn asks_canonical(program: &str, folder_is_set: bool) -> bool
     ensures { result ≡ asks_canonical program.now folder_is_set }
 {

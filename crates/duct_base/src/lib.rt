@@ -1,5 +1,5 @@
-//! What every part of duct speaks of: the interface to the operating system, the spec of a command, the errors,
-//! statuses and abandoned children. It knows no expression.
+//! What every part of duct uses: the interface to the operating system, the spec of a command, the
+//! errors, statuses and abandoned children. It knows nothing about expressions.
 #![tactic(auto)]
 
 pub use duct_status::status;

@@ -1,4 +1,5 @@
-//! Children that a start or a handle gave up while they ran, kept so that they can be asked for their endings.
+//! Children that a start or a handle gave up while they ran. A pool keeps them, so that they can be
+//! polled and reaped.
 ghost use Rattle.std.specs.Prelude.{◌≡◌, ◌+◌, ◌<◌, ◌^◌, ◌∷◌, ◌++◌, [], length, Some, None};
 ghost use Rattle.duct_system.specs.Child.{one_more};
 ghost use Rattle.duct_base.specs.Pool.{AddsUp, Sweeps, IsSwept, IsGiven};
@@ -8,7 +9,7 @@ use std::alloc::{AllocError, Global};
 use std::collections::LinkedList;
 use std::marker::Model;
 
-/// Room for one child in any pool, made before the child is there.
+/// Room for one child in any pool, allocated before there is a child.
 #[derive(Drop)]
 pub struct Seat<C> {
     seat: LinkedList<Option<C>>,
@@ -24,14 +25,14 @@ impl<C> Model for Seat<C> {
     ghost invariant = { λ s. s.seat ≡ None ∷ [] };
 }
 
-/// Makes room for a child. Refused only for want of memory.
+/// Allocates room for a child. Fails only at an allocation failure.
 pub fn seat_new<C: Drop>(alloc: Global) -> Result<Seat<C>, AllocError> {
     let mut seat = LinkedList::new(alloc);
     seat.push_back(None)?;
     Ok(Seat { seat })
 }
 
-/// A child with its room in any pool. It is polled and ordered as the child itself.
+/// A child with its room in any pool. Polls of it and orders to it go to the child.
 #[derive(Drop)]
 pub struct Place<C> {
     child: C,
@@ -44,7 +45,7 @@ impl<C> Model for Place<C> {
     ghost view = { λ p. p.child };
 }
 
-/// Puts a child with its room. For a start alone.
+/// Joins a child and its room. It is meant for a start only.
 pub fn place_new<C>(child: C, seat: Seat<C>) -> Place<C>
     ensures { result ≡ child }
 {
@@ -52,7 +53,7 @@ pub fn place_new<C>(child: C, seat: Seat<C>) -> Place<C>
 }
 
 impl<C: Drop> Place<C> {
-    /// The child alone.
+    /// Returns the child and drops its room.
     pub fn into_child(self) -> C
         ensures { result ≡ self }
     {
@@ -96,7 +97,8 @@ impl<C: Child> Child for Place<C> {
     ghost has_number = { λ p. C.has_number p };
 }
 
-/// Children that were given up. A pool is lent to each start, and one pool may serve many.
+/// A pool of children that were given up. Each start borrows a pool, and one pool may serve many
+/// starts.
 #[derive(Drop)]
 pub struct Pool<C> {
     seats: LinkedList<Option<C>>,
@@ -124,7 +126,7 @@ impl<C> Model for Pool<C> {
 }
 
 impl<C: Drop> Pool<C> {
-    /// An empty pool.
+    /// Returns an empty pool.
     pub fn new(alloc: Global) -> Pool<C>
         ensures { result ≡ record { children = []; given = 0; reaped = 0; lost = 0 } }
     {
@@ -136,8 +138,8 @@ impl<C: Drop> Pool<C> {
         }
     }
 
-    /// How many children it keeps. What it was given are these, those that were found ended, and those that were let go, as long
-    /// as they can be counted.
+    /// Returns how many children it keeps. While `given` is below the greatest u64, it is the sum
+    /// of `len`, `reaped` and `lost`.
     pub fn len(&self) -> usize
         ensures length { result ≡ length self.now.children }
         ensures adds_up { AddsUp self.now }
@@ -145,28 +147,30 @@ impl<C: Drop> Pool<C> {
         self.seats.len()
     }
 
-    /// How many children it was ever given, up to the greatest u64.
+    /// Returns how many children were ever given to it, at most the greatest u64.
     pub fn given(&self) -> u64
         ensures { result ≡ self.now.given }
     {
         self.given
     }
 
-    /// How many of them were found ended, up to the greatest u64.
+    /// Returns how many of them were reaped (found ended by a poll), at most the greatest u64.
     pub fn reaped(&self) -> u64
         ensures { result ≡ self.now.reaped }
     {
         self.reaped
     }
 
-    /// How many of them answered a fault and were let go, up to the greatest u64.
+    /// Returns how many of them were dropped after a poll returned a fault, at most the greatest
+    /// u64.
     pub fn lost(&self) -> u64
         ensures { result ≡ self.now.lost }
     {
         self.lost
     }
 
-    // Keeps a child that runs, behind the others. With 2 ^ 63 seats there is no room: the child is then let go.
+    // Keeps a child that runs, after the others. There is room for fewer than 2 ^ 63 seats. Without
+    // room the child is dropped and counted as lost.
     fn keep(&mut self, child: C, seat: Seat<C>)
         ensures counts { self.new.given ≡ one_more self.old.given }
         ensures keeps { length self.old.children + 1 < 2 ^ 63 → self.new ≡ record self.old {
@@ -193,7 +197,7 @@ impl<C: Drop> Pool<C> {
         raise(&mut self.reaped);
     }
 
-    // Counts a child that answered a fault when it was given.
+    // Counts a child whose poll returned a fault when it was given.
     fn lose(&mut self)
         ensures { self.new ≡ record self.old {
           given = one_more self.old.given;
@@ -206,8 +210,9 @@ impl<C: Drop> Pool<C> {
 }
 
 impl<C: Child> Pool<C> {
-    /// Asks every child once, in order. One that runs stays, one that ended counts as reaped, and one that answered a fault
-    /// as lost; nobody hears of the fault. It takes no memory.
+    /// Polls every child once, in order. One that runs stays, one that has ended counts as reaped,
+    /// and one whose poll returns a fault counts as lost; the fault is not returned. It doesn't
+    /// block and doesn't allocate.
     pub fn sweep(&mut self)
         ensures { IsSwept C.may_answer C.child_view self.old self.new }
     {
@@ -217,7 +222,8 @@ impl<C: Child> Pool<C> {
         }
     }
 
-    // Asks the first child. One that runs goes behind the others, one that ended or answered a fault is counted.
+    // Polls the first child. One that runs moves to the end. One that has ended, or whose poll
+    // returns a fault, is removed and counted.
     fn sweep_first(&mut self)
         requires { 0 < length self.old.children }
         ensures { Sweeps C.may_answer C.child_view 1 self.old self.new }
@@ -242,8 +248,9 @@ impl<C: Child> Pool<C> {
     }
 }
 
-/// Gives a child to a pool. It is asked once: one that runs goes behind the others, one that ended counts as reaped, and one
-/// that answered a fault as lost. It takes no memory. For a start and a handle alone.
+/// Gives a child to a pool. The child is polled once: one that runs goes to the end of the pool,
+/// one that has ended counts as reaped, and one whose poll returns a fault counts as lost. It
+/// doesn't block and doesn't allocate. It is meant for a start and a handle only.
 pub fn pool_take<C: Child>(pool: &mut Pool<C>, place: Place<C>)
     ensures { IsGiven C.may_answer C.child_view (place ∷ []) pool.old pool.new }
 {
@@ -256,7 +263,7 @@ pub fn pool_take<C: Child>(pool: &mut Pool<C>, place: Place<C>)
     }
 }
 
-// Counts one more, up to the greatest u64.
+// Adds one to the count, up to the greatest u64.
 fn raise(count: &mut u64)
     ensures { count.new ≡ one_more count.old }
 {
@@ -289,7 +296,7 @@ fn vacate<C: Drop>(seat: &mut LinkedList<Option<C>>) -> C
     }
 }
 
-// Leaves the first seat, and answers the others.
+// Leaves the first seat in the list, and returns the others.
 fn others<C: Drop>(seats: &mut LinkedList<Option<C>>) -> LinkedList<Option<C>>
     requires { 0 < length seats.old }
     ensures whole { seats.old ≡ seats.new ++ result }

@@ -17,7 +17,7 @@ pub fn start(alloc: Global, sys: &mut Script) -> Result<ScriptChild, Fail> {
     Ok(sys.spawn(spec, io)?)
 }
 
-/// The reader of a file.
+/// Opens a file, and returns its reader.
 pub fn read_file(sys: &mut Script) -> Result<ScriptReader, Fail> {
     let end = sys.open_read("f")?;
     Ok(sys.reader(end))

@@ -1,4 +1,5 @@
-//! The log that a scripted system shares with its children and with hooks, and its clock.
+//! Tests of the log that a scripted system shares with its children and with hooks, and of the
+//! scripted clock.
 use crate::bench::start;
 use duct_base::spec::{Hook, Port, spec_of};
 use duct_base::system::{Child, Clock, System};
@@ -13,7 +14,7 @@ use std::sync::Arc;
 use std::test::Fail;
 use std::time::Duration;
 
-/// Lets a hook with a label, which shares this log, change a spec.
+/// Calls a hook that has the label 7 and writes to this log.
 fn call_hook(alloc: Global, log: &Arc<CallLog>) -> Result<(), AllocError> {
     let mut hook = ScriptHook::new(alloc);
     hook.label = 7;
@@ -25,7 +26,7 @@ fn call_hook(alloc: Global, log: &Arc<CallLog>) -> Result<(), AllocError> {
     Ok(())
 }
 
-/// Starts a child, polls it, kills it, and polls it.
+/// Starts a child, polls it, kills it, and polls it again.
 fn call_child(alloc: Global, sys: &mut Script) -> Result<(), Fail> {
     let mut child = start(alloc, sys)?;
     let _ = child.poll();
@@ -34,7 +35,7 @@ fn call_child(alloc: Global, sys: &mut Script) -> Result<(), Fail> {
     Ok(())
 }
 
-/// Asks a system, a hook and a child, which share this log.
+/// Calls a system, a hook and a child that all write to this log.
 fn call_all(alloc: Global, sys: &mut Script, log: &Arc<CallLog>) -> Result<(), Fail> {
     sys.note_in(Arc::try_clone(log)?);
     let _ = sys.environment();
@@ -46,7 +47,8 @@ fn first_six(log: &CallLog) -> [Option<Call>; 6] {
     [0, 1, 2, 3, 4, 5].map(|place| log.get(place))
 }
 
-/// The calls at the first six places of that log, which has five, and how many were noted.
+/// Returns the calls at the first six places of a log that has room for five, and how many calls
+/// were noted.
 fn calls(alloc: Global) -> Result<([Option<Call>; 6], u64), Fail> {
     let log = Arc::new(alloc, CallLog::new(alloc, 5)?)?;
     call_all(alloc, &mut Script::new(alloc)?, &log)?;
@@ -68,7 +70,7 @@ fn a_log_has_all_calls_in_order(rt: HostRuntime) -> Result<(), Fail> {
     Ok(())
 }
 
-/// What a clock of these moments shows that is asked three times, and how often it was asked.
+/// Returns what a clock of these moments shows in three calls, and how many calls it counted.
 fn shown(alloc: Global, moments: &[Duration]) -> Result<([Duration; 3], u64), AllocError> {
     let clock = ScriptClock::new(Vec::from_slice(alloc, moments)?);
     let shown = [clock.now(), clock.now(), clock.now()];

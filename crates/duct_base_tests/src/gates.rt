@@ -1,4 +1,4 @@
-//! The gates of the tests.
+//! Tests of gates: a child, a reader and a writer wait at a shut gate.
 use crate::bench::{read_file, start};
 use duct_base::system::Numbered;
 use duct_script::child::{ChildScript, ScriptChild};
@@ -13,7 +13,7 @@ use std::test::Fail;
 use std::thread;
 use std::thread::Threads;
 
-/// What has a gate to pass.
+/// What passes a gate.
 #[derive(Drop)]
 enum Guest {
     Child(ScriptChild),
@@ -21,7 +21,8 @@ enum Guest {
     Writer(Gated<Vec<u8>>),
 }
 
-/// What a guest answers: a child its number, a reader how many bytes it gave, a writer how many it holds after a write.
+/// Returns the number of a child, how many bytes a reader returned, or how many bytes a writer
+/// holds after a write.
 fn answer(guest: Guest) -> u64 {
     match guest {
         Guest::Child(child) => child.number(),
@@ -30,22 +31,23 @@ fn answer(guest: Guest) -> u64 {
     }
 }
 
-/// How many bytes a read gives.
+/// Returns how many bytes one read returns, or 99 if it fails.
 fn read_one(mut reader: impl Read + Drop) -> usize {
     let mut buf = [0u8; 1];
     reader.read(&mut buf).unwrap_or(99)
 }
 
-/// What a gated writer of bytes holds after a write.
+/// Returns how many bytes a gated writer holds after a write.
 fn write_two(mut writer: Gated<Vec<u8>>) -> usize {
     let _ = writer.write(&[1, 2]);
     writer.inner.len()
 }
 
-/// How many stood at a gate, what the guest answers, and how many stand there in the end.
+/// How many threads waited at a gate, what the guest returned, and how many threads wait there at
+/// the end.
 type Seen = (u64, u64, u64);
 
-/// Sends a guest to a shut gate, and opens it once somebody stands there.
+/// Shuts a gate, runs a guest in a thread, and opens the gate once a thread waits there.
 fn let_in(rt: &impl Threads, gate: &Gate, guest: Guest) -> Result<Seen, Fail> {
     gate.shut();
     let there = thread::spawn(rt, move || answer(guest))?;
@@ -56,7 +58,7 @@ fn let_in(rt: &impl Threads, gate: &Gate, guest: Guest) -> Result<Seen, Fail> {
     Ok((standing, answer, gate.standing()))
 }
 
-/// A child whose number is behind a gate.
+/// Starts a child that passes a gate before it returns its number.
 fn gated_child(alloc: Global, gate: &Gate) -> Result<ScriptChild, Fail> {
     let mut script = ChildScript::running(alloc);
     script.gate = Some(gate.share()?);
@@ -68,14 +70,14 @@ fn child_by(alloc: Global, sys: &mut Script, script: ChildScript) -> Result<Scri
     start(alloc, sys)
 }
 
-/// The number of a gated child while its gate is open, and what comes of it at the shut gate.
+/// Returns the number of a gated child while its gate is open, and what is seen at the shut gate.
 fn let_child_in(rt: &impl Threads, alloc: Global, gate: &Gate) -> Result<(u64, Seen), Fail> {
     let child = gated_child(alloc, gate)?;
     let number = child.number();
     Ok((number, let_in(rt, gate, Guest::Child(child))?))
 }
 
-/// A reader of one byte, whose reads are behind a gate.
+/// Returns a reader of one byte that passes a gate before it reads.
 fn gated_reader(alloc: Global, gate: &Gate) -> Result<ScriptReader, Fail> {
     let mut script = ReaderScript::empty(alloc);
     script.gate = Some(gate.share()?);
@@ -92,7 +94,7 @@ fn let_reader_in(rt: &impl Threads, alloc: Global, gate: &Gate) -> Result<Seen, 
     let_in(rt, gate, Guest::Reader(gated_reader(alloc, gate)?))
 }
 
-/// What comes of a gated writer at the shut gate.
+/// Returns what is seen of a gated writer at the shut gate.
 fn let_writer_in(rt: &impl Threads, alloc: Global, gate: &Gate) -> Result<Seen, Fail> {
     let inner = Vec::new(alloc);
     let gate_of_writer = gate.share()?;
@@ -103,14 +105,15 @@ fn let_writer_in(rt: &impl Threads, alloc: Global, gate: &Gate) -> Result<Seen, 
     let_in(rt, gate, Guest::Writer(writer))
 }
 
-/// How many bytes a reader gives that has this gate and one more, which are open.
+/// Returns how many bytes a reader returns that passes this gate and one more, both open.
 fn read_through(alloc: Global, gate: &Gate) -> Result<usize, Fail> {
     let inner = gated_reader(alloc, &Gate::new(alloc)?)?;
     let gate = gate.share()?;
     Ok(read_one(Gated { gate, inner }))
 }
 
-/// A child's number, a read and a write wait at a shut gate, one after another at the same one; a read passes open ones.
+/// Runs a child, a reader and a writer at the same shut gate, one after the other, and a reader
+/// through open gates.
 fn all_let_in(
     rt: &impl Threads,
     alloc: Global,

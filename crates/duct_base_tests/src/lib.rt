@@ -1,5 +1,5 @@
-//! Tests of what stands below `duct`, where no row can say them: threads of workers, and the gates, the log and the clock of the scripted
-//! system.
+//! Tests of the crates below `duct` that no row of data can express: threads of workers, and the
+//! gates, the log and the clock of the scripted system.
 #![tactic(auto)]
 
 #[cfg(test)]

@@ -1,4 +1,5 @@
-//! Workers on their threads: they run beside their caller, and what they said is said again.
+//! Tests of workers on their threads: they run beside their caller, and each later poll returns the
+//! same result.
 use duct_base::system::{Fault, Job, Numbered, Said};
 use duct_script::gate::Gate;
 use duct_script::gated::Gated;
@@ -15,18 +16,19 @@ use std::thread::Threads;
 /// How many bytes go through a pipe, which is more than it holds.
 const MANY: usize = 1_000_000;
 
-/// So many bytes that many may own.
+/// This many bytes, shared.
 fn shared(alloc: Global, count: usize) -> Result<Arc<Vec<u8>>, Fail> {
     Ok(Arc::new(alloc, vec![in alloc; 7; count]?)?)
 }
 
-/// A gated one of these.
+/// Puts a gate before a reader or a writer.
 fn gated<T: Drop>(gate: &Gate, inner: T) -> Result<Gated<T>, Fail> {
     let gate = gate.share()?;
     Ok(Gated { gate, inner })
 }
 
-/// A feed of a writer that stands at a gate, which is opened once the feed was started.
+/// Starts a feed whose writer waits at a shut gate, and then opens the gate. Fails unless the feed
+/// runs before that and is done after it.
 fn feed_at_a_gate<R: Threads + Clock>(rt: &R, alloc: Global, gate: &Gate) -> Result<(), Fail> {
     gate.shut();
     let writer = gated(gate, Vec::<u8>::new(alloc))?;
@@ -41,14 +43,14 @@ fn feed_at_a_gate<R: Threads + Clock>(rt: &R, alloc: Global, gate: &Gate) -> Res
     Err(Fail::new("the feed is not done after the gate was opened"))
 }
 
-/// The caller goes on while its worker stands in a write.
+/// Checks that the caller goes on while its worker is blocked in a write.
 #[test]
 fn a_feed_runs_beside_its_caller(rt: HostRuntime) -> Result<(), Fail> {
     let gate = Gate::new(rt.alloc())?;
     feed_at_a_gate(&rt, rt.alloc(), &gate)
 }
 
-/// Both workers of a pipe, of which the writer stands at a gate first.
+/// Starts both workers of a pipe. The feed's writer passes a gate first.
 fn workers_of_a_pipe<R: Threads + Files>(
     rt: &R,
     alloc: Global,
@@ -61,7 +63,7 @@ fn workers_of_a_pipe<R: Threads + Files>(
     Ok((feed, drain))
 }
 
-/// How many bytes a drain gave, twice.
+/// Takes the result of a drain twice, and returns how many bytes each has.
 fn lengths(rt: &impl Clock, drain: &mut Worker<Arc<Vec<u8>>>) -> Result<(usize, usize), Fail> {
     let first = heard(rt, drain)??;
     let again = heard(rt, drain)??;
@@ -87,14 +89,15 @@ fn through_a_pipe<R: Threads + Files + Clock>(
     Err(Fail::new(format_args!("{lengths:?}")))
 }
 
-/// A feed and a drain of one pipe, which holds less than they move, wait for nobody else.
+/// Checks that a feed and a drain of one pipe finish by themselves, though the pipe holds less than
+/// they move.
 #[test]
 fn two_workers_of_a_pipe(rt: HostRuntime) -> Result<(), Fail> {
     let gate = Gate::new(rt.alloc())?;
     through_a_pipe(&rt, rt.alloc(), &gate)
 }
 
-/// A writer and a reader that fail.
+/// A writer and a reader whose writes and reads fail.
 #[derive(Drop)]
 struct Broken;
 
@@ -114,7 +117,7 @@ impl Read for Broken {
     }
 }
 
-/// The kinds of the faults that a worker says, one after the other.
+/// Takes the result of a worker twice, and adds the kind of each fault to `said`.
 fn faults<J: Job>(rt: &impl Clock, worker: &mut J, said: &mut String) -> Result<(), Fail> {
     use std::fmt::Write;
     for _ in 0..2 {
@@ -132,7 +135,7 @@ fn fail_twice<R: Threads + Clock>(rt: &R, alloc: Global, said: &mut String) -> R
     faults(rt, &mut drain, said)
 }
 
-/// A fault is said again.
+/// Checks that each later poll returns the fault again.
 #[test]
 fn faults_are_kept(rt: HostRuntime) -> Result<(), Fail> {
     let mut said = String::new(rt.alloc());

@@ -1,32 +1,44 @@
-//! The table `calls`: expressions that are started, and what the calls of what runs answer.
+//! The table `calls`: expressions that are started, and the results of the calls on what was
+//! started.
 //!
-//! These lines say what the next ones speak of.
-//! - `expression` has the expression that is started next, and `arguments` those of the program, parted by spaces, in which `_` stands for
-//!   a space and `~` for an empty argument.
-//! - The lines about the machine stand in the file of that machine.
+//! These lines set up what later lines use.
+//! - `expression` has the expression that is started next. `arguments` has the arguments of the
+//!   program, separated by spaces. In them `_` is a space, and `~` is an empty argument.
+//! - The lines about the machine are described in the file of that machine.
 //!
-//! These lines make calls, which commas part, each on what the line itself starts. The last call spends it.
-//! - `launch`: `poll`, `finish` (polls until there is an answer), `kill` and `signal 15`. At the end stands `parts`, or `give`, by which the
-//!   children are given up.
-//! - `handle`: `try`, `wait`, `deadline 5s` and `timeout 5s`; with ` as` behind it through the token of the line, with ` new` through a new
-//!   one. `kill` and `signal 15`. At the end stands `give`, `leave`, which is the same but for the line `calls`, `into` for `into_output`, or
-//!   `share` for that while another keeps what a wait answered.
-//! - `reader`: `try`, `kill`, `read 4` into so many bytes by a new token, and by std, by reference and by the handle itself, `std 4`, `own 4`,
-//!   `exact 4`, `own_exact 4` and `all`. At the end stands `give`. Behind the count of a read stand the bytes that it gave.
-//! - Each of the three knows `pids`, which counts the ids, and the calls of the machine. Behind `sure` stands a call that needs no memory: the row
-//!   fails where it is refused for want of it. Behind `needed` stands one without which the next ones answer otherwise: the row ends there.
-//! - `run` and `read` start and wait by themselves. `repeat 9` runs so many times, and answers once where all answer the same.
-//! - `perform` does what the program does with the arguments, and `perform: unwritten` does so where nothing can be written.
-//! - `sweep: once` sweeps the pool, and `sweep: empty` until it keeps nobody. `clear` clears the journal.
+//! These lines make calls. The first three have calls, separated by commas, on what the line itself
+//! starts. The last call spends it.
+//! - `launch`: `poll`, `finish` (polls until there is a result), `kill` and `signal 15`. The last
+//!   call is `parts`, or `give`, which gives up the children.
+//! - `handle`: `try`, `wait`, `deadline 5s`, `timeout 5s`, `kill` and `signal 15`. A wait with
+//!   ` as` after it uses the token of the line, and one with ` new` a new token. The last call is
+//!   `give`; `leave`, which differs from it only for the line `calls`; `into` for `into_output`; or
+//!   `share` for `into_output` while somebody else keeps the output of a wait.
+//! - `reader`: `try`, `kill`, and reads. `read 4` reads at most 4 bytes with a new token. The
+//!   others are reads of std: `std 4` and `exact 4` by reference, `own 4` and `own_exact 4` by the
+//!   handle itself, and `all`. The last call is `give`. The byte count of a read is followed by the
+//!   bytes.
+//! - All three have `pids`, which counts the ids, and the calls of the machine. The prefix `sure`
+//!   marks a call that needs no memory: if it fails with an allocation failure, the row fails. The
+//!   prefix `needed` marks a call whose allocation failure changes the results of later calls: if
+//!   it fails with one, the row ends.
+//! - `run` and `read` start the expression and wait. `repeat: 9` runs it 9 times. Each result that
+//!   differs from the one before is added, so there is one if all are the same.
+//! - `perform` does what the program does with the arguments. `perform: unwritten` does it where
+//!   nothing can be written.
+//! - `sweep: once` sweeps the pool once, and `sweep: empty` sweeps it until it is empty. `clear`
+//!   clears the journal.
 //!
-//! Each other line is compared.
-//! - `answers`: what the calls of the last such line answered, or `started` where none of them answers, or why the start was refused.
-//! - `pool`: how many children it keeps, was given, found ended and lost.
-//! - `trace` and `journal`, what was asked of the system, and `spec`, what the last child was started with.
-//! - `line`: the expression that the arguments mean, as it prints. `status`, `out` and `err` of the program.
+//! Every other line is compared.
+//! - `answers`: the results of the calls of the last line that made calls, `started` if none of
+//!   them has a result, or the error of the start.
+//! - `pool`: how many children it holds, was given, reaped and lost.
+//! - `trace` and `journal`: the requests that were made. `spec`: the spec of the last child.
+//! - `line`: the debug text of the expression that the arguments mean. `status`, `out` and `err`
+//!   are those of the program.
 //!
-//! At the end of a row each end that was got is spent, and of each line that started children the pool was given each one, or none where the
-//! call keeps them.
+//! At the end of a row each end that the row got has to be spent. For each line that started
+//! children, the pool has to have been given as many, or none if the call keeps them.
 use crate::journals::{journal_text, last_spec};
 use crate::machine::{Line, Machine};
 use crate::programs::{Performed, line_text};
@@ -40,7 +52,7 @@ use duct_table::told::{children_started, pool_text, trace_text};
 use std::alloc::Global;
 use std::sync::Wait;
 
-/// How often something that goes on is asked at most.
+/// The greatest number of polls or sweeps while something still runs.
 pub const TURNS: u32 = 30_000;
 
 /// The table of calls over a machine.
@@ -53,14 +65,16 @@ pub struct Calls<'t, 'r, R, M> {
     arguments: &'t str,
     pub(crate) answers: String,
     performed: Performed,
-    /// How many children the journal said were started, and how many the pool had been given, when the last call began.
+    /// How many children the journal showed as started, and how many the pool had been given, when
+    /// the last call began.
     counted: (u64, u64),
-    /// Whether the pool was given other children than it had to be.
+    /// Whether the pool was given another number of children than it had to be.
     is_lost: bool,
     is_begun: bool,
 }
 
 impl<'t, 'r, R: Wait, M: Machine> Calls<'t, 'r, R, M> {
+    /// Returns the table over a machine, at the beginning of a row.
     pub fn new(rt: &'r R, alloc: Global, machine: M) -> Calls<'t, 'r, R, M> {
         Calls {
             rt,
@@ -88,13 +102,13 @@ impl<'t, 'r, R: Wait, M: Machine> Calls<'t, 'r, R, M> {
         Ok(())
     }
 
-    /// The expression of the row.
+    /// Returns the tree of the row's expression.
     pub(crate) fn tree(&mut self) -> Result<Tree<M::End>, Stop> {
         let log = self.machine.log()?;
         written_with(self.alloc, &mut self.machine, log.as_ref(), self.expression)
     }
 
-    /// How many children the journal says were started, and how many the pool was given.
+    /// Returns how many children the journal shows as started, and how many the pool was given.
     fn counts(&mut self) -> (u64, u64) {
         let (system, pool) = self.machine.stage();
         (children_started(system.journal()), pool.given())
@@ -107,7 +121,8 @@ impl<'t, 'r, R: Wait, M: Machine> Calls<'t, 'r, R, M> {
         self.make(key, text)
     }
 
-    /// Looks whether the pool was given each child that a start made, or none where the call keeps them.
+    /// Checks that the pool was given as many children as were started, or none if the call keeps
+    /// them. Notes if it wasn't.
     pub(crate) fn settle(&mut self, is_given: bool) {
         let (started, given) = self.counted;
         self.counted = self.counts();
@@ -133,13 +148,14 @@ impl<'t, 'r, R: Wait, M: Machine> Calls<'t, 'r, R, M> {
         }
     }
 
-    /// Adds why a start was refused.
+    /// Adds the error of a start.
     pub(crate) fn refused(&mut self, error: &Error) -> Result<(), Stop> {
         self.settle(true);
         Ok(push_error(&mut self.answers, error)?)
     }
 
-    /// Adds what a call answered, and stops where it was refused for want of memory and had not to be.
+    /// Adds the result of a call. Fails if it is an allocation failure after which the row doesn't
+    /// go on.
     pub(crate) fn add(&mut self, refusal: Refusal, answer: &str) -> Result<(), Stop> {
         self.answers.push_str(answer)?;
         let is_refused = answer.contains("out of memory") || answer.contains("OutOfMemory");
@@ -164,7 +180,7 @@ impl<'t, 'r, R: Wait, M: Machine> Calls<'t, 'r, R, M> {
         Ok(push_run(&mut self.answers, &answer)?)
     }
 
-    /// Runs so many times. Adds each answer that is not the one before.
+    /// Runs `times` times. Adds each result that differs from the one before.
     fn repeat(&mut self, times: u64) -> Result<(), Stop> {
         let mut last = String::new(self.alloc);
         for _ in 0..times {
@@ -214,7 +230,7 @@ impl<'t, 'r, R: Wait, M: Machine> Calls<'t, 'r, R, M> {
         Err(Stop::Text("the children go on"))
     }
 
-    /// What is compared.
+    /// Returns what the line of this key is compared with.
     fn found(&mut self, key: &str, text: &str) -> Result<Option<String>, Stop> {
         let alloc = self.alloc;
         let found = match key {
@@ -245,7 +261,8 @@ impl<'t, 'r, R: Wait, M: Machine> Calls<'t, 'r, R, M> {
         }
     }
 
-    /// Fails where an end is not spent, or a child is not the pool's.
+    /// Fails if an end is not spent, or if the pool was given another number of children than it
+    /// had to be.
     fn check(&mut self) -> Result<(), Stop> {
         let (system, _) = self.machine.stage();
         if !is_balanced(self.alloc, system.journal())? {
@@ -285,16 +302,16 @@ impl<'t, R: Wait, M: Machine> Table<'t> for Calls<'t, '_, R, M> {
     }
 }
 
-/// The calls before the last one, and the last one.
+/// Returns the calls before the last one, and the last one.
 pub(crate) fn split_last(calls: &str) -> (&str, &str) {
     let (calls, end) = calls.rsplit_once(',').unwrap_or(("", calls));
     (calls, end.trim())
 }
 
-/// What becomes of a row where a call is refused for want of memory.
+/// What happens to a row if a call fails with an allocation failure.
 #[derive(Clone, Copy)]
 pub(crate) enum Refusal {
-    /// The answers say so, and the row goes on.
+    /// The result shows this, and the row goes on.
     Told,
     /// The row fails.
     Wrong,
@@ -302,7 +319,8 @@ pub(crate) enum Refusal {
     Last,
 }
 
-/// A call, and what becomes of the row where it is refused for want of memory.
+/// Returns what happens to the row if a call fails with an allocation failure, and the call without
+/// the prefix that marks this.
 pub(crate) fn marked(call: &str) -> (Refusal, &str) {
     let call = call.trim();
     if let Some(call) = call.strip_prefix("sure ") {

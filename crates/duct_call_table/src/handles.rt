@@ -1,4 +1,4 @@
-//! The calls of a handle.
+//! The calls on a handle.
 ghost use Rattle.std.specs.Prelude.{◌≡◌};
 
 use crate::calls::{Calls, Refusal, marked, split_last};
@@ -11,7 +11,7 @@ use duct_table::words::first_word;
 use std::sync::{Arc, Wait};
 use std::time::Duration;
 
-/// A wait of a handle.
+/// A wait on a handle.
 #[derive(Clone, Copy)]
 enum Waiting {
     Try,
@@ -20,11 +20,11 @@ enum Waiting {
     Deadline(Duration),
 }
 
-/// What a wait answers.
+/// What a wait returns.
 type Waited = Result<Option<Arc<Output>>, Error>;
 
 impl<R: Wait, M: Machine> Calls<'_, '_, R, M> {
-    /// Starts the expression of the row, and makes these calls of its handle.
+    /// Starts the expression of the row, and makes these calls on its handle.
     pub(crate) fn handle(&mut self, calls: &str) -> Result<(), Stop> {
         let (calls, end) = split_last(calls);
         let (refusal, end) = marked(end);
@@ -63,7 +63,7 @@ impl<R: Wait, M: Machine> Calls<'_, '_, R, M> {
         }
     }
 
-    /// Gives a handle up, of which `calls` tells only where it is left.
+    /// Gives up a handle. The line `calls` shows this only if the last call is `leave`.
     fn give_up(&mut self, handle: Handle<M::System>, end: &str) {
         handle.give_up(self.machine.stage().1);
         self.settle(true);
@@ -87,7 +87,7 @@ impl<R: Wait, M: Machine> Calls<'_, '_, R, M> {
         self.add(refusal, answer.as_str())
     }
 
-    /// The output while another keeps it, too.
+    /// Calls `into_output` while the output of a wait is kept, too.
     fn share(
         &mut self,
         handle: Handle<M::System>,
@@ -101,7 +101,7 @@ impl<R: Wait, M: Machine> Calls<'_, '_, R, M> {
     }
 }
 
-/// Makes the calls that commas part, all through one token.
+/// Makes these calls, which are separated by commas, all with one token.
 fn each_of_handle<R: Wait, M: Machine>(
     table: &mut Calls<'_, '_, R, M>,
     handle: &Handle<M::System>,
@@ -141,7 +141,7 @@ fn of_handle<R: Wait, M: Machine>(
     Ok(())
 }
 
-/// What a wait answers: through the token of the line, a new one, or none.
+/// Returns the result of a wait: with the token of the line, a new one, or none.
 fn waited<S: System, C: Clock>(
     rt: &impl Wait,
     handle: &Handle<S>,
@@ -170,7 +170,7 @@ fn wait_of(call: &str) -> Result<Waiting, Stop> {
     }
 }
 
-/// `0`, `5s`, `1ns`, or `most` for the greatest.
+/// Reads a duration: `0`, `5s`, `1ns`, or `most` for the greatest.
 pub(crate) fn duration(text: &str) -> Result<Duration, Stop> {
     if text == "most" {
         return Ok(Duration::MAX);
@@ -182,7 +182,7 @@ pub(crate) fn duration(text: &str) -> Result<Duration, Stop> {
     Ok(Duration::from_secs(seconds.parse()?))
 }
 
-/// A wait with a token of its own.
+/// Makes a wait that is given no token.
 fn wait<S: System, C: Clock>(
     rt: &impl Wait,
     handle: &Handle<S>,
@@ -197,7 +197,7 @@ fn wait<S: System, C: Clock>(
     }
 }
 
-/// A wait through a token.
+/// Makes a wait with a token.
 fn wait_as<S: System, C: Clock>(
     rt: &impl Wait,
     handle: &Handle<S>,

@@ -1,10 +1,10 @@
-//! What was asked of the system, entry by entry.
+//! Texts for the entries of a journal, and for a spec.
 use duct::{CommandSpec, Entry, Error, Stream};
 use duct_script::text::Words;
 use duct_table::stop::Stop;
 use std::alloc::{AllocError, Global};
 
-/// The entries in words.
+/// Returns the entries in words.
 pub fn journal_text(alloc: Global, journal: &[Entry]) -> Result<String, AllocError> {
     let mut text = String::new(alloc);
     for entry in journal {
@@ -13,7 +13,7 @@ pub fn journal_text(alloc: Global, journal: &[Entry]) -> Result<String, AllocErr
     Ok(text)
 }
 
-/// What stands in the spec of the last entry.
+/// Returns the spec of the last entry as text. Fails if that entry is no spawn.
 pub fn last_spec(alloc: Global, journal: &[Entry]) -> Result<String, Stop> {
     match journal.last() {
         Some(Entry::Spawn(spec, _, _)) => Ok(spec_text(alloc, spec)?),
@@ -21,7 +21,7 @@ pub fn last_spec(alloc: Global, journal: &[Entry]) -> Result<String, Stop> {
     }
 }
 
-/// The words of a spec, its folder, its variables, and where its streams go.
+/// Returns the words of a spec, its folder, its variables, and where its streams go.
 fn spec_text(alloc: Global, spec: &CommandSpec) -> Result<String, Error> {
     let mut text = format!(in alloc; "{:?} {:?}", spec.words(), spec.folder())?;
     for (name, value) in spec.vars()?.iter() {

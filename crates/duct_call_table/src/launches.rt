@@ -1,4 +1,4 @@
-//! The calls of what a launch started.
+//! The calls on what a launch started.
 use crate::calls::{Calls, TURNS, marked, split_last};
 use crate::machine::Machine;
 use crate::texts::{push_done, push_polled};
@@ -8,7 +8,7 @@ use duct_table::words::first_word;
 use std::sync::{Arc, Wait};
 
 impl<R: Wait, M: Machine> Calls<'_, '_, R, M> {
-    /// Launches the expression of the row, and makes these calls.
+    /// Launches the expression of the row, and makes these calls on what runs.
     pub(crate) fn launch(&mut self, calls: &str) -> Result<(), Stop> {
         let (calls, end) = split_last(calls);
         if !matches!(end, "parts" | "give") {
@@ -78,7 +78,8 @@ impl<R: Wait, M: Machine> Calls<'_, '_, R, M> {
         Ok(())
     }
 
-    /// The answer of what runs, which is polled until there is one.
+    /// Polls what runs until there is a result, or until it was polled too often. Returns the last
+    /// result.
     fn finished(&self, running: &mut Running<M::System>) -> Result<Option<Arc<Output>>, Error> {
         let mut answer = running.poll();
         for _ in 0..TURNS {

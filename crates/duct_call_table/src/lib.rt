@@ -1,5 +1,6 @@
-//! The table of calls: expressions that are started, and what the calls of what runs answer, over the scripted system or the real machine.
-//! Test support: nothing here is proved but that it is safe and ends.
+//! The table of calls: expressions that are started, and the results of the calls on what was
+//! started, over the scripted system or the real machine.
+//! Test support: only safety and termination are proved here.
 #![tactic(auto)]
 
 pub mod calls;

@@ -1,4 +1,4 @@
-//! What the table of calls asks of a machine beside the requests of the library.
+//! What the table of calls needs of a machine besides the requests of the library.
 use duct::{Clock, Place, Pool, System};
 use duct_script::calls::CallLog;
 use duct_table::expressions::Lender;
@@ -8,59 +8,64 @@ use std::sync::Arc;
 /// The pool of a system's children.
 pub type PoolOf<S> = Pool<<S as System>::Child>;
 
-/// The children, the input workers and the capture workers of what ran.
+/// The children, the feeds and the drains of what ran.
 pub type PartsOf<S> = (
     Vec<Place<<S as System>::Child>>,
     Vec<<S as System>::Feed>,
     Vec<<S as System>::Drain>,
 );
 
-/// What came of a line about the machine alone.
+/// The result of a line about the machine.
 #[derive(Drop)]
 pub enum Line {
-    /// The key is none of the machine's.
+    /// The machine has no such key.
     Unknown,
-    /// What later lines of the row speak of was set.
+    /// The line has set something for later lines of the row.
     Set,
-    /// This is what the text of the line is compared with.
+    /// The text of the line is compared with this text.
     Found(String),
 }
 
-/// A system with a pool, whose ends an expression may name by their numbers.
+/// A system with a pool. An expression names the ends that the machine lends by their numbers.
 pub trait Machine: Lender + Drop {
+    /// The system over which expressions are started.
     type System: System<End = Self::End>;
 
-    /// The clock of the waits that end by one.
+    /// The clock of the waits with a deadline or a timeout.
     type Clock: Clock;
 
     /// Begins a row, with a new system and an empty pool.
     fn begin(&mut self) -> Result<(), Stop>;
 
+    /// Returns the system and the pool.
     fn stage(&mut self) -> (&mut Self::System, &mut PoolOf<Self::System>);
 
+    /// Returns the clock.
     fn clock(&self) -> &Self::Clock;
 
-    /// The log in which hooks note their calls, if there is one.
+    /// Returns the log in which hooks note their calls, if there is one.
     fn log(&self) -> Result<Option<Arc<CallLog>>, Stop>;
 
-    /// Reads a line about the machine alone.
+    /// Reads a line about the machine.
     fn line(&mut self, key: &str, text: &str) -> Result<Line, Stop>;
 
-    /// Makes a call that only this machine knows, beside what runs with children of these ids, and adds what it answers.
+    /// Makes a call that only this machine has, and adds its result. What runs has children of
+    /// these ids. Fails if there is no such call.
     fn call(&mut self, answer: &mut String, ids: &[u32], call: &str) -> Result<(), Stop>;
 
-    /// Notes that something was started, which is called next.
+    /// Notes that something was started, and that calls on it follow.
     fn note_start(&mut self);
 
-    /// Notes that the calls since the start are made.
+    /// Notes that the calls since the start were made.
     fn note_calls(&mut self);
 
-    /// Keeps what lines of the row say of the children and workers of what ran.
+    /// Takes the children and workers of what ran, and keeps of them what later lines of the row
+    /// are compared with.
     fn spend(&mut self, parts: PartsOf<Self::System>) -> Result<(), Stop>;
 
-    /// Waits a little between two polls of what goes on.
+    /// Waits for a short time between two polls of what still runs.
     fn pause(&self);
 
-    /// Ends a row: fails where something is left.
+    /// Ends a row. Fails if something is left.
     fn end(&mut self) -> Result<(), Stop>;
 }

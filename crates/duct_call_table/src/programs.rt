@@ -8,7 +8,7 @@ use duct_table::stop::Stop;
 use std::alloc::{AllocError, Global};
 use std::sync::Wait;
 
-/// The arguments of a text.
+/// Returns the arguments of a text.
 fn arguments(alloc: Global, text: &str) -> Result<Vec<String>, AllocError> {
     let mut args = Vec::new(alloc);
     for word in text.split_whitespace() {
@@ -29,7 +29,8 @@ fn argument(alloc: Global, word: &str) -> Result<String, AllocError> {
     Ok(text)
 }
 
-/// The debug text of the expression of these arguments, or why they have none.
+/// Returns the debug text of the expression that these arguments mean, or the text of the error if
+/// they mean none. Fails on allocation failure.
 pub fn line_text(alloc: Global, args: &str) -> Result<String, Stop> {
     let args = arguments(alloc, args)?;
     let made: Result<Expression<u64, ScriptHook>, _> = line(alloc, args.as_slice());
@@ -50,6 +51,7 @@ pub struct Performed {
 }
 
 impl Performed {
+    /// Returns the state before the program has run.
     pub fn new(alloc: Global) -> Performed {
         Performed {
             alloc,
@@ -59,7 +61,9 @@ impl Performed {
         }
     }
 
-    /// Does what the program does with these arguments. What it writes has its room before, or none.
+    /// Does what the program does with these arguments. The buffers for its output are reserved
+    /// before, or take no byte if `is_unwritten` is set. Blocks until it is done. Fails on
+    /// allocation failure.
     pub fn perform<S: System>(
         &mut self,
         rt: &impl Wait,
@@ -89,7 +93,7 @@ impl Performed {
         Ok(perform(rt, self.alloc, system, args, &mut self.out, &mut self.err))
     }
 
-    /// The status, or what was written.
+    /// Returns the status, or what was written. Fails on allocation failure.
     pub fn text(&self, key: &str) -> Result<String, AllocError> {
         let mut text = String::new(self.alloc);
         match key {
@@ -101,10 +105,10 @@ impl Performed {
     }
 }
 
-/// The room for what a program writes.
+/// The capacity for what a program writes to a stream, in bytes.
 const ROOM: usize = 256;
 
-/// The status where nothing can be written.
+/// Returns the status of the program where nothing can be written.
 fn unwritten<S: System>(rt: &impl Wait, alloc: Global, system: &mut S, args: &[String]) -> u8 {
     let mut out: &mut [u8] = &mut [];
     let mut err: &mut [u8] = &mut [];

@@ -1,4 +1,4 @@
-//! The calls of a reader handle.
+//! The calls on a reader handle.
 use crate::calls::{Calls, marked, split_last};
 use crate::machine::Machine;
 use crate::texts::{push_bytes, push_done, push_error, push_polled};
@@ -10,7 +10,7 @@ use std::io::{self, Read};
 use std::sync::Wait;
 
 impl<'r, R: Wait, M: Machine> Calls<'_, 'r, R, M> {
-    /// Starts the expression of the row with a reader, and makes these calls of its reader handle.
+    /// Starts the expression of the row with a reader, and makes these calls on its reader handle.
     pub(crate) fn reader(&mut self, calls: &str) -> Result<(), Stop> {
         let (calls, end) = split_last(calls);
         if end != "give" {
@@ -77,7 +77,7 @@ impl<'r, R: Wait, M: Machine> Calls<'_, 'r, R, M> {
     }
 }
 
-/// A read by a new token.
+/// Reads with a new token.
 fn read_once<S: System, R: Wait>(
     handle: &ReaderHandle<S, R>,
     buffer: &mut [u8],
@@ -86,7 +86,7 @@ fn read_once<S: System, R: Wait>(
     handle.read_as(buffer, &mut seen)
 }
 
-/// Adds what a read into so many bytes answered.
+/// Adds the result of a read into a buffer of this length.
 fn push_own<S: System, R: Wait>(
     text: &mut String,
     alloc: Global,
@@ -100,7 +100,7 @@ fn push_own<S: System, R: Wait>(
     }
 }
 
-/// Adds a count, and so many bytes of the buffer, if there are some.
+/// Adds a count, and that many bytes of the buffer, if there are any.
 fn push_prefix(text: &mut String, buffer: &[u8], count: usize) -> Result<(), AllocError> {
     let (prefix, _) = buffer.split_at(count.min(buffer.len()));
     write!(text, "{count}")?;
@@ -111,7 +111,7 @@ fn push_prefix(text: &mut String, buffer: &[u8], count: usize) -> Result<(), All
     text.push_str(". ")
 }
 
-/// Adds what a read of std into so many bytes answered, an error by its kind.
+/// Adds the result of a read of std into a buffer of this length. Of an error, adds the kind.
 fn push_std<S: System, R: Wait>(
     text: &mut String,
     alloc: Global,
@@ -140,7 +140,7 @@ fn read_of_std<S: System, R: Wait>(
     }
 }
 
-/// A read through a handle that others may share.
+/// Reads through a shared reference to the handle.
 fn shared<S: System, R: Wait>(
     mut handle: &ReaderHandle<S, R>,
     buffer: &mut [u8],
@@ -148,7 +148,7 @@ fn shared<S: System, R: Wait>(
     handle.read(buffer)
 }
 
-/// A read of the whole buffer, and its length.
+/// Fills the whole buffer through a shared reference to the handle. Returns its length.
 fn exact<S: System, R: Wait>(
     mut handle: &ReaderHandle<S, R>,
     buffer: &mut [u8],
@@ -157,7 +157,7 @@ fn exact<S: System, R: Wait>(
     Ok(buffer.len())
 }
 
-/// The same by the handle itself.
+/// Does the same by the handle itself.
 fn own_exact<S: System, R: Wait>(
     handle: &mut ReaderHandle<S, R>,
     buffer: &mut [u8],
@@ -166,7 +166,7 @@ fn own_exact<S: System, R: Wait>(
     Ok(buffer.len())
 }
 
-/// Adds all bytes that there are, or the kind of the error.
+/// Reads to EOF. Adds the bytes, or the kind of the error.
 fn push_all<S: System, R: Wait>(
     text: &mut String,
     alloc: Global,

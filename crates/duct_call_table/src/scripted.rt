@@ -1,16 +1,21 @@
 //! The table of calls over the scripted system.
 //!
-//! These lines say what the system is: `parent`, `canonical`, `refuse`, `children` and `kept` as in the table of plans; `feeds` and `drains`,
-//! what its workers say; `reads`, the bytes of its next reader; `clock`, the moments that the clock shows, `0,5s,9s`; and `starve`, that it
-//! finds no more memory.
+//! These lines set up the system.
+//! - `parent`, `canonical`, `refuse`, `children` and `kept` are as in the table of plans.
+//! - `feeds` and `drains` have what its workers return to polls.
+//! - `reads` has the bytes of its next reader.
+//! - `clock` has the moments that the clock shows, `0,5s,9s`.
+//! - `starve`: from now on the system has no memory.
 //!
 //! `ids` is a call that names the programs of the children with the ids of what runs.
 //!
-//! These are compared.
+//! These lines are compared.
 //! - `calls`: the requests, the polls and the orders of children since the last start.
-//! - `times`: how often any child was polled and given an order in the row, those of the pool and those that are given up among them.
-//! - `asked`: how often the clock was asked.
-//! - `parts`: each child, input worker and capture worker of what was launched, with how often it was polled, and the orders of each child.
+//! - `times`: how often children were polled and given an order in the row. Those of the pool and
+//!   those that were given up count, too.
+//! - `asked`: how often the clock was read.
+//! - `parts`: each child, feed and drain of what was launched, with how often it was polled, and
+//!   the orders of each child.
 use crate::handles::duration;
 use crate::machine::{Line, Machine, PartsOf, PoolOf};
 use duct::{Numbered, Place, System};
@@ -34,12 +39,15 @@ pub struct Scripted {
     alloc: Global,
     bench: Bench,
     clock: ScriptClock,
-    /// How many calls the log had when the last start had answered, and when the calls since then were made.
+    /// How many calls the log had when the last start had returned, and when the calls since then
+    /// were made.
     places: (u64, u64),
     parts: String,
 }
 
 impl Scripted {
+    /// Returns a plain scripted system with an empty pool, and a clock that shows zero. Fails on
+    /// allocation failure.
     pub fn new(alloc: Global) -> Result<Scripted, Stop> {
         Ok(Scripted {
             alloc,
@@ -50,7 +58,7 @@ impl Scripted {
         })
     }
 
-    /// Sets what the system is. Returns whether there is such a line.
+    /// Sets up the system by a line. Returns whether there is such a line.
     fn set(&mut self, key: &str, text: &str) -> Result<bool, Stop> {
         let alloc = self.alloc;
         let system = &mut self.bench.sys;
@@ -70,7 +78,7 @@ impl Scripted {
         Ok(true)
     }
 
-    /// How often a child was polled and given an order.
+    /// Returns how often children were polled, and how often they were given an order.
     fn times(&self) -> (u32, u32) {
         let (mut polls, mut orders) = (0_u32, 0_u32);
         for place in 0..self.bench.calls.noted() {
@@ -194,7 +202,7 @@ impl Machine for Scripted {
         }
         answer.push_str("ids")?;
         for id in ids {
-            // The id of a scripted child is its number and 1000.
+            // The id of a scripted child is its number plus 1000.
             let number = u64::from(*id).saturating_sub(1000);
             let program = program(self.bench.sys.journal(), number).unwrap_or("nobody");
             write!(answer, " {program}")?;

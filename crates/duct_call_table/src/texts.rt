@@ -1,12 +1,12 @@
-//! What calls answer, in words.
+//! Texts for the results of calls.
 use duct::{Error, Output};
 use std::alloc::AllocError;
 use std::sync::Arc;
 
-/// How many bytes are told as a text at most.
+/// The greatest number of bytes that are written as text.
 const LONG: usize = 200;
 
-/// Adds what a poll answered: nothing, a status with what was captured, or the text of an error.
+/// Adds the result of a poll: nothing, a status with what was captured, or the text of an error.
 pub fn push_polled(
     text: &mut String,
     polled: &Result<Option<Arc<Output>>, Error>,
@@ -18,7 +18,7 @@ pub fn push_polled(
     }
 }
 
-/// Adds what a run answered.
+/// Adds the result of a run: a status with what was captured, or the text of an error.
 pub fn push_run(text: &mut String, answer: &Result<Output, Error>) -> Result<(), AllocError> {
     match answer {
         Ok(output) => push_output(text, output),
@@ -26,7 +26,7 @@ pub fn push_run(text: &mut String, answer: &Result<Output, Error>) -> Result<(),
     }
 }
 
-/// Adds that an order was obeyed, or why it was not.
+/// Adds that an order was obeyed, or the text of its error.
 pub fn push_done(text: &mut String, answer: &Result<(), Error>) -> Result<(), AllocError> {
     match answer {
         Ok(()) => text.push_str("done. "),
@@ -34,7 +34,7 @@ pub fn push_done(text: &mut String, answer: &Result<(), Error>) -> Result<(), Al
     }
 }
 
-/// Adds a text that was read, in quotes, or why there is none.
+/// Adds a text that was read, in quotes, or of a long one its length, or the text of an error.
 pub fn push_read(text: &mut String, answer: &Result<String, Error>) -> Result<(), AllocError> {
     match answer {
         Ok(read) if read.len() > LONG => {
@@ -60,8 +60,8 @@ fn push_output(text: &mut String, output: &Output) -> Result<(), AllocError> {
     text.push_str(". ")
 }
 
-/// Adds bytes: their text, in which a newline is `\n`, or of long ones and of those that are no text how many there are, and of which value
-/// all of them are.
+/// Adds bytes: their text, in which a newline is `\n`. Of long ones, and of those that are not
+/// UTF-8, adds how many there are, and their value if all have the same.
 pub fn push_bytes(text: &mut String, bytes: &[u8]) -> Result<(), AllocError> {
     match str::from_utf8(bytes) {
         Ok(read) if read.len() <= LONG => push_escaped(text, read),

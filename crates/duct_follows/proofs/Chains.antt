@@ -1,5 +1,5 @@
--- Hooks that make one spec of a spec and no other make one of a command's spec and streams, and where one of them stops the
--- start they make none.
+-- If each hook has at most one result for a spec, the hooks of a command have at most one result
+-- for its spec and streams. If one of them stops the start, they have none.
 use Rattle.std.proofs.Common.{◌≡◌, List, [], ◌∷◌, sym, ◌∙◌, ap, subst, inl, inr}
 use Rattle.duct_system.specs.Origin.{Origin}
 use Rattle.duct_system.specs.SpecView.{SpecView}
@@ -10,22 +10,22 @@ use Rattle.duct_system.specs.declared.system.Kind.TheVariants.{OutOfMemory}
 use Rattle.duct_start.specs.Chain.{Wired, Allows, Refuses, Changes, Chain, Stops, ChainStops, settle}
 use Rattle.duct_follows.specs.Given.{FoundNoMemory}
 
--- each hook makes one spec of a spec
+-- each hook has at most one result for a spec
 abbrev pub MakesOne : {H : Type 0} → Allows H → Type 0
 MakesOne {H} allows = (hook : H) (before one other : SpecView) → allows hook before one → allows hook before other → one ≡ other
 
--- a hook makes nothing of a spec that it refuses, but for want of memory
+-- a hook has no result for a spec that it refuses, unless it refuses with `OutOfMemory`
 abbrev pub MakesNone : {H : Type 0} → Allows H → Refuses H → Type 0
 MakesNone {H} allows refuses = (hook : H) (before made : SpecView) (fault : Fault) → refuses hook before fault → ¬ (fault.kind ≡ OutOfMemory) → ¬ (allows hook before made)
 
--- one hook
+-- one hook has at most one result
 pub changes_one : {H : Type 0} (allows : Allows H) → MakesOne allows
     → (hook : H) (ends : List Origin) (before one other : Wired) →
     Changes allows hook ends before one → Changes allows hook ends before other → one ≡ other
 changes_one allows makes_one hook ends before one other is also =
     is.3 ∙ ap (λ made. settle ends made before) (makes_one hook before.spec is.0 also.0 is.1.allowed also.1.allowed) ∙ sym also.3
 
--- all hooks
+-- a list of hooks has at most one result
 pub chain_one : {H : Type 0} (allows : Allows H) → MakesOne allows
     → (hooks : List (H × List Origin)) (before one other : Wired) →
     Chain allows hooks before one → Chain allows hooks before other → one ≡ other
@@ -34,7 +34,7 @@ chain_one allows makes_one (hook ∷ hooks) before one other is also =
     let same : is.0 ≡ also.0 = changes_one allows makes_one hook.0 hook.1 before is.0 also.0 is.1 also.1 in
     chain_one allows makes_one hooks also.0 one other (subst (λ (between : Wired). Chain allows hooks between one) same is.2) also.2
 
--- one hook that stops the start makes nothing
+-- a hook that stops the start, other than with `OutOfMemory`, has no result
 pub stops_none : {H : Type 0} (allows : Allows H) (refuses : Refuses H) → MakesOne allows
     → MakesNone allows refuses →
     (hook : H) (ends : List Origin) (before after : Wired) (error : Error) → ¬ (FoundNoMemory error) → Stops allows refuses hook ends before error → ¬ (Changes allows hook ends before after)
@@ -47,7 +47,7 @@ stops_none allows refuses makes_one makes_none hook ends before after NotUtf8 de
 stops_none allows refuses makes_one makes_none hook ends before after Deadline decided stops = absurd stops
 stops_none allows refuses makes_one makes_none hook ends before after Memory decided stops = absurd stops
 
--- hooks of which one stops the start make nothing
+-- hooks of which one stops the start in this way have no result
 pub chain_none : {H : Type 0} (allows : Allows H) (refuses : Refuses H) → MakesOne allows
     → MakesNone allows refuses →
     (hooks : List (H × List Origin)) (before after : Wired) (error : Error) → ¬ (FoundNoMemory error) → ChainStops allows refuses hooks before error → ¬ (Chain allows hooks before after)

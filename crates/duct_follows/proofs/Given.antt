@@ -1,4 +1,5 @@
--- What a spawn is to be given is what the hooks make of what the tree asks, and nothing where one of them stops the start.
+-- A spawn must be given what the hooks make of what the tree gives the command, and nothing if one
+-- of them stops the start.
 use Rattle.std.proofs.Common.{◌≡◌, refl, ℕ, List, sym, ◌∙◌, ap, subst, ◌↔◌, Ok, Err, IfOk, IfErr}
 use Rattle.std.specs.declared.option.Option.{Option}
 use Rattle.std.specs.declared.result.Result.{Result}
@@ -21,12 +22,12 @@ use Rattle.duct_plan.specs.AskedOf.{IsAskedThere, IsAnswered}
 use Rattle.duct_plan.specs.declared.asked.Wired as answer
 use Rattle.duct_script.specs.declared.hook.ScriptHook.{ScriptHook}
 
--- an answer that stands for a spec with its streams stands for its own
+-- if a result has some spec and streams, it has those of `wired_of`
 answered_of : (wired : Wired) (asked : answer.Wired) → IsAnswered wired asked
     → IsAnswered (wired_of asked) asked
 answered_of wired asked is = record { spec_is = refl; streams_are = wired-streams asked.spec asked.streams (three_streams wired.input wired.output wired.error asked.streams is.streams_are) }
 
--- and for no other
+-- and they are the same
 answered_is : (wired : Wired) (asked : answer.Wired) → IsAnswered wired asked
     → wired ≡ wired_of asked
 answered_is wired asked is =
@@ -34,15 +35,15 @@ answered_is wired asked is =
     same_wired wired (wired_of asked) (is.spec_is ∙ sym own.spec_is) (is.streams_are ∙ sym own.streams_are)
 
 module _ {E : Type 0} (entries : List EntryView) (number_of : E → ℕ) (place : ℕ) (found : Found E ScriptHook) (words : List (List ℕ)) where
-  -- a command's spec and streams are asked for by the tree
+  -- the tree gives the command this spec and these streams
   abbrev pub IsAskedHere : Wired → Type 0
   IsAskedHere wired = IsAskedAt entries number_of place found words wired
 
-  -- a spec and streams are to be given
+  -- the spawn must be given this spec and these streams
   abbrev IsSpawnedHere : SpecView → List (Stdio Origin) → Type 0
   IsSpawnedHere spec streams = IsSpawnedAt allows number_of entries place found words spec streams
 
-  -- what the answer stands for is asked for
+  -- the tree gives the command the spec and the streams of the result
   pub answer_is_asked : (asked : answer.Wired)
       → IsAskedThere entries number_of place found words asked → IsAskedHere (wired_of asked)
   answer_is_asked asked there = subst IsAskedHere (answered_is there.0 asked there.2) there.1
@@ -78,7 +79,8 @@ module _ {E : Type 0} (entries : List EntryView) (number_of : E → ℕ) (place 
       chain_none allows refuses makes_one makes_none (lent number_of found.hooks) (wired_of asked) is.1 error decided stops also in
       (to, λ never. absurd never)
 
-  -- what the hooks made of it is to be given, or nothing where they stopped the start and that is no want of memory
+  -- the spawn must be given what the hooks made, or nothing if they stopped the start other than
+  -- with `OutOfMemory`
   pub given_is : (asked : answer.Wired) (made : Result answer.Wired Error)
       (given : Option answer.Wired) → IsAskedThere entries number_of place found words asked →
       IfOk made (λ after. Chain allows (lent number_of found.hooks) (wired_of asked) (wired_of after)) →

@@ -1,4 +1,4 @@
--- The fault of the last entry that is no close, once an entry is added.
+-- The fault of the last entry that is not a close, after one more entry.
 use Rattle.std.proofs.Common.{◌≡◌, refl, sym, ◌∙◌, ap, ◌-◌, List, [], ◌∷◌, ◌++◌, length, not, false, Some, slice_get, arith, length-append}
 use Rattle.std.specs.Option.{option_and_then}
 use Rattle.std.proofs.Math.Seq.{get_or-append_seam}
@@ -8,7 +8,7 @@ use Rattle.duct_system.specs.EntryView.{EntryView}
 use Rattle.duct_system.specs.Trace.{is_close, fault_of}
 use Rattle.duct_start.specs.Causes.{asked_in, last_fault}
 
--- the last of a list is the one that was added
+-- the last item of a list is the one that was added
 last-push : (entries : List EntryView) (entry : EntryView)
     → slice_get (entries ++ entry ∷ []) (length (entries ++ entry ∷ []) - 1) ≡ Some entry
 last-push entries entry =
@@ -16,7 +16,7 @@ last-push entries entry =
     rw place (slice_get_read (entries ++ entry ∷ []) (length (entries ++ entry ∷ [])) (length entries) entry refl
     (omega (arith, length-append entries (entry ∷ []))) (sym (get_or-append_seam entries entry [] entry)))
 
--- an entry that is no close is the last of those
+-- an added entry that is not a close is the last such entry
 pub last_fault-push : (entries : List EntryView) (entry : EntryView) → is_close entry ≡ false
     → last_fault (entries ++ entry ∷ []) ≡ fault_of entry
 last_fault-push entries entry open_is =

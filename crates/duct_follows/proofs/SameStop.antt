@@ -1,4 +1,4 @@
--- Hooks stop a start with one error, want of memory aside.
+-- The hooks of a command stop a start with at most one error other than `OutOfMemory`.
 use Rattle.std.proofs.Common.{◌≡◌, List, [], ◌∷◌, subst, inl, inr, ap}
 use Rattle.duct_system.specs.Origin.{Origin}
 use Rattle.duct_system.specs.SpecView.{SpecView}
@@ -11,12 +11,12 @@ use Rattle.duct_follows.specs.Cause.{IsSameStop}
 use Rattle.duct_follows.specs.Given.{FoundNoMemory}
 use Rattle.duct_follows.proofs.Chains.{MakesOne, MakesNone, changes_one, stops_none}
 
--- each hook refuses a spec by one fault, want of memory aside
+-- each hook refuses a spec with at most one fault other than `OutOfMemory`
 abbrev pub RefusesByOne : {H : Type 0} → Refuses H → Type 0
 RefusesByOne {H} refuses = (hook : H) (before : SpecView) (one other : Fault) → refuses hook before one → refuses hook before other →
     ¬ (one.kind ≡ OutOfMemory) → ¬ (other.kind ≡ OutOfMemory) → one ≡ other
 
--- errors that are the same stop are the same
+-- two errors that stop a start in the same way are equal
 pub same_stop_is : (one other : Error) → IsSameStop one other → one ≡ other
 same_stop_is (Hook one) (Hook other) same = ap Hook same
 same_stop_is (HookEnd one) (HookEnd other) same = ap HookEnd same
@@ -39,7 +39,7 @@ same_stop_is Deadline other same = absurd same
 same_stop_is Memory other same = absurd same
 
 module _ {H : Type 0} (allows : Allows H) (refuses : Refuses H) (makes_one : MakesOne allows) (makes_none : MakesNone allows refuses) (refuses_one : RefusesByOne refuses) where
-  -- one hook
+  -- one hook stops a start with at most one such error
   stops_same : (hook : H) (ends : List Origin) (before : Wired) (one other : Error)
       → ¬ (FoundNoMemory one) → ¬ (FoundNoMemory other) →
       Stops allows refuses hook ends before one → Stops allows refuses hook ends before other → IsSameStop one other
@@ -64,7 +64,7 @@ module _ {H : Type 0} (allows : Allows H) (refuses : Refuses H) (makes_one : Mak
   stops_same hook ends before Deadline other decided also stops again = absurd stops
   stops_same hook ends before Memory other decided also stops again = absurd stops
 
-  -- all hooks
+  -- a list of hooks stops a start with at most one such error
   pub chain_stops_same : (hooks : List (H × List Origin)) (before : Wired) (one other : Error)
       → ¬ (FoundNoMemory one) → ¬ (FoundNoMemory other) →
       ChainStops allows refuses hooks before one → ChainStops allows refuses hooks before other → IsSameStop one other

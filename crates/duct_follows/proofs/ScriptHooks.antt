@@ -1,4 +1,5 @@
--- The hooks of the scripted system make one spec of a spec, and none of a spec that they refuse.
+-- A hook of the scripted system has at most one result for a spec, and none for a spec that it
+-- refuses other than with `OutOfMemory`.
 use Rattle.std.proofs.Common.{sym, ◌∙◌, inl, inr}
 use Rattle.duct_follows.proofs.Chains.{MakesOne, MakesNone}
 use Rattle.duct_follows.proofs.SameStop.{RefusesByOne}

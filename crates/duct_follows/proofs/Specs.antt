@@ -1,4 +1,4 @@
--- What a tree asks for a command is one spec with its streams, and no other.
+-- A tree gives a command at most one spec with its streams.
 use Rattle.std.proofs.Common.{◌≡◌, ℕ, List, [], ◌∷◌, sym, ◌∙◌}
 use Rattle.std.specs.declared.option.Option.{Option}
 use Rattle.duct_system.specs.EntryView.{EntryView}
@@ -13,22 +13,22 @@ use Rattle.duct_start.specs.Follows.{IsAskedAt}
 use Rattle.duct_start.specs.Found.{Found}
 use Rattle.duct_follows.proofs.Variables.{same_vars}
 
--- the spec of these parts
+-- the spec with these parts
 abbrev spec_of : List (List ℕ) → Option (List ℕ) → Vars → Port → Port → Port → SpecView
 spec_of words folder vars input output error = record { words = words; folder = folder; vars = vars; input = input; output = output; error = error }
 
--- the spec and the streams of these parts
+-- the spec and the streams with these parts
 abbrev wired_of : SpecView → Stdio Origin → Stdio Origin → Stdio Origin → Wired
 wired_of spec input output error = record { spec = spec; input = input; output = output; error = error }
 
--- specs with the same parts
+-- specs with the same parts are equal
 pub same_spec : (one other : SpecView) → one.words ≡ other.words → one.folder ≡ other.folder
     → one.vars ≡ other.vars →
     one.input ≡ other.input → one.output ≡ other.output → one.error ≡ other.error → one ≡ other
 same_spec one other words folder vars input output error =
     let same : spec_of one.words one.folder one.vars one.input one.output one.error ≡ spec_of other.words other.folder other.vars other.input other.output other.error = cc in same
 
--- specs that are asked for the same
+-- specs that are asked for with the same variables, program, lookup and words are equal
 pub same_asked : {E H : Type 0} (pairs : Vars) (program : List ℕ) (found : Found E H)
     (words : List (List ℕ)) (one other : SpecView) →
     IsAsked pairs program found words one → IsAsked pairs program found words other → one ≡ other
@@ -41,14 +41,14 @@ same_asked pairs program found words one other is also =
     (is.ports_are Out ∙ sym (also.ports_are Out))
     (is.ports_are Err ∙ sym (also.ports_are Err))
 
--- specs with their streams
+-- specs with their streams are equal if their parts are
 pub same_wired : (one other : Wired) → one.spec ≡ other.spec
     → one.input ∷ one.output ∷ one.error ∷ [] ≡ other.input ∷ other.output ∷ other.error ∷ []
     → one ≡ other
 same_wired one other spec streams =
     let same : wired_of one.spec one.input one.output one.error ≡ wired_of other.spec other.input other.output other.error = cc in same
 
--- so what is asked for a command is one
+-- so a tree gives a command at most one spec with its streams
 pub same_asked_at : {E H : Type 0} (entries : List EntryView) (number_of : E → ℕ) (place : ℕ)
     (found : Found E H) (words : List (List ℕ)) (one other : Wired) →
     IsAskedAt entries number_of place found words one → IsAskedAt entries number_of place found words other → one ≡ other

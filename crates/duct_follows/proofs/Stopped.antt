@@ -1,4 +1,5 @@
--- Whether the hooks of a command stop the start with an error, as they are run over what the tree asks for it.
+-- Whether the hooks of a command stop the start with an error when they run on what the tree gives
+-- it.
 use Rattle.std.proofs.Common.{◌≡◌, ℕ, Bool, List, [], ◌∷◌, sym, subst, inl, inr, refl, ◌↔◌, IsTrue, length, slice_get, Ok, Err, IfOk, IfErr}
 use Rattle.std.specs.declared.option.Option.{Option}
 use Rattle.std.specs.declared.result.Result.{Result}
@@ -24,7 +25,7 @@ use Rattle.duct_plan.specs.AskedOf.{IsAskedThere}
 use Rattle.duct_plan.specs.declared.asked.Wired as answer
 use Rattle.duct_script.specs.declared.hook.ScriptHook.{ScriptHook}
 
--- where there is a hook it may find no memory
+-- if there is a hook, it may refuse with `OutOfMemory`
 memory_stops : {E : Type 0} (number_of : E → ℕ) (found : List (ScriptHook × List E))
     (before : Wired) (error : Error) → FoundNoMemory error → ¬ (found ≡ []) →
     ChainStops allows refuses (lent number_of found) before error
@@ -37,7 +38,7 @@ memory_stops number_of (hook ∷ found) before NotUtf8 memory some = absurd memo
 memory_stops number_of (hook ∷ found) before Deadline memory some = absurd memory
 memory_stops number_of (hook ∷ found) before Memory memory some = absurd memory
 
--- and where something stops the start there is a hook
+-- and if something stops the start, there is a hook
 stops_some : {E : Type 0} (number_of : E → ℕ) (found : List (ScriptHook × List E)) (before : Wired)
     (error : Error) →
     ChainStops allows refuses (lent number_of found) before error → ¬ (found ≡ [])
@@ -49,7 +50,7 @@ module _ {E : Type 0} (entries : List EntryView) (number_of : E → ℕ) (place 
   abbrev IsStopped : Error → Type 0
   IsStopped error = (before : Wired) × IsAskedAt entries number_of place found words before × ChainStops allows refuses (lent number_of found.hooks) before error
 
-  -- they do over what the answer stands for
+  -- then they stop it when they run on the spec and the streams of the result
   over_the_answer : (error : Error) → IsStopped error
       → ChainStops allows refuses (lent number_of found.hooks) (wired_of asked) error
   over_the_answer error is =
@@ -86,7 +87,7 @@ module _ {E : Type 0} (entries : List EntryView) (number_of : E → ℕ) (place 
   stopped_is made error some_hook told some chain stops (inl memory) = stopped_by_memory error some_hook told memory.0 memory.1 some
   stopped_is made error some_hook told some chain stops (inr decided) = stopped_as_told made error told chain stops decided.0 decided.1
 
--- the next item stands at the place after the trace
+-- the next item is at the place after the trace
 pub next_is : {E : Type 0} (number_of : E → ℕ) (plan : Plan E ScriptHook) (added : List EntryView)
     (place : ℕ) (item : Option (Item E ScriptHook)) (error : Error) (told : Bool) →
     place ≡ length (trace added) → slice_get plan.items place ≡ item → IsTrue told ↔ StoppedBy allows refuses number_of (trace added) place item error →

@@ -6,11 +6,11 @@ use Rattle.std.proofs.lemmas.Slice.Eq.{slice_eq-Decides, bytes_eq-Decides}
 use Rattle.duct_status.proofs.Texts.{pointwise-map, same_text}
 use Rattle.duct_plan.specs.Found.{pair_seen}
 
--- whether two pairs of texts are the same
+-- whether two pairs of texts are equal
 abbrev same_pair : List ℕ × List ℕ → List ℕ × List ℕ → Bool
 same_pair one other = same_text one.0 other.0 && same_text one.1 other.1
 
--- two pairs, by a test of each part
+-- two pairs are compared by a test of each part
 parts_decide : (one other : List ℕ × List ℕ) (first second : Bool)
     → Decides first (one.0 ≡ other.0) → Decides second (one.1 ≡ other.1)
     → Decides (first && second) (one ≡ other)
@@ -21,7 +21,7 @@ parts_decide one other false second is also = (λ yes. absurd (false≢true yes)
 pair_decides : (one other : List ℕ × List ℕ) → Decides (same_pair one other) (one ≡ other)
 pair_decides one other = parts_decide one other _ _ (bytes_eq-Decides one.0 other.0) (bytes_eq-Decides one.1 other.1)
 
--- pairs of texts that are lent
+-- pairs of borrowed texts
 pub pairs_decide : (xs ys : List (Bor (List ℕ) × Bor (List ℕ))) (result : Bool) →
     result ≡ pointwise (λ x y. same_pair (pair_seen x) (pair_seen y)) xs ys → Decides result (map pair_seen xs ≡ map pair_seen ys)
 pairs_decide xs ys result is = slice_eq-Decides pair_decides (map pair_seen xs) (map pair_seen ys) result (is ∙ sym (pointwise-map pair_seen same_pair xs ys))

@@ -1,4 +1,4 @@
--- Variables in order of name that find the same of each name are the same.
+-- Two lists of variables in order of name in which the same is found for each name are equal.
 use Rattle.std.proofs.Common.{◌≡◌, refl, sym, ◌∙◌, ap, cond, List, [], ◌∷◌, ℕ, Some, None, Bool, true, false, Ordering}
 use Rattle.std.specs.Map.{keys_of}
 use Rattle.std.specs.Ordering.{is_eq, ordering_reverse}
@@ -10,18 +10,18 @@ use Rattle.duct_system.specs.Name.{is_same_name, name_cmp}
 use Rattle.duct_system.specs.SpecView.{Vars, AreOrdered, variable_in}
 use Rattle.duct_system.proofs.Variables.{name_equiv, name_total, name_ties, none_there}
 
--- what is found of the first name
+-- the variable that is found for the first name
 at_head : (first : List ℕ × List ℕ) (rest : Vars) → variable_in first.0 (first ∷ rest) ≡ Some first
 at_head first rest = ap (λ b. cond b (Some first) (variable_in first.0 rest)) (name_equiv.refl first.0)
 
--- the first name stands nowhere after it
+-- the first name does not occur after the first variable
 past_head : (name : List ℕ) (first : List ℕ × List ℕ) (rest : Vars) → AreOrdered (first ∷ rest)
     → is_same_name name first.0 ≡ true → variable_in name rest ≡ None
 past_head name first rest ordered same =
     none_there name name (name_equiv.refl name) rest
     (none_past_head (eq_by_cmp_equiv name_total) name first rest (IsDistinct-from_sorted name_cmp _ ordered) (sym (name_ties name first.0) ∙ same))
 
--- a name below the first stands nowhere
+-- a name below the first does not occur
 below_head : (name : List ℕ) (first : List ℕ × List ℕ) (rest : Vars) → AreOrdered (first ∷ rest)
     → name_cmp name first.0 ≡ Less → variable_in name (first ∷ rest) ≡ None
 below_head name first rest ordered below =
@@ -37,7 +37,7 @@ heads_tie x y xs ys one other found Greater is =
     let below : name_cmp y.0 x.0 ≡ Less = name_total.antisymm y.0 x.0 ∙ ap ordering_reverse is in
     let absent = below_head y.0 x xs one below in let there = at_head y ys in let same = found y.0 in cc
 
--- what is found of one name after the first, whether it is the first name or not
+-- what is found for a name after the first variable, whether it is the first name or not
 tails_at : (name : List ℕ) (x y : List ℕ × List ℕ) (xs ys : Vars) → AreOrdered (x ∷ xs)
     → AreOrdered (y ∷ ys) → x ≡ y → variable_in name (x ∷ xs) ≡ variable_in name (y ∷ ys) →
     (same : Bool) → is_same_name name x.0 ≡ same → variable_in name xs ≡ variable_in name ys

@@ -14,12 +14,12 @@ use Rattle.duct_follows.specs.Wiring.{wired_with}
 abbrev pub streams_in : Wired → List (Stdio Origin)
 streams_in wired = wired.input ∷ wired.output ∷ wired.error ∷ []
 
--- a list that stands for three streams has three
+-- a list that stands for three streams has three items
 pub three_streams : (input output error : Stdio Origin) (streams : List (Stdio Source))
     → input ∷ output ∷ error ∷ [] ≡ map (stream_of origin_of) streams → length streams ≡ 3
 three_streams input output error streams are = omega (arith, simp length-map at (ap length are))
 
--- three streams are the list of the three
+-- the three streams of a list of three are that list
 pub wired-streams : (spec : SpecView) (streams : List (Stdio Source)) → length streams ≡ 3
     → streams_in (wired_with spec streams) ≡ map (stream_of origin_of) streams
 wired-streams spec [] three = absurd (omega arith)

@@ -1,4 +1,4 @@
--- The spec and the streams that a spawn is to be given, as the code answers them.
+-- The spec and the streams that a spawn must be given, as the code returns them.
 use Rattle.std.specs.Prelude.{List, ◌≡◌, map, Ok, Err, Some, None}
 use Rattle.std.specs.declared.option.Option.{Option}
 use Rattle.std.specs.declared.result.Result.{Result}
@@ -14,27 +14,28 @@ use Rattle.duct_follows.specs.declared.untold.Untold.TheVariants.{HookOutOfMemor
 use Rattle.duct_plan.specs.declared.asked.Wired.{Wired}
 use Rattle.duct_plain.specs.Source.{origin_of}
 
--- they are those of the answer
+-- this spec and these streams are those of the result
 pub record AreThese (given : Wired) (spec : SpecView) (streams : List (Stdio Origin)) : Type 0 where
   pub spec_is : spec ≡ given.spec
   pub streams_are : streams ≡ map (stream_of origin_of) given.streams
 
--- they are those of the answer, and without one there are none
+-- this spec and these streams are those of the result; without a result there are none
 abbrev pub AreAnswered : Option Wired → SpecView → List (Stdio Origin) → Type 0
 AreAnswered (Some given) spec streams = AreThese given spec streams
 AreAnswered None spec streams = ⊥
 
--- an error is that of a hook which found no memory
+-- an error is that of a hook that refused with `OutOfMemory`
 abbrev pub FoundNoMemory : Error → Type 0
 FoundNoMemory (Hook fault) = fault.kind ≡ OutOfMemory
 FoundNoMemory _ = ⊥
 
--- what the hooks made is the answer, and there is none where they stopped the start for another cause than want of memory
+-- what the hooks made is the result; if they stopped the start, there is none, and not because a
+-- hook refused with `OutOfMemory`
 abbrev pub Decides : Result Wired Error → Option Wired → Type 0
 Decides (Ok after) given = given ≡ Some after
 Decides (Err error) given = (given ≡ None) × ¬ (FoundNoMemory error)
 
--- what the hooks made is not told, since one of them refused for want of memory
+-- it is not known what the hooks made, since one of them refused with `OutOfMemory`
 abbrev pub IsUntoldBy : Result Wired Error → Untold → Type 0
 IsUntoldBy (Ok after) untold = ⊥
 IsUntoldBy (Err error) untold = (untold ≡ HookOutOfMemory) × FoundNoMemory error

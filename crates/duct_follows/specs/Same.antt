@@ -2,7 +2,7 @@
 use Rattle.std.specs.Prelude.{◌≡◌}
 use Rattle.duct_system.specs.SpecView.{SpecView}
 
--- the streams of two specs go to the same places
+-- the streams of two specs have the same ports
 pub record HaveSamePorts (one other : SpecView) : Type 0 where
   pub input_is : one.input ≡ other.input
   pub output_is : one.output ≡ other.output

@@ -1,4 +1,4 @@
--- What the code knows of a command's spec, its streams and its hooks, as the definitions of a chain see it.
+-- A command's spec, streams and hooks in the code, as the definitions of a chain see them.
 use Rattle.std.specs.Prelude.{ℕ, List, map, slice_get, Some, None}
 use Rattle.std.specs.Borrow.{Bor}
 use Rattle.std.specs.declared.option.Option.{Option}
@@ -13,7 +13,7 @@ use Rattle.duct_plan.specs.declared.asked.Wired as answer
 use Rattle.duct_plain.specs.Source.{origin_of}
 use Rattle.duct_plain.specs.declared.checker.Source.{Source}
 
--- where a stream comes from; one that is not there is the parent's own
+-- where a stream comes from; a stream that is not in the list is the parent's own
 abbrev pub from : Option (Stdio Source) → Stdio Origin
 from (Some stream) = stream_of origin_of stream
 from None = Inherit
@@ -33,10 +33,10 @@ wired_with spec streams =
 abbrev pub wired_of : answer.Wired → Wired
 wired_of wired = wired_with wired.spec wired.streams
 
--- the hooks with the ends beside them
+-- the hooks with their ends
 abbrev pub hooks_of : {E H : Type 0} → List (Bor H × Bor (List E)) → List (H × List E)
 hooks_of hooks = map hook_of hooks
 
--- where the ends beside a hook come from: they are the caller's own
+-- where the ends of a hook come from: they are caller's ends
 abbrev pub lent_ends : {E : Type 0} → (E → ℕ) → List E → List Origin
 lent_ends number_of ends = map (λ end. Lent (number_of end)) ends

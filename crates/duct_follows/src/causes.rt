@@ -1,4 +1,4 @@
-//! Whether the error of a refused start has a cause, for hooks of the scripted system.
+//! Whether the error of a failed start has a cause, for hooks of the scripted system.
 ghost use Rattle.std.specs.Prelude.{◌≡◌, ◌↔◌, ◌⊎◌, ◌≤◌, [], length, map, string_bytes, slice_get, IfOk, IsTrue, Some};
 ghost use Rattle.std.specs.Option.{option_copied};
 ghost use Rattle.duct_system.specs.EntryView.{entry_view};
@@ -26,9 +26,12 @@ use duct_plan::items::{Item, Plan};
 use duct_script::hook::ScriptHook;
 use std::alloc::Global;
 
-/// Whether the error by which a start was refused has a cause in what was added: a system's fault but want of memory is that of
-/// the last entry which is no close, and a hook's error is that of the hooks of the next command. For this those hooks are run
-/// once more, over a spec of their own. It is not told for want of memory, and where one of them refuses by `OutOfMemory`.
+/// Returns whether the error of a failed start has a cause, given the plan and the entries that the
+/// start added. A fault of the system other than `OutOfMemory` must be that of the last entry that
+/// is not a close. An error of a hook must be that of the hooks of the next command. To find it,
+/// those hooks are run again, on a spec of their own. Fails with `Untold::HookOutOfMemory` if one
+/// of them then refuses with `OutOfMemory` and the error is not a hook's `OutOfMemory`, and with
+/// `Untold::Memory` on allocation failure.
 pub fn has_cause<E: Numbered>(
     alloc: Global,
     plan: &Plan<'_, E, ScriptHook>,
@@ -48,7 +51,7 @@ pub fn has_cause<E: Numbered>(
     }
 }
 
-/// Whether a fault is want of memory, or that of the last entry which is no close.
+/// Returns whether a fault is `OutOfMemory`, or that of the last entry that is not a close.
 fn is_last_fault(added: &[Entry], fault: Fault) -> bool
     ensures { IsTrue result ↔
         ((fault.kind ≡ OutOfMemory) ⊎ (last_fault (map entry_view added.now) ≡ Some fault)) }
@@ -56,7 +59,7 @@ fn is_last_fault(added: &[Entry], fault: Fault) -> bool
     fault.kind == Kind::OutOfMemory || last_fault(added) == Some(fault)
 }
 
-/// The fault of the last entry that is no close, if it was refused.
+/// Returns the fault of the last entry that is not a close, if that entry has one.
 pub fn last_fault(added: &[Entry]) -> Option<Fault>
     ensures { result ≡ last_fault (map entry_view added.now) }
 {
@@ -72,7 +75,8 @@ pub fn last_fault(added: &[Entry]) -> Option<Fault>
     }
 }
 
-/// Whether the error is that fault of the last entry which is no close, where that entry was refused.
+/// Returns whether the error is the fault of the last entry that is not a close. If that entry has
+/// no fault, it returns true.
 pub fn answers_last_fault(added: &[Entry], error: &Error) -> bool
     ensures { IsTrue result ↔ AnswersLastFault (map entry_view added.now) error.now }
 {
@@ -82,7 +86,7 @@ pub fn answers_last_fault(added: &[Entry], error: &Error) -> bool
     }
 }
 
-/// Whether an error is this fault of the system.
+/// Returns whether an error is this fault of the system.
 fn is_fault(error: &Error, fault: Fault) -> bool
     ensures { IsTrue result ↔ (error.now ≡ Error.System fault) }
 {
@@ -92,7 +96,8 @@ fn is_fault(error: &Error, fault: Fault) -> bool
     }
 }
 
-/// Whether the next item of the plan is the spawn of a command whose hooks stop the start with this error.
+/// Returns whether the next item of the plan is the spawn of a command whose hooks stop the start
+/// with this error.
 fn is_stopped_next<E: Numbered>(
     alloc: Global,
     plan: &Plan<'_, E, ScriptHook>,
@@ -110,14 +115,15 @@ fn is_stopped_next<E: Numbered>(
     }
 }
 
-/// The item at a place, if there is one.
+/// Returns the item at a place, if there is one.
 fn item_at<T>(items: &[T], place: usize) -> Option<&T>
     ensures { option_copied result ≡ slice_get items.now place }
 {
     items.get(place)
 }
 
-/// Whether the item at this place is the spawn of a command whose hooks stop the start with this error.
+/// Returns whether the item at this place is the spawn of a command whose hooks stop the start with
+/// this error.
 fn is_stopped_by<E: Numbered>(
     alloc: Global,
     added: &[Entry],
@@ -136,7 +142,8 @@ fn is_stopped_by<E: Numbered>(
     }
 }
 
-/// Whether the hooks of the command whose item stands at this place stop the start with this error.
+/// Returns whether the hooks of the command whose item is at this place stop the start with this
+/// error.
 fn is_stopped<E: Numbered>(
     alloc: Global,
     added: &[Entry],
@@ -156,7 +163,7 @@ fn is_stopped<E: Numbered>(
     stops_with(wired(asked, hooks), is_some_hook(hooks), error)
 }
 
-/// Whether there is a hook.
+/// Returns whether there is a hook.
 fn is_some_hook<E, H>(hooks: &[(&H, &[E])]) -> bool
     ensures { IsTrue result ↔ ¬ (hooks_of hooks.now ≡ []) }
 {
@@ -166,7 +173,8 @@ fn is_some_hook<E, H>(hooks: &[(&H, &[E])]) -> bool
     }
 }
 
-/// Whether the hooks, if there are any, stopped the start with this error. It is not told where a hook refused by `OutOfMemory`.
+/// Returns whether the hooks, if there are any, stopped the start with this error. Fails if a hook
+/// refused with `OutOfMemory` and the error is another one.
 fn stops_with(made: Result<Wired, Error>, some_hook: bool, error: &Error) -> Result<bool, Untold>
     ensures { IfOk result (Tells made some_hook error.now) }
 {
@@ -185,7 +193,7 @@ fn stops_with(made: Result<Wired, Error>, some_hook: bool, error: &Error) -> Res
     }
 }
 
-/// Whether two errors of hooks are the same.
+/// Returns whether two errors of hooks are equal.
 fn is_same_stop(one: &Error, other: &Error) -> bool
     ensures { IsTrue result ↔ IsSameStop one.now other.now }
 {

@@ -1,4 +1,5 @@
-//! What the hooks of a command make of its spec and its streams, or the error by which one of them stops the start.
+//! What the hooks of a command make of its spec and its streams, or the error with which one of
+//! them stops the start.
 ghost use Rattle.std.specs.Prelude.{◌≡◌, length, OnOk, IfOk, IfErr};
 ghost use Rattle.duct_system.specs.Streams.{stream_of};
 ghost use Rattle.duct_start.specs.Chain.{Changes, Chain, Stops, ChainStops, lent, missing, missing_at, settle, settled, with_found};
@@ -12,9 +13,10 @@ use duct_base::system::{Numbered, Stdio};
 use duct_plain::checker::Source;
 use duct_plan::asked::Wired;
 
-/// Runs the hooks of a command over what the tree asks for it, the outermost first: answers its spec afterwards, and where its
-/// streams come from then. The places that a hook names are looked for among the ends beside it, in the order stdin, stdout,
-/// stderr. Refused by the error with which the first hook that refuses, or names a place that is not there, stops a start.
+/// Runs the hooks of a command on what the tree gives it, the outermost first. Returns its spec
+/// after them, and where its streams then come from. Each hook's places are looked up among its
+/// ends, in the order stdin, stdout, stderr. Fails with the error with which a start would stop:
+/// that of the first hook that refuses the spec or names a place at which it has no end.
 pub fn wired<E: Numbered, H: Hook>(asked: Wired, hooks: &[(&H, &[E])]) -> Result<Wired, Error>
     ensures ok { IfOk result
         (λ after. Chain H.allows (lent E.number_of (hooks_of hooks.now)) (wired_of asked)
@@ -29,7 +31,7 @@ pub fn wired<E: Numbered, H: Hook>(asked: Wired, hooks: &[(&H, &[E])]) -> Result
     Ok(after)
 }
 
-/// Runs the hooks over a spec and its streams.
+/// Runs the hooks on a spec and its streams.
 fn run<E: Numbered, H: Hook>(
     spec: &mut CommandSpec,
     streams: &mut [Stdio<Source>; 3],
@@ -52,7 +54,7 @@ fn run<E: Numbered, H: Hook>(
     }
 }
 
-/// Runs one hook over a spec and its streams.
+/// Runs one hook on a spec and its streams.
 fn change<E: Numbered, H: Hook>(
     hook: &H,
     ends: &[E],
@@ -76,7 +78,8 @@ fn change<E: Numbered, H: Hook>(
     Ok(())
 }
 
-/// The first place of a spec that is not there, in the order stdin, stdout, stderr.
+/// Returns the first place in a spec at which the hook has no end, in the order stdin, stdout,
+/// stderr.
 fn missing(count: usize, spec: &CommandSpec) -> Option<usize>
     ensures { result ≡ missing count spec.now }
 {
@@ -85,7 +88,7 @@ fn missing(count: usize, spec: &CommandSpec) -> Option<usize>
         .or(missing_at(count, spec.port(Stream::Err)))
 }
 
-/// The place that a port names, if it is not there.
+/// Returns the place that a port names, if the hook has no end at that place.
 fn missing_at(count: usize, port: Port) -> Option<usize>
     ensures { result ≡ missing_at count port }
 {
@@ -95,7 +98,7 @@ fn missing_at(count: usize, port: Port) -> Option<usize>
     }
 }
 
-/// Finds the places of a spec among the ends beside its hook.
+/// Finds the places of a spec among the ends of its hook.
 fn settle<E: Numbered>(ends: &[E], spec: &mut CommandSpec, streams: &mut [Stdio<Source>; 3])
     ensures { wired_with spec.new streams.new
         ≡ settle (lent_ends E.number_of ends.now) spec.old (wired_with spec.old streams.old) }
@@ -111,7 +114,7 @@ fn settle<E: Numbered>(ends: &[E], spec: &mut CommandSpec, streams: &mut [Stdio<
     find(spec, Stream::Err);
 }
 
-/// What a port makes of a stream.
+/// Returns what a port makes of a stream.
 fn settled<E: Numbered>(ends: &[E], port: Port, stream: Stdio<Source>) -> Stdio<Source>
     ensures { stream_of origin_of result
         ≡ settled (lent_ends E.number_of ends.now) port (stream_of origin_of stream) }
@@ -127,7 +130,7 @@ fn settled<E: Numbered>(ends: &[E], port: Port, stream: Stdio<Source>) -> Stdio<
     }
 }
 
-/// Gives a stream the end at its place, if it has one.
+/// Makes the port of a stream `Given` if it is a place.
 fn find(spec: &mut CommandSpec, stream: Stream)
     ensures { spec.new ≡ with_found stream spec.old }
 {

@@ -29,9 +29,11 @@ use duct_plan::trace::{first_end, second_end};
 use duct_script::hook::ScriptHook;
 use std::alloc::{AllocError, Global};
 
-/// Whether what was added follows a front of the plan: each entry of its trace answers the item of the plan at its place, and
-/// after an entry with a fault there are only closes. For this the hooks of the commands are run once more, over specs of
-/// their own. It is not told for want of memory, and where a hook refuses by `OutOfMemory`.
+/// Returns whether the added entries follow a prefix of the plan: each entry of their trace matches
+/// the item of the plan at its place, and only closes come after an entry with a fault. To check
+/// this, the hooks of the commands are run again, on specs of their own. Fails with
+/// `Untold::HookOutOfMemory` if a hook refuses with `OutOfMemory`, and with `Untold::Memory` on
+/// allocation failure.
 pub fn follows<E: Numbered>(
     alloc: Global,
     plan: &Plan<'_, E, ScriptHook>,
@@ -47,8 +49,9 @@ pub fn follows<E: Numbered>(
     Ok(answered && stops_at_fault(added))
 }
 
-/// Whether what was added follows the whole plan, without a fault. For this the hooks of the commands are run once more, over
-/// specs of their own. It is not told for want of memory, and where a hook refuses by `OutOfMemory`.
+/// Returns whether the added entries follow the whole plan, without a fault. To check this, the
+/// hooks of the commands are run again, on specs of their own. Fails with `Untold::HookOutOfMemory`
+/// if a hook refuses with `OutOfMemory`, and with `Untold::Memory` on allocation failure.
 pub fn follows_whole<E: Numbered>(
     alloc: Global,
     plan: &Plan<'_, E, ScriptHook>,
@@ -62,7 +65,8 @@ pub fn follows_whole<E: Numbered>(
     Ok(trace.len() == plan.items.len() && is_clean(added) && follows(alloc, plan, added)?)
 }
 
-/// Whether the entries from a place of the trace on answer the items from there on, as far as they go.
+/// Returns whether the entries from a place of the trace on match the items from that place on, as
+/// far as there are entries.
 fn answers_from<E: Numbered>(
     alloc: Global,
     added: &[Entry],
@@ -87,7 +91,7 @@ fn answers_from<E: Numbered>(
     }
 }
 
-/// Whether an entry of the trace answers the item at its place.
+/// Returns whether an entry of the trace matches the item at its place.
 fn answers<E: Numbered>(
     alloc: Global,
     added: &[Entry],
@@ -119,7 +123,8 @@ fn answers<E: Numbered>(
     }
 }
 
-/// Whether an end comes from the read end of the pipe that the entry at this place of the trace got.
+/// Returns whether an end comes from the read end of the pipe that the entry at this place of the
+/// trace opened.
 fn is_reader(alloc: Global, added: &[Entry], pipe: usize, end: u64) -> Result<bool, AllocError>
     ensures { IfOk result
         (λ yes. IsTrue yes ↔
@@ -130,7 +135,8 @@ fn is_reader(alloc: Global, added: &[Entry], pipe: usize, end: u64) -> Result<bo
     Ok(origin(added, end) == Source::Opened(first_end(trace.as_slice(), pipe)))
 }
 
-/// Whether an end comes from the write end of the pipe that the entry at this place of the trace got.
+/// Returns whether an end comes from the write end of the pipe that the entry at this place of the
+/// trace opened.
 fn is_writer(alloc: Global, added: &[Entry], pipe: usize, end: u64) -> Result<bool, AllocError>
     ensures { IfOk result
         (λ yes. IsTrue yes ↔
@@ -141,7 +147,8 @@ fn is_writer(alloc: Global, added: &[Entry], pipe: usize, end: u64) -> Result<bo
     Ok(origin(added, end) == Source::Opened(second_end(trace.as_slice(), pipe)))
 }
 
-/// Whether a spawn was given the spec that it is to be given, and ends that come from where they are to come from.
+/// Returns whether a spawn was given the spec that it must be given, and ends that come from where
+/// they must come from.
 fn is_answered(
     added: &[Entry],
     spec: &CommandSpec,
@@ -158,8 +165,9 @@ fn is_answered(
     }
 }
 
-/// The spec that the spawn of a command is to be given, and where its streams are to come from: what its hooks make of what
-/// the tree asks for it. Nothing where one of them stops the start.
+/// Returns the spec that the spawn of a command must be given, and where its streams must come
+/// from: what its hooks make of what the tree gives it. Returns `None` if one of them stops the
+/// start.
 fn given<E: Numbered>(
     alloc: Global,
     added: &[Entry],
@@ -178,7 +186,8 @@ fn given<E: Numbered>(
     decided(wired(asked, found.hooks.as_slice()))
 }
 
-/// What the hooks made, or nothing where one of them stopped the start. It is not told where a hook refused by `OutOfMemory`.
+/// Returns what the hooks made, or `None` if one of them stopped the start. Fails if a hook refused
+/// with `OutOfMemory`.
 fn decided(made: Result<Wired, Error>) -> Result<Option<Wired>, Untold>
     ensures ok { IfOk result (Decides made) }
     ensures err { IfErr result (IsUntoldBy made) }
@@ -195,7 +204,7 @@ fn decided(made: Result<Wired, Error>) -> Result<Option<Wired>, Untold>
     }
 }
 
-/// Whether an error is that of a hook which found no memory.
+/// Returns whether an error is that of a hook that refused with `OutOfMemory`.
 pub(crate) fn found_no_memory(error: &Error) -> bool
     ensures { IsTrue result ↔ FoundNoMemory error.now }
 {

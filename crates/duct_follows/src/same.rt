@@ -1,4 +1,4 @@
-//! Whether two specs are the same, and whether two lists of streams come from the same places.
+//! Whether two specs are equal, and whether two lists of streams come from the same places.
 ghost use Rattle.std.specs.Prelude.{◌≡◌, ◌↔◌, map, string_bytes, IfOk, IsTrue};
 ghost use Rattle.std.specs.Option.{option_copied};
 ghost use Rattle.duct_system.specs.EntryView.{entry_view};
@@ -13,7 +13,7 @@ use duct_base::system::{Entry, Stdio};
 use duct_plain::checker::{Source, origin};
 use std::alloc::AllocError;
 
-/// Whether two specs are the same. Refused only for want of memory.
+/// Returns whether two specs are equal. Fails only on allocation failure.
 pub fn same_spec(one: &CommandSpec, other: &CommandSpec) -> Result<bool, AllocError>
     ensures { IfOk result (λ same. IsTrue same ↔ (one.now ≡ other.now)) }
 {
@@ -27,7 +27,7 @@ pub fn same_spec(one: &CommandSpec, other: &CommandSpec) -> Result<bool, AllocEr
     )
 }
 
-/// The variables of a spec.
+/// Returns the variables of a spec.
 fn vars(spec: &CommandSpec) -> Result<Vec<(&str, &str)>, AllocError>
     ensures { IfOk result (λ vars. map pair_seen vars.items ≡ spec.now.vars) }
 {
@@ -37,28 +37,28 @@ fn vars(spec: &CommandSpec) -> Result<Vec<(&str, &str)>, AllocError>
     }
 }
 
-/// Whether two lists of texts are the same.
+/// Returns whether two lists of texts are equal.
 fn same_texts(one: &[String], other: &[String]) -> bool
     ensures { IsTrue result ↔ (map string_bytes one.now ≡ map string_bytes other.now) }
 {
     one == other
 }
 
-/// Whether two folders are the same, if there are any.
+/// Returns whether two folders are equal, or both are missing.
 fn same_folder(one: Option<&str>, other: Option<&str>) -> bool
     ensures { IsTrue result ↔ (option_copied one.entry ≡ option_copied other.entry) }
 {
     one == other
 }
 
-/// Whether two lists of variables are the same.
+/// Returns whether two lists of variables are equal.
 fn same_vars(one: &[(&str, &str)], other: &[(&str, &str)]) -> bool
     ensures { IsTrue result ↔ (map pair_seen one.now ≡ map pair_seen other.now) }
 {
     one == other
 }
 
-/// Whether the streams of two specs go to the same places.
+/// Returns whether the streams of two specs have the same ports.
 fn same_ports(one: &CommandSpec, other: &CommandSpec) -> bool
     ensures { IsTrue result ↔ HaveSamePorts one.now other.now }
 {
@@ -67,14 +67,14 @@ fn same_ports(one: &CommandSpec, other: &CommandSpec) -> bool
         && same_port(one.port(Stream::Err), other.port(Stream::Err))
 }
 
-/// Whether two ports are the same.
+/// Returns whether two ports are equal.
 fn same_port(one: Port, other: Port) -> bool
     ensures { IsTrue result ↔ (one ≡ other) }
 {
     one == other
 }
 
-/// Whether the ends of three streams come from these places, by what the entries say.
+/// Returns whether the ends of three streams come from these sources, according to the entries.
 pub fn same_streams(entries: &[Entry], io: &[Stdio<u64>; 3], streams: &[Stdio<Source>; 3]) -> bool
     ensures { IsTrue result ↔
         (map (stream_of (origin (map entry_view entries.now))) io.now
@@ -87,7 +87,7 @@ pub fn same_streams(entries: &[Entry], io: &[Stdio<u64>; 3], streams: &[Stdio<So
         && same_stream(entries, error, from_error)
 }
 
-/// Whether the end of a stream comes from this place.
+/// Returns whether the end of a stream comes from this source.
 fn same_stream(entries: &[Entry], stream: Stdio<u64>, source: Stdio<Source>) -> bool
     ensures { IsTrue result ↔
         (stream_of (origin (map entry_view entries.now)) stream ≡ stream_of origin_of source) }

@@ -6,7 +6,7 @@ ghost use Rattle.duct_system.specs.Trace.{is_close, IsClean, OnlyCloses, StopsAt
 use duct_base::system::Entry;
 use duct_plain::checker::fault_of;
 
-/// Whether no entry has a fault.
+/// Returns whether no entry has a fault.
 pub fn is_clean(entries: &[Entry]) -> bool
     ensures { IsTrue result ↔ IsClean (map entry_view entries.now) }
 {
@@ -18,7 +18,7 @@ pub fn is_clean(entries: &[Entry]) -> bool
     true
 }
 
-/// Whether after an entry with a fault there are only closes.
+/// Returns whether only closes come after an entry with a fault.
 pub fn stops_at_fault(entries: &[Entry]) -> bool
     ensures { IsTrue result ↔ StopsAtFault (map entry_view entries.now) }
 {
@@ -32,7 +32,7 @@ pub fn stops_at_fault(entries: &[Entry]) -> bool
     true
 }
 
-/// Whether each entry is a close.
+/// Returns whether each entry is a close.
 fn only_closes(entries: &[Entry]) -> bool
     ensures { IsTrue result ↔ OnlyCloses (map entry_view entries.now) }
 {
@@ -44,7 +44,7 @@ fn only_closes(entries: &[Entry]) -> bool
     true
 }
 
-/// Whether an entry is a close.
+/// Returns whether an entry is a close.
 pub(crate) fn is_close(entry: &Entry) -> bool
     ensures { result ≡ is_close (entry_view entry.now) }
 {

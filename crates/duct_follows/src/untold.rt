@@ -1,13 +1,13 @@
-//! Why it is not told whether a journal follows a plan, or whether an error has a cause.
+//! Why a check can't decide whether a journal follows a plan, or whether an error has a cause.
 use std::alloc::AllocError;
 
-/// Why it is not told whether a journal follows a plan, or whether an error has a cause.
+/// Why a check can't decide whether a journal follows a plan, or whether an error has a cause.
 #[derive(Clone, Copy, Debug, Drop, PartialEq, Eq)]
 pub enum Untold {
-    /// A hook, as it was run once more, refused by `OutOfMemory`. It may do so each time, or only now, for want of memory: the
-    /// answers would differ.
+    /// A hook that was run again refused with `OutOfMemory`. It may do so each time, or only now
+    /// because an allocation failed. The two cases have different results.
     HookOutOfMemory,
-    /// There is no memory for the check itself.
+    /// An allocation of the check itself failed.
     Memory,
 }
 

@@ -36,7 +36,7 @@ there : {X Y Z : Type 0} (f : X → Y) (g : Y → Z) (o : Option X)
 there f g None = refl
 there f g (Some x) = refl
 
--- the numbers of what runs are those
+-- the numbers of what runs are those that were added to the journal
 pub are_numbers : {E H C F D V W : Type 0} (child : C → ChildView) (feed : F → JobView V)
     (drain : D → JobView W) (tree : TreeView E H) (output error : Bool)
     (added : List EntryView) (running : RunningView C F D) (numbers : NumbersView) → IsRunning child feed drain tree output error added running
@@ -50,7 +50,7 @@ are_numbers child feed drain tree output error added running numbers runs same =
   error_is = ap (λ n. is_some n.error) same ∙ there drain (λ j. j.number) running.error ∙ runs.error_is;
 }
 
--- a handle of what runs keeps them
+-- a handle of what runs keeps those numbers
 pub is_handle : {E H C F D V W : Type 0} (child : C → ChildView) (feed : F → JobView V)
     (drain : D → JobView W) (tree : TreeView E H) (output error : Bool)
     (added : List EntryView) (running : RunningView C F D) (handle : HandleView) → IsRunning child feed drain tree output error added running

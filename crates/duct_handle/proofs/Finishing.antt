@@ -1,4 +1,4 @@
--- What holds of a refusal is kept by what follows from it.
+-- What holds after a failure may be replaced by what follows from it.
 use Rattle.std.specs.Prelude.{OnErr, Ok, Err}
 use Rattle.std.specs.declared.result.Result.{Result}
 

@@ -1,4 +1,5 @@
--- An order to all commands that a handle holds: each that has ended answers Ok, each other what it may.
+-- An order to all commands of a handle: each one that has ended returns Ok, each other one what it
+-- may return.
 use Rattle.std.specs.Prelude.{ℕ, Bool, List, [], ◌∷◌, All, IfSome, MatchOption, map, Ok, Some, None}
 use Rattle.std.specs.List.{AllZip}
 use Rattle.std.specs.declared.option.Option.{Option}
@@ -15,7 +16,7 @@ use Rattle.duct_running.specs.Told.{IsTold}
 use Rattle.duct_handle.specs.Obeyed.{IsObeyed, CommandAnswers}
 
 module _ (answer : ℕ → Answer → Type 0) (obey : ℕ → Order → Bool → Obeyed → Type 0) (order : Order) where
-  -- one of them
+  -- one command
   obeyed_by : (before after : ChildView) (heard : Obeyed) (ending : Option ExitStatus)
       → IfSome ending (λ status. answer before.number (Ok (Some status)))
       → MatchOption ending (OrdersChild obey order before heard after) (λ status. (heard ≡ Ok tt) × (after ≡ before))
@@ -37,7 +38,7 @@ module _ (answer : ℕ → Answer → Type 0) (obey : ℕ → Order → Bool →
     all_obeyed befores answers afters ordered.1 (All-tail (IsTold answer) before befores told),
   )
 
-  -- all of them, by the numbers that the handle keeps
+  -- all commands, by the numbers that the handle keeps
   pub order_obeyed : (befores afters : List ChildView) (numbers : List ℕ)
       (result : Result (Unit {0}) Error) → IsOrdered obey order befores result afters
       → ∥ All (IsTold answer) befores ∥₁ → map (λ (c : ChildView). c.number) befores ≡ numbers

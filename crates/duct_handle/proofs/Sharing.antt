@@ -1,4 +1,4 @@
--- What is published was concluded, and one more owner of it is the same answer.
+-- What is published was concluded, and one more owner of it has the same answer.
 use Rattle.std.specs.Prelude.{ℕ, IfSome, Ok, Err, Some, None}
 use Rattle.std.specs.Option.{option_map}
 use Rattle.std.specs.declared.option.Option.{Option}
@@ -29,7 +29,7 @@ concluded answer feed drain here there mine its found ending is same alike told 
     let t' : Concluded answer feed drain there its (answer_view ending) = subst (λ (o : Option Answer). IfSome o (λ a. Concluded answer feed drain there its (answer_view a))) is t in
     subst (λ (X : Type 0). X) (λ i. Concluded answer feed drain (alike i) (same i) (answer_view ending)) t')
 
--- a wait that answers what its token then knows
+-- a wait that returns what its token then knows
 module _ (answer : ℕ → child.Answer → Type 0) (feed : ℕ → Said (Unit {0}) → Type 0) (drain : ℕ → Said Bytes → Type 0) {X : Type 0} (view : X → PublishedView) (handle : HandleView) where
   knows_same : (cell other : ℕ) (known : Option PublishedView) (polled : Polled)
       → KnowsIfEnded handle (record { cell = cell; known = known }) polled
@@ -71,7 +71,7 @@ module _ (answer : ℕ → child.Answer → Type 0) (feed : ℕ → Said (Unit {
     again = again_by old x polled agrees again;
   }
 
-  -- a wait that answers what its token does not know
+  -- a wait with a token that knew nothing
   pub unknown : (before cell : ℕ) (old new : Option X) (polled : Polled) → old ≡ None
       → cell ≡ handle.cell → IsAnswer answer feed drain
       (shape_view handle.shape) handle.numbers polled
@@ -95,7 +95,7 @@ module _ (answer : ℕ → child.Answer → Type 0) (feed : ℕ → Said (Unit {
   unended seen error.Deadline none = tt
   unended seen error.Memory none = tt
 
-  -- a wait that is refused
+  -- a wait that fails, with a token that knew nothing
   pub refused : (before cell : ℕ) (old new : Option X) (e : Error) → old ≡ None
       → cell ≡ handle.cell → IsAnswer answer feed drain (shape_view handle.shape) handle.numbers
       (Err e) → IsNoEnding e
@@ -103,7 +103,7 @@ module _ (answer : ℕ → child.Answer → Type 0) (feed : ℕ → Said (Unit {
   refused before cell old new e none same told fault =
       unknown before cell old new (Err e) none same told (λ is. absurd (cc)) (unended (record { cell = cell; known = option_map view new }) e fault)
 
-  -- a wait by a token that knows nothing and learns nothing
+  -- a wait with a token that knows nothing and learns nothing
   pub still_unknown : (seen : SeenView) (polled : Polled) → seen.known ≡ None
       → seen.cell ≡ handle.cell
       → IsAnswer answer feed drain (shape_view handle.shape) handle.numbers polled
@@ -124,7 +124,7 @@ module _ (answer : ℕ → child.Answer → Type 0) (feed : ℕ → Said (Unit {
   still_refused seen e none same told fault =
       still_unknown seen (Err e) none same told (λ is. absurd (cc)) (unended seen e fault)
 
--- nothing is known within where nothing is seen
+-- nothing is known if its view is none
 pub none_within : {X : Type 0} (view : X → PublishedView) (o : Option X)
     → option_map view o ≡ None → o ≡ None
 none_within view None is = refl

@@ -1,4 +1,5 @@
--- A handle may be shared with another thread where its children and its workers may go there.
+-- A handle may be shared between threads if its children and its workers may be sent to another
+-- thread.
 use denote.Builtin.{u32}
 use denote.Param.Send.{IsSend, IsSync, sendable, struct_send, struct_sync, view_sync, recorded_send, recorded_sync}
 use denote.RattleType.{RattleType}

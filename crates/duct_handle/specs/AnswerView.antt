@@ -5,7 +5,7 @@ use Rattle.duct_status.specs.ReplyView.{ReplyView, answered, failed}
 use Rattle.duct_handle.specs.declared.published.Answer.{Answer}
 use Rattle.duct_handle.specs.declared.published.Answer.TheVariants as answer
 
--- the reply of a core that gives it
+-- the reply of a core that gives this answer
 abbrev pub answer_view : Answer → ReplyView
 answer_view (answer.Output output) =
     answered (arc_value output).status (arc_value output).stdout.items

@@ -1,4 +1,4 @@
--- The children that a handle gives to a pool where it answers no output.
+-- The children that a handle gives to a pool when it returns no output.
 use Rattle.std.specs.Prelude.{ℕ, ◌≡◌, ◌⊎◌, List, map}
 use Rattle.duct_system.specs.Child.{Answer, ChildView}
 use Rattle.duct_system.specs.declared.error.Error.{Error}
@@ -7,7 +7,8 @@ use Rattle.duct_system.specs.declared.system.Kind.TheVariants.{Other}
 use Rattle.duct_base.specs.Pool.{PoolView, IsGiven}
 use Rattle.duct_running.specs.NumbersView.{NumbersView}
 
--- the pool takes children of these numbers, or those of what differs from them, which no start brings about
+-- children were given to the pool: those of these numbers, or, with the error `Other`, any; no
+-- start causes the second case
 abbrev pub AreGiven : {C : Type 0} → (ℕ → Answer → Type 0) → (C → ChildView) → NumbersView → Error
     → PoolView C → PoolView C → Type 0
 AreGiven {C} may_answer child_view numbers e before after =

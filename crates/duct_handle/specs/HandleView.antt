@@ -5,19 +5,20 @@ use Rattle.duct_status.specs.declared.status.Shape.{Shape}
 use Rattle.duct_running.specs.NumbersView.{NumbersView}
 use Rattle.duct_handle.specs.declared.published.Answer.{Answer}
 
--- the shape and the numbers that a handle has beside its lock, and the name of the cell of its answer
+-- the shape and the numbers that a handle keeps outside its lock, and the name of the cell of its
+-- answer
 pub record HandleView : Type 0 where
   pub shape : Shape
   pub numbers : NumbersView
   pub cell : ℕ
 
--- what stands in the cell of a handle: an answer, with the shape and the numbers of what gave it
+-- the content of a handle's cell: an answer, with the shape and the numbers of what gave it
 pub record PublishedView : Type 0 where
   pub shape : Shape
   pub numbers : NumbersView
   pub answer : Option Answer
 
--- the name of the cell that a token is of, and what stands there, once the token knows it
+-- the name of the cell that a token belongs to, and the cell's content once the token knows it
 pub record SeenView : Type 0 where
   pub cell : ℕ
   pub known : Option PublishedView

@@ -1,4 +1,4 @@
--- An order to all commands of a handle, and what it answers.
+-- An order to all commands of a handle, and what it returns.
 use Rattle.std.specs.Prelude.{ℕ, Bool, true, false, ◌≡◌, ◌⊎◌, List, Ok, Err, Some}
 use Rattle.std.specs.List.{AllZip}
 use Rattle.std.specs.declared.result.Result.{Result}
@@ -10,8 +10,9 @@ use Rattle.duct_system.specs.declared.system.Kind.TheVariants.{Other, OutOfMemor
 use Rattle.duct_system.specs.declared.system.Order.{Order}
 use Rattle.duct_running.specs.Ordered.{OrderAnswers, leftmost}
 
--- what a command of this number answers to an order: Ok where an ending of it was told, or what it may where the order was noted,
--- or OutOfMemory where there was no memory for that, if it may
+-- what a command of this number returns for an order: Ok if an ending of it was told; what it may
+-- return for an order that was noted; or OutOfMemory if the allocation of the note failed and it
+-- may return that
 abbrev pub CommandAnswers : (ℕ → Answer → Type 0) → (ℕ → Order → Bool → Obeyed → Type 0) → Order
     → ℕ → Obeyed → Type 0
 CommandAnswers answer obey order number heard =
@@ -19,14 +20,15 @@ CommandAnswers answer obey order number heard =
     ⊎ obey number order true heard
     ⊎ (obey number order false heard × (heard ≡ Err (record { kind = OutOfMemory })))
 
--- each of these numbers answers, and the result is the leftmost fault of their answers
+-- each of these numbers returns a result, and the result of the order is the leftmost fault among
+-- them
 abbrev pub AllObey : (ℕ → Answer → Type 0) → (ℕ → Order → Bool → Obeyed → Type 0) → Order
     → List ℕ → Result (Unit {0}) Error → Type 0
 AllObey answer obey order numbers result =
     (answers : List Obeyed) × AllZip (CommandAnswers answer obey order) numbers answers
     × OrderAnswers (leftmost answers) result
 
--- the same, or `Other`, which stands for what differs in the lock from these numbers
+-- the same, or `Other`, which means that what the lock holds differs from these numbers
 abbrev pub IsObeyed : (ℕ → Answer → Type 0) → (ℕ → Order → Bool → Obeyed → Type 0) → Order
     → List ℕ → Result (Unit {0}) Error → Type 0
 IsObeyed answer obey order numbers result =

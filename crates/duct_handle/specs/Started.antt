@@ -9,8 +9,8 @@ use Rattle.duct_start.specs.TreeView.{TreeView}
 use Rattle.duct_running.specs.NumbersView.{NumbersView}
 use Rattle.duct_handle.specs.HandleView.{HandleView}
 
--- the numbers of the children and the workers that were added to the journal, each in its place; these truth values say whether
--- stdout and stderr have a capture worker
+-- the numbers of the children and the workers that were added to the journal, each in its place;
+-- these truth values say whether stdout and stderr have a capture worker
 pub record AreNumbers (output error : Bool) (added : List EntryView) (numbers : NumbersView)
     : Type 0 where
   pub children_are : numbers.children ≡ children_in added
@@ -20,7 +20,7 @@ pub record AreNumbers (output error : Bool) (added : List EntryView) (numbers : 
   pub output_is : is_some numbers.output ≡ output
   pub error_is : is_some numbers.error ≡ error
 
--- the shape of this tree, and those numbers
+-- a handle with the shape of this tree and with those numbers
 pub record IsHandle {E H : Type 0} (tree : TreeView E H) (output error : Bool)
     (added : List EntryView) (handle : HandleView) : Type 0 where
   pub shape_is : shape_view handle.shape ≡ shape_of_tree tree

@@ -1,4 +1,4 @@
--- What a wait answers, and what its token knows then.
+-- What a wait returns, and what its token knows then.
 use Rattle.std.specs.Prelude.{ℕ, ◌≡◌, ◌⊎◌, IfSome, IsSomeAnd, Ok, Err, Some, None}
 use Rattle.std.specs.declared.alloc.Global.{Global}
 use Rattle.std.specs.declared.result.Result.{Result}
@@ -16,18 +16,18 @@ use Rattle.duct_running.specs.Told.{OneRuns}
 use Rattle.duct_handle.specs.AnswerView.{answer_view}
 use Rattle.duct_handle.specs.HandleView.{HandleView, PublishedView, SeenView}
 
--- what a token knows is of this handle, and gives this answer
+-- what a token knows belongs to this handle, and gives this result
 pub record IsOf (handle : HandleView) (polled : Polled) (known : PublishedView) : Type 0 where
   pub shape : shape_view known.shape ≡ shape_view handle.shape
   pub numbers : known.numbers ≡ handle.numbers
   pub gives : IsSomeAnd known.answer (λ ending. Gives (answer_view ending) polled)
 
--- the error is not that of a checked failure
+-- the error is no checked failure
 abbrev pub IsNoEnding : Error → Type 0
 IsNoEnding (error.Checked text) = ⊥
 IsNoEnding other = Unit {0}
 
--- where the answer is an output or a checked failure, the token knows it
+-- if the result is an output or a checked failure, the token knows it
 abbrev pub KnowsIfEnded : HandleView → SeenView → Polled → Type 0
 KnowsIfEnded handle seen (Ok None) = Unit {0}
 KnowsIfEnded handle seen (Ok (Some output)) = IsSomeAnd seen.known (IsOf handle (Ok (Some output)))
@@ -35,20 +35,21 @@ KnowsIfEnded handle seen (Err (error.Checked text)) =
     IsSomeAnd seen.known (IsOf handle (Err (error.Checked text)))
 KnowsIfEnded handle seen (Err other) = Unit {0}
 
--- a token that knows an answer of this handle gives it again, or there was no memory for one more owner
+-- a token that knows an answer of this handle returns it again, or fails with `Error::Memory` to
+-- add one more owner
 abbrev pub GivesAgain : HandleView → PublishedView → Polled → Type 0
 GivesAgain handle known polled =
     shape_view known.shape ≡ shape_view handle.shape → known.numbers ≡ handle.numbers
     → IfSome known.answer
     (λ ending. Gives (answer_view ending) polled ⊎ (polled ≡ Err error.Memory))
 
--- the answer of a wait that answers nothing before the end, as that of a poll
+-- the result of a wait that returns only at the end, in the form of a poll's result
 abbrev pub at_end : Result (Arc Output Global) Error → Polled
 at_end (Ok output) = Ok (Some output)
 at_end (Err e) = Err e
 
--- the answer is one of the handle's shape and numbers; while it is none, one of its numbers may say that it runs; the token knows
--- an ending that was answered, and gives it again
+-- the result is one for the handle's shape and numbers; while it is none, one of its numbers may
+-- say that it runs; the token knows an ending that was returned, and returns it again
 pub record Waited (answer : ℕ → Answer → Type 0) (feed : ℕ → Said (Unit {0}) → Type 0)
     (drain : ℕ → Said Bytes → Type 0) (handle : HandleView) (before after : SeenView)
     (polled : Polled) : Type 0 where

@@ -18,7 +18,7 @@ use duct_running::running::Running;
 use std::alloc::Global;
 use std::sync::{Arc, Wait};
 
-// Polls what runs. The result is concluded from what was said under its numbers.
+// Polls what runs. The result is concluded from what was reported under its numbers.
 fn polled<S: System>(running: &mut Running<S>) -> Result<Option<Arc<Output>>, Error>
     ensures stays { Stays S.Child.child_view S.Feed.job_view S.Drain.job_view
         running.old running.new }

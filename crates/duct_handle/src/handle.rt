@@ -1,5 +1,5 @@
-//! The handle: a lock round what runs, and beside it the shape, the numbers, the ids and the
-//! result.
+//! The handle: a lock around what runs, and outside the lock the shape, the numbers, the ids and
+//! the result.
 ghost use Rattle.std.specs.Prelude.{◌≡◌, IfNone, IfSome, Ok, Some, None};
 ghost use Rattle.duct_status.specs.ShapeView.{shape_view};
 ghost use Rattle.duct_running.specs.Answered.{IsAnswer};
@@ -116,10 +116,10 @@ impl<S: System> Handle<S> {
     /// the expression runs. It doesn't wait until it has ended.
     ///
     /// Fails with `Error::Checked` for a failure that is not unchecked, and with `Error::System`
-    /// for a fault of a command or a worker. It is `Error::System` of kind `Other`, too, where the
-    /// lock holds something else than the handle was made of, which no start brings about. Fails
-    /// with `Error::Memory` only at an allocation failure. After `Error::System` and
-    /// `Error::Memory` the handle may be asked again.
+    /// for a fault of a command or a worker. It also fails with `Error::System` of kind `Other` if
+    /// the lock holds something else than the handle was made of, which no start causes. Fails with
+    /// `Error::Memory` only at an allocation failure. After `Error::System` and `Error::Memory` the
+    /// call may be repeated.
     pub fn try_wait_as(
         &self,
         rt: &impl Wait,
@@ -165,7 +165,7 @@ impl<S: System> Handle<S> {
         self.poll_locked(&mut *guard, seen, busy)
     }
 
-    // The result, where it is published already.
+    // The result, if it is published already.
     fn recall(&self, seen: &mut Seen<S>) -> Option<Result<Option<Arc<Output>>, Error>>
         requires { seen.old.cell ≡ self.now.cell }
         ensures known { IfSome result (Waited S.Child.may_answer S.Feed.may_say S.Drain.may_say

@@ -1,4 +1,4 @@
-//! What the lock of a handle holds, and one look at it.
+//! What the lock of a handle holds, and one poll of it.
 ghost use Rattle.std.specs.Prelude.{◌≡◌, ◌↔◌, IfOk, IfErr, IfSome, IsTrue, is_some, true, Ok, Err, None};
 ghost use Rattle.duct_status.specs.ShapeView.{shape_view};
 ghost use Rattle.duct_running.specs.Answered.{IsAnswer, WasConcluded};
@@ -20,7 +20,7 @@ pub(crate) struct Locked<S: System> {
     pub(crate) spare: Option<Box<Published<S>>>,
 }
 
-// The error where shape or numbers differ or no result is there, which no start brings about.
+// The error if shape or numbers differ, or if there is no result, which no start causes.
 pub(crate) fn differs() -> Error
     ensures { result ≡ Error.System (record { kind = Kind.Other }) }
 {
@@ -56,7 +56,7 @@ fn ended<S: System>(
     }
 }
 
-// Once what runs has ended, returns the spare with its result, to be published; until then nothing.
+// Once what runs has ended, returns the spare with its result, to be published; before that `None`.
 pub(crate) fn look<S: System>(
     locked: &mut Locked<S>,
     shape: &Shape,
@@ -84,7 +84,7 @@ pub(crate) fn look<S: System>(
     Ok(Some(published))
 }
 
-// Whether this has such a shape and such numbers.
+// Whether this has the given shape and the given numbers.
 pub(crate) fn same<S: System>(published: &Published<S>, shape: &Shape, numbers: &Numbers) -> bool
     ensures { IsTrue result ↔ ((shape_view published.now.shape ≡ shape_view shape.now)
         × (numbers_view published.now.numbers ≡ numbers_view numbers.now)) }

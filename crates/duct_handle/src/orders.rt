@@ -40,8 +40,8 @@ impl<S: System> Handle<S> {
     /// the commands started themselves: while such a process holds a capture pipe open, a wait
     /// still blocks. It doesn't wait for another thread's wait, but does for its `send_signal`.
     ///
-    /// Fails with `Error::System`, the leftmost fault. A command that had no memory to note the
-    /// order was not asked, and its fault is `OutOfMemory`.
+    /// Fails with `Error::System`, the leftmost fault. If the note of the order can't be allocated
+    /// for a command, the command is not given the order, and its fault is `OutOfMemory`.
     pub fn kill(&self, rt: &impl Wait) -> Result<(), Error>
         ensures { IsObeyed S.Child.may_answer S.Child.may_obey Kill
             self.now.numbers.children result }

@@ -48,7 +48,7 @@ fn own(alloc: Global, output: Arc<Output>) -> Result<Output, Error>
     }
 }
 
-/// What is returned after a wait: the output itself, copied only where another owner shares it; the
+/// Returns what follows a wait: the output itself, copied only where another owner shares it; the
 /// pool is then left as it was. Where the wait failed, or the copy at an allocation failure, the
 /// children are given to the pool.
 pub(crate) fn settled<S: System>(
@@ -85,8 +85,8 @@ pub(crate) fn settled<S: System>(
     }
 }
 
-// The same of what a lock held, where it has the shape and the numbers that were kept beside the
-// lock.
+// Does the same with what a lock held, if it has the shape and the numbers that were kept outside
+// the lock.
 fn settled_of<S: System>(
     alloc: Global,
     released: (Running<S>, Shape, Numbers),
@@ -113,7 +113,7 @@ impl<S: System> Handle<S> {
     /// Waits as `wait` does and returns the output itself, copied only where another owner shares
     /// it. The pool is left as it was. It blocks until the expression has ended.
     ///
-    /// Fails as `wait` does, and with `Error::Memory` where there is no memory for the copy. The
+    /// Fails as `wait` does, and with `Error::Memory` at an allocation failure of the copy. The
     /// children are then given to the pool, as `give_up` gives them. After `Error::Checked` the
     /// captured bytes are lost.
     pub fn into_output(self, rt: &impl Wait, pool: &mut Pool<S::Child>) -> Result<Output, Error>

@@ -1,4 +1,4 @@
-//! The pauses between the polls of a wait. No clock is asked: the time waited is the sum of the
+//! The pauses between the polls of a wait. No clock is read: the time waited is the sum of the
 //! pauses.
 ghost use Rattle.std.specs.Prelude.{◌≡◌, ◌⊎◌, ◌+◌, ◌-◌, ◌*◌, ◌^◌, ◌<◌, ◌≤◌, min, IfNone, IfSome};
 

@@ -18,8 +18,9 @@ use std::alloc::Global;
 use std::marker::PhantomData;
 use std::sync::Mutex;
 
-/// What a handle keeps beside its lock, and its result, allocated before a start asks anything: the
-/// shape of its tree twice, with room for the numbers and the ids of its children and workers.
+/// What a handle keeps outside its lock, and its result, allocated before the first request of a
+/// start: the shape of its tree twice, with room for the numbers and the ids of its children and
+/// workers.
 #[derive(Drop)]
 pub struct HandleRoom<S: System> {
     pub shape: Shape,
@@ -50,8 +51,8 @@ fn lists(
     Ok((numbers, spare, ids))
 }
 
-/// Makes room for a handle of a tree with so many commands and inputs. Fails with `Error::Memory`,
-/// and only at an allocation failure.
+/// Makes room for a handle of a tree with this many commands and inputs. Fails with
+/// `Error::Memory`, and only at an allocation failure.
 pub fn handle_room<S: System>(
     alloc: Global,
     shape: Shape,
@@ -130,7 +131,7 @@ pub fn handle_of<S: System>(alloc: Global, running: Running<S>, room: HandleRoom
     }
 }
 
-// What the lock of a handle held, with the shape and the numbers that were kept beside it.
+// What the lock of a handle held, with the shape and the numbers that were kept outside it.
 pub(crate) fn released<S: System>(handle: Handle<S>) -> (Running<S>, Shape, Numbers)
     ensures shape { result.1 ≡ handle.shape }
     ensures numbers { numbers_view result.2 ≡ handle.numbers }

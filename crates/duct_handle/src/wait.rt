@@ -21,8 +21,8 @@ impl<S: System> Handle<S> {
     ///
     /// Fails with `Error::Checked` for a failure that is not unchecked, and with `Error::Memory`
     /// only at an allocation failure. Fails with `Error::System` at the first poll that finds a
-    /// fault while no command says that it runs. After `Error::System` and `Error::Memory` the
-    /// handle may be asked again.
+    /// fault while no command says that it runs. After `Error::System` and `Error::Memory` the call
+    /// may be repeated.
     pub fn wait_as(&self, rt: &impl Wait, seen: &mut Seen<S>) -> Result<Arc<Output>, Error>
         requires { seen.old.cell ≡ self.now.cell }
         ensures { Waited S.Child.may_answer S.Feed.may_say S.Drain.may_say self.now
@@ -52,10 +52,10 @@ impl<S: System> Handle<S> {
     }
 
     /// Waits as `wait_as` does, but no longer than until this moment, which counts from the clock's
-    /// zero. It polls at least once, and asks the clock after each poll that doesn't end the wait.
-    /// At the moment or later it returns what the last poll gave: `None` while the expression runs,
-    /// or a fault, also while a command runs. Nothing is killed then. It may return late by one
-    /// pause, of at most 10 milliseconds.
+    /// zero. It polls at least once, and reads the clock after each poll that doesn't end the wait.
+    /// At the moment or later it returns what the last poll returned: `None` while the expression
+    /// runs, or a fault, also while a command runs. Nothing is killed then. It may return late by
+    /// one pause, of at most 10 milliseconds.
     pub fn wait_deadline_as<C: Clock>(
         &self,
         rt: &impl Wait,
@@ -119,7 +119,7 @@ impl<S: System> Handle<S> {
     /// first.
     ///
     /// Fails with `Error::Deadline` where the sum of the two is no `Duration`; then nothing was
-    /// polled. A token that knows the result returns it without asking the clock.
+    /// polled. A token that knows the result returns it without reading the clock.
     pub fn wait_timeout_as<C: Clock>(
         &self,
         rt: &impl Wait,

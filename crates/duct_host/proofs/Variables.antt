@@ -1,4 +1,4 @@
--- The environment of a command, as its variables are set one after another.
+-- The environment of a command, as its variables are set one after the other.
 use Rattle.std.specs.Prelude.{ℕ, Bool, true, false, List, [], ◌∷◌, ◌++◌, Some, None, bytes_eq, if◌then◌else◌}
 use Rattle.std.specs.Option.{option_map}
 use Rattle.std.specs.Process.{command_var}
@@ -12,12 +12,13 @@ use Rattle.std.proofs.lemmas.Slice.Eq.{bytes_eq-Decides}
 use Rattle.duct_system.specs.SpecView.{Vars}
 use Rattle.duct_host.specs.Variables.{value_set, IsWholeEnvironment, Sets}
 
--- what one more variable behind the others says of a name
+-- the value of a name after one more variable was added to a list
 pub value_set_behind : (name : List ℕ) (vars : Vars) (key value : List ℕ) →
     value_set name (vars ++ (key, value) ∷ []) ≡ (if bytes_eq key name then Some value else value_set name vars)
 value_set_behind name vars key value = fold-append (λ said var. if bytes_eq var.0 name then Some var.1 else said) None vars ((key, value) ∷ [])
 
--- what a command says of a name after one more variable was set, by whether that is the variable's name
+-- a command's value of a name after one more variable was set, by whether that is the variable's
+-- name
 pub said_by_one_more : (b : Bool) (name : List ℕ) (vars : Vars) (key value : List ℕ)
     (old new : Command Global) →
     bytes_eq key name ≡ b → command_var old name ≡ option_map Some (value_set name vars) → Sets key value old new →
@@ -27,7 +28,7 @@ said_by_one_more true name vars key value old new is before sets =
 said_by_one_more false name vars key value old new is before sets =
     sets.2 name (λ same. true≢false (sym ((bytes_eq-Decides key name).1 (sym same)) ∙ is)) ∙ before
 
--- one more variable behind the others
+-- one more variable after the others
 pub whole_with_one_more : (old new : Command Global) (vars : Vars) (key value : List ℕ) →
     IsWholeEnvironment vars old → Sets key value old new → IsWholeEnvironment (vars ++ (key, value) ∷ []) new
 whole_with_one_more old new vars key value whole sets = (
@@ -36,7 +37,7 @@ whole_with_one_more old new vars key value whole sets = (
       ∙ ap (λ said. option_map Some said) (sym (value_set_behind name vars key value)),
 )
 
--- a variable of a list behind those before it
+-- a variable of a list after those before it
 pub whole_up_to : {X : Type 0} (variable : X → List ℕ × List ℕ) (xs : List X) (i : ℕ) (d : X)
     (old new : Command Global) →
     i < length xs → IsWholeEnvironment (take i (map variable xs)) old →

@@ -7,7 +7,7 @@ use Rattle.duct_system.specs.declared.system.ExitStatus.TheVariants.{Code, Signa
 use Rattle.duct_system.specs.declared.system.Fault.{Fault}
 use Rattle.duct_system.specs.declared.system.Kind.TheVariants.{Other}
 
--- the code if there is one, else the signal; a status with neither is no ending
+-- the code if there is one, otherwise the signal; a status with neither is the fault `Other`
 abbrev pub ending_said : Option ℤ → Option ℤ → Result ExitStatus Fault
 ending_said (Some code) signal = Ok (Code code)
 ending_said None (Some signal) = Ok (Signal signal)

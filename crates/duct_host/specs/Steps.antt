@@ -2,10 +2,10 @@
 use Rattle.std.specs.Prelude.{◌≡◌, ◌≤◌}
 use Rattle.duct_system.specs.Journal.{JournalView}
 
--- nothing but the count of numbers has changed, and it has not fallen
+-- only the count of numbers has changed, and it has not decreased
 abbrev pub OnlyCounts : JournalView → JournalView → Type 0
 OnlyCounts old new = (new ≡ record old { next = new.next }) × (old.next ≤ new.next)
 
--- nothing but the room has changed
+-- only the room has changed
 abbrev pub OnlyRoom : JournalView → JournalView → Type 0
 OnlyRoom old new = new ≡ record old { room = new.room }

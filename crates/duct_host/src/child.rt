@@ -11,7 +11,7 @@ use std::alloc::{AllocError, Global};
 use std::os::unix::process::ExitStatusExt;
 use std::process::{self, Command, OpenProcess, Processes, Stdio};
 
-/// A child that the host started. It keeps the runtime, by which it has a shell send a signal.
+/// A child that the host started. It keeps the runtime, with which it has a shell send a signal.
 ///
 /// A poll doesn't block, and reaps a child that has ended. A kill is `SIGKILL`; it doesn't block,
 /// and is `Ok` for a child that was reaped. A signal blocks until the shell has ended. Dropping a
@@ -34,7 +34,7 @@ impl<R: Processes> Child<R> {
     ghost use Rattle.duct_system.specs.Child.{IsUnasked};
     ghost use Rattle.duct_host.specs.ChildView.{child_view};
 
-    /// A child that was just started and asked nothing.
+    /// A child that was just started, before any call.
     pub(crate) fn new(
         rt: R,
         alloc: Global,
@@ -102,7 +102,8 @@ fn is_served(signal: i32) -> bool
     SIGNALS.contains(&signal)
 }
 
-/// The command that has the system's shell send a signal to a process, without the parent's variables.
+/// The command that has the system's shell send a signal to a process, without the parent's
+/// variables.
 fn kill_command(alloc: Global, signal: i32, id: u32) -> Result<Command, AllocError> {
     let line = format!(in alloc; "kill -{signal} {id}")?;
     let mut shell = Command::new(alloc, "/bin/sh")?;
@@ -135,7 +136,7 @@ impl<R: Processes + Drop> Numbered for Child<R> {
     }
 }
 
-/// What the machine may do is left open, but that a signal that isn't served fails with
+/// What the machine may do is left open, except that a signal that isn't served fails with
 /// `InvalidInput`, where the order is noted.
 impl<R: Processes + Drop> system::Child for Child<R> {
     ghost use Rattle.std.proofs.Common.{refl};
@@ -181,8 +182,8 @@ impl<R: Processes> Child<R> {
     ghost use Rattle.duct_host.specs.ChildView.{child_view};
     ghost use Rattle.duct_host.specs.Signals.{MayObey};
 
-    /// Gives the child an order, and notes it with its result. Where there is no memory for that,
-    /// nobody is asked.
+    /// Gives the child an order, and notes it with its result. Where the note can't be allocated,
+    /// the order is not given.
     fn order(&mut self, order: Order) -> Result<(), Fault>
         ensures { OrdersChild (λ _ order noted answer. MayObey order noted answer) order
             (child_view self.old) result (child_view self.new) }

@@ -30,12 +30,12 @@ impl End {
         End { number, fd }
     }
 
-    /// The descriptor, which is still the end's.
+    /// Borrows the descriptor.
     pub(crate) fn descriptor(&self) -> &OwnedFd {
         &self.fd
     }
 
-    /// The descriptor, which is the caller's from now on.
+    /// Returns the descriptor, which the caller then owns.
     pub(crate) fn into_descriptor(self) -> OwnedFd {
         self.fd
     }

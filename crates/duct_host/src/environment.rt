@@ -1,4 +1,5 @@
-//! The parent's environment, read at once, or entry by entry where the runtime can't, or has more entries or fewer by now.
+//! The parent's environment, read at once, or entry by entry where the runtime can't do that, or
+//! has more or fewer entries by now.
 ghost use Rattle.std.specs.Prelude.{◌≡◌, [], ◌∷◌, ◌++◌, map, IfOk, OnOk};
 ghost use Rattle.std.specs.Option.{option_map};
 ghost use Rattle.duct_system.specs.SpecView.{pair_text};
@@ -23,7 +24,7 @@ pub(crate) fn variables<R: Parents + Env>(
     }
 }
 
-/// Whether the runtime has as many entries as stand here with a NUL behind each.
+/// Whether the runtime has as many entries as these, which have a NUL after each.
 fn has_as_many<E: Env>(rt: &E, entries: &[u8]) -> bool {
     let count = entries.iter().filter(|byte| **byte == 0).count();
     (count == 0 || has_entry(rt, count - 1)) && !has_entry(rt, count)
@@ -35,7 +36,7 @@ fn has_entry<E: Env>(rt: &E, i: usize) -> bool {
     !matches!(rt.var_at(i, &mut start), Err(FillError::NotPresent))
 }
 
-/// The variables of entries that have a NUL behind each.
+/// The variables of entries that have a NUL after each.
 fn variables_at_once(entries: &[u8], alloc: Global) -> Result<Vec<(String, String)>, AllocError> {
     let mut pairs = Vec::new(alloc);
     for entry in entries.split(|byte| *byte == 0) {
@@ -44,7 +45,7 @@ fn variables_at_once(entries: &[u8], alloc: Global) -> Result<Vec<(String, Strin
     Ok(pairs)
 }
 
-/// The variables, asked for one after the other. A runtime may look for each from the first entry on.
+/// The variables, read one by one. A runtime may search for each from the first entry on.
 fn variables_in_turn<E: Env>(rt: &E, alloc: Global) -> Result<Vec<(String, String)>, AllocError> {
     let mut pairs = Vec::new(alloc);
     for i in 0..usize::MAX {
@@ -74,7 +75,7 @@ fn push_variable(
     Ok(())
 }
 
-/// The bytes that are read at first of an entry.
+/// The size of the buffer at first, in bytes.
 const FIRST_SIZE: usize = 256;
 
 /// The bytes of an entry, or none after the last one. The buffer grows until the entry fits.
@@ -95,8 +96,8 @@ fn entry_at<E: Env>(rt: &E, alloc: Global, i: usize) -> Result<Option<Vec<u8>>, 
     Err(AllocError)
 }
 
-/// The name and the value of an entry. The name has at least one byte, so that an entry's first byte is the name's, also
-/// where it is a `=`.
+/// The name and the value of an entry. The name has at least one byte, so that an entry's first
+/// byte belongs to the name, even if it is a `=`.
 fn split_entry(alloc: Global, entry: &str) -> Result<Option<(String, String)>, AllocError>
     ensures { IfOk result (λ found. option_map pair_text found ≡ variable_of entry.now) }
 {
@@ -106,7 +107,7 @@ fn split_entry(alloc: Global, entry: &str) -> Result<Option<(String, String)>, A
     }
 }
 
-/// The parts of a text before its first `=` and behind it, the first one with the prefix `front`.
+/// The parts of a text before its first `=` and after it, the first part with the prefix `front`.
 fn split_behind(
     alloc: Global,
     front: &str,

@@ -1,4 +1,4 @@
-//! Questions to the machine: what a signal interrupts is asked again.
+//! Calls to the machine: a call that a signal interrupts is made again.
 ghost use Rattle.std.specs.Prelude.{◌≡◌};
 ghost use Rattle.duct_system.specs.declared.system.Kind.TheVariants.{OutOfMemory};
 
@@ -6,7 +6,7 @@ use duct_base::system::{Fault, Kind};
 use std::io;
 use std::io::ErrorKind;
 
-/// Asks the machine, and again as long as a signal interrupts what is asked.
+/// Makes a call to the machine, and makes it again as long as a signal interrupts it.
 pub(crate) fn ask<T, F: FnMut() -> io::Result<T>>(mut question: F) -> Result<T, Fault>
     requires { F.IsAlwaysCallable question }
 {

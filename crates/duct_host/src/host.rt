@@ -33,8 +33,8 @@ use std::{io, process};
 /// adds an entry: a program that runs for long empties the journal between two starts, by
 /// `clear_journal`.
 ///
-/// It owns none of the ends that it gives: whoever has one closes it. Where a standard stream was
-/// closed when the host was made, `/dev/null` stands in its place until the host is dropped, and a
+/// It owns none of the ends that it returns: whoever has one closes it. Where a standard stream was
+/// closed when the host was made, `/dev/null` is open in its place until the host is dropped, and a
 /// child that inherits it gets `/dev/null` too.
 #[derive(Drop)]
 pub struct Host<R> {
@@ -113,8 +113,8 @@ impl<R> Host<R> {
         Ok(End::new(number, OwnedFd::from(reader)))
     }
 
-    /// Makes an end of the write end of a pipe, as `adopt_file` makes one of a file. Who reads the
-    /// pipe finds EOF only once this end is closed too.
+    /// Makes an end of the write end of a pipe, as `adopt_file` makes one of a file. A reader of
+    /// the pipe finds EOF only once this end is closed too.
     ///
     /// Example: `let end = host.adopt_writer(writer)?;`
     pub fn adopt_writer(&mut self, writer: PipeWriter) -> Result<End, Fault>
@@ -157,7 +157,8 @@ impl<R> Host<R> {
         Ok(kept)
     }
 
-    /// Takes the room of a spawn's ends but for one entry, and makes that room where no stream is an end.
+    /// Gives back the room of a spawn's ends but for one entry, or makes room for that entry where
+    /// no stream is an end.
     fn prepare_spawn(&mut self, ends: usize) -> Result<(), Fault>
         requires { min 1 ends ≤ self.old.room }
         ensures ok { OnOk result
@@ -185,7 +186,8 @@ impl<R> Host<R> {
         Ok(End::new(self.take_number()?, fd))
     }
 
-    /// The result of a request. Where it failed, the room that was made for an end is given back.
+    /// The result of a request. Where the request failed, the room that was made for an end is
+    /// given back.
     fn got(&mut self, made: Result<End, Fault>) -> Result<End, Fault>
         requires { 0 < self.old.room }
         ensures same { result ≡ made }
@@ -216,7 +218,7 @@ impl<R: Processes + Files<File = File> + Env + Parents + Clone + Drop> Host<R> {
         Ok((read, write))
     }
 
-    /// Starts a child with the next number, which is taken before the machine is asked.
+    /// Starts a child with the next number, which is taken before any call to the machine.
     fn new_child(
         &mut self,
         spec: &CommandSpec,
@@ -268,10 +270,10 @@ impl<R: Threads> Host<R> {
 }
 
 /// `open_read` and `create` block where the path is a FIFO, until its other side is opened; no
-/// other request waits. Each worker is a thread of its own. A variable of the parent that is not
+/// other request blocks. Each worker is a thread of its own. A variable of the parent that is not
 /// UTF-8, or that has no name or no `=`, is left out of the environment.
 ///
-/// What the machine may give by a reader is left open.
+/// What the machine may give through a reader is left open.
 impl<R: Processes + Files<File = File> + Env + Parents + Threads + Clone + Drop> System
     for Host<R> {
     ghost use Rattle.std.specs.Prelude.{◌≤◌, length, map, min, Ok, Err, IfOk, IfErr};

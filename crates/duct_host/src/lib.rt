@@ -1,4 +1,5 @@
-//! The real machine behind the interface to the operating system: a host that keeps a journal, and asks std for the rest.
+//! The interface to the operating system on the real machine: a host that keeps a journal, and
+//! calls std for the rest.
 #![tactic(auto)]
 
 pub mod child;

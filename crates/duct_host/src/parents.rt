@@ -1,4 +1,5 @@
-//! What a runtime has of the parent itself: duplicates of its output streams, and its environment at once.
+//! What a runtime has of the parent itself: duplicates of its output streams, and its environment
+//! at once.
 use std::alloc::Global;
 use std::fs::File;
 use std::io;
@@ -15,9 +16,9 @@ pub trait Parents {
     fn duplicate_stderr(&self) -> io::Result<OwnedFd>;
 
     /// Returns all entries that the parent's environment had when the program began, in their
-    /// order, with a NUL behind each. Where this fails, or gives more entries or fewer than the
-    /// environment has by now, the host asks for one after the other. A runtime need not write it:
-    /// it then fails with `Unsupported`.
+    /// order, with a NUL after each. Where this fails, or returns more or fewer entries than the
+    /// environment has by now, the host reads them one by one. A runtime need not implement it: it
+    /// then fails with `Unsupported`.
     fn environment(&self, _alloc: Global) -> io::Result<Vec<u8>> {
         Err(io::Error::from(io::ErrorKind::Unsupported))
     }
@@ -32,8 +33,8 @@ impl Parents for HostRuntime {
         self.stderr().as_fd().try_clone_to_owned()
     }
 
-    /// Reads `/proc/self/environ`. From a program that has more rights than who started it, the
-    /// loader has taken some entries away.
+    /// Reads `/proc/self/environ`. If the program has more rights than the process that started it,
+    /// the loader has removed some entries.
     fn environment(&self, alloc: Global) -> io::Result<Vec<u8>> {
         let mut entries = Vec::new(alloc);
         File::open(self, "/proc/self/environ")?.read_to_end(&mut entries)?;

@@ -1,4 +1,4 @@
-//! What reads an end.
+//! The reader of an end.
 use duct_worker::transfer::read_retried;
 use std::io;
 use std::io::Read;

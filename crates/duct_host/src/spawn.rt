@@ -76,7 +76,7 @@ fn command_with(
     Ok(command)
 }
 
-/// Adds arguments behind those that the command has.
+/// Adds arguments after those that the command has.
 fn add_arguments(command: &mut Command, arguments: &[String]) -> Result<(), AllocError>
     ensures arguments { OnOk result
         (command_args command.new ≡ command_args command.old ++ map string_bytes arguments.now) }
@@ -157,7 +157,8 @@ pub(crate) fn all_wired(
     )
 }
 
-/// A stream as the journal has it, and as std takes it. Where the parent's is closed nothing is inherited.
+/// A stream as the journal has it, and as std takes it. Where the parent's is closed nothing is
+/// inherited.
 fn wired(stream: Stdio<End>, closed: bool) -> (Stdio<u64>, process::Stdio)
     ensures { result.0 ≡ stream_of (λ e. e) stream }
 {

@@ -3,8 +3,8 @@ use std::fs::{File, OpenOptions};
 use std::os::fd::AsRawFd;
 use std::rt::Files;
 
-/// What stands at the descriptors of stdin, stdout and stderr where they were closed. It gives nothing to read, and what is
-/// written there is gone.
+/// What is open at the descriptors of stdin, stdout and stderr that were closed. A read of it is at
+/// EOF, and what is written to it is discarded.
 #[derive(Drop)]
 pub(crate) struct Standard {
     filled: [Option<File>; 3],
@@ -26,7 +26,8 @@ impl Standard {
             let Ok(place) = usize::try_from(file.as_raw_fd()) else {
                 break;
             };
-            // The lowest free descriptor is given first, so behind the standard streams none of them is closed any more.
+            // The lowest free descriptor is used first: once a file has one above the standard
+            // streams, none of these is closed.
             let Some(hole) = filled.get_mut(place) else {
                 break;
             };

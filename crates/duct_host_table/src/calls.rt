@@ -1,24 +1,32 @@
-//! The real machine of the table of calls (`duct_call_table::calls`).
+//! The real machine for the table of calls (`duct_call_table::calls`).
 //!
-//! These lines say what stands beside the expressions of a row.
-//! - `adopt_pipe: text` adopts both ends of a pipe with this text in it, `adopt_file: f` a file that is there, `adopt_new: f` a new one,
-//!   and `adopt_captured` one end of a pipe whose other end the call `captured` reads. Their numbers begin with 1, and expressions name the
-//!   ends by them. `drop: 2` drops one.
-//! - Changes of files stand in `duct_request_table::files`. `{place}` begins the path of a file of this process.
+//! These lines set up ends and files for the expressions of a row.
+//! - `adopt_pipe: text` adopts both ends of a pipe that holds this text. `adopt_file: f` adopts an
+//!   existing file, and `adopt_new: f` a new one. `adopt_captured` adopts the write end of a pipe
+//!   whose read end the call `captured` reads. The adopted ends are numbered from 1, and
+//!   expressions name them by these numbers. `drop: 2` drops one.
+//! - Changes of files are described in `duct_request_table::files`. `{place}` is the beginning of
+//!   the path of a file of this process.
 //!
-//! These calls are made beside those of what runs.
-//! - `ids` fails unless the ids are those of the children that this thread has more than at first. `ended` waits until each child has ended, and asks nobody.
-//! - `captured` reads the pipe of `adopt_captured` to its end, and adds the bytes. `sleep 200` sleeps so many milliseconds.
+//! These calls are made besides those of the table.
+//! - `ids` fails unless the ids are those of the children that this thread has got since the row
+//!   began. `ended` waits until each child has ended, and polls none.
+//! - `captured` reads the pipe of `adopt_captured` to EOF, and adds the bytes. `sleep 200` sleeps
+//!   for 200 milliseconds.
 //!
 //! These lines are compared.
-//! - `opened` and `children`: how many descriptors and children there are more than at first.
+//! - `opened` and `children`: how many more file descriptors and children there are than when the
+//!   row began.
 //! - `file: f "text"`: the text of this file, which is removed.
-//! - `asked`: the canonical names that were asked for.
-//! - `questions`: of a machine that returns what the real one rarely does, as in `rare`, whose row begins with `returns`.
-//! - `clock` and `slept`: two numbers between which it lies how often the clock of the waits was asked, and how often this thread has slept.
-//!   `within`: the milliseconds within which the row came to here. Where it is otherwise, they have what it is.
+//! - `asked`: the paths whose canonical paths were requested.
+//! - `questions`: as in `rare`, if the results of the machine are scripted. Such a row begins with
+//!   `returns`.
+//! - `clock` and `slept`: two numbers. How often the clock of the waits was read, or how often this
+//!   thread has slept, has to be between them. `within`: a number of milliseconds that is greater
+//!   than the time since the row began. If this doesn't hold, the actual number is the result.
 //!
-//! At the end of a row the pool is swept until it keeps nobody, and no descriptor and no child is left.
+//! At the end of a row the pool is swept until it is empty. The row fails if a file descriptor or a
+//! child is left.
 use crate::rare::questions;
 use duct::{Clock, Entry, Numbered, Place, Pool, System};
 use duct_base::pool::pool_take;
@@ -44,10 +52,11 @@ use std::sync::atomic::{AtomicU64, Ordering};
 use std::time::Duration;
 use std::{rt, thread};
 
-/// How often something that goes on is looked at, each time a millisecond later.
+/// The greatest number of times that something that still runs is checked, once each millisecond.
 const TURNS: u32 = 30_000;
 
-/// The clock of a runtime, which counts how often it is asked. Where the machine doesn't tell the time it stands at zero.
+/// The clock of a runtime, which counts how often it is read. It shows zero if the runtime returns
+/// an error.
 #[derive(Drop)]
 pub struct Counting<R> {
     rt: R,
@@ -63,7 +72,8 @@ impl<R: rt::Clock> Clock for Counting<R> {
     }
 }
 
-/// A host with a pool, the ends that are not used yet, and what there was at first.
+/// A host with a pool, the adopted ends that are not used yet, and what there was when the row
+/// began.
 #[derive(Drop)]
 pub struct HostMachine<R: Real> {
     clock: Counting<R>,
@@ -77,11 +87,14 @@ pub struct HostMachine<R: Real> {
     children: String,
     slept: u64,
     begun: Duration,
-    /// What the runtime returns, where that is scripted.
+    /// The results that the runtime returns, if they are scripted.
     script: Option<Script>,
 }
 
 impl<R: Real> HostMachine<R> {
+    /// Returns a machine with a new host and an empty pool. Notes which descriptors and children
+    /// there are, how often this thread has slept, and the time. Fails if the runtime can't read
+    /// these, and on allocation failure.
     pub fn new(rt: &R, script: Option<Script>) -> Result<HostMachine<R>, Stop> {
         let alloc = rt.alloc();
         let opened = open_descriptors(rt)?;
@@ -126,7 +139,7 @@ impl<R: Real> HostMachine<R> {
         }
     }
 
-    /// Begins the next row of what the runtime returns.
+    /// Begins the next row of scripted results. Fails if nothing is scripted.
     fn begin_script(&self) -> Result<(), Stop> {
         match &self.script {
             Some(script) => Ok(script.begin()),
@@ -134,7 +147,8 @@ impl<R: Real> HostMachine<R> {
         }
     }
 
-    /// How many questions the runtime was asked, or that all were.
+    /// Returns how many scripted results were taken, or that all were. Fails if nothing is
+    /// scripted.
     fn script_questions(&self) -> Result<String, Stop> {
         match &self.script {
             Some(script) => Ok(questions(self.clock.rt.alloc(), script)?),
@@ -163,7 +177,8 @@ impl<R: Real> HostMachine<R> {
         Ok(self.ends.push(end)?)
     }
 
-    /// How many descriptors there are more than at first.
+    /// Returns how many more file descriptors are open than when the row began. Fails if there are
+    /// fewer.
     fn more_opened(&self) -> Result<usize, Stop> {
         let opened = open_descriptors(&self.clock.rt)?;
         opened
@@ -171,7 +186,8 @@ impl<R: Real> HostMachine<R> {
             .ok_or(Stop::Text("a descriptor was closed"))
     }
 
-    /// The ids of the children that there are more than at first.
+    /// Returns the ids of the children that this thread has got since the row began. Fails if an
+    /// older child is gone.
     fn more_children(&self) -> Result<String, Stop> {
         let alloc = self.clock.rt.alloc();
         let children = children_text(&self.clock.rt)?;
@@ -194,7 +210,7 @@ impl<R: Real> HostMachine<R> {
         }
     }
 
-    /// The path with the text of the file, which is removed.
+    /// Returns the path with the text of the file, and removes the file.
     fn file_text(&self, path: &str) -> Result<String, Stop> {
         let rt = &self.clock.rt;
         let text = fs::read_to_string(rt, path)?;
@@ -202,7 +218,7 @@ impl<R: Real> HostMachine<R> {
         Ok(format!(in rt.alloc(); "{path} {text:?}")?)
     }
 
-    /// How often the clock was asked, or this thread has slept.
+    /// Returns how often the clock was read, or else how often this thread has slept in this row.
     fn count(&self, key: &str) -> Result<u64, Stop> {
         if key == "clock" {
             return Ok(self.clock.asked.load(Ordering::SeqCst));
@@ -210,7 +226,7 @@ impl<R: Real> HostMachine<R> {
         Ok(sleeps(&self.clock.rt)?.saturating_sub(self.slept))
     }
 
-    /// How long ago the row began.
+    /// Returns how many milliseconds ago the row began.
     fn milliseconds(&self) -> io::Result<u128> {
         let now = self.clock.rt.monotonic()?;
         Ok(now.saturating_sub(self.begun).as_millis())
@@ -231,7 +247,7 @@ impl<R: Real> HostMachine<R> {
         Ok(Some(found))
     }
 
-    /// Adds all that is read from the pipe.
+    /// Reads the pipe to EOF, and adds the bytes.
     fn read_captured(&mut self, answer: &mut String) -> Result<(), Stop> {
         let Some(mut reader) = self.captured.take() else {
             return Err(Stop::Text("nothing is captured"));
@@ -242,7 +258,8 @@ impl<R: Real> HostMachine<R> {
         Ok(answer.push_str(". ")?)
     }
 
-    /// Gives the children of the last launch to the pool, and sweeps it until it keeps nobody, for half a minute at most.
+    /// Gives the children of the last launch to the pool, and sweeps it until it is empty, for
+    /// about half a minute at most.
     fn sweep(&mut self) {
         for place in replace(&mut self.spent, Vec::new(self.clock.rt.alloc())) {
             pool_take(&mut self.pool, place);
@@ -338,7 +355,7 @@ impl<R: Real> Machine for HostMachine<R> {
     }
 }
 
-/// The canonical names that were asked for.
+/// Returns the paths whose canonical paths were requested.
 fn asked_text(alloc: Global, entries: &[Entry]) -> Result<String, AllocError> {
     let mut text = String::new(alloc);
     for entry in entries {
@@ -349,12 +366,12 @@ fn asked_text(alloc: Global, entries: &[Entry]) -> Result<String, AllocError> {
     Ok(text)
 }
 
-/// How many ids a text has.
+/// Returns how many ids a text has.
 fn count_text(alloc: Global, ids: &str) -> Result<String, AllocError> {
     format!(in alloc; "{}", ids.split_whitespace().count())
 }
 
-/// The text of two numbers between which a count lies, or the count.
+/// Returns the text if the count is between its two numbers, or else the count.
 fn between(alloc: Global, text: &str, count: u64) -> Result<String, Stop> {
     let (least, most) = first_word(text);
     if least.parse::<u64>()? <= count && count <= most.parse::<u64>()? {
@@ -364,7 +381,7 @@ fn between(alloc: Global, text: &str, count: u64) -> Result<String, Stop> {
     }
 }
 
-/// The text of a number that is greater than this one, or this one.
+/// Returns the text if its number is greater than the count, or else the count.
 fn within(alloc: Global, text: &str, count: u128) -> Result<String, Stop> {
     if count < text.parse::<u128>()? {
         Ok(String::from_str(alloc, text)?)
@@ -373,7 +390,7 @@ fn within(alloc: Global, text: &str, count: u128) -> Result<String, Stop> {
     }
 }
 
-/// How often this thread has slept so far.
+/// Returns how often this thread has slept so far: its voluntary context switches.
 fn sleeps<R: Real>(rt: &R) -> Result<u64, Stop> {
     let text = fs::read_to_string(rt, "/proc/thread-self/status")?;
     for line in text.lines() {
@@ -384,7 +401,7 @@ fn sleeps<R: Real>(rt: &R) -> Result<u64, Stop> {
     Err(Stop::Text("nobody counts sleeps"))
 }
 
-/// Waits until each child has ended, and leaves it to be asked.
+/// Waits until each child has ended, and doesn't reap it.
 fn all_ended<R: Real>(rt: &R, ids: &[u32]) -> Result<(), Stop> {
     for id in ids {
         ended(rt, *id)?;
@@ -403,7 +420,7 @@ fn ended<R: Real>(rt: &R, id: u32) -> Result<(), Stop> {
     Err(Stop::Text("the child goes on"))
 }
 
-/// Whether the machine keeps no more of the child than how it ended.
+/// Whether the child is a zombie: it has ended, and was not reaped.
 fn is_ended<R: Real>(rt: &R, path: &str) -> Result<bool, Stop> {
     let text = fs::read_to_string(rt, path)?;
     let (_, state) = text.as_str().rsplit_once(") ").unwrap_or(("", ""));

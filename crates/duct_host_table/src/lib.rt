@@ -1,5 +1,6 @@
-//! Tables over the real machine: of the calls of whole expressions, and of what the machine rarely returns.
-//! Test support: nothing here is proved but that it is safe and ends.
+//! Tables over the real machine: of the calls on whole expressions, and of results that the machine
+//! rarely returns.
+//! Test support: only safety and termination are proved here.
 #![tactic(auto)]
 
 pub mod calls;

@@ -1,6 +1,7 @@
-//! The table of requests over a runtime that returns what the real machine rarely does for a process (`duct_request_table::odd`). A row begins with
-//! `returns`, which has what it returns in this row, and goes on as one of the table of requests. `questions` is compared: it is `all` where as
-//! many were asked as there are answers, or how many.
+//! The table of requests over a runtime that returns what the real machine rarely returns for a
+//! process (`duct_request_table::odd`). A row begins with `returns`, which has the results of the
+//! runtime in this row, and goes on like one of the table of requests. `questions` is compared: it
+//! is `all` if as many results were taken as the row has, or else how many were taken.
 use duct_request_table::machine::Real;
 use duct_request_table::odd::{Odd, Script};
 use duct_request_table::requests::HostRequests;
@@ -8,7 +9,8 @@ use duct_table::stop::Stop;
 use duct_table::table::Table;
 use std::alloc::{AllocError, Global};
 
-/// How many questions were asked, or that all were.
+/// Returns `all` if as many results were taken as the row has, or else how many were taken. Fails
+/// on allocation failure.
 pub fn questions(alloc: Global, script: &Script) -> Result<String, AllocError> {
     if script.is_spent() {
         String::from_str(alloc, "all")
@@ -17,7 +19,7 @@ pub fn questions(alloc: Global, script: &Script) -> Result<String, AllocError> {
     }
 }
 
-/// The table, and the answers of its row.
+/// The table of requests, and the results that its runtime returns.
 #[derive(Drop)]
 pub struct RareRequests<R: Real> {
     alloc: Global,
@@ -26,7 +28,7 @@ pub struct RareRequests<R: Real> {
 }
 
 impl<R: Real> RareRequests<R> {
-    /// A table over a runtime with these answers.
+    /// Returns the table over a runtime with these results.
     pub fn new(alloc: Global, script: Script, odd: Odd<R>) -> RareRequests<R> {
         RareRequests {
             alloc,

@@ -10,7 +10,9 @@ use std::alloc::{AllocError, Global};
 use std::io::{self, Write};
 use std::sync::Wait;
 
-/// Tries the rows of a file of the table `host requests`.
+/// Tries the rows of a file of the table `host requests`. Writes a line to `out` for each row that
+/// differs. Returns the counts. Fails if `out` can't be written, on allocation failure, and if the
+/// runtime doesn't return the folder for temporary files or the id of this process.
 pub fn requests<R: Real, W: Write>(rt: &R, file: File, out: &mut W) -> io::Result<Counts> {
     let text = filled(rt, file.text)?;
     let file = File {
@@ -22,7 +24,8 @@ pub fn requests<R: Real, W: Write>(rt: &R, file: File, out: &mut W) -> io::Resul
     compare(&mut table, file, out)
 }
 
-/// The same of the table `host calls`.
+/// Does the same for the table `host calls`. If the machine can't be set up, writes why, and counts
+/// one row that differs.
 pub fn calls<R: Real + Wait, W: Write>(rt: &R, file: File, out: &mut W) -> io::Result<Counts> {
     let text = filled(rt, file.text)?;
     let file = File {
@@ -39,7 +42,7 @@ pub fn calls<R: Real + Wait, W: Write>(rt: &R, file: File, out: &mut W) -> io::R
     }
 }
 
-/// The answers of the rows of a text, a line for each row.
+/// Returns the results that the rows of a text have after `returns`, one line for each row.
 fn answers_in(alloc: Global, text: &str) -> Result<String, AllocError> {
     let mut answers = String::new(alloc);
     for line in text.lines() {
@@ -51,7 +54,7 @@ fn answers_in(alloc: Global, text: &str) -> Result<String, AllocError> {
     Ok(answers)
 }
 
-/// The same of the table `host rare requests`.
+/// Does the same for the table `host rare requests`.
 pub fn rare_requests<R: Real, W: Write>(rt: &R, file: File, out: &mut W) -> io::Result<Counts> {
     let alloc = rt.alloc();
     let text = filled(rt, file.text)?;
@@ -66,7 +69,8 @@ pub fn rare_requests<R: Real, W: Write>(rt: &R, file: File, out: &mut W) -> io::
     compare(&mut table, file, out)
 }
 
-/// The same of the table `host rare calls`.
+/// Does the same for the table `host rare calls`. If the machine can't be set up, writes why, and
+/// counts one row that differs.
 pub fn rare_calls<R: Real + Wait, W: Write>(rt: &R, file: File, out: &mut W) -> io::Result<Counts> {
     let alloc = rt.alloc();
     let text = filled(rt, file.text)?;

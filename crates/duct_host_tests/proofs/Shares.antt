@@ -1,4 +1,4 @@
--- What of a host's handle may go to another thread: its children, and its workers.
+-- What a handle of the host has that may be sent to another thread: its children and its workers.
 use mir.Syntax.{Lifetime}
 use base.Fml.{Lft}
 use denote.Param.Send.{IsSend, IsSync, recorded_send, sendable, struct_send}
@@ -33,14 +33,14 @@ pub child_send : (ℓ : Lifetime) (κ : Lft) → IsSend (Child.the_row (ShrRef �
     SystemProcess.the_row ChildStdin.the_row ChildStdout.the_row ChildStderr.the_row)
 child_send ℓ κ = search (child.the_send, sendable, crosses) depth 40
 
--- a worker, where its result may go
+-- a worker may be sent to another thread if its result may
 worker_send : (T : RattleType) (g : Shared.Ghosts T.Denot) → IsSend (Arc.the_row
     (OnceLock.the_row (Result.the_row T Fault.the_row)) Global.the_row heap.ghosts)
     → IsSend (Said.the_field T).row → IsSend (Worker.the_row T g)
 worker_send T g left said = recorded_send _ _ _ (Worker.the_type T g).to_one
     (struct_send (shape (Worker.the_type T g)) (search sendable, (search sendable, (left, (said, (search sendable, tt))))))
 
--- one that writes
+-- a feed may be sent to another thread
 pub feed_send : IsSend (Worker.the_row (Field.unit-field).row unit_shared.ghosts)
 feed_send = worker_send (Field.unit-field).row unit_shared.ghosts (search (once_lock.the_send, once_lock.the_sync, sendable, crosses) depth 40)
     (search sendable depth 20)
@@ -48,15 +48,15 @@ feed_send = worker_send (Field.unit-field).row unit_shared.ghosts (search (once_
 abbrev bytes : RattleType
 bytes = Arc.the_row (Vec.the_row (Field.u8-field).row Global.the_row heap.ghosts) Global.the_row heap.ghosts
 
--- one that reads
+-- a drain may be sent to another thread
 pub drain_send : IsSend (Worker.the_row bytes bytes_shared.ghosts)
 drain_send = worker_send bytes bytes_shared.ghosts (search (once_lock.the_send, once_lock.the_sync, sendable, crosses) depth 40)
     (search (sendable, crosses) depth 20)
 
--- the pipe's end that is read
+-- the read end of a pipe may be sent to another thread
 pub reader_send : IsSend Reader.the_row
 reader_send = search (sendable, crosses) depth 40
 
--- what a handle keeps of the runtime
+-- the reference to the runtime that a handle keeps may be shared between threads
 pub runtime_sync : (ℓ : Lifetime) (κ : Lft) → IsSync (ShrRef ℓ κ LibcRuntime.the_row)
 runtime_sync ℓ κ = search (sendable, crosses) depth 20

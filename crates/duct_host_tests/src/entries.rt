@@ -1,4 +1,4 @@
-//! The variables of the parent, as the host returns them and notes them.
+//! Tests of the parent's variables, as the host returns them and notes them in its journal.
 use duct_base::system::{Entry, System};
 use duct_host::host::Host;
 use duct_request_table::machine::Real;
@@ -8,7 +8,7 @@ use std::fmt::{Debug, Write};
 use std::fs;
 use std::test::Fail;
 
-/// The entries of an environment that are UTF-8, each ended by a NUL.
+/// The entries of an environment that are UTF-8, each followed by a NUL.
 fn readable(alloc: Global, environ: &[u8]) -> Result<String, AllocError> {
     let mut text = String::new(alloc);
     for entry in environ.split(|b| *b == 0) {
@@ -24,7 +24,8 @@ fn push_readable(text: &mut String, entry: &[u8]) -> Result<(), AllocError> {
     }
 }
 
-/// Variables as the entries of an environment, each with this sign between its name and its value, and ended by a NUL.
+/// The entries of an environment with these variables, each with this sign between its name and its
+/// value, and followed by a NUL.
 fn entries_of(alloc: Global, pairs: &[(String, String)], sign: &str) -> Result<String, AllocError> {
     let mut text = String::new(alloc);
     for pair in pairs {
@@ -39,10 +40,10 @@ fn started_with<R: Real>(rt: &R) -> Result<String, Fail> {
     Ok(readable(rt.alloc(), environ.as_slice())?)
 }
 
-/// The bytes of a buffer that any entry of a test's environment fits in.
+/// The size of a buffer that any entry of a test's environment fits in, in bytes.
 const LONGEST: usize = 1 << 20;
 
-/// The entries that the runtime tells one after the other.
+/// The entries that the runtime returns one by one.
 fn told_in_turn<R: Real>(rt: &R) -> Result<String, Fail> {
     let mut bytes = Vec::new(rt.alloc());
     bytes.resize(LONGEST, 0u8)?;
@@ -56,7 +57,7 @@ fn told_in_turn<R: Real>(rt: &R) -> Result<String, Fail> {
     Ok(text)
 }
 
-/// Fails where a value is not the expected one.
+/// Fails unless a value is the expected one.
 fn same<T: PartialEq + Debug + Drop>(found: T, expected: T) -> Result<(), Fail> {
     if found == expected {
         Ok(())
@@ -65,7 +66,8 @@ fn same<T: PartialEq + Debug + Drop>(found: T, expected: T) -> Result<(), Fail> 
     }
 }
 
-/// Fails unless a host has just answered these variables, and has noted them.
+/// Fails unless a host has just returned these variables as the expected entries, and has noted
+/// them.
 fn answers<R: Real>(
     host: &Host<R>,
     pairs: &[(String, String)],
@@ -76,13 +78,14 @@ fn answers<R: Real>(
     same((text.as_str(), noted(host)), (expected, Some(pairs)))
 }
 
-/// Fails unless a host answers these entries as its environment, with this sign between a name and its value.
+/// Fails unless a host returns these entries as its environment, with this sign between a name and
+/// its value.
 fn has_environment<R: Real>(host: &mut Host<R>, sign: &str, expected: &str) -> Result<(), Fail> {
     let pairs = host.environment()?;
     answers(host, pairs.as_slice(), sign, expected)
 }
 
-/// The variables of a journal whose only entry has some.
+/// The variables of a journal whose only entry is an environment.
 fn noted<R: Real>(host: &Host<R>) -> Option<&[(String, String)]> {
     match host.journal() {
         [Entry::Environment(Ok(pairs))] => Some(pairs.as_slice()),
@@ -98,8 +101,8 @@ fn the_environment_is_the_parents(rt: HostRuntime) -> Result<(), Fail> {
     has_environment(&mut host, "=", expected.as_str())
 }
 
-/// Fails unless a host has this environment, where `:` stands between a name and its value, and where the runtime shows some entries
-/// at once and has others.
+/// Fails unless a host returns the expected environment, with `:` between a name and its value,
+/// over a runtime that returns the entries in `shown` at once, and those in `entries` one by one.
 fn reads<R: Real>(rt: &R, shown: &str, entries: &str, expected: &str) -> Result<(), Fail> {
     let alloc = rt.alloc();
     let shown = String::from_str(alloc, shown)?;
@@ -108,7 +111,7 @@ fn reads<R: Real>(rt: &R, shown: &str, entries: &str, expected: &str) -> Result<
     has_environment(&mut Host::new(odd, alloc), ":", expected)
 }
 
-/// As many entries as the runtime has are read at once.
+/// Checks that the entries are read at once if there are as many as the runtime has.
 #[test]
 fn entries_at_once(rt: HostRuntime) -> Result<(), Fail> {
     reads(&rt, "", "", "")?;
@@ -116,7 +119,8 @@ fn entries_at_once(rt: HostRuntime) -> Result<(), Fail> {
     reads(&rt, "A=1\0B=2\0", "A=3\0B=4\0", "A:1\0B:2\0")
 }
 
-/// Where entries were taken away that are shown still, or came later, they are read in turn.
+/// Checks that the entries are read one by one if some were removed that are still shown, or came
+/// later.
 #[test]
 fn entries_in_turn(rt: HostRuntime) -> Result<(), Fail> {
     reads(&rt, "GONE=1\0", "", "")?;
@@ -125,7 +129,8 @@ fn entries_in_turn(rt: HostRuntime) -> Result<(), Fail> {
     reads(&rt, "A=1\0", "A=1\0B=2\0", "A:1\0B:2\0")
 }
 
-/// The first `=` behind an entry's first byte parts the name from the value; an entry without one is left out.
+/// Checks that the first `=` after an entry's first byte separates the name from the value, and
+/// that an entry without one is left out.
 #[test]
 fn entries_are_parted(rt: HostRuntime) -> Result<(), Fail> {
     let entries = "A=x=y\0=B=1\0==2\0C=\0D==\0E\0=F\0=\0";

@@ -1,4 +1,5 @@
-//! Tests over the real machine that no row can be: of threads, of refused memory, and of a runtime that shows other variables than it has.
+//! Tests over the real machine that no row of data can express: threads, allocation failures, and a
+//! runtime that shows other variables than it has.
 #![tactic(auto)]
 
 #[cfg(test)]

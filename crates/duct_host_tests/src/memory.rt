@@ -1,5 +1,6 @@
-//! Refused memory: whatever single request of the process is refused, each test of `memory_` finds what there is with ample memory, or the
-//! fault `OutOfMemory`, and then a file is as it was, a child goes on, and no descriptor stays open.
+//! Tests of allocation failures. Whichever single allocation of the process fails, each test named
+//! `memory_..` checks that the result is the same as with ample memory, or the fault `OutOfMemory`.
+//! After that fault a file is as it was, a child still runs, and no descriptor stays open.
 use duct::{Error, Worker};
 use duct_base::system::{Child, ExitStatus, Fault, Job, Kind, Stdio, System};
 use duct_host::child;
@@ -15,7 +16,7 @@ use std::rt::{Clock, Files};
 use std::sync::Arc;
 use std::{fs, io};
 
-/// The path of a file that has a text.
+/// Writes a file that has a text, and returns its path.
 fn written<R: Real>(rt: &R) -> io::Result<String> {
     let own = fs::canonicalize(rt, "/proc/self")?.into_string();
     let path = own.replace(rt.alloc(), "/proc/", "/tmp/duct_host-memory-")?;
@@ -23,7 +24,8 @@ fn written<R: Real>(rt: &R) -> io::Result<String> {
     Ok(path)
 }
 
-/// A new file is empty, and where it is refused the old one has its text.
+/// The outcome of a create where a file has a text. The file is empty if the create succeeds, and
+/// keeps its text if it fails.
 fn created<R: Real>(rt: &R) -> Result<MemoryOutcome, Error> {
     let path = written(rt).map_err(Fault::from)?;
     let answer = Host::new(rt.clone()?, rt.alloc()).create(path.as_str());
@@ -38,7 +40,7 @@ fn created<R: Real>(rt: &R) -> Result<MemoryOutcome, Error> {
     })
 }
 
-/// A child that goes on until it is killed.
+/// Starts a child that runs until it is killed.
 fn lasting<R: Real>(rt: &R, script: &Script) -> Result<child::Child<Odd<R>>, Error> {
     let odd = Odd::new(rt.alloc(), rt.clone()?, script.clone()?);
     let spec = spec(rt.alloc(), Some("odd"), "", "")?;
@@ -46,7 +48,7 @@ fn lasting<R: Real>(rt: &R, script: &Script) -> Result<child::Child<Odd<R>>, Err
     Ok(Host::new(odd, rt.alloc()).spawn(spec, null)?)
 }
 
-/// A kill of a child that goes on. One that is refused is not asked of the machine.
+/// The outcome of a kill of a child that runs. A kill that fails is not made on the machine.
 fn killed<R: Real>(rt: &R) -> Result<MemoryOutcome, Error> {
     let script = Script::new(rt.alloc(), "ok, ok, ok, status 9")?;
     let mut child = lasting(rt, &script)?;
@@ -62,20 +64,20 @@ fn kill_of(child: &mut impl Child, script: &Script) -> MemoryOutcome {
     }
 }
 
-/// Whether a child goes on, and then a kill ends it.
+/// Whether a child still runs, and a kill then ends it.
 fn is_killed(child: &mut impl Child) -> bool {
     child.poll() == Ok(None)
         && child.kill() == Ok(())
         && child.poll() == Ok(Some(ExitStatus::Signal(9)))
 }
 
-/// The descriptors that a pipe gets.
+/// The file descriptors that a new pipe gets.
 fn free<R: Files>(rt: &R) -> Result<(i32, i32), Error> {
     let (read, write) = io::pipe(rt).map_err(Fault::from)?;
     Ok((read.as_raw_fd(), write.as_raw_fd()))
 }
 
-/// A start that gets both ends of a pipe.
+/// The outcome of a spawn that takes both ends of a pipe.
 fn spawned<R: Real>(rt: &R) -> Result<MemoryOutcome, Error> {
     let spec = spec(rt.alloc(), Some("/bin/true"), "", "")?;
     let mut host = Host::new(rt.clone()?, rt.alloc());
@@ -89,7 +91,7 @@ fn spawned<R: Real>(rt: &R) -> Result<MemoryOutcome, Error> {
     })
 }
 
-/// A worker that writes nothing.
+/// Starts a worker that writes nothing.
 fn feeding<R: Real>(rt: &R) -> Result<Worker<()>, Error> {
     let alloc = rt.alloc();
     let bytes = Arc::new(alloc, Vec::new(alloc))?;
@@ -98,7 +100,7 @@ fn feeding<R: Real>(rt: &R) -> Result<Worker<()>, Error> {
     Ok(host.start_feed(write, bytes)?)
 }
 
-/// A worker that finds nothing to read.
+/// Starts a worker that finds nothing to read.
 fn draining<R: Real>(rt: &R) -> Result<Worker<Arc<Vec<u8>>>, Error> {
     let mut host = Host::new(rt.clone()?, rt.alloc());
     let (read, write) = host.pipe()?;
@@ -106,7 +108,7 @@ fn draining<R: Real>(rt: &R) -> Result<Worker<Arc<Vec<u8>>>, Error> {
     Ok(host.start_drain(read)?)
 }
 
-/// What a worker comes to.
+/// The outcome of a worker.
 fn worked<J: Job + Drop>(
     rt: &impl Clock,
     started: Result<J, Error>,
@@ -121,7 +123,7 @@ fn worked<J: Job + Drop>(
     }
 }
 
-/// A feed and a drain. A worker that goes on is wrong.
+/// The outcome of a feed and of a drain. A worker that doesn't finish is `Wrong`.
 fn workers<R: Real>(rt: &R) -> MemoryOutcome {
     let fed = worked(rt, feeding(rt)).unwrap_or(MemoryOutcome::Wrong);
     fed.then(worked(rt, draining(rt)).unwrap_or(MemoryOutcome::Wrong))
@@ -142,13 +144,13 @@ fn memory_of_a_spawn(rt: HostRuntime) {
     assert_ne!(rt; MemoryOutcome::of(spawned(&rt)), MemoryOutcome::Wrong);
 }
 
-/// A feed and a drain.
+/// Checks a feed and a drain.
 #[test]
 fn memory_of_workers(rt: HostRuntime) {
     assert_ne!(rt; workers(&rt), MemoryOutcome::Wrong);
 }
 
-/// Whether no request was refused.
+/// Checks that all succeed if no allocation fails.
 #[test]
 fn all_memory_is_there(rt: HostRuntime) {
     let created = MemoryOutcome::of(created(&rt));

@@ -1,4 +1,5 @@
-//! Threads that start commands of the real machine with one pool behind a lock, and give them up to it.
+//! Tests of threads that start commands on the real machine with one pool that a lock guards, and
+//! give up the handles to it.
 use duct::{Error, Expression, Pool, cmd};
 use duct_host::child::Child;
 use duct_host::end::End;
@@ -18,9 +19,9 @@ use std::time::Duration;
 /// How many commands each thread starts.
 const STARTS: u32 = 20;
 
-// What starts commands for the threads that share it.
+// What threads share to start commands.
 trait Starts<R> {
-    // Starts commands and gives them up, and answers how many starts went well.
+    // Starts commands and gives up their handles. Returns how many starts succeeded.
     fn starts(&self, rt: &R, alloc: Global) -> u32;
 }
 
@@ -37,7 +38,7 @@ impl<R: Processes + Files<File = File> + Env + Parents + Threads + Wait + Clone 
     }
 }
 
-// Starts a command by a host of its own, and gives it up.
+// Starts a command on a host of its own, and gives up its handle.
 fn start_one<R: Processes + Files<File = File> + Env + Parents + Threads + Wait + Clone + Drop>(
     rt: &R,
     alloc: Global,
@@ -50,7 +51,7 @@ fn start_one<R: Processes + Files<File = File> + Env + Parents + Threads + Wait 
     Ok(())
 }
 
-// How many starts of two threads went well.
+// Returns how many starts succeeded in each of two threads.
 fn both_start<P: Starts<R> + Sync, R: Threads + Sync>(
     rt: &R,
     alloc: Global,
@@ -59,7 +60,7 @@ fn both_start<P: Starts<R> + Sync, R: Threads + Sync>(
     thread::join(rt, || pool.starts(rt, alloc), || pool.starts(rt, alloc))
 }
 
-// Sweeps a pool until it is empty, or so many times.
+// Sweeps a pool until it is empty, at most 1,000 times. Returns whether it is empty.
 fn emptied<R: Clock, C: duct::Child>(rt: &R, pool: &mut Pool<C>) -> bool {
     for _ in 0..1000 {
         pool.sweep();
@@ -71,7 +72,8 @@ fn emptied<R: Clock, C: duct::Child>(rt: &R, pool: &mut Pool<C>) -> bool {
     false
 }
 
-/// Two threads share a pool: each of their children was given to it, all are found ended, and nothing is left.
+/// Checks that two threads can share a pool: it is given each of their children, all are reaped,
+/// and no descriptor and no child is left.
 #[test]
 fn two_threads_share_a_pool(rt: HostRuntime) -> Result<(), Fail> {
     let before = count_left(&rt)?;

@@ -1,5 +1,6 @@
-//! Threads that share a handle or a reader handle of commands of the real machine. What a test leaves is compared with what was there.
-//! No command sleeps for more than 20 seconds, so that a test which loses a kill fails, and doesn't hang.
+//! Tests of threads that share a handle or a reader handle of commands on the real machine. A test
+//! compares what is left at its end with what there was before. No command sleeps for much more
+//! than 20 seconds, so that a test that loses a kill fails and doesn't hang.
 use duct::{Clock, Error, ExitStatus, Expression, Handle, Output, Pool, ReaderHandle, System, cmd};
 use duct_host::end::End;
 use duct_host::host::Host;
@@ -11,19 +12,20 @@ use std::thread::Threads;
 use std::time::Duration;
 use std::{rt, thread};
 
-/// How long a kill waits, so that the other threads stand in their calls by then, in milliseconds.
+/// How long a thread waits before it kills, in milliseconds, so that the other threads are blocked
+/// in their calls by then.
 const LATER: u64 = 50;
 
-/// How long a wait with a deadline waits that is to be late, in milliseconds.
+/// How long a wait waits that should time out, in milliseconds.
 const SOON: u64 = 10;
 
-/// How many rounds of two threads that read there are.
+/// The number of rounds with two threads that read.
 const READ_ROUNDS: u32 = 12;
 
-/// How many bytes those commands print.
+/// How many bytes the commands of those rounds print.
 const BYTES: usize = 1000;
 
-/// The clock of a runtime. Where the machine doesn't tell the time it stands at zero.
+/// The clock of a runtime. It always shows zero if the machine doesn't tell the time.
 #[derive(Drop)]
 struct Ticking<R> {
     rt: R,
@@ -37,19 +39,19 @@ impl<R: rt::Clock> Clock for Ticking<R> {
     }
 }
 
-// Two commands that sleep for long, with a pipe between them.
+// Two commands that sleep for 20 seconds, with a pipe between them.
 fn sleepers(alloc: Global) -> Result<Expression<End>, Error> {
     let left = cmd!(in alloc; "sleep", "20")?;
     left.pipe(&cmd!(in alloc; "sleep", "20")?)
 }
 
-// The same, but the second one prints before it sleeps, all bytes by one write.
+// The same, but the second command prints all its bytes in one write before it sleeps.
 fn printers(alloc: Global) -> Result<Expression<End>, Error> {
     let left = cmd!(in alloc; "sleep", "20")?;
     left.pipe(&cmd!(in alloc; "sh", "-c", "printf %1000s; exec sleep 20")?)
 }
 
-// Whether an error tells of a command that was killed.
+// Whether an error says that a command was killed.
 fn tells_of_a_kill(error: &Error) -> bool {
     match error {
         Error::Checked(text) => text.as_str().ends_with("exited with code <signal 9>"),
@@ -57,16 +59,17 @@ fn tells_of_a_kill(error: &Error) -> bool {
     }
 }
 
-// What threads ask of a handle that they share.
+// What threads do with a handle or a reader handle that they share.
 trait Shared {
-    // Reads once where there is something to read, and answers how many bytes.
+    // Reads once if there is something to read, and returns how many bytes were read.
     fn begins(&self) -> usize;
 
-    // Waits, or reads to the end, and answers how many bytes were read, and whether that told of a kill.
+    // Waits, or reads to EOF. Returns how many bytes were read, and whether the call failed because
+    // of a kill.
     fn hears<R: Wait>(&self, rt: &R) -> (usize, bool);
 
-    // Polls, or waits until a deadline, and kills. Answers how many ids there are, whether a command ran, and
-    // whether the kill was obeyed.
+    // Polls, or waits with a timeout, and then kills. Returns how many ids there are, whether a
+    // command still ran, and whether the kill succeeded.
     fn ends<R: Wait + rt::Clock>(&self, rt: &R) -> (usize, bool, bool);
 }
 
@@ -115,7 +118,7 @@ impl<S: System, W: Wait> Shared for ReaderHandle<S, W> {
     }
 }
 
-// What two threads read, and whether they hear of a kill.
+// Calls `hears` in two threads, and returns both results.
 fn both_hear<H: Shared + Sync, R: Wait + Threads + Sync>(
     rt: &R,
     handle: &H,
@@ -123,7 +126,7 @@ fn both_hear<H: Shared + Sync, R: Wait + Threads + Sync>(
     thread::join(rt, || handle.hears(rt), || handle.hears(rt))
 }
 
-// What a thread is told that kills so many milliseconds later.
+// Sleeps for this many milliseconds, and then returns the result of `ends`.
 fn end_later<H: Shared, R: Wait + rt::Clock>(
     rt: &R,
     handle: &H,
@@ -133,8 +136,8 @@ fn end_later<H: Shared, R: Wait + rt::Clock>(
     handle.ends(rt)
 }
 
-// How many bytes are read, once and then by two threads, whether both hear of the kill of a third, and what
-// that one is told.
+// Reads once, and then calls `hears` in two threads and `ends` in a third. Returns how many bytes
+// were read in all, whether each of the two saw the kill, and the result of the third.
 fn hear_and_end<H: Shared + Sync, R: Wait + Threads + rt::Clock + Sync>(
     rt: &R,
     handle: &H,
@@ -151,7 +154,7 @@ fn hear_and_end<H: Shared + Sync, R: Wait + Threads + rt::Clock + Sync>(
     (bytes, (one.1, other.1), ends)
 }
 
-// Whether two threads read all bytes together, and then hear of the kill of a third.
+// Whether all bytes were read, and both threads that read saw the kill of the third.
 fn reads_end<H: Shared + Sync, R: Wait + Threads + rt::Clock + Sync>(
     rt: &R,
     handle: &H,
@@ -160,7 +163,8 @@ fn reads_end<H: Shared + Sync, R: Wait + Threads + rt::Clock + Sync>(
     hear_and_end(rt, handle, later) == (BYTES, (true, true), (2, true, true))
 }
 
-/// Two threads wait for a pipeline, and a third kills it: both waits hear of it, and nothing is left.
+/// Checks that two threads that wait for a pipeline both see the kill of a third one, and that
+/// nothing is left.
 #[test]
 fn a_kill_ends_two_waits(rt: HostRuntime) -> Result<(), Fail> {
     let before = count_left(&rt)?;
@@ -175,9 +179,9 @@ fn a_kill_ends_two_waits(rt: HostRuntime) -> Result<(), Fail> {
     Ok(())
 }
 
-/// Two threads read what a pipeline prints, and a third asks for the ids, polls and kills, in each round a
-/// little later. One read before shows that all is printed: the two get the rest together, each byte once, and
-/// then hear of the kill.
+/// Checks two threads that read what a pipeline prints, while a third one gets the ids, polls and
+/// kills, a little later in each round. A read before that shows that everything is printed. The
+/// two threads together read all the other bytes, and then see the kill.
 #[test]
 fn a_kill_ends_two_reads(rt: HostRuntime) -> Result<(), Fail> {
     let before = count_left(&rt)?;
@@ -190,7 +194,7 @@ fn a_kill_ends_two_reads(rt: HostRuntime) -> Result<(), Fail> {
             rounds = rounds.saturating_add(1);
         }
         handle.give_up(&mut pool);
-        // Behind a round that went wrong there is no other one, so that a lost kill costs one sleep.
+        // No round follows one that failed, so that a lost kill costs one sleep.
         if rounds <= round {
             break;
         }
@@ -199,17 +203,19 @@ fn a_kill_ends_two_reads(rt: HostRuntime) -> Result<(), Fail> {
     Ok(())
 }
 
-/// How many rounds of eight threads there are. In the first of three nobody kills, in the second the commands
-/// sleep until they are killed, and in the third it is open what comes first.
+/// The number of rounds with eight threads. Of each three rounds, the first has no kill, in the
+/// second the commands sleep until they are killed, and in the third either the end or the kill
+/// comes first.
 const ROUNDS: u32 = 42;
 
 /// What the commands of those rounds print.
 const PRINTED: &str = "hi\n";
 
-/// The code in the place of an answer that no round may have.
+/// The code for a result that no round may have.
 const REFUSED: i32 = 1000;
 
-// How it ended: a code, or a signal below zero, and how many of the printed bytes were captured.
+// How the commands ended: an exit code, or a negated signal, and how many of the printed bytes were
+// captured.
 fn ending(answer: Result<Arc<Output>, Error>) -> (i32, usize) {
     let Ok(output) = answer else {
         return (REFUSED, 0);
@@ -224,7 +230,7 @@ fn ending(answer: Result<Arc<Output>, Error>) -> (i32, usize) {
     (code, output.stdout.len())
 }
 
-// The same of an answer that may be that it runs yet.
+// The same for a result that may be that the commands still run.
 fn told(answer: Result<Option<Arc<Output>>, Error>) -> Option<(i32, usize)> {
     match answer {
         Ok(Some(output)) => Some(ending(Ok(output))),
@@ -233,7 +239,8 @@ fn told(answer: Result<Option<Arc<Output>>, Error>) -> Option<(i32, usize)> {
     }
 }
 
-// Waits for a while that the round says, and kills then, if it has a kill. Answers what the wait was told.
+// Waits for a time that depends on the round, and then kills if the round has a kill. Returns the
+// result of the wait.
 fn wait_and_kill<S: System, R: Wait + rt::Clock>(
     rt: &R,
     handle: &Handle<S>,
@@ -249,8 +256,9 @@ fn wait_and_kill<S: System, R: Wait + rt::Clock>(
 
 // What threads do with a handle that they share.
 trait Played {
-    // Asks, each thread in its own way, waits to the end and asks again. Answers whether it was told the same
-    // each time, but for the answer that it runs yet, which may come first, and how it ended.
+    // Makes a first call, which depends on the thread, then waits to the end and polls again.
+    // Returns whether all results were the same, and how the commands ended. The first result may
+    // also be that they still run.
     fn plays<R: Wait + rt::Clock>(&self, rt: &R, thread: u32, round: u32) -> (bool, i32, usize);
 }
 
@@ -277,12 +285,12 @@ impl<S: System> Played for Handle<S> {
     }
 }
 
-// Whether all answers to these and to those were the same, and how it ended.
+// Whether both groups of threads got the same results, and how the commands ended.
 fn agreed(one: (bool, i32, usize), other: (bool, i32, usize)) -> (bool, i32, usize) {
     (one.0 && one == other, one.1, one.2)
 }
 
-// Whether two threads are told the same, and what.
+// Whether two threads got the same results, and how the commands ended.
 fn two_agree<H: Played + Sync, R: Wait + Threads + rt::Clock + Sync>(
     rt: &R,
     handle: &H,
@@ -298,7 +306,7 @@ fn two_agree<H: Played + Sync, R: Wait + Threads + rt::Clock + Sync>(
     agreed(one, other)
 }
 
-// Whether four threads are told the same, and what.
+// Whether four threads got the same results, and how the commands ended.
 fn four_agree<H: Played + Sync, R: Wait + Threads + rt::Clock + Sync>(
     rt: &R,
     handle: &H,
@@ -314,7 +322,7 @@ fn four_agree<H: Played + Sync, R: Wait + Threads + rt::Clock + Sync>(
     agreed(one, other)
 }
 
-// Whether eight threads are told the same, and a round may end so.
+// Whether eight threads got the same results, and a round may end in this way.
 fn eight_agree<H: Played + Sync, R: Wait + Threads + rt::Clock + Sync>(
     rt: &R,
     handle: &H,
@@ -329,7 +337,7 @@ fn eight_agree<H: Played + Sync, R: Wait + Threads + rt::Clock + Sync>(
     agree && may_end(round, code, bytes)
 }
 
-// Whether a round may end so: by itself, with all that is printed, or by the kill.
+// Whether a round may end in this way: by itself with all bytes captured, or by the kill.
 fn may_end(round: u32, code: i32, bytes: usize) -> bool {
     let by_itself = code == 0 && bytes == PRINTED.len();
     match round % 3 {
@@ -339,8 +347,8 @@ fn may_end(round: u32, code: i32, bytes: usize) -> bool {
     }
 }
 
-// A command that prints and then sleeps: in the second round of three for long, else for some hundredths of a
-// second.
+// A command that prints and then sleeps: for 20 seconds in the second of each three rounds,
+// otherwise for a few hundredths of a second.
 fn nap(alloc: Global, round: u32) -> Result<Expression<End>, Error> {
     let whole = if round % 3 == 1 { 20 } else { 0 };
     let script = format!(in alloc; "echo hi; exec sleep {}.0{}", whole, round % 7)?;
@@ -354,8 +362,9 @@ fn captured_nap(alloc: Global, round: u32) -> Result<Expression<End>, Error> {
     both.stdout_capture()?.unchecked()
 }
 
-/// Eight threads poll, wait, with deadlines that pass and without, kill and ask for ids, in many rounds that
-/// end at different moments, by themselves or by the kill. All are told the same, and nothing is left.
+/// Checks eight threads that poll, wait with and without deadlines, kill and get ids, in many
+/// rounds that end at different moments, by themselves or by the kill. All threads get the same
+/// results, and nothing is left.
 #[test]
 fn eight_threads_are_told_the_same(rt: HostRuntime) -> Result<(), Fail> {
     let before = count_left(&rt)?;
@@ -368,7 +377,7 @@ fn eight_threads_are_told_the_same(rt: HostRuntime) -> Result<(), Fail> {
             rounds = rounds.saturating_add(1);
         }
         handle.give_up(&mut pool);
-        // Behind a round that went wrong there is no other one, so that a lost kill costs one sleep.
+        // No round follows one that failed, so that a lost kill costs one sleep.
         if rounds <= round {
             break;
         }

@@ -1,4 +1,5 @@
--- A tree adds to the end of a plan, and what a node asks of its own stays there, whatever an inner node hides of it.
+-- A tree only adds to the end of a plan, and the request that a node makes before its inner
+-- expression stays in the plan, whatever an inner node overrides.
 use Rattle.std.proofs.Common.{◌≡◌, ℕ, List, [], ◌∷◌, ◌++◌, length, refl, ap, sym, ◌∙◌, append_assoc}
 use Rattle.std.specs.Prelude.{Some, None, is_some, if◌then◌else◌}
 use Rattle.std.specs.declared.option.Option.{Option}
@@ -56,7 +57,8 @@ module _ {E H : Type 0} where
       (goes_on plan.items begun.items inside.items (opened_on opening plan) (planned_on inner (within place modifier ∷ up) begun))
       ((step modifier).closing place, refl)
 
-  -- what a node asks of its own before what it wraps is in the plan, also where an inner node hides it
+  -- the item that a node adds before its inner expression is in the plan, even if an inner node
+  -- overrides what the node sets
   pub outer_opened : (modifier : ModifierView E H) (item : Item E H)
       → (step modifier).opening ≡ Opens item
       → (inner : TreeView E H) (up : Path E H) (plan : Plan E H)

@@ -1,4 +1,4 @@
--- Where a stream goes with one redirection round another, and with two swaps.
+-- Where a stream goes with one redirection around another, and with two swaps.
 use Rattle.std.proofs.Common.{◌≡◌, ℕ, [], ◌∷◌, ◌++◌, refl, ap, subst, sym, ◌∙◌}
 use Rattle.std.specs.Prelude.{Some, None}
 use Rattle.std.specs.Option.{option_or}
@@ -13,7 +13,7 @@ use Rattle.duct_start.specs.Path.{Path, within, place_of, step_of}
 use Rattle.duct_start.specs.Step.{Turn, Decides, Follows, step}
 use Rattle.duct_start.specs.TreeView.{ModifierView, stdin_bytes, stdin_path, stdin_file, stdin_null, stdout_path, stdout_file, stdout_null, stdout_capture, stdout_to_stderr, stderr_path, stderr_file, stderr_null, stderr_capture, stderr_to_stdout, stdout_stderr_swap, dir, env, env_remove, full_env, unchecked, before_spawn}
 
--- two ways outwards on which the same is found
+-- two paths to the root on which a command finds the same
 record AreAlike {E H : Type 0} (one other : Path E H) : Type 0 where
   streams : (stream : Stream) → goes one stream ≡ goes other stream
   folders : folder one ≡ folder other
@@ -48,7 +48,8 @@ abbrev IsApart : {E : Type 0} → Stream → Turn E → Type 0
 IsApart stream (Decides target) = Unit {0}
 IsApart stream (Follows other) = other ≡ stream → ⊥
 
--- turns of the three streams that leave all but one, which none of them follows
+-- turns of the three streams that leave all streams but one as they are, and none of which follows
+-- that one
 record TurnsOne {E : Type 0} (stream : Stream) (turns : Stream → Turn E) : Type 0 where
   others : (other : Stream) → (other ≡ stream → ⊥) → turns other ≡ Follows other
   apart : (other : Stream) → IsApart stream (turns other)
@@ -97,7 +98,7 @@ module _ {E : Type 0} (turns : Stream → Turn E) where
       aparts Out = apart_as Err (turns Out) (Follows Out) output (λ is. cc)
       aparts Err = apart
 
--- a turn that follows another stream passes by the turns of this one
+-- a turn that does not follow this stream is not changed by turns that redirect only this stream
 passes : {E : Type 0} (stream : Stream) (turn : Turn E) → IsApart stream turn
     → (turns : Stream → Turn E) → TurnsOne stream turns → (further : Stream → Target E)
     → turned turn (λ other. turned (turns other) further) ≡ turned turn further
@@ -105,7 +106,7 @@ passes stream (Decides target) apart turns one further = refl
 passes stream (Follows other) apart turns one further =
     ap (λ next. turned next further) (one.others other apart)
 
--- a node that speaks of this stream alone
+-- a node that changes only this stream
 record Speaks {E H : Type 0} (stream : Stream) (modifier : ModifierView E H) (place : ℕ)
     : Type 0 where
   turns : TurnsOne stream ((step modifier).turn place)
@@ -113,7 +114,8 @@ record Speaks {E H : Type 0} (stream : Stream) (modifier : ModifierView E H) (pl
   no_changes : (step modifier).changes ≡ []
   no_hooks : (step modifier).hooks ≡ []
 
--- a node that redirects this stream speaks of it alone; nothing is said of one that redirects none
+-- a node that redirects a stream changes only that stream; nothing is claimed of a node that
+-- redirects none
 abbrev Says : {E H : Type 0} → Option Stream → ModifierView E H → ℕ → Type 0
 Says None modifier place = Unit {0}
 Says (Some stream) modifier place = Speaks stream modifier place
@@ -155,7 +157,8 @@ module _ {E H : Type 0} where
   speaks_of modifier place stream is =
       subst (λ which. Says which modifier place) is (says modifier place)
 
-  -- two redirections of one stream, one directly round the other: a command finds what it finds with the inner one alone
+  -- two redirections of one stream, one directly around the other: a command finds the same as with
+  -- the inner one alone
   pub redirected_once : (front up : Path E H) (inner outer : ModifierView E H) (p q : ℕ)
       (stream : Stream) → redirected inner ≡ Some stream → redirected outer ≡ Some stream
       → found_on (front ++ within p inner ∷ within q outer ∷ up)
@@ -171,7 +174,8 @@ module _ {E H : Type 0} where
         hooked = ap (λ h. (hooks up ++ h) ++ (step inner).hooks) b.no_hooks ∙ ap (λ h. h ++ (step inner).hooks) (append-nil (hooks up));
       })
 
-  -- two swaps of stdout and stderr, one directly round the other: a command finds what it finds without them
+  -- two swaps of stdout and stderr, one directly around the other: a command finds the same as
+  -- without them
   pub swapped_back : (front up : Path E H) (p q : ℕ)
       → found_on (front ++ within p stdout_stderr_swap ∷ within q stdout_stderr_swap ∷ up)
       ≡ found_on (front ++ up)

@@ -1,4 +1,4 @@
--- What a node hides of the folder and of the variables that are set outside of it.
+-- What a node overrides of the folder and of the variables that are set outside it.
 use Rattle.std.proofs.Common.{◌≡◌, ℕ, List, [], ◌∷◌, ◌++◌, refl, ap, ◌∙◌}
 use Rattle.std.specs.Prelude.{Bool, true, false, cond, Some, None}
 use Rattle.std.specs.Option.{option_or, option_map}
@@ -12,14 +12,14 @@ use Rattle.duct_start.specs.Path.{Path, within, step_of}
 use Rattle.duct_start.specs.TreeView.{dir, env, full_env}
 
 module _ {E H : Type 0} where
-  -- a folder that is set inside replaces each that is set outside
+  -- a folder that is set inside overrides each folder that is set outside
   pub inner_folder : (front up other : Path E H) (p : ℕ) (path : List ℕ)
       → folder (front ++ within p (dir path) ∷ up) ≡ folder (front ++ within p (dir path) ∷ other)
   inner_folder [] up other p path = refl
   inner_folder (crumb ∷ front) up other p path =
       ap (option_or (step_of crumb).folder) (inner_folder front up other p path)
 
--- nearer changes say the same of a name where the further ones do
+-- if two lists of changes agree on a name, they still do with the same nearer changes added to both
 behind : (pairs others : Vars) (name : List ℕ) (near one other : List Change)
     → variable pairs one name ≡ variable others other name
     → variable pairs (near ++ one) name ≡ variable others (near ++ other) name
@@ -32,7 +32,7 @@ behind pairs others name (Removes gone ∷ near) one other same =
     (behind pairs others name near one other same)
 behind pairs others name (Replaces vars ∷ near) one other same = refl
 
--- the value of a pair
+-- the value of a pair, if there is a pair
 abbrev valued : Option (List ℕ × List ℕ) → Option (List ℕ)
 valued found = option_map (λ pair. pair.1) found
 
@@ -50,7 +50,8 @@ removed_behind : (b : Bool) (one other : Option (List ℕ × List ℕ)) → valu
 removed_behind true one other same = refl
 removed_behind false one other same = same
 
--- nearer changes give a name the same value where the further ones do
+-- if two lists of changes give a name the same value, they still do with the same nearer changes
+-- added to both
 value_behind : (pairs : Vars) (name : List ℕ) (near one other : List Change)
     → value_found pairs one name ≡ value_found pairs other name
     → value_found pairs (near ++ one) name ≡ value_found pairs (near ++ other) name
@@ -73,7 +74,8 @@ module _ {E H : Type 0} where
       value_behind pairs name (step_of crumb).changes (changes (front ++ one))
       (changes (front ++ other)) (value_round pairs name front one other same)
 
-  -- a variable that is set inside hides one of its name that is set anywhere outside: no name's value changes with the outer one
+  -- a variable that is set inside overrides one of the same name that is set anywhere outside: the
+  -- values of all names are the same without the outer one
   pub inner_variable : (pairs : Vars) (front middle up : Path E H) (p q : ℕ)
       (inner value outer hidden : List ℕ) → is_same_name inner outer ≡ true → (name : List ℕ)
       → value_found pairs
@@ -87,7 +89,7 @@ module _ {E H : Type 0} where
       (by (is_same_name name inner) (is_same_name name outer) refl
       (name_equiv.symm name inner ∙ same_at inner outer name same ∙ name_equiv.symm outer name))
     where
-      -- what stands behind the inner change, with the outer one and without
+      -- the path outside the inner change, with the outer change and without it
       both : Path E H
       both = middle ++ within q (env outer hidden) ∷ up
 
@@ -109,7 +111,8 @@ module _ {E H : Type 0} where
           value_round pairs name middle (within q (env outer hidden) ∷ up) up (passed is)
       by false true is tied = absurd (cc)
 
-  -- a whole environment that is set inside hides what is asked of variables outside, and the parent's environment
+  -- a whole environment that is set inside overrides the changes of variables outside, and the
+  -- parent's environment
   pub inner_environment : (pairs others : Vars) (front up other : Path E H) (p : ℕ) (vars : Vars)
       (name : List ℕ) → variable pairs (changes (front ++ within p (full_env vars) ∷ up)) name
       ≡ variable others (changes (front ++ within p (full_env vars) ∷ other)) name

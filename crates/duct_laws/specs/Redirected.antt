@@ -5,7 +5,8 @@ use Rattle.duct_system.specs.declared.spec.Stream.{Stream}
 use Rattle.duct_system.specs.declared.spec.Stream.TheVariants.{In, Out, Err}
 use Rattle.duct_start.specs.TreeView.{ModifierView, stdin_bytes, stdin_path, stdin_file, stdin_null, stdout_path, stdout_file, stdout_null, stdout_capture, stdout_to_stderr, stderr_path, stderr_file, stderr_null, stderr_capture, stderr_to_stdout, stdout_stderr_swap, dir, env, env_remove, full_env, unchecked, before_spawn}
 
--- the one stream that a node redirects; a swap turns two, and the other nodes none
+-- the one stream that a node redirects; there is none for a swap, which redirects two, and for the
+-- nodes that redirect nothing
 abbrev pub redirected : {E H : Type 0} → ModifierView E H → Option Stream
 redirected (stdin_bytes bytes) = Some In
 redirected (stdin_path path) = Some In

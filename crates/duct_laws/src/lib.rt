@@ -1,2 +1,3 @@
-//! Laws of the definitions that the contracts of a start cite: what an inner node hides, and what stays although it is hidden.
+//! Laws of the definitions that the contracts of a start cite: what an inner node overrides, and
+//! what stays in the plan although it is overridden.
 #![tactic(auto)]

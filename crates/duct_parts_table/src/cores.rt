@@ -1,4 +1,5 @@
-//! The core beside the reference programs: random events, and the reply to each of them, in words.
+//! Compares the core with the reference programs: random events, and the reply to each of them as a
+//! text.
 use crate::random::Counts;
 use crate::statuses::{events, push_answer, push_reply};
 use crate::trees::{Tree, random_tree};
@@ -12,7 +13,8 @@ use duct_table::dice::Dice;
 use duct_table::stop::Stop;
 use std::alloc::{AllocError, Global};
 
-/// Compares the replies of the core to random events at a random tree.
+/// Compares the replies of the core to random events of a random tree with those of the reference
+/// programs, and counts them. Fails if a reply differs, or on an allocation failure.
 pub fn compare_core(alloc: Global, seed: u64, counts: &mut Counts) -> Result<(), Stop> {
     let mut dice = Dice::new(seed);
     let tree = random_tree(alloc, &mut dice)?;
@@ -21,7 +23,7 @@ pub fn compare_core(alloc: Global, seed: u64, counts: &mut Counts) -> Result<(),
     compare_replies(alloc, &tree, events.as_slice(), counts)
 }
 
-/// Random events, and a question after them.
+/// Random events, followed by a `conclude`.
 fn random_events(alloc: Global, dice: &mut Dice, commands: u64) -> Result<String, AllocError> {
     let mut text = String::new(alloc);
     for _ in 0..dice.roll(28) {
@@ -104,7 +106,7 @@ fn compare_reply(
     counts.compare(found, wanted.as_str())
 }
 
-/// The reply of the reference programs to the event at this place.
+/// The reply of the reference programs to the event at this index.
 fn wanted_reply(alloc: Global, tree: &Tree, events: &[Event], at: usize) -> Result<String, Stop> {
     let (before, _) = events.split_at_checked(at).ok_or("no event")?;
     let is_known = match events.get(at).ok_or("no event")? {
@@ -118,7 +120,9 @@ fn wanted_reply(alloc: Global, tree: &Tree, events: &[Event], at: usize) -> Resu
     Ok(format!(in alloc; "{reply}; ")?)
 }
 
-/// What the reference programs conclude of these events.
+/// Returns the reply of the reference programs to a `conclude` after these events, as a text. Fails
+/// if the tree has more commands or inputs than can be counted, if the winning command has not
+/// ended, or on an allocation failure.
 pub fn concluded(alloc: Global, tree: &Tree, events: &[Event]) -> Result<String, Stop> {
     let shape = &tree.shape;
     let _ = commands_in(shape).ok_or("too many commands")?;
@@ -135,7 +139,7 @@ pub fn concluded(alloc: Global, tree: &Tree, events: &[Event]) -> Result<String,
     Ok(text)
 }
 
-/// Adds the answer, or the message of the failure, of the winning command.
+/// Appends the answer of the winning command, or the message of its failure.
 fn push_finished(
     alloc: Global,
     shape: &Shape,
@@ -156,7 +160,7 @@ fn push_finished(
     Ok(())
 }
 
-/// The number of the winning command after these events, and how it ended.
+/// The number of the winning command after these events, and its exit status.
 fn chosen(alloc: Global, shape: &Shape, events: &[Event]) -> Result<(usize, ExitStatus), Stop> {
     let commands = commands_in(shape).ok_or("too many commands")?;
     let words = latest_words(alloc, commands, events)?;
@@ -170,7 +174,7 @@ fn chosen(alloc: Global, shape: &Shape, events: &[Event]) -> Result<(usize, Exit
     }
 }
 
-/// The latest words of so many commands.
+/// The latest `Word` of each of this many commands.
 fn latest_words(alloc: Global, commands: usize, events: &[Event]) -> Result<Vec<Word>, AllocError> {
     let mut words = Vec::new(alloc);
     for command in 0..commands {
@@ -179,7 +183,7 @@ fn latest_words(alloc: Global, commands: usize, events: &[Event]) -> Result<Vec<
     Ok(words)
 }
 
-/// Whether no unchecked stands round the command of this number, in the shape.
+/// Whether no unchecked node encloses the command with this number in the shape.
 fn is_checked(shape: &Shape, command: usize) -> bool {
     match shape {
         Shape::Command(_) => true,

@@ -1,9 +1,9 @@
 //! The table `expressions`: the debug texts of expressions.
 //!
-//! `expression` begins a row, with steps as `duct_table::expressions` writes them, which may leave several expressions. Each other line is
-//! compared.
+//! A line `expression` begins a row. Its text has the form of `duct_table::expressions` and can
+//! describe several expressions. Every other line is compared.
 //! - `shows`: the debug texts of all of them, in order.
-//! - `first`: the debug text of the first, once the others were dropped.
+//! - `first`: the debug text of the first one, after the others are dropped.
 use duct_script::system::ScriptEnd;
 use duct_table::expressions::{Strangers, Tree, written_all};
 use duct_table::stop::Stop;
@@ -18,6 +18,7 @@ pub struct Expressions<'t> {
 }
 
 impl<'t> Expressions<'t> {
+    /// Returns a table that has read no line yet.
     pub fn new(alloc: Global) -> Expressions<'t> {
         Expressions {
             alloc,
@@ -41,7 +42,7 @@ impl<'t> Table<'t> for Expressions<'t> {
     }
 }
 
-/// What is compared, as it is.
+/// The text that is found for a line with this key.
 fn shown(alloc: Global, expression: &str, key: &str) -> Result<String, Stop> {
     let mut made = written_all(alloc, &mut Strangers { alloc }, None, expression)?;
     match key {

@@ -1,9 +1,11 @@
-//! The table `journals`: what the checker says of a journal.
+//! The table `journals`: what the checker finds in a journal.
 //!
-//! `journal` begins a row, with entries as `duct_table::journals` writes them. Each other line is compared.
-//! - `says`: the numbers that were got and spent, whether they balance, how many are held, and how long the trace is.
-//! - `trace`: the entries of the trace, in words.
-//! - `origin 3`: where the end of this number comes from.
+//! A line `journal` begins a row. Its text has the form of `duct_table::journals`. Every other line
+//! is compared.
+//! - `says`: the numbers of the ends that were got and spent, whether they balance, how many ends
+//!   are held, and the length of the trace.
+//! - `trace`: the entries of the trace, as texts.
+//! - `origin 3`: where the end with this number comes from.
 use duct::Entry;
 use duct_plain::checker::{got, held, is_balanced, origin, spent, trace};
 use duct_script::text::Words;
@@ -22,6 +24,7 @@ pub struct Journals<'t> {
 }
 
 impl<'t> Journals<'t> {
+    /// Returns a table that has read no line yet.
     pub fn new(alloc: Global) -> Journals<'t> {
         Journals { alloc, journal: "" }
     }
@@ -43,7 +46,7 @@ impl<'t> Table<'t> for Journals<'t> {
     }
 }
 
-/// What is compared, as it is.
+/// The text that is found for a line with this key.
 fn checked(alloc: Global, entries: &[Entry], key: &str) -> Result<String, Stop> {
     match first_word(key) {
         ("says", _) => Ok(numbers(alloc, entries)?),

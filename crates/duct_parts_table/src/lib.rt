@@ -1,6 +1,7 @@
-//! The tables of single parts, each by itself: statuses, the transfers of workers, the checker of journals, specs, names and expressions; and
-//! random comparisons of the core and of polls with the reference programs.
-//! Test support: nothing here is proved but that it is safe and ends.
+//! The tables of single parts: statuses, the transfers of workers, the checker of journals, specs,
+//! names and expressions; and random comparisons of the core and of polls with the reference
+//! programs.
+//! Test support: the only properties proved here are safety and termination.
 #![tactic(auto)]
 
 mod cores;

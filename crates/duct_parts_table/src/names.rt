@@ -1,11 +1,15 @@
 //! The table `names`: the names of variables and of programs. Each line is a row of its own.
-//! - `names abc ABC`: the texts that these names keep, and how many names they are.
-//! - `order abc ABC`: the names in their order, each as it was spelled first, with the last place where it stands.
-//! - `compared abc ABC`: how two names print, whether they are equal, and whether they are not.
-//! - `program foo`: how a program of this text is named: by a `&str`, a `&String`, a `String`, a `Path`, a `&PathBuf` and a `PathBuf`.
-//! - `command foo,bar`: the debug texts of commands of this program and argument: by a `&str` in each form of `cmd!`, with the argument and
-//!   without it, by the function `cmd` without it, and by the other five types, the first two of them with the argument.
-//! - `canonical ./x`: whether the name of this program is made canonical, and `canonical_in_folder` the same where the folder is set.
+//! - `names abc ABC`: the spellings that these names keep, and how many different names they are.
+//! - `order abc ABC`: the names in sorted order, each in its first spelling, with the last index at
+//!   which it occurs.
+//! - `compared abc ABC`: the debug texts of two names, whether `==` holds, and whether `!=` holds.
+//! - `program foo`: the name of a program that is given by this text as a `&str`, a `&String`, a
+//!   `String`, a `Path`, a `&PathBuf` and a `PathBuf`.
+//! - `command foo,bar`: the debug texts of commands of this program and argument: as a `&str` in
+//!   each form of `cmd!`, with the argument and without it, and by the function `cmd` without it;
+//!   then as the other five types, of which only the `&String` and the `Path` have the argument.
+//! - `canonical ./x`: whether a start makes the path of this program canonical where no folder is
+//!   set. `canonical_in_folder ./x` is the same where a folder is set.
 use duct::{Error, Expression, IntoExecutablePath, asks_canonical, cmd};
 use duct_base::names::EnvNameString;
 use duct_table::stop::Stop;
@@ -23,6 +27,7 @@ pub struct Names {
 }
 
 impl Names {
+    /// Returns a table that has read no line yet.
     pub fn new(alloc: Global) -> Names {
         Names { alloc }
     }
@@ -54,7 +59,7 @@ fn name(alloc: Global, text: &str) -> Result<EnvNameString, AllocError> {
     Ok(EnvNameString::from(String::from_str(alloc, text)?))
 }
 
-/// Adds the texts that some names keep, and how many names they are.
+/// Appends the spellings that some names keep, and how many different names they are.
 fn push_kept(alloc: Global, texts: &str, found: &mut String) -> Result<(), AllocError> {
     let mut names = HashSet::new(alloc);
     for text in texts.split(' ') {
@@ -66,7 +71,7 @@ fn push_kept(alloc: Global, texts: &str, found: &mut String) -> Result<(), Alloc
     write!(found, "are {count}")
 }
 
-/// Adds the names in their order, with their last places.
+/// Appends the names in sorted order, with their last indices.
 fn push_order(alloc: Global, texts: &str, found: &mut String) -> Result<(), AllocError> {
     let mut names = BTreeMap::new(alloc);
     for (place, text) in texts.split(' ').enumerate() {
@@ -75,7 +80,7 @@ fn push_order(alloc: Global, texts: &str, found: &mut String) -> Result<(), Allo
     write!(found, "{names:?}")
 }
 
-/// Adds how two names compare.
+/// Appends how two names compare.
 fn push_compared(alloc: Global, texts: &str, found: &mut String) -> Result<(), AllocError> {
     let (one, other) = first_word(texts);
     let one = name(alloc, one)?;
@@ -84,7 +89,7 @@ fn push_compared(alloc: Global, texts: &str, found: &mut String) -> Result<(), A
     write!(found, "{one:?} {other:?} {equal} {unequal}")
 }
 
-/// Adds how a program is named in each type.
+/// Appends the name of a program in each type.
 fn push_program(alloc: Global, text: &str, found: &mut String) -> Result<(), Error> {
     let owned = String::from_str(alloc, text)?;
     push_name(alloc, text, found)?;
@@ -105,7 +110,7 @@ fn push_name<P: IntoExecutablePath>(
     Ok(write!(found, "{name:?} ")?)
 }
 
-/// Adds the commands of a program in each form and type.
+/// Appends the commands of a program in each form and type.
 fn push_commands(alloc: Global, words: &str, found: &mut String) -> Result<(), Error> {
     let (program, argument) = words.split_once(',').unwrap_or((words, ""));
     push_forms(alloc, program, argument, found)?;

@@ -1,5 +1,7 @@
-//! Polls of what runs beside the reference programs: random expressions over the scripted system, whose children and workers answer what random
-//! lists say. Each poll answers what the words so far come to, and asks only who is due.
+//! Compares polls of running expressions with the reference programs. Random expressions run over
+//! the scripted system, and their children and workers return the results in random lists. Each
+//! poll has to return the outcome of the results so far, and to poll only the children and workers
+//! that are due.
 use crate::cores::concluded;
 use crate::random::Counts;
 use crate::statuses::{Who, push_answer, said};
@@ -21,10 +23,11 @@ use duct_table::workers::{set_drains, set_feeds};
 use std::alloc::{AllocError, Global};
 use std::sync::Arc;
 
-/// How often what runs is polled. By then each list has come to its last word, which is said again.
+/// How many times a running expression is polled. A list has at most four words, and its last one
+/// is repeated.
 const POLLS: u64 = 6;
 
-/// What everybody answers, one list after another, parted by semicolons.
+/// The poll results of all children and workers: one list for each, separated by semicolons.
 #[derive(Drop)]
 struct Lists {
     commands: String,
@@ -33,7 +36,9 @@ struct Lists {
     error: String,
 }
 
-/// Compares what some polls of a random expression answer, and who was asked.
+/// Compares the results of some polls of a random expression with those of the reference programs,
+/// and counts them. Fails if a result differs, if other children or workers are polled, or on an
+/// allocation failure.
 pub fn compare_polls(alloc: Global, seed: u64, counts: &mut Counts) -> Result<(), Stop> {
     let mut dice = Dice::new(seed);
     let tree = random_tree(alloc, &mut dice)?;
@@ -65,7 +70,7 @@ fn random_lists(alloc: Global, dice: &mut Dice, tree: &Tree) -> Result<Lists, Al
     })
 }
 
-/// So many lists of one to four words.
+/// This many lists of one to four words.
 fn some_lists(
     alloc: Global,
     dice: &mut Dice,
@@ -92,7 +97,7 @@ fn push_list(text: &mut String, dice: &mut Dice, done: &'static str) -> Result<(
     Ok(())
 }
 
-/// A word of a command that ends by a code, or of a worker.
+/// A random word: for a command if `done` is `code`, and for a worker otherwise.
 fn word(dice: &mut Dice, done: &'static str) -> &'static str {
     match (dice.roll(12), done) {
         (0 | 1 | 2, _) => "running",
@@ -113,7 +118,8 @@ fn fault(dice: &mut Dice) -> &'static str {
     }
 }
 
-/// Starts the expression of a tree over a system whose children and workers answer what the lists say.
+/// Starts the expression of a tree over a system whose children and workers return the results in
+/// the lists.
 fn started(alloc: Global, tree: &Tree, lists: &Lists) -> Result<Running<Script>, Stop> {
     let mut sys = Script::new(alloc)?;
     set_children(alloc, &mut sys, lists.commands.as_str())?;
@@ -147,7 +153,7 @@ fn poll_all(
     Ok(())
 }
 
-/// What a poll answers, in the words of replies.
+/// The result of a poll, as a text in the form of replies.
 fn polled(
     alloc: Global,
     answer: &Result<Option<Arc<Output>>, Error>,
@@ -168,7 +174,8 @@ fn polled(
     Ok(text)
 }
 
-/// All that one poll hears: a capture worker only where the outcome waits for it, and stdout's before stderr's.
+/// Appends all events of one poll. A drain is polled only if the outcome waits for it, and stdout's
+/// drain before stderr's.
 fn ask_all(alloc: Global, tree: &Tree, lists: &Lists, events: &mut Vec<Event>) -> Result<(), Stop> {
     for (command, words) in lists.commands.split(';').enumerate() {
         ask(alloc, events, Who::Command(command), words)?;
@@ -186,7 +193,8 @@ fn ask_all(alloc: Global, tree: &Tree, lists: &Lists, events: &mut Vec<Event>) -
     Ok(())
 }
 
-/// Whether all commands and input workers have ended without a fault, and with them the capture worker of stdout, if it counts.
+/// Whether all commands and feeds have ended without a fault, and also stdout's drain if `out` is
+/// set.
 fn is_finished(tree: &Tree, out: bool, events: &[Event]) -> bool {
     let shape = &tree.shape;
     if commands_in(shape).is_none() || inputs_in(shape).is_none() {
@@ -199,7 +207,7 @@ fn is_finished(tree: &Tree, out: bool, events: &[Event]) -> bool {
     )
 }
 
-/// Hears the next word of somebody who is due. The last word of a list is said again.
+/// Appends the next word of a child or worker that is due. The last word of its list is repeated.
 fn ask(alloc: Global, events: &mut Vec<Event>, who: Who, words: &str) -> Result<(), Stop> {
     if words.is_empty() || !is_due(events.as_slice(), who) {
         return Ok(());
@@ -218,7 +226,7 @@ fn is_due(events: &[Event], who: Who) -> bool {
     }
 }
 
-/// How many words were told of somebody.
+/// How many events a child or worker has.
 fn told(events: &[Event], who: Who) -> usize {
     let mut count = 0_usize;
     for event in events {
@@ -229,7 +237,7 @@ fn told(events: &[Event], who: Who) -> usize {
     count
 }
 
-/// Of whom an event tells.
+/// The child or worker that an event belongs to.
 fn of(event: &Event) -> Option<Who> {
     match event {
         Event::Command(at, _) => Some(Who::Command(*at)),
@@ -239,7 +247,8 @@ fn of(event: &Event) -> Option<Who> {
     }
 }
 
-/// Whether everybody was asked as often as there are words.
+/// Whether each child and each feed was polled as often as it has events, and all children and
+/// workers together as often as there are events.
 fn are_asked(
     events: &[Event],
     children: Vec<Place<ScriptChild>>,

@@ -1,8 +1,12 @@
 //! The table `random`: random trees of up to six commands, compared with the reference programs.
 //!
-//! - `cores: 400 from 0`: the core replies to random events at so many trees, from this seed on, as the reference programs do.
-//! - `polls: 200 from 0`: polls of so many expressions over the scripted system answer what its words come to, and ask only who is due.
-//! - `more: Noted 1000, Failed 50`: more than so many of these replies were compared in the row so far.
+//! - `cores: 400 from 0`: for 400 trees, with seeds from 0 on, the core replies to random events as
+//!   the reference programs do.
+//! - `polls: 200 from 0`: for 200 expressions over the scripted system, with seeds from 0 on, each
+//!   poll returns the outcome of the results so far, and polls only the children and workers that
+//!   are due.
+//! - `more: Noted 1000, Failed 50`: more than 1000 replies `Noted` and more than 50 replies
+//!   `Failed` were compared in the row so far.
 use crate::cores::compare_core;
 use crate::polls::compare_polls;
 use duct::Error;
@@ -11,17 +15,18 @@ use duct_table::table::Table;
 use duct_table::words::first_word;
 use std::alloc::{AllocError, Global};
 
-/// The kinds of replies.
+/// The kinds of replies that are counted.
 const KINDS: [&str; 6] = ["Noted", "Unknown", "Pending", "Fault", "Answer", "Failed"];
 
-/// How often each kind of reply was found.
+/// How many replies of each kind were found.
 #[derive(Clone, Copy)]
 pub struct Counts {
     counts: [u64; 6],
 }
 
 impl Counts {
-    /// Counts a reply where it is the one that is wanted.
+    /// Counts a reply if it is the wanted one. Otherwise fails with the reply that was found, or
+    /// with an allocation failure if the reply reports one.
     pub fn compare(&mut self, found: String, wanted: &str) -> Result<(), Stop> {
         if found.as_str() != wanted {
             return Err(differing(found));
@@ -46,7 +51,7 @@ impl Counts {
     }
 }
 
-/// Why a reply that is another one stops.
+/// The reason to stop at a reply that is not the wanted one.
 fn differing(found: String) -> Stop {
     if found.as_str().contains("out of memory") {
         return Stop::Error(Error::Memory);
@@ -62,6 +67,7 @@ pub struct Random {
 }
 
 impl Random {
+    /// Returns a table that has read no line yet.
     pub fn new(alloc: Global) -> Random {
         Random {
             alloc,
@@ -104,7 +110,8 @@ fn compare_all(
     Ok(())
 }
 
-/// The kinds of replies with the numbers of a text, or, where there were no more than that, with how many there were.
+/// The kinds of replies in a text. Each has its number in the text if there were more of them, and
+/// otherwise the number that there were.
 fn more(alloc: Global, counts: &Counts, text: &str) -> Result<String, Stop> {
     let mut found = String::new(alloc);
     for part in text.split(", ") {

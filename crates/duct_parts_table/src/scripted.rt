@@ -1,5 +1,6 @@
-//! Writers and readers whose calls go by the words of a text, one a call: a number takes or gives at most so many bytes, and the
-//! name of a kind is an error of that kind. A call behind the last word takes or gives all that it can.
+//! Writers and readers that follow the words of a text, one word for each call. A number is the
+//! most bytes that the call takes or gives, and the name of an error kind makes the call fail with
+//! that kind. After the last word, a call takes or gives as many bytes as it can.
 
 use duct_table::words::first_word;
 use std::io;
@@ -11,7 +12,7 @@ enum Step {
     Fails(ErrorKind),
 }
 
-/// What a word says.
+/// What a word makes a call do.
 fn step_of(word: &str) -> Step {
     if let Ok(count) = word.parse::<usize>() {
         return Step::Moves(count);
@@ -35,10 +36,12 @@ fn step_of(word: &str) -> Step {
     })
 }
 
-/// A writer that keeps what it took.
+/// A writer that keeps the bytes that it takes.
 #[derive(Drop)]
 pub struct Sink<'a> {
+    /// The words of the calls that follow.
     pub script: &'a str,
+    /// The bytes that were taken so far.
     pub taken: Vec<u8>,
 }
 
@@ -61,11 +64,14 @@ impl Write for Sink<'_> {
     }
 }
 
-/// A reader of these bytes, which keeps how small the least buffer was that it was given.
+/// A reader of some bytes. It keeps the length of the smallest buffer that it was given.
 #[derive(Drop)]
 pub struct Source<'a> {
+    /// The words of the calls that follow.
     pub script: &'a str,
+    /// The bytes that are not read yet.
     pub left: &'a [u8],
+    /// The length of the smallest buffer so far.
     pub least: usize,
 }
 

@@ -1,13 +1,17 @@
-//! The table `specs`: what writes and hooks make of a command's spec.
+//! The table `specs`: the spec of a command after writes and hooks.
 //!
-//! A row has a spec of its own, at first that of the command `a` with the variables `A` and `B` of the value 1 and the streams `Inherit`,
-//! `Given` and `Null`. A line `writes` writes to it, one step after another: `env=A,2` gives the variable `A` the value `2`, and the calls
-//! without arguments are `env_clear`, `stdout_to_null`, `stderr_to_inherit` and `give_stdin`. A write that wants memory has to leave the spec
-//! as it was. A line `hook` says which hook later lines speak of, as `duct_table::hooks` writes them.
+//! A row has a spec of its own. At first it is that of the command `a`, with the variables `A` and
+//! `B` of value `1`, and the streams `Inherit`, `Given` and `Null`. A line `writes` makes writes to
+//! it, one after another: `env=A,2` sets the variable `A` to `2`, and the writes without arguments
+//! are `env_clear`, `stdout_to_null`, `stderr_to_inherit` and `give_stdin`. A write that fails has
+//! to leave the spec unchanged. A line `hook` sets the hook for later lines, in the form of
+//! `duct_table::hooks`.
 //!
-//! Each other line is compared: the words of a spec, its folder, its variables, and where its streams go.
-//! - `spec`: the row's own.
-//! - `changed a,b`: what the hook makes of the spec of these words with no variables, or the error of a hook that refuses.
+//! Every other line is compared: the words of a spec, its folder, its variables and the ports of
+//! its streams.
+//! - `spec`: the row's own spec.
+//! - `changed a,b`: the spec of these words, with no variables, after the hook has changed it, or
+//!   the error of a hook that refuses it.
 use duct::{CommandSpec, Error, Hook, Port, Stream};
 use duct_base::spec::{give, spec_of};
 use duct_table::hooks::hook;
@@ -26,6 +30,7 @@ pub struct Specs<'t> {
 }
 
 impl<'t> Specs<'t> {
+    /// Returns a table that has read no line yet.
     pub fn new(alloc: Global) -> Specs<'t> {
         Specs {
             alloc,
@@ -60,7 +65,7 @@ impl<'t> Table<'t> for Specs<'t> {
     }
 }
 
-/// A line of the row's own spec.
+/// Reads a line about the row's own spec.
 fn of_spec(
     alloc: Global,
     spec: &mut CommandSpec,
@@ -82,7 +87,7 @@ fn first_spec(alloc: Global) -> Result<CommandSpec, Error> {
     Ok(spec)
 }
 
-/// The spec of the words that commas part, with no variables.
+/// The spec of the words that are separated by commas, with no variables.
 fn spec_of_words(alloc: Global, words: &str, ports: [Port; 3]) -> Result<CommandSpec, AllocError> {
     let [input, output, error] = ports;
     let mut texts = Vec::new(alloc);
@@ -92,7 +97,7 @@ fn spec_of_words(alloc: Global, words: &str, ports: [Port; 3]) -> Result<Command
     Ok(spec_of(texts, None, BTreeMap::new(alloc), input, output, error))
 }
 
-/// The words of a spec, its folder, its variables, and where its streams go.
+/// The words of a spec, its folder, its variables and the ports of its streams, as a text.
 fn spec_text(alloc: Global, spec: &CommandSpec) -> Result<String, Error> {
     let variables = variables(alloc, spec)?;
     let words = spec.words();
@@ -101,7 +106,8 @@ fn spec_text(alloc: Global, spec: &CommandSpec) -> Result<String, Error> {
     Ok(format!(in alloc; "{words:?} {folder:?}{variables} {ports:?}")?)
 }
 
-/// The variables of a spec, where its list has the same as the look-up of each name in another spelling.
+/// The variables of a spec. If their list differs from a lookup of each name in another spelling,
+/// the text has both.
 fn variables(alloc: Global, spec: &CommandSpec) -> Result<String, Error> {
     let listed = listed(alloc, spec)?;
     let found = found(alloc, spec)?;
@@ -133,7 +139,7 @@ fn push_variable(text: &mut String, name: &str, value: &str) -> Result<(), Alloc
     write!(text, " {name}={value}")
 }
 
-/// Makes the writes that spaces part.
+/// Makes the writes that are separated by whitespace.
 fn write_all(alloc: Global, spec: &mut CommandSpec, steps: &str) -> Result<(), Stop> {
     for step in steps.split_whitespace() {
         write(alloc, spec, step)?;
@@ -141,7 +147,7 @@ fn write_all(alloc: Global, spec: &mut CommandSpec, steps: &str) -> Result<(), S
     Ok(())
 }
 
-/// Writes to a spec. One that fails has to leave it as it was.
+/// Makes a write. If it fails, the spec has to be unchanged.
 fn write(alloc: Global, spec: &mut CommandSpec, step: &str) -> Result<(), Stop> {
     let before = spec_text(alloc, spec)?;
     let wrote = written(alloc, spec, step);
@@ -166,7 +172,7 @@ fn written(alloc: Global, spec: &mut CommandSpec, step: &str) -> Result<(), Stop
     Ok(())
 }
 
-/// A write that wants no memory.
+/// Makes a write that doesn't allocate.
 fn written_in_place(spec: &mut CommandSpec, call: &str, values: &str) -> Result<(), Stop> {
     match call {
         "env_remove" => spec.env_remove(values),
@@ -180,7 +186,7 @@ fn written_in_place(spec: &mut CommandSpec, call: &str, values: &str) -> Result<
     Ok(())
 }
 
-/// What the hook of a text makes of the spec of these words.
+/// The spec of these words after the hook of a text has changed it, or the hook's error, as a text.
 fn changed(alloc: Global, text: &str, words: &str) -> Result<String, Stop> {
     let hook = hook(alloc, None, text)?;
     let mut spec = spec_of_words(alloc, words, [Port::Inherit; 3])?;

@@ -1,16 +1,20 @@
-//! The table `statuses`: what a core replies to what it is told.
+//! The table `statuses`: the replies of a core to events.
 //!
-//! These lines say what the next ones speak of. `shape` begins a row. It has each node after what it stands on: `one two pipe unchecked` is
-//! an unchecked pipe of the commands `one` and `two`, and `a,b input` a command of two words with input. `captured` has the streams that
-//! are captured, `stdout` or `both`; without it none is. `events` has what the core is told, parted by `;`: `0 code 1` and `1 signal 6` are
-//! endings of commands, `1 Other` and `1 running` other words of them, `input 0 done` and `input 0 Other` words of an input worker, `out done xy`
-//! the bytes of stdout, `err Other` the fault of stderr, and `conclude` asks.
+//! These lines set up the lines after them.
+//! - `shape` begins a row. Each node follows its parts: `one two pipe unchecked` is an unchecked
+//!   pipe of the commands `one` and `two`, and `a,b input` is a command of two words with input.
+//! - `captured` has the captured streams, `stdout` or `both`. Without it, none is captured.
+//! - `events` has the events, separated by `;`. `0 code 1` and `1 signal 6` are exit statuses of
+//!   commands, `1 Other` and `1 running` are other words of commands, `input 0 done` and
+//!   `input 0 Other` are words of a feed, `out done xy` has the bytes of stdout, `err Other` is the
+//!   fault of stderr, and `conclude` asks for the outcome.
 //!
-//! Each other line is compared.
-//! - `replies`: what the core replies to the events, told one by one and in one run over a copy of the shape. An answer stands with its
-//!   status and the bytes of stdout and of stderr, a failure with its message. Where a reply is that there was no memory, and each other one
-//!   is as it is to be, `out of memory` is found.
-//! - `due`: the numbers of the first eight commands that are due after the events.
+//! Every other line is compared.
+//! - `replies`: the replies of the core to the events, passed one by one, and in one run over a
+//!   copy of the shape. An answer is shown with its status and the bytes of stdout and of stderr, a
+//!   failure with its message. If the two ways differ, and each has the wanted replies except for
+//!   allocation failures, the text is `out of memory`.
+//! - `due`: those of the commands 0 to 7 that are due after the events.
 use duct_base::status::{Core, Drains, Event, Reply, Shape, Word};
 use duct_base::system::{ExitStatus, Side};
 use duct_table::stop::Stop;
@@ -20,7 +24,7 @@ use duct_table::workers::{drain_word, feed_word};
 use std::alloc::{AllocError, Global};
 use std::sync::Arc;
 
-/// What the lines of a row speak of.
+/// What the lines of a row have set up.
 #[derive(Clone, Copy)]
 struct Row<'t> {
     shape: &'t str,
@@ -36,6 +40,7 @@ pub struct Statuses<'t> {
 }
 
 impl<'t> Statuses<'t> {
+    /// Returns a table that has read no line yet.
     pub fn new(alloc: Global) -> Statuses<'t> {
         Statuses {
             alloc,
@@ -71,7 +76,8 @@ fn begun(shape: &str) -> Row<'_> {
     }
 }
 
-/// The replies to the events of a row, where they are the same in both ways.
+/// The replies to the events of a row. If the two ways differ by more than allocation failures, the
+/// text has both.
 fn replies(alloc: Global, row: Row, wanted: &str) -> Result<String, Stop> {
     let steps = in_steps(alloc, row)?;
     let run = in_one_run(alloc, row)?;
@@ -84,10 +90,10 @@ fn replies(alloc: Global, row: Row, wanted: &str) -> Result<String, Stop> {
     Ok(format!(in alloc; "{steps} one by one, {run} in one run")?)
 }
 
-/// The reply that there was no memory.
+/// The reply for an allocation failure.
 const MEMORY: &str = "out of memory";
 
-/// Whether replies are those that are wanted, but for some in whose place there was no memory.
+/// Whether replies are the wanted ones, except for allocation failures.
 fn is_but_for_memory(found: &str, wanted: &str) -> bool {
     let mut wanted = wanted.split(';');
     for reply in found.split(';') {
@@ -107,13 +113,13 @@ fn in_steps(alloc: Global, row: Row) -> Result<String, Stop> {
     Ok(text)
 }
 
-/// A core of the row, which was told nothing.
+/// A core of the row, before any event.
 fn core(alloc: Global, row: Row) -> Result<Core, Stop> {
     let shape = shape(alloc, row.shape)?;
     Ok(Core::new(alloc, shape, captured(row.captured)?)?)
 }
 
-/// Tells the events one by one, and adds the replies.
+/// Passes the events to the core one by one, and appends the replies.
 fn push_steps(alloc: Global, core: &mut Core, told: &str, text: &mut String) -> Result<(), Stop> {
     for event in events(alloc, told)? {
         push_reply(text, &core.step(event))?;
@@ -155,7 +161,8 @@ fn push_due(core: &Core, text: &mut String) -> Result<(), AllocError> {
     Ok(())
 }
 
-/// The shape of a text.
+/// Builds the shape of a text. Of several shapes, returns the last one. Fails if a node lacks a
+/// part, or on an allocation failure.
 pub fn shape(alloc: Global, text: &str) -> Result<Shape, Stop> {
     let mut shapes = Vec::new(alloc);
     for word in text.split_whitespace() {
@@ -171,7 +178,7 @@ fn last(shapes: &mut Vec<Shape>) -> Result<Shape, Stop> {
     }
 }
 
-/// Adds the node that a word makes of the last shapes, in their place.
+/// Adds the node of a word, in place of the last shapes, which become its parts.
 fn add_node(alloc: Global, shapes: &mut Vec<Shape>, word: &str) -> Result<(), Stop> {
     let node = match word {
         "input" => Shape::Input(Box::new(alloc, last(shapes)?)?),
@@ -189,7 +196,7 @@ fn pipe(alloc: Global, right: Shape, shapes: &mut Vec<Shape>) -> Result<Shape, S
     Ok(Shape::Pipe(left, right))
 }
 
-/// A command of the words that commas part.
+/// A command of the words that are separated by commas.
 fn command(alloc: Global, words: &str) -> Result<Shape, AllocError> {
     let mut texts = Vec::new(alloc);
     for word in pieces(alloc, words)? {
@@ -217,7 +224,7 @@ fn captured(text: &str) -> Result<Drains, Stop> {
     }
 }
 
-/// The events of a text.
+/// Reads the events of a text. Fails if an event is malformed, or on an allocation failure.
 pub fn events(alloc: Global, text: &str) -> Result<Vec<Event>, Stop> {
     let mut events = Vec::new(alloc);
     for part in text.split(';') {
@@ -243,7 +250,7 @@ fn event(alloc: Global, text: &str) -> Result<Event, Stop> {
     }
 }
 
-/// Who says a word: a command or an input worker of this number, or the capture worker of a stream.
+/// The source of an event: a command or a feed with this number, or the drain of a stream.
 #[derive(Clone, Copy, Debug, PartialEq, Eq)]
 pub enum Who {
     Command(usize),
@@ -251,7 +258,8 @@ pub enum Who {
     Drain(Side),
 }
 
-/// What somebody says.
+/// Returns the event of a word from this source. Fails if the word is malformed, or on an
+/// allocation failure.
 pub fn said(alloc: Global, who: Who, word: &str) -> Result<Event, Stop> {
     match who {
         Who::Command(at) => Ok(Event::Command(at, command_word(word)?)),
@@ -269,7 +277,7 @@ fn command_word(text: &str) -> Result<Word, Stop> {
     }
 }
 
-/// Adds a reply.
+/// Appends a reply, followed by `; `. Fails on an allocation failure.
 pub fn push_reply(text: &mut String, reply: &Reply) -> Result<(), AllocError> {
     match reply {
         Reply::Noted => text.push_str("Noted")?,
@@ -288,7 +296,7 @@ pub fn push_reply(text: &mut String, reply: &Reply) -> Result<(), AllocError> {
     text.push_str("; ")
 }
 
-/// Adds a status with the bytes of stdout and of stderr.
+/// Appends a status with the bytes of stdout and of stderr. Fails on an allocation failure.
 pub fn push_answer(
     text: &mut String,
     status: ExitStatus,

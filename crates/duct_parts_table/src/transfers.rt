@@ -1,12 +1,16 @@
-//! The table `transfers`: what feeds and drains come to, over a writer and a reader whose calls go by the words of a script, as `scripted` says.
-//! A script whose last words are `times 9` is its other words nine times.
+//! The table `transfers`: the results of feeds and drains over a writer and a reader that follow
+//! the words of a script, as in `scripted`. A script that ends with `times 9` is its other words
+//! nine times.
 //!
-//! The bytes that are moved are `abc`, or so many, each of which tells its place, as a line `bytes` says before. A feed's writer keeps what it
-//! takes in a list; behind a line `room: yes` that list has room for all, so that no feed wants memory.
+//! The bytes to move are `abc`, or as many as an earlier line `bytes` has, each with its index
+//! modulo 251. The writer of a feed keeps the bytes that it takes in a list. After a line
+//! `room: yes`, that list has room for all of them, so that no feed has to allocate.
 //!
-//! Each other line is compared.
-//! - `fed SCRIPT`: `Ok` or the kind of the fault, and what was written, or how many bytes where they are more than ten.
-//! - `drained SCRIPT`: the same of what was read. Each read may give 64 KiB.
+//! Every other line is compared.
+//! - `fed SCRIPT`: `Ok` or the kind of the fault, and the bytes that were written, or their number
+//!   if there are more than ten.
+//! - `drained SCRIPT`: the same for the bytes that were read. The buffer of each read has to have
+//!   at least 64 KiB.
 use crate::scripted::{Sink, Source};
 use duct_base::system::{Fault, Kind};
 use duct_table::stop::Stop;
@@ -24,6 +28,7 @@ pub struct Transfers {
 }
 
 impl Transfers {
+    /// Returns a table that has read no line yet.
     pub fn new(alloc: Global) -> Transfers {
         Transfers {
             alloc,
@@ -71,7 +76,7 @@ impl<'t> Table<'t> for Transfers {
     }
 }
 
-/// So many bytes, each of which tells its place.
+/// This many bytes, each with its index modulo 251.
 fn places(alloc: Global, count: usize) -> Result<Vec<u8>, AllocError> {
     let mut bytes = Vec::with_capacity(alloc, count)?;
     for place in 0..count {
@@ -80,7 +85,7 @@ fn places(alloc: Global, count: usize) -> Result<Vec<u8>, AllocError> {
     Ok(bytes)
 }
 
-/// A script, as often as its last words say.
+/// A script, repeated if its last words are `times` and a number.
 fn repeated(alloc: Global, script: &str) -> Result<String, Stop> {
     match script.rsplit_once(" times ") {
         Some((words, times)) => {
@@ -91,7 +96,7 @@ fn repeated(alloc: Global, script: &str) -> Result<String, Stop> {
     }
 }
 
-/// What a feed comes to.
+/// The result of a feed, as a text.
 fn fed(alloc: Global, all: &[u8], script: &str, has_room: bool) -> Result<String, Stop> {
     let room = if has_room { all.len() } else { 0 };
     let taken = Vec::with_capacity(alloc, room)?;
@@ -104,7 +109,7 @@ fn fed(alloc: Global, all: &[u8], script: &str, has_room: bool) -> Result<String
     came_to(alloc, answer, all, sink.taken.as_slice())
 }
 
-/// Stops where memory was refused, and not by the script.
+/// Fails on an allocation failure that is not one of the script.
 fn refused(answer: Result<(), Fault>, script: &str) -> Result<(), Fault> {
     match answer {
         Err(fault) if fault.kind == Kind::OutOfMemory && !script.contains("OutOfMemory") => Err(
@@ -114,7 +119,7 @@ fn refused(answer: Result<(), Fault>, script: &str) -> Result<(), Fault> {
     }
 }
 
-/// What a drain comes to.
+/// The result of a drain, as a text.
 fn drained(alloc: Global, all: &[u8], script: &str) -> Result<String, Stop> {
     let mut source = Source {
         script,
@@ -134,10 +139,10 @@ fn drained(alloc: Global, all: &[u8], script: &str) -> Result<String, Stop> {
     }
 }
 
-/// How many bytes each read of a drain may give.
+/// The least buffer length of each read of a drain, in bytes.
 const BLOCK: usize = 64 * 1024;
 
-/// An answer, and what was moved, which has to be a prefix of all.
+/// A result and the moved bytes, which have to be a prefix of all bytes, as a text.
 fn came_to(
     alloc: Global,
     answer: Result<(), Fault>,

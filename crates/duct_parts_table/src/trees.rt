@@ -1,4 +1,5 @@
-//! Random trees of up to six commands, as texts of which `statuses` makes shapes, and which streams are captured.
+//! Random trees of up to six commands, as texts in the form of `statuses`, and which streams are
+//! captured.
 use crate::statuses::shape;
 use duct_base::status::{Drains, Shape};
 use duct_table::dice::Dice;
@@ -8,14 +9,16 @@ use std::alloc::{AllocError, Global};
 /// A random tree.
 #[derive(Drop)]
 pub struct Tree {
+    /// The text of the shape, in the form of `statuses`.
     pub text: String,
     pub shape: Shape,
     /// How many commands it has.
     pub commands: u64,
+    /// Which streams are captured.
     pub drains: Drains,
 }
 
-/// The next random tree.
+/// Returns the next random tree. Fails on an allocation failure.
 pub fn random_tree(alloc: Global, dice: &mut Dice) -> Result<Tree, Stop> {
     let commands = dice.roll(6).saturating_add(1);
     let text = tree_text(alloc, dice, commands)?;
@@ -30,7 +33,7 @@ pub fn random_tree(alloc: Global, dice: &mut Dice) -> Result<Tree, Stop> {
     })
 }
 
-/// A tree of so many commands: pipes of random neighbours, and then of all that are left.
+/// A tree of this many commands: pipes of random neighbours, and then of all parts that are left.
 fn tree_text(alloc: Global, dice: &mut Dice, commands: u64) -> Result<String, AllocError> {
     let mut parts = Vec::new(alloc);
     for number in 0..commands {
@@ -46,7 +49,7 @@ fn tree_text(alloc: Global, dice: &mut Dice, commands: u64) -> Result<String, Al
     Ok(whole)
 }
 
-/// Puts an input or an unchecked round a part, or leaves it.
+/// Wraps a part in an input or an unchecked node, or leaves it.
 fn wrapped(dice: &mut Dice, part: String) -> Result<String, AllocError> {
     let mut part = part;
     match dice.roll(6) {

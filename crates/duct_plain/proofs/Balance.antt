@@ -1,10 +1,10 @@
--- Numbers that balance wherever they stand.
+-- If the numbers of two lists balance, all numbers balance.
 use Rattle.std.proofs.Common.{◌≡◌, refl, sym, ◌∙◌, subst, ℕ, ◌==◌, ◌⊎◌, inl, inr, Bool, true, false, List, [], ◌∷◌, arith}
 use Rattle.std.proofs.lemmas.Bool.{eqb-true}
 use Rattle.duct_system.specs.Ledger.{count_of}
 use Rattle.duct_plain.specs.Balance.{Balances, BalancesAt, AllBalance}
 
--- one number more in front
+-- one more number at the start of a list
 absent_or_balances-cons : (got spent : List ℕ) (number first : ℕ) (rest : List ℕ) (same : Bool)
     → (first == number) ≡ same →
     (count_of number rest ≡ 0) ⊎ (AllBalance got spent rest → BalancesAt got spent number) →
@@ -13,14 +13,14 @@ absent_or_balances-cons got spent number first rest true is before = inr (λ all
 absent_or_balances-cons got spent number first rest false is (inl absent) = inl (rw is absent)
 absent_or_balances-cons got spent number first rest false is (inr held) = inr (λ all. held all.1)
 
--- a number stands nowhere in a list, or balances where all of the list do
+-- a number does not occur in a list, or it balances if all numbers of the list do
 pub absent_or_balances : (got spent : List ℕ) (number : ℕ) (numbers : List ℕ) →
     (count_of number numbers ≡ 0) ⊎ (AllBalance got spent numbers → BalancesAt got spent number)
 absent_or_balances got spent number [] = inl refl
 absent_or_balances got spent number (first ∷ rest) =
     absent_or_balances-cons got spent number first rest (first == number) refl (absent_or_balances got spent number rest)
 
--- where the numbers of both lists balance, each number does
+-- if the numbers of both lists balance, each number does
 pub balances_everywhere : (got spent : List ℕ) → AllBalance got spent got
     → AllBalance got spent spent → Balances got spent
 balances_everywhere got spent in_got in_spent number =
@@ -32,7 +32,7 @@ balances_everywhere got spent in_got in_spent number =
       ]
     ]
 
--- and where each number does, those of a list do
+-- and if each number does, those of a list do
 pub balances_in : (got spent numbers : List ℕ) → Balances got spent → AllBalance got spent numbers
 balances_in got spent [] all = tt
 balances_in got spent (number ∷ numbers) all = (all number, balances_in got spent numbers all)

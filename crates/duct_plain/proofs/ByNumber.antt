@@ -1,4 +1,4 @@
--- Levels and comparisons by number, in the endings of an shape that is a pipe or unchecked.
+-- Levels and comparisons of commands by number, for a shape that is a pipe or unchecked.
 use Rattle.std.proofs.Common.{◌≡◌, ℕ, ◌+◌, ◌-◌, ◌<◌, ◌≤◌, min, Bool, List, ap, sym, ◌∙◌, subst, arith}
 use Rattle.duct_status.specs.declared.status.Word.{Word}
 use Rattle.duct_status.specs.Endings.{endings_of}
@@ -7,11 +7,12 @@ use Rattle.duct_status.specs.Winner.{level, LeftBeats, RightBeats, Beats}
 use Rattle.duct_plain.specs.Numbered.{ending_count, way_at, Tells}
 use Rattle.duct_plain.proofs.Numbers.{counts, level_left, level_right, tells_left, tells_right, tells_left_right, tells_right_left}
 
--- the level of command `at` of the part whose first command has the word `first`
+-- the level of command `at` in the part of a shape whose first command has the report at place
+-- `first`
 abbrev pub level_in : ShapeView → ℕ → List Word → ℕ → ℕ
 level_in o first words at = level (endings_of o first words) (way_at (endings_of o first words) at)
 
--- the test tells whether one command beats another, of that part
+-- the test tells whether one command of that part beats another
 abbrev pub TellsIn : Bool → ShapeView → ℕ → List Word → ℕ → ℕ → Type 0
 TellsIn test o first words one other = Tells test (Beats (endings_of o first words) (way_at (endings_of o first words) one) (way_at (endings_of o first words) other))
 

@@ -1,4 +1,5 @@
--- Commands by their numbers: the way to a number and the number of a way, levels at a pipe, and the winner by number.
+-- Commands by number: the way to a number and the number of a way, levels at a pipe, and the
+-- winning command by number.
 use Rattle.std.proofs.Common.{◌≡◌, ◌≢◌, ℕ, ◌+◌, ◌-◌, ◌<◌, ◌≤◌, ◌⊎◌, inl, inr, Bool, true, false, cond, nat_lt, List, refl, ap, sym, ◌∙◌, subst, arith}
 use Rattle.std.proofs.lemmas.Bool.Decides.{nat_tests}
 use Rattle.duct_status.specs.declared.status.Word.{Word}
@@ -59,7 +60,7 @@ number_back (unchecked t) k low = number_back t k low
 same_or_not : (a b : ℕ) → (a ≡ b) ⊎ (a ≢ b)
 same_or_not a b = grind arith
 
--- a command that beats that of each other number wins
+-- a command that beats each command with another number wins
 pub wins_by_number : (t : Endings) (i : ℕ) → BeatsAll t i → IsWinner t (way_at t i)
 wins_by_number t i all w =
     elim (same_or_not (number_at t w) i) [
@@ -67,7 +68,7 @@ wins_by_number t i all w =
       | inr other ↦ let P : Way t → Type 0 = λ v. Beats t (way_at t i) v in inr (subst P (way_back t w) (all (number_at t w) (number_low t w) other))
     ]
 
--- a winner beats the command of each other number
+-- the winning command beats each command with another number
 pub winner_beats_all : (t : Endings) (winner : Way t) → IsWinner t winner
     → BeatsAll t (number_at t winner)
 winner_beats_all t winner wins k low other =
@@ -77,7 +78,7 @@ winner_beats_all t winner wins k low other =
       | inr beats ↦ subst P (sym (way_back t winner)) beats
     ]
 
--- a test that tells of two ways tells of the same two ways
+-- a test of whether one way beats another is also one for equal ways
 pub tells_same : (t : Endings) (test : Bool) (v w x y : Way t) → x ≡ v → y ≡ w
     → Tells test (Beats t v w) → Tells test (Beats t x y)
 tells_same t test v w x y e f told =
@@ -85,7 +86,7 @@ tells_same t test v w x y e f told =
     let Q : Way t → Type 0 = λ z. Tells test (Beats t x z) in
     subst Q (sym f) (subst P (sym e) told)
 
--- at a pipe, by numbers: both on the left, both on the right, and one on each side
+-- at a pipe, by number: both on the left, both on the right, and one on each side
 pub tells_left : (l r : Endings) (test : Bool) (j k n : ℕ) → n ≡ ending_count l → j < n → k < n
     → Tells test (Beats l (way_at l j) (way_at l k))
     → Tells test (Beats (pipe l r) (way_at (pipe l r) j) (way_at (pipe l r) k))

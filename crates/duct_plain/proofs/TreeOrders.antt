@@ -1,4 +1,4 @@
--- What the latest words of a list of events come to, read off that list in tree order.
+-- The outcome of the latest reports, taken from a list of events in tree order.
 use Rattle.std.proofs.Common.{◌≡◌, ℕ, zero, suc, ◌+◌, ◌<◌, ◌≤◌, Bool, true, false, cond, List, [], ◌∷◌, ◌++◌, map, refl, ap, sym, ◌∙◌, arith, zero-add, Some, None}
 use Rattle.std.specs.List.{range_with_len, slice_get}
 use Rattle.std.specs.declared.option.Option.{Option}
@@ -41,7 +41,7 @@ captured_there : (there : Bool) (heard : Said (List ℕ))
 captured_there true heard = refl
 captured_there false heard = refl
 
--- what the events come to
+-- the outcome of the events
 pub outcome_told : (t : ShapeView) (drains : Drains) (told : List EventView) (fault : Option Fault)
     (runs : Bool) (out err : Said (List ℕ)) (v : OutcomeView)
     → fault ≡ first_fault (told_in_order t 0 0 told) → runs ≡ some_runs (told_in_order t 0 0 told)

@@ -1,4 +1,4 @@
--- An answer of the plain programs as contracts see it.
+-- An outcome of the plain programs, as contracts see it.
 use Rattle.duct_status.specs.Outcome.{OutcomeView, waits, faults, finished}
 use Rattle.duct_plain.specs.declared.outcome.Outcome.{Outcome}
 use Rattle.duct_plain.specs.declared.outcome.Outcome.TheVariants as outcome

@@ -1,4 +1,4 @@
--- Where an end comes from, as the checker answers it.
+-- Where an end comes from, as the checker returns it.
 use Rattle.std.specs.Prelude.{ℕ, List, ◌∷◌, ◌≡◌}
 use Rattle.duct_system.specs.EntryView.{EntryView}
 use Rattle.duct_system.specs.Origin.{Origin, origin_before}
@@ -8,13 +8,14 @@ use Rattle.duct_plain.specs.declared.checker.Source.TheVariants.{Opened, ParentO
 use Rattle.duct_plain.specs.declared.checker.Step.{Step}
 use Rattle.duct_plain.specs.declared.checker.Step.TheVariants.{Found, From}
 
--- the origin that an answer of the checker stands for
+-- the origin that a result of the checker means
 abbrev pub origin_of : Source → Origin
 origin_of (Opened number) = origin.Opened number
 origin_of (ParentOf side) = origin.ParentOf side
 origin_of (Lent number) = origin.Lent number
 
--- where an end comes from, one entry further back: it is found there, or it is that of another number before
+-- one step back through the entries: this entry decides where an end comes from, or the entries
+-- before it do, for the end with another number
 abbrev pub Steps : EntryView → ℕ → Step → Type 0
 Steps entry number (Found source) =
     (entries : List EntryView) → origin_before (entry ∷ entries) number ≡ origin_of source

@@ -1,5 +1,5 @@
-//! What a journal says, read by plain functions: the numbers that were got and spent, whether they balance, the trace, and
-//! where an end comes from.
+//! Plain functions that read a journal: which ends were returned and spent, whether these balance,
+//! the trace, and where an end comes from.
 ghost use Rattle.std.specs.Prelude.{◌≡◌, ◌++◌, ◌↔◌, map, IfOk, OnOk, IsTrue};
 ghost use Rattle.duct_system.specs.EntryView.{entry_view};
 ghost use Rattle.duct_system.specs.Trace.{trace, is_traced, fault_of};
@@ -15,15 +15,18 @@ use std::alloc::{AllocError, Global};
 /// Where an end comes from.
 #[derive(Clone, Copy, Debug, PartialEq, Eq)]
 pub enum Source {
-    /// It is, or was duplicated from, the end of this number, which a pipe or a file got.
+    /// It is the end with this number, which a pipe or a file request returned, or a duplicate of
+    /// it.
     Opened(u64),
-    /// It was duplicated from this stream of the parent.
+    /// It is a duplicate of this stream of the parent.
     ParentOf(Side),
-    /// It is, or was duplicated from, the end of this number, which no entry got: somebody lent it.
+    /// It is the end with this number, which no entry returned, or a duplicate of it: the end was
+    /// lent.
     Lent(u64),
 }
 
-/// The numbers of the ends that were got, in order.
+/// Returns the numbers of the ends that requests returned, in order. Fails only on allocation
+/// failure.
 pub fn got(alloc: Global, entries: &[Entry]) -> Result<Vec<u64>, AllocError>
     ensures { IfOk result (λ numbers. numbers.items ≡ got (map entry_view entries.now)) }
 {
@@ -34,7 +37,8 @@ pub fn got(alloc: Global, entries: &[Entry]) -> Result<Vec<u64>, AllocError>
     Ok(numbers)
 }
 
-/// The numbers of the ends that were spent, in order.
+/// Returns the numbers of the ends that were spent, in order: those that a request took. Fails only
+/// on allocation failure.
 pub fn spent(alloc: Global, entries: &[Entry]) -> Result<Vec<u64>, AllocError>
     ensures { IfOk result (λ numbers. numbers.items ≡ spent (map entry_view entries.now)) }
 {
@@ -45,7 +49,8 @@ pub fn spent(alloc: Global, entries: &[Entry]) -> Result<Vec<u64>, AllocError>
     Ok(numbers)
 }
 
-/// Whether the numbers that were spent are those that were got, in some order, each number once.
+/// Returns whether the spent numbers are the returned ones, in some order, each number once. Fails
+/// only on allocation failure.
 pub fn is_balanced(alloc: Global, entries: &[Entry]) -> Result<bool, AllocError>
     ensures { IfOk result (λ balanced. IsTrue balanced ↔ IsBalanced (map entry_view entries.now)) }
 {
@@ -54,7 +59,7 @@ pub fn is_balanced(alloc: Global, entries: &[Entry]) -> Result<bool, AllocError>
     Ok(balance(got.as_slice(), spent.as_slice()))
 }
 
-/// How many ends were got and are not spent yet.
+/// Returns how many ends were returned and are not spent yet. Fails only on allocation failure.
 pub fn held(alloc: Global, entries: &[Entry]) -> Result<usize, AllocError>
     ensures { IfOk result (λ count. count ≡ held (map entry_view entries.now)) }
 {
@@ -63,7 +68,8 @@ pub fn held(alloc: Global, entries: &[Entry]) -> Result<usize, AllocError>
     Ok(got.saturating_sub(spent))
 }
 
-/// The entries of which a plan speaks: all but duplicates, ends of the parent's streams, and closes.
+/// Returns the entries that a plan covers: all but duplicates, ends of the parent's streams, and
+/// closes. Fails only on allocation failure.
 pub fn trace(alloc: Global, entries: &[Entry]) -> Result<Vec<&Entry>, AllocError>
     ensures { IfOk result
         (λ traced. map (λ e. entry_view e.now) traced.items ≡ trace (map entry_view entries.now)) }
@@ -77,7 +83,7 @@ pub fn trace(alloc: Global, entries: &[Entry]) -> Result<Vec<&Entry>, AllocError
     Ok(traced)
 }
 
-/// Whether a plan speaks of this entry.
+/// Returns whether a plan covers this entry.
 pub fn in_trace(entry: &Entry) -> bool
     ensures { result ≡ is_traced (entry_view entry.now) }
 {
@@ -87,7 +93,7 @@ pub fn in_trace(entry: &Entry) -> bool
     )
 }
 
-/// Where the end of a number comes from.
+/// Returns where the end with this number comes from.
 pub fn origin(entries: &[Entry], number: u64) -> Source
     ensures { origin_of result ≡ origin (map entry_view entries.now) number }
 {
@@ -103,16 +109,17 @@ pub fn origin(entries: &[Entry], number: u64) -> Source
     Source::Lent(number)
 }
 
-/// What an entry says of where an end comes from.
+/// What an entry tells about where an end comes from.
 #[derive(Clone, Copy, Drop)]
 enum Step {
     /// It comes from here.
     Found(Source),
-    /// It comes from where the end of this number comes from, as the entries before this one say.
+    /// It comes from where the end with this number comes from, according to the entries before
+    /// this one.
     From(u64),
 }
 
-/// What an entry says of where the end of a number comes from.
+/// Returns what an entry tells about where the end with this number comes from.
 fn step_back(entry: &Entry, number: u64) -> Step
     ensures { Steps (entry_view entry.now) number result }
 {
@@ -128,14 +135,14 @@ fn step_back(entry: &Entry, number: u64) -> Step
     }
 }
 
-/// Whether each number stands as often in both lists, and not twice.
+/// Returns whether each number occurs equally often in both lists, and at most once.
 fn balance(got: &[u64], spent: &[u64]) -> bool
     ensures { IsTrue result ↔ Balances got.now spent.now }
 {
     all_balance(got, got, spent) && all_balance(spent, got, spent)
 }
 
-/// Whether each of these numbers stands as often in both lists, and not twice.
+/// Returns whether each of these numbers occurs equally often in both lists, and at most once.
 fn all_balance(numbers: &[u64], got: &[u64], spent: &[u64]) -> bool
     ensures { IsTrue result ↔ AllBalance got.now spent.now numbers.now }
 {
@@ -147,7 +154,7 @@ fn all_balance(numbers: &[u64], got: &[u64], spent: &[u64]) -> bool
     true
 }
 
-/// Whether this number stands as often in both lists, and not twice.
+/// Returns whether this number occurs equally often in both lists, and at most once.
 fn balances_at(number: u64, got: &[u64], spent: &[u64]) -> bool
     ensures { IsTrue result ↔ BalancesAt got.now spent.now number }
 {
@@ -155,14 +162,14 @@ fn balances_at(number: u64, got: &[u64], spent: &[u64]) -> bool
     times_got <= 1 && count_of(number, spent) == times_got
 }
 
-/// How often a number stands in a list.
+/// Returns how often a number occurs in a list.
 fn count_of(number: u64, numbers: &[u64]) -> usize
     ensures { result ≡ count_of number numbers.now }
 {
     numbers.iter().filter(|other| **other == number).count()
 }
 
-/// Adds the numbers of the ends that an entry answered.
+/// Adds the numbers of the ends that an entry's request returned.
 fn push_got(numbers: &mut Vec<u64>, entry: &Entry) -> Result<(), AllocError>
     ensures { OnOk result (numbers.new.items ≡ numbers.old.items ++ got_by (entry_view entry.now)) }
 {
@@ -180,7 +187,7 @@ fn push_got(numbers: &mut Vec<u64>, entry: &Entry) -> Result<(), AllocError>
     Ok(())
 }
 
-/// Adds the numbers of the ends that an entry's request was given.
+/// Adds the numbers of the ends that an entry's request took.
 fn push_spent(numbers: &mut Vec<u64>, entry: &Entry) -> Result<(), AllocError>
     ensures { OnOk result
         (numbers.new.items ≡ numbers.old.items ++ spent_by (entry_view entry.now)) }
@@ -207,7 +214,7 @@ fn push_ends(numbers: &mut Vec<u64>, io: &[Stdio<u64>; 3]) -> Result<(), AllocEr
     Ok(())
 }
 
-/// The fault that an entry answered, if it was refused.
+/// Returns the fault of an entry, if its request was refused.
 pub fn fault_of(entry: &Entry) -> Option<Fault>
     ensures { result ≡ fault_of (entry_view entry.now) }
 {

@@ -4,7 +4,7 @@ ghost use Rattle.duct_status.specs.ShapeView.{command_count, input_count, shape_
 
 use duct_base::status::Shape;
 
-/// The number of commands.
+/// Returns the number of commands.
 pub(crate) fn count_commands(shape: &Shape) -> usize
     requires { command_count (shape_view shape.now) < 2 ^ 64 }
     ensures { result ≡ command_count (shape_view shape.now) }
@@ -17,7 +17,7 @@ pub(crate) fn count_commands(shape: &Shape) -> usize
     }
 }
 
-/// The number of input workers.
+/// Returns the number of input workers.
 pub(crate) fn count_inputs(shape: &Shape) -> usize
     requires { input_count (shape_view shape.now) < 2 ^ 64 }
     ensures { result ≡ input_count (shape_view shape.now) }
@@ -30,7 +30,7 @@ pub(crate) fn count_inputs(shape: &Shape) -> usize
     }
 }
 
-/// The number of commands, if it is a `usize`.
+/// Returns the number of commands, or `None` if it doesn't fit in a `usize`.
 pub fn commands_in(shape: &Shape) -> Option<usize>
     ensures value { IfSome result (λ n. n ≡ command_count (shape_view shape.now)) }
     ensures succeeds { command_count (shape_view shape.now) < 2 ^ 64 → IsSome result }
@@ -43,7 +43,7 @@ pub fn commands_in(shape: &Shape) -> Option<usize>
     }
 }
 
-/// The number of input workers, if it is a `usize`.
+/// Returns the number of input workers, or `None` if it doesn't fit in a `usize`.
 pub fn inputs_in(shape: &Shape) -> Option<usize>
     ensures value { IfSome result (λ n. n ≡ input_count (shape_view shape.now)) }
     ensures succeeds { input_count (shape_view shape.now) < 2 ^ 64 → IsSome result }

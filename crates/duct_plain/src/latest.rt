@@ -1,4 +1,4 @@
-//! The latest word of a command and of a worker, read off the whole list of events.
+//! The latest report of a command and of a worker, taken from the whole list of events.
 ghost use Rattle.std.specs.Prelude.{◌≡◌, map};
 ghost use Rattle.duct_status.specs.Bytes.{lent_bytes};
 ghost use Rattle.duct_status.specs.Latest.{first_ending, last_or, words_of_command, latest_of_command, latest_of_input, latest_of_drain};
@@ -8,7 +8,7 @@ ghost use Rattle.duct_status.specs.declared.status.Word.TheVariants as word;
 use duct_base::status::{Event, Word};
 use duct_base::system::{ExitStatus, Said, Side};
 
-/// The first ending that was told of a command.
+/// Returns the first exit status among the reports of a command, if there is one.
 fn first_ending(command: usize, events: &[Event]) -> Option<ExitStatus>
     ensures { result ≡ first_ending (words_of_command command (map event_view events.now)) }
 {
@@ -22,7 +22,7 @@ fn first_ending(command: usize, events: &[Event]) -> Option<ExitStatus>
     None
 }
 
-/// The last word that was told of a command, and `Running` where there was none.
+/// Returns the last report of a command, or `Running` if there is none.
 fn last_word(command: usize, events: &[Event]) -> Word
     ensures { result ≡ last_or word.Running (words_of_command command (map event_view events.now)) }
 {
@@ -37,7 +37,7 @@ fn last_word(command: usize, events: &[Event]) -> Word
     last
 }
 
-/// The latest word of a command: its first ending, else its last word, else `Running`.
+/// Returns the latest report of a command: its first `Ended`, else its last report, else `Running`.
 pub fn latest_of_command(command: usize, events: &[Event]) -> Word
     ensures { result ≡ latest_of_command command (map event_view events.now) }
 {
@@ -47,7 +47,7 @@ pub fn latest_of_command(command: usize, events: &[Event]) -> Word
     }
 }
 
-/// The latest word of an input worker: its first `Done` or `Fault`, else `Running`.
+/// Returns the latest report of an input worker: its first `Done` or `Fault`, else `Running`.
 pub fn latest_of_input(input: usize, events: &[Event]) -> Said<()>
     ensures { result ≡ latest_of_input input (map event_view events.now) }
 {
@@ -65,7 +65,8 @@ pub fn latest_of_input(input: usize, events: &[Event]) -> Said<()>
     Said::Running
 }
 
-/// The latest word of the capture worker of a stream: its first `Done` or `Fault`, else `Running`.
+/// Returns the latest report of the capture worker of a stream: its first `Done` or `Fault`, else
+/// `Running`.
 pub fn latest_of_drain(side: Side, events: &[Event]) -> Said<&[u8]>
     ensures { lent_bytes result ≡ latest_of_drain side (map event_view events.now) }
 {

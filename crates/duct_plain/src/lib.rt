@@ -1,5 +1,6 @@
-//! The definitions as plain, slow programs, for tests: the latest word of a command and of a worker, what the words of a list
-//! of events come to, the winning command, and what a journal says. Each has its definition as its contract.
+//! The definitions as plain, slow programs, for tests: the latest reports of commands and workers,
+//! the outcome of a list of events, the winning command, and what a journal shows. Each program has
+//! its definition as its contract.
 #![tactic(auto)]
 
 pub mod checker;

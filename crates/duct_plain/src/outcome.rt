@@ -1,4 +1,4 @@
-//! What a list of events comes to.
+//! The outcome of a list of events.
 ghost use Rattle.std.specs.Prelude.{◌≡◌, ◌+◌, ◌^◌, ◌<◌, [], ◌∷◌, map, if◌then◌else◌, Some};
 ghost use Rattle.duct_status.specs.Bytes.{lent_bytes};
 ghost use Rattle.duct_status.specs.Latest.{latest_of_command, latest_of_drain, latest_told};
@@ -14,15 +14,18 @@ use crate::latest::{latest_of_command, latest_of_drain, latest_of_input};
 use duct_base::status::{Drains, Event, Shape, Word};
 use duct_base::system::{Fault, Said, Side};
 
-/// A fault, something that still runs, or that all have ended, with the bytes of stdout and of stderr.
+/// The outcome of a list of events.
 #[derive(Clone, Copy)]
 pub enum Outcome<'a> {
+    /// Something still runs.
     Pending,
+    /// A command or a worker reported this fault.
     Fault(Fault),
+    /// All have ended. The captured bytes of stdout, then of stderr.
     Finished(&'a [u8], &'a [u8]),
 }
 
-/// The latest word of a command as that of a worker.
+/// Returns the latest report of a command as that of a worker.
 fn said_by(command: usize, events: &[Event]) -> Said<()>
     ensures { result ≡ command_said (Some (latest_of_command command (map event_view events.now))) }
 {
@@ -33,7 +36,7 @@ fn said_by(command: usize, events: &[Event]) -> Said<()>
     }
 }
 
-/// The fault that a word is.
+/// Returns the fault of a report, if it is one.
 fn fault_of(said: Said<()>) -> Option<Fault>
     ensures { result ≡ first_fault (said ∷ []) }
 {
@@ -43,14 +46,15 @@ fn fault_of(said: Said<()>) -> Option<Fault>
     }
 }
 
-/// Whether a word says that it runs.
+/// Returns whether a report is `Running`.
 fn runs(said: Said<()>) -> bool
     ensures { result ≡ some_runs (said ∷ []) }
 {
     matches!(said, Said::Running)
 }
 
-/// The first fault in tree order, of a part of a shape whose first command and first input worker have these numbers.
+/// Returns the first fault in tree order, for a part of a shape whose first command and first input
+/// worker have these numbers.
 #[tactic(auto, using(duct_status::proofs::Looks::fault_append))]
 fn first_fault(shape: &Shape, command: usize, input: usize, events: &[Event]) -> Option<Fault>
     requires commands { command + command_count (shape_view shape.now) < 2 ^ 64 }
@@ -74,7 +78,8 @@ fn first_fault(shape: &Shape, command: usize, input: usize, events: &[Event]) ->
     }
 }
 
-/// Whether something runs, in a part of a shape whose first command and first input worker have these numbers.
+/// Returns whether something runs, in a part of a shape whose first command and first input worker
+/// have these numbers.
 #[tactic(auto, using(duct_status::proofs::Looks::runs_append))]
 fn some_runs(shape: &Shape, command: usize, input: usize, events: &[Event]) -> bool
     requires commands { command + command_count (shape_view shape.now) < 2 ^ 64 }
@@ -100,7 +105,8 @@ fn some_runs(shape: &Shape, command: usize, input: usize, events: &[Event]) -> b
     }
 }
 
-/// The word of the capture worker of a stream; without one no bytes are captured.
+/// Returns the latest report of the capture worker of a stream. Without a worker it is `Done` with
+/// no bytes.
 fn captured(is_there: bool, side: Side, events: &[Event]) -> Said<&[u8]>
     ensures { lent_bytes result
         ≡ (if is_there then latest_of_drain side (map event_view events.now) else said.Done []) }
@@ -112,7 +118,8 @@ fn captured(is_there: bool, side: Side, events: &[Event]) -> Said<&[u8]>
     }
 }
 
-/// A fault that was found, else whether something runs, else what stdout's capture worker says, then stderr's.
+/// Returns the outcome: the fault that was found, else `Pending` if something runs, else what
+/// stdout's capture worker decides, then stderr's.
 fn decide<'a>(
     fault: Option<Fault>,
     runs: bool,
@@ -139,8 +146,8 @@ fn decide<'a>(
     }
 }
 
-/// What the events come to: the first fault in tree order, else whether something runs, else what stdout's capture worker
-/// says, then stderr's.
+/// Returns the outcome of the events: the first fault in tree order, else `Pending` if something
+/// runs, else what stdout's capture worker decides, then stderr's.
 pub fn outcome_of_events<'a>(shape: &Shape, drains: Drains, events: &'a [Event]) -> Outcome<'a>
     requires commands { command_count (shape_view shape.now) < 2 ^ 64 }
     requires inputs { input_count (shape_view shape.now) < 2 ^ 64 }

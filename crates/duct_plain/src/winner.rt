@@ -1,4 +1,4 @@
-//! The command whose status stands for the whole, found by comparing each two.
+//! The winning command, found by comparing each pair of commands.
 ghost use Rattle.std.specs.Prelude.{◌≡◌, ◌+◌, ◌<◌, ◌≤◌, length, slice_get};
 ghost use Rattle.duct_status.specs.Endings.{Way, endings_of, status_of};
 ghost use Rattle.duct_status.specs.ShapeView.{command_count, shape_view};
@@ -9,7 +9,7 @@ use crate::count::count_commands;
 use duct_base::status::{Shape, Word};
 use duct_base::system::ExitStatus;
 
-/// How a command ended; one that has not ended counts as a success.
+/// Returns the exit status of a command. A command that has not ended counts as a success.
 fn status_by(words: &[Word], command: usize) -> ExitStatus
     requires { command < length words.now }
     ensures { result ≡ status_of (slice_get words.now command) }
@@ -20,8 +20,9 @@ fn status_by(words: &[Word], command: usize) -> ExitStatus
     }
 }
 
-/// Of a command of a part of a shape: 0 for a success, 1 for a failure with an unchecked of that part round it, and 2
-/// for any other failure. The part's first command has the word `first`, and its commands are counted from there.
+/// Returns the level of a command in a part of a shape: 0 for a success, 1 for a failure inside an
+/// unchecked node of that part, and 2 for any other failure. `words[first]` is the report of the
+/// part's first command, and `at` counts from that command.
 #[tactic(auto, using(crate::proofs::Numbers::level_left, crate::proofs::Numbers::level_right))]
 fn level(shape: &Shape, words: &[Word], first: usize, at: usize) -> u8
     requires { first + command_count (shape_view shape.now) ≤ length words.now }
@@ -49,21 +50,24 @@ fn level(shape: &Shape, words: &[Word], first: usize, at: usize) -> u8
     }
 }
 
-/// Whether a command on the left of a pipe, of level `a`, beats one on the right, of level `b`.
+/// Returns whether a command of level `a` on the left of a pipe beats one of level `b` on the
+/// right.
 fn left_beats(a: u8, b: u8) -> bool
     ensures { Tells result (LeftBeats a b) }
 {
     b < a || (a == b && a == 0)
 }
 
-/// Whether a command on the right of a pipe, of level `b`, beats one on the left, of level `a`.
+/// Returns whether a command of level `b` on the right of a pipe beats one of level `a` on the
+/// left.
 fn right_beats(b: u8, a: u8) -> bool
     ensures { Tells result (RightBeats b a) }
 {
     a < b || (a == b && 0 < b)
 }
 
-/// Whether one command beats another, of a part of a shape: decided at the pipe where they part, by their levels below it.
+/// Returns whether one command of a part of a shape beats another. The pipe where their ways part
+/// decides it, by their levels below that pipe.
 fn beats(shape: &Shape, words: &[Word], first: usize, one: usize, other: usize) -> bool
     requires { first + command_count (shape_view shape.now) ≤ length words.now }
     ensures { let t = endings_of (shape_view shape.now) first words.now
@@ -92,7 +96,7 @@ fn beats(shape: &Shape, words: &[Word], first: usize, one: usize, other: usize) 
     }
 }
 
-/// Whether a command beats each other one, of a shape with so many commands.
+/// Returns whether a command beats every other one, in a shape with `count` commands.
 fn beats_all(shape: &Shape, words: &[Word], count: usize, one: usize) -> bool
     requires fits { command_count (shape_view shape.now) ≤ length words.now }
     requires count { count ≡ command_count (shape_view shape.now) }
@@ -106,7 +110,8 @@ fn beats_all(shape: &Shape, words: &[Word], count: usize, one: usize) -> bool
     true
 }
 
-/// The number of the winning command of a shape whose commands ended by these words: it beats each other one.
+/// Returns the number of the winning command of a shape whose commands have these reports: the one
+/// that beats every other one.
 pub fn winner(shape: &Shape, words: &[Word]) -> usize
     requires { command_count (shape_view shape.now) ≤ length words.now }
     ensures { let t = endings_of (shape_view shape.now) 0 words.now in (way : Way t)

@@ -1,4 +1,4 @@
--- What the tree asks for a command, put together of its spec and its streams.
+-- What the tree gives a command, put together from its spec and its streams.
 use Rattle.std.specs.Prelude.{ℕ, List, map}
 use Rattle.std.proofs.Common.{◌≡◌, refl, sym, subst}
 use Rattle.duct_system.specs.EntryView.{EntryView}

@@ -1,4 +1,5 @@
--- Variables that are put in, taken away or replaced are those that are found from the change on.
+-- After a variable is inserted or removed, or all are replaced, the variables are those that are
+-- found with that change as the nearest.
 use Rattle.std.specs.Prelude.{ℕ, List, cond, filter, map, not, string_bytes, None, Some}
 use Rattle.std.specs.declared.string.String.{String}
 use Rattle.std.specs.BTreeMap.{insert_entry}
@@ -13,7 +14,7 @@ use Rattle.duct_start.specs.Found.{Sets, Removes, Replaces}
 use Rattle.duct_plan.specs.Variables.{Changes}
 
 module _ {Z : Type 0} (es new : List (List ℕ × String Z)) where
-  -- a variable that was put in
+  -- a variable that was inserted
   pub put_in : (k : List ℕ) (v : String Z) (name value : List ℕ)
       → k ≡ name → string_bytes v ≡ value →
       new ≡ insert_entry name_cmp es k v → IsStrictlySortedBy name_cmp (keys_of new) →
@@ -25,7 +26,7 @@ module _ {Z : Type 0} (es new : List (List ℕ × String Z)) where
     ordered = are_ordered new sorted;
   }
 
-  -- a name that was taken away
+  -- a name that was removed
   pub taken_away : (name : List ℕ) → new ≡ filter (λ e. not (is_same_name name e.0)) es
       → IsStrictlySortedBy name_cmp (keys_of new) →
       Changes (Removes name) (map var_view es) (map var_view new)
@@ -36,7 +37,7 @@ module _ {Z : Type 0} (es new : List (List ℕ × String Z)) where
     ordered = are_ordered new sorted;
   }
 
-  -- variables that came in place of all
+  -- variables that replaced all others
   pub replaced : (vars before : Vars) → map var_view new ≡ vars
       → IsStrictlySortedBy name_cmp (keys_of new) →
       Changes (Replaces vars) before (map var_view new)

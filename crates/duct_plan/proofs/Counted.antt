@@ -13,7 +13,7 @@ module _ {X Y : Type 0} (f : X → Y) (p : Y → Bool) where
   passes_at (y ∷ xs) zero x low is passes = ap Some (subst (λ (v : X). p (f v) ≡ true) is passes)
   passes_at (y ∷ xs) (suc place) x low is passes = passes_at xs place x (omega arith) is passes
 
-  -- a place at which an item passes has that item, and it passes
+  -- if the item at a place passes, the list has this item there
   pub item_at : (xs : List X) (place : ℕ) (x : X)
       → option_map p (slice_get (map f xs) place) ≡ Some true → x ≡ get_or xs place x
       → slice_get (map f xs) place ≡ Some (f x)
@@ -21,12 +21,12 @@ module _ {X Y : Type 0} (f : X → Y) (p : Y → Bool) where
   item_at (y ∷ xs) zero x passes is = ap (λ v. Some (f v)) (sym is)
   item_at (y ∷ xs) (suc place) x passes is = item_at xs place x passes is
 
-  -- a front may be cut before or after
+  -- a prefix may be taken before or after the mapping
   pub count_front : (xs : List X) (place : ℕ)
       → count_by p (take place (map f xs)) ≡ count_by p (map f (take place xs))
   count_front xs place = ap (λ ys. count_by p ys) (take-map f place xs)
 
-  -- where the item at a place passes, there are more than before it
+  -- if the item at a place passes, more items pass than before that place
   pub more_than_before : (xs : List X) (place : ℕ) (x : X) → place < length xs
       → x ≡ get_or xs place x → p (f x) ≡ true
       → count_by p (map f (take place xs)) < count_by p (map f xs)

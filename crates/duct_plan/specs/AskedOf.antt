@@ -1,4 +1,4 @@
--- What the code answers of the spec and the streams that a tree asks for a command.
+-- The spec and the streams that a tree gives a command, as the code returns them.
 use Rattle.std.specs.Prelude.{ℕ, ◌<◌, ◌≤◌, List, [], ◌∷◌, ◌≡◌, length, map, slice_get, Some}
 use Rattle.duct_system.specs.EntryView.{EntryView}
 use Rattle.duct_system.specs.Streams.{stream_of}
@@ -13,19 +13,21 @@ use Rattle.duct_plan.specs.declared.asked.AskedError.TheVariants.{TraceTooShort,
 use Rattle.duct_plan.specs.declared.asked.Wired as answer
 use Rattle.duct_plain.specs.Source.{origin_of}
 
--- the answer has this spec and these streams
+-- the result has this spec and these streams
 pub record IsAnswered (wired : Wired) (asked : answer.Wired) : Type 0 where
   pub spec_is : wired.spec ≡ asked.spec
   pub streams_are : wired.input ∷ wired.output ∷ wired.error ∷ []
       ≡ map (stream_of origin_of) asked.streams
 
--- the answer is what the tree asks for the command whose spawn stands at this place, with this found outwards and these words
+-- the result is what the tree gives the command whose spawn is at this place, with these words and
+-- what the command finds on its path to the root
 abbrev pub IsAskedThere : {E H : Type 0} → List EntryView → (E → ℕ) → ℕ → Found E H → List (List ℕ)
     → answer.Wired → Type 0
 IsAskedThere entries number_of place found words asked =
     (wired : Wired) × IsAskedAt entries number_of place found words wired × IsAnswered wired asked
 
--- the answer is what the tree asks for the i-th command of the plan, up to whose spawn the trace comes
+-- the result is what the tree gives the i-th command of the plan, and the trace has an entry for
+-- each item before its spawn
 abbrev pub IsAskedOf : {E H : Type 0} → List EntryView → Plan E H → (E → ℕ) → ℕ → answer.Wired
     → Type 0
 IsAskedOf {E} {H} entries plan number_of i asked =
@@ -33,7 +35,8 @@ IsAskedOf {E} {H} entries plan number_of i asked =
     × (slice_get plan.items place ≡ Some (AskSpawn found words))
     × (place ≤ length entries) × IsAskedThere entries number_of place found words asked
 
--- an error that is no want of memory comes where the trace ends before the spawn of the i-th command
+-- an error other than `Memory` means that the trace lacks an entry for an item before the spawn of
+-- the i-th command
 abbrev pub EndsBefore : {E H : Type 0} → List EntryView → Plan E H → ℕ → AskedError → Type 0
 EndsBefore entries plan i TraceTooShort =
     (place : ℕ) × IsCommandAt i plan.items place × (length entries < place)

@@ -1,4 +1,4 @@
--- What the code finds outwards, as contracts see it.
+-- What the code finds on a path to the root, as contracts see it.
 use Rattle.std.specs.Prelude.{ℕ, List, map}
 use Rattle.std.specs.Borrow.{Bor}
 use Rattle.std.specs.Option.{option_copied}
@@ -19,13 +19,13 @@ target_of (WriterAt place) = outwards.WriterAt place
 target_of (FileAt place) = outwards.FileAt place
 target_of (Lends end) = outwards.Lends end.now
 
--- what a node asks of the variables
+-- how a node changes the variables
 abbrev pub change_of : Change → outwards.Change
 change_of (Sets name value) = outwards.Sets name.now value.now
 change_of (Removes name) = outwards.Removes name.now
 change_of (Replaces vars) = outwards.Replaces (map var_view vars.now.entries)
 
--- a hook with the ends beside it
+-- a hook with its ends
 abbrev pub hook_of : {E H : Type 0} → Bor H × Bor (List E) → H × List E
 hook_of hook = (hook.0.now, hook.1.now)
 

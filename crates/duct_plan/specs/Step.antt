@@ -14,7 +14,7 @@ use Rattle.duct_plan.specs.declared.step.Step.{Step}
 use Rattle.duct_plan.specs.declared.step.Turn.{Turn}
 use Rattle.duct_plan.specs.declared.step.Turn.TheVariants as turn
 
--- what a node asks before what it wraps
+-- the request that a node makes before those of its inner expression
 abbrev pub opening_of : {E H : Type 0} → Opening → node.Opening E H
 opening_of opening.Nothing = node.OpensNothing
 opening_of opening.Pipe = node.Opens node.AskPipe
@@ -23,12 +23,12 @@ opening_of (opening.Create path) = node.Opens (node.AskCreate path.now)
 opening_of opening.CapturesOut = node.CapturesOut
 opening_of opening.CapturesErr = node.CapturesErr
 
--- what it asks after that, from its place
+-- the requests that a node makes after those of its inner expression, by its place
 abbrev pub closing_of : {E H : Type 0} → Option (Bor (List ℕ)) → ℕ → List (node.Item E H)
 closing_of None place = []
 closing_of (Some bytes) place = node.AskFeed place bytes.now ∷ []
 
--- what it says of a stream, from its place
+-- where a stream goes inside a node, by the node's place
 abbrev pub turn_of : {E : Type 0} → Turn E → ℕ → node.Turn E
 turn_of (turn.Follows stream) place = node.Follows stream
 turn_of turn.Nothing place = node.Decides outwards.Nothing
@@ -42,12 +42,12 @@ abbrev pub changes_of : Option Change → List outwards.Change
 changes_of None = []
 changes_of (Some change) = change_of change ∷ []
 
--- the hook with the ends beside it, if there is one
+-- the hook with its ends, if there is one
 abbrev pub hooks_of : {E H : Type 0} → Option (Bor H × Bor (List E)) → List (H × List E)
 hooks_of None = []
 hooks_of (Some hook) = hook_of hook ∷ []
 
--- the code's node that does nothing
+-- the code's step of a node that does nothing
 abbrev pub idle : {E H : Type 0} → Step E H
 idle = record {
   opening = opening.Nothing;
@@ -60,7 +60,7 @@ idle = record {
   hook = None;
 }
 
--- the answer is what this node does
+-- the result is what this node does
 pub record IsStep {E H : Type 0} (step : node.Step E H) (answer : Step E H) : Type 0 where
   pub opening_is : opening_of answer.opening ≡ step.opening
   pub closing_is : (place : ℕ) → closing_of answer.feed place ≡ step.closing place

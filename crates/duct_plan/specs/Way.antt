@@ -1,4 +1,4 @@
--- A way of the code as contracts see it.
+-- A path to the root in the code, as contracts see it.
 use Rattle.std.specs.Prelude.{List, map}
 use Rattle.duct_start.specs.Path as path
 use Rattle.duct_start.specs.Path.{Path}
@@ -7,13 +7,13 @@ use Rattle.duct_tree.specs.NodeView.{modifier_view}
 use Rattle.duct_plan.specs.declared.way.Crumb.{Crumb}
 use Rattle.duct_plan.specs.declared.way.Crumb.TheVariants.{LeftOf, RightOf, Within, Captured}
 
--- one node round a command
+-- one node around a command
 abbrev pub crumb_of : {E H : Type 0} → Crumb E H → path.Crumb E H
 crumb_of (LeftOf place) = path.left_of place
 crumb_of (RightOf place) = path.right_of place
 crumb_of (Within place modifier) = path.within place (modifier_view modifier.now)
 crumb_of (Captured place) = path.within place stdout_capture
 
--- the nodes round a command, the nearest first
+-- the nodes around a command, the nearest first
 abbrev pub way_of : {E H : Type 0} → List (Crumb E H) → Path E H
 way_of way = map crumb_of way

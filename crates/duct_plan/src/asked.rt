@@ -1,4 +1,4 @@
-//! The spec and the streams that a tree asks for a command, before its hooks.
+//! The spec and the streams that a tree gives a command, before its hooks run.
 ghost use Rattle.std.specs.Prelude.{◌≡◌, ◌≤◌, ◌↔◌, length, IsNone, IfOk, IfErr, IfSome, map, string_bytes, count_by, ◌∷◌};
 ghost use Rattle.std.specs.Option.{option_copied, option_map};
 ghost use Rattle.duct_system.specs.SpecView.{pair_text};
@@ -21,12 +21,13 @@ use duct_base::spec::spec_of;
 use duct_plain::checker::Source;
 use std::alloc::{AllocError, Global};
 
-/// Why it is not told what the tree asks for a command.
+/// Why the spec and the streams that the tree gives a command can't be computed.
 #[derive(Debug, Drop, Clone, Copy, PartialEq, Eq)]
 pub enum AskedError {
-    /// The trace ends before the command's item, so that an end or a name which the command is to get may not be known.
+    /// The trace lacks an entry for an item before the command's spawn, so an end or a canonical
+    /// path that the command needs may be unknown.
     TraceTooShort,
-    /// There is no memory.
+    /// An allocation failed.
     Memory,
 }
 
@@ -41,16 +42,19 @@ impl From<AllocError> for AskedError {
     }
 }
 
-/// The spec of a command, and where its three streams come from, in the order stdin, stdout, stderr.
+/// The spec of a command, and where its three streams come from, in the order stdin, stdout,
+/// stderr.
 #[derive(Debug, Drop)]
 pub struct Wired {
     pub spec: CommandSpec,
     pub streams: [Stdio<Source>; 3],
 }
 
-/// What the tree asks for a command of the plan, before its hooks, where a start made this trace: its spec and its streams.
-/// Nothing where the plan has no such command. The commands are counted from 0, in the order of their items. Refused where the
-/// trace ends before the command's item, and for want of memory.
+/// Returns the spec and the streams that the tree gives command `i` of the plan, before its hooks
+/// run. `trace` is the trace of a start with this plan. Returns `None` if the plan has no such
+/// command. Commands are counted from 0, in the order of their items. Fails with `TraceTooShort` if
+/// the trace lacks an entry for an item before the command's spawn, and with `Memory` on allocation
+/// failure.
 pub fn asked<E: Numbered, H>(
     alloc: Global,
     plan: &Plan<'_, E, H>,
@@ -76,8 +80,9 @@ pub fn asked<E: Numbered, H>(
     }
 }
 
-/// What the tree asks for the command whose item stands at this place of the plan, with this found outwards and these words: its
-/// spec and its streams, before its hooks. Refused only for want of memory.
+/// Returns the spec and the streams that the tree gives the command whose item is at this place of
+/// the plan, before its hooks run. The command finds `found` on its path to the root, and has these
+/// words. Fails only on allocation failure.
 pub fn asked_at<E: Numbered, H>(
     alloc: Global,
     trace: &[&Entry],
@@ -96,7 +101,8 @@ pub fn asked_at<E: Numbered, H>(
     Ok(Wired { spec, streams })
 }
 
-/// The program of the command whose item stands at this place: as the entry before made it canonical, or as it stands.
+/// Returns the program of the command whose item is at this place: the canonical path in the entry
+/// before, if one is requested, or the first word.
 fn program_at<'t, E, H>(
     trace: &[&'t Entry],
     place: usize,
@@ -113,7 +119,7 @@ fn program_at<'t, E, H>(
     }
 }
 
-/// The spec of a command.
+/// Returns the spec of a command.
 fn spec<E, H>(
     alloc: Global,
     pairs: &[(String, String)],
@@ -134,7 +140,7 @@ fn spec<E, H>(
     Ok(spec_of(words, folder, vars, stdin, stdout, stderr))
 }
 
-/// A copy of the words with this program in place of the first.
+/// Returns a copy of the words with this program in place of the first.
 fn with_program(alloc: Global, program: &str, words: &[String]) -> Result<Vec<String>, AllocError>
     ensures { IfOk result
         (λ copy. map string_bytes copy.items
@@ -146,7 +152,7 @@ fn with_program(alloc: Global, program: &str, words: &[String]) -> Result<Vec<St
     }
 }
 
-/// A program and then a copy of its arguments.
+/// Returns a program, followed by a copy of its arguments.
 fn with_arguments(
     alloc: Global,
     program: &str,
@@ -163,7 +169,7 @@ fn with_arguments(
     Ok(words)
 }
 
-/// A copy of a text, if there is one.
+/// Returns a copy of a text, if there is one.
 fn copied(alloc: Global, text: Option<&str>) -> Result<Option<String>, AllocError>
     ensures { IfOk result (λ copy. option_map string_bytes copy ≡ option_copied text.entry) }
 {

@@ -1,4 +1,5 @@
-//! What a command finds on its way outwards: its folder, the changes of variables, where its streams go, and its hooks.
+//! What a command finds on its path to the root: its folder, the changes of variables, where its
+//! streams go, and its hooks.
 ghost use Rattle.std.specs.Prelude.{◌≡◌, map};
 ghost use Rattle.std.specs.Option.{option_map};
 ghost use Rattle.duct_system.specs.Name.{is_same_name};
@@ -19,28 +20,28 @@ pub enum Target<'t, E> {
     Parents(Stream),
     /// To nothing.
     Nothing,
-    /// To the read end of the pipe that the item at this place got.
+    /// To the read end of the pipe that the item at this place opens.
     ReaderAt(usize),
-    /// To the write end of the pipe that the item at this place got.
+    /// To the write end of the pipe that the item at this place opens.
     WriterAt(usize),
-    /// To the file that the item at this place opened.
+    /// To the file that the item at this place opens.
     FileAt(usize),
-    /// To this end of the caller.
+    /// To this caller's end.
     Lends(&'t E),
 }
 
-/// What a node asks of the variables.
+/// How a node changes the variables.
 #[derive(Clone, Copy, Debug)]
 pub enum Change<'t> {
-    /// This name has this value.
+    /// Sets this name to this value.
     Sets(&'t str, &'t str),
-    /// This name is gone.
+    /// Removes this name.
     Removes(&'t str),
-    /// There are these variables alone.
+    /// Replaces all variables with these.
     Replaces(&'t BTreeMap<EnvNameString, String>),
 }
 
-/// What a command finds on its way outwards.
+/// What a command finds on its path to the root.
 #[derive(Drop)]
 pub struct Found<'t, E, H> {
     /// The folder of the nearest node that sets one.
@@ -53,12 +54,13 @@ pub struct Found<'t, E, H> {
     pub output: Target<'t, E>,
     /// Where stderr goes.
     pub error: Target<'t, E>,
-    /// The hooks with the ends beside them, the outermost first.
+    /// The hooks with their ends, the outermost first.
     pub hooks: Vec<(&'t H, &'t [E])>,
 }
 
-/// The spelling and the value of a variable. The nearest change that names it or replaces all decides the value; what is found
-/// behind that change keeps its spelling. Without a change it is what these pairs say, one after the other.
+/// Returns the spelling and the value of a variable, if there is one. The nearest change that names
+/// it or replaces all variables decides the value. A spelling that is found further out than that
+/// change is kept. If no change decides, `pairs` do, one after the other.
 pub fn variable<'t>(
     pairs: &'t [(String, String)],
     changes: &[Change<'t>],
@@ -89,7 +91,7 @@ pub fn variable<'t>(
     }
 }
 
-/// What these pairs say of a name: its first spelling and its last value.
+/// Returns the first spelling and the last value of a name in these pairs, if it is there.
 fn said_of<'t>(pairs: &'t [(String, String)], name: &str) -> Option<(&'t str, &'t str)>
     ensures { option_map pair_seen result ≡ said_of name.now (map pair_text pairs.now) }
 {
@@ -105,7 +107,7 @@ fn said_of<'t>(pairs: &'t [(String, String)], name: &str) -> Option<(&'t str, &'
     }
 }
 
-/// The last value that these pairs give a name, or else this one.
+/// Returns the last value of a name in these pairs, or `value` if it isn't there.
 fn last_value<'t>(pairs: &'t [(String, String)], name: &str, value: &'t str) -> &'t str
     ensures { result.now ≡ last_value name.now value.now (map pair_text pairs.now) }
 {
@@ -121,7 +123,7 @@ fn last_value<'t>(pairs: &'t [(String, String)], name: &str, value: &'t str) -> 
     }
 }
 
-/// The spelling of a name: the one that was found, or else its own.
+/// Returns the spelling of a name: the one that was found, or its own if none was found.
 fn spelled<'t>(name: &'t str, found: Option<(&'t str, &'t str)>) -> &'t str
     ensures { result.now ≡ spelled name.now (option_map pair_seen found.entry) }
 {
@@ -131,14 +133,14 @@ fn spelled<'t>(name: &'t str, found: Option<(&'t str, &'t str)>) -> &'t str
     }
 }
 
-/// Whether two names are the same variable's.
+/// Returns whether two names are names of the same variable.
 fn is_same(name: &str, other: &str) -> bool
     ensures { result ≡ is_same_name name.now other.now }
 {
     name.eq_ignore_ascii_case(other)
 }
 
-/// The spelling and the value of a name in a map.
+/// Returns the spelling and the value of a name in a map, if it is there.
 fn variable_in<'t>(
     vars: &'t BTreeMap<EnvNameString, String>,
     name: &str,

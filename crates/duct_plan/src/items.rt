@@ -1,4 +1,4 @@
-//! The requests of a start, and the plan that is a list of them.
+//! The items of a plan, each a request of a start, and the plan itself.
 ghost use Rattle.std.specs.Prelude.{◌≤◌, ◌↔◌, IsNone, IfSome, count_by};
 ghost use Rattle.duct_plan.specs.Commands.{is_spawn, IsCommandAt};
 ghost use Rattle.duct_plan.specs.PlanView.{plan_view};
@@ -6,7 +6,7 @@ ghost use Rattle.duct_plan.specs.PlanView.{plan_view};
 use crate::found::Found;
 use std::fmt;
 
-/// One request of a start. A place is that of another item of the same plan, from 0.
+/// One request of a start. A place is that of another item of the same plan, counted from 0.
 #[derive(Drop)]
 pub enum Item<'t, E, H> {
     Environment,
@@ -14,27 +14,31 @@ pub enum Item<'t, E, H> {
     OpenRead(&'t str),
     Create(&'t str),
     Canonicalize(&'t str),
-    /// The child of a command: what the command finds outwards, and its words.
+    /// The spawn of a command: what the command finds on its path to the root, and its words.
     Spawn(Found<'t, E, H>, &'t [String]),
-    /// A worker that writes these bytes to the pipe which the item at this place got.
+    /// The start of a worker that writes these bytes to the pipe that the item at this place opens.
     Feed(usize, &'t [u8]),
-    /// A worker that reads the pipe which the item at this place got.
+    /// The start of a worker that reads the pipe that the item at this place opens.
     Drain(usize),
-    /// A reader of the pipe which the item at this place got.
+    /// A reader of the pipe that the item at this place opens.
     Reader(usize),
 }
 
-/// The requests of a start in order, and the places of the capture pipes of stdout and of stderr, where they are open.
+/// The requests of a start, and the places of its capture pipes.
 #[derive(Drop)]
 #[derive_where(Debug)]
 pub struct Plan<'t, E, H> {
+    /// The requests, in order.
     pub items: Vec<Item<'t, E, H>>,
+    /// The place of stdout's capture pipe, if that is open.
     pub out: Option<usize>,
+    /// The place of stderr's capture pipe, if that is open.
     pub err: Option<usize>,
 }
 
 impl<E, H> fmt::Debug for Item<'_, E, H> {
-    /// `Pipe`, `Create("f")`, `Feed(1, [120])`. What is found is not shown: `Spawn(["a", "b"])`.
+    /// Writes for example `Pipe`, `Create("f")` or `Feed(1, [120])`. A spawn shows only its words:
+    /// `Spawn(["a", "b"])`.
     fn fmt<W: fmt::Write>(&self, f: &mut fmt::Formatter<W>) -> fmt::Result {
         match self {
             Item::Environment => write!(f, "Environment"),
@@ -51,8 +55,8 @@ impl<E, H> fmt::Debug for Item<'_, E, H> {
 }
 
 impl<E, H> Plan<'_, E, H> {
-    /// The place of the item that asks for the child of a command, if the plan has such a command. The commands are counted
-    /// from 0, in the order of their items.
+    /// Returns the place of the spawn of command `i`, or `None` if the plan has no such command.
+    /// Commands are counted from 0, in the order of their items.
     pub fn command(&self, i: usize) -> Option<usize>
         ensures some { IfSome result (IsCommandAt i (plan_view self.now).items) }
         ensures none { IsNone result ↔ (count_by is_spawn (plan_view self.now).items ≤ i) }

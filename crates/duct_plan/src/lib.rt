@@ -1,5 +1,6 @@
-//! What a start of an expression asks of the system, computed by plain, slow programs from the tree alone: the plan, what a
-//! command finds on its way outwards, and the spec and the streams that the tree asks for it.
+//! The requests of a start of an expression, computed by plain, slow programs from the tree alone:
+//! the plan, what a command finds on its path to the root, and the spec and the streams that the
+//! tree gives it.
 #![tactic(auto)]
 
 pub mod asked;

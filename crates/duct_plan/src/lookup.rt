@@ -1,4 +1,4 @@
-//! The look-up of a command outwards, node by node.
+//! The lookup from a command on its path to the root, node by node.
 ghost use Rattle.std.specs.Prelude.{◌≡◌, map, IfOk};
 ghost use Rattle.std.specs.Option.{option_copied};
 ghost use Rattle.duct_start.specs.Lookup.{goes, folder, changes, hooks, found_on};
@@ -13,7 +13,7 @@ use crate::way::{Crumb, place_of, step_of};
 use duct::Stream;
 use std::alloc::{AllocError, Global};
 
-/// All that a command finds. Refused only for want of memory.
+/// Returns all that a command finds on its path to the root. Fails only on allocation failure.
 pub(crate) fn found_on<'t, E, H>(
     alloc: Global,
     way: &[Crumb<'t, E, H>],
@@ -30,8 +30,9 @@ pub(crate) fn found_on<'t, E, H>(
     })
 }
 
-/// Where a stream of a command goes: the first node outwards that decides the stream says it, and a node that turns one stream
-/// into another only changes which is followed. Without one it is the parent's own stream.
+/// Returns where a stream of a command goes. The nearest node that gives the stream a target
+/// decides. A node that sends the stream where another one goes only changes which stream is
+/// followed from there. If no node decides, the stream goes to the parent's own stream.
 fn goes<'t, E, H>(way: &[Crumb<'t, E, H>], stream: Stream) -> Target<'t, E>
     ensures { target_of result ≡ goes (way_of way.now) stream }
 {
@@ -49,7 +50,7 @@ fn goes<'t, E, H>(way: &[Crumb<'t, E, H>], stream: Stream) -> Target<'t, E>
     }
 }
 
-/// What a node says of a stream.
+/// Returns where a stream goes inside a node.
 fn turn_at<'t, E, H>(crumb: &Crumb<'t, E, H>, stream: Stream) -> Turn<'t, E>
     ensures { let crumb = crumb_of crumb.now in turn_of result (place_of crumb)
         ≡ (step_of crumb).turn (place_of crumb) stream }
@@ -62,7 +63,7 @@ fn turn_at<'t, E, H>(crumb: &Crumb<'t, E, H>, stream: Stream) -> Turn<'t, E>
     }
 }
 
-/// The folder of the nearest node that sets one.
+/// Returns the folder of the nearest node that sets one.
 fn folder<'t, E, H>(way: &[Crumb<'t, E, H>]) -> Option<&'t str>
     ensures { option_copied result ≡ folder (way_of way.now) }
 {
@@ -75,7 +76,7 @@ fn folder<'t, E, H>(way: &[Crumb<'t, E, H>]) -> Option<&'t str>
     }
 }
 
-/// The changes of variables, the nearest first.
+/// Returns the changes of variables, the nearest first.
 fn changes<'t, E, H>(alloc: Global, way: &[Crumb<'t, E, H>]) -> Result<Vec<Change<'t>>, AllocError>
     ensures { IfOk result (λ found. map change_of found.items ≡ changes (way_of way.now)) }
 {
@@ -88,7 +89,7 @@ fn changes<'t, E, H>(alloc: Global, way: &[Crumb<'t, E, H>]) -> Result<Vec<Chang
     Ok(found)
 }
 
-/// The hooks with the ends beside them, the outermost first.
+/// Returns the hooks with their ends, the outermost first.
 fn hooks<'t, E, H>(
     alloc: Global,
     way: &[Crumb<'t, E, H>],

@@ -1,4 +1,4 @@
-//! What a start asks of the system, made from the tree alone.
+//! The requests of a start, computed from the tree alone.
 ghost use Rattle.std.specs.Prelude.{◌≡◌, IfOk, map, string_bytes};
 ghost use Rattle.duct_start.specs.Plan.{asks, captures_out, captures_err, opened, place_for, closed, program_of, is_canonical, commanded, planned, begun, drains, reads, plan_of, plan_of_reader};
 ghost use Rattle.duct_tree.specs.NodeView.{node_view};
@@ -17,8 +17,8 @@ use duct::tree::Node;
 use duct::{Expression, asks_canonical};
 use std::alloc::{AllocError, Global};
 
-/// The plan of a start: after all commands the workers of stdout's capture pipe, then of stderr's. Refused only for want of
-/// memory.
+/// Returns the plan of a start. The workers of the capture pipes come after all commands, stdout's
+/// worker first. Fails only on allocation failure.
 pub fn plan<'t, E: Drop, H: Drop>(
     alloc: Global,
     expression: &'t Expression<E, H>,
@@ -30,8 +30,8 @@ pub fn plan<'t, E: Drop, H: Drop>(
     drains(err, drains(out, plan)?)
 }
 
-/// The plan of a reader's start: that of the tree inside one capture of stdout, with the reader as its last item in place of
-/// stdout's worker. Refused only for want of memory.
+/// Returns the plan of a reader's start: that of the tree inside one capture of stdout. The reader
+/// is its last item, in place of stdout's worker. Fails only on allocation failure.
 pub fn plan_of_reader<'t, E: Drop, H: Drop>(
     alloc: Global,
     expression: &'t Expression<E, H>,
@@ -46,7 +46,7 @@ pub fn plan_of_reader<'t, E: Drop, H: Drop>(
     reads(out, drains(err, plan)?)
 }
 
-/// A plan before its tree: the environment is asked first.
+/// Returns the plan before its tree: its first request is for the environment.
 fn begun<'t, E: Drop, H: Drop>(alloc: Global) -> Result<Plan<'t, E, H>, AllocError>
     ensures { IfOk result (λ plan. plan_view plan ≡ begun) }
 {
@@ -59,7 +59,7 @@ fn begun<'t, E: Drop, H: Drop>(alloc: Global) -> Result<Plan<'t, E, H>, AllocErr
     })
 }
 
-/// A plan with one more item at its end.
+/// Adds one more item at the end of the plan.
 fn asks<'t, E: Drop, H: Drop>(
     item: Item<'t, E, H>,
     plan: Plan<'t, E, H>,
@@ -76,7 +76,7 @@ fn asks<'t, E: Drop, H: Drop>(
     Ok(Plan { items, out, err })
 }
 
-/// A plan in which stdout's capture pipe is open.
+/// Adds the request for stdout's capture pipe to the plan, if that isn't open yet.
 fn captures_out<'t, E: Drop, H: Drop>(plan: Plan<'t, E, H>) -> Result<Plan<'t, E, H>, AllocError>
     ensures { IfOk result (λ more. plan_view more ≡ captures_out (plan_view plan.entry)) }
 {
@@ -89,7 +89,7 @@ fn captures_out<'t, E: Drop, H: Drop>(plan: Plan<'t, E, H>) -> Result<Plan<'t, E
     Ok(more)
 }
 
-/// A plan in which stderr's capture pipe is open.
+/// Adds the request for stderr's capture pipe to the plan, if that isn't open yet.
 fn captures_err<'t, E: Drop, H: Drop>(plan: Plan<'t, E, H>) -> Result<Plan<'t, E, H>, AllocError>
     ensures { IfOk result (λ more. plan_view more ≡ captures_err (plan_view plan.entry)) }
 {
@@ -102,7 +102,7 @@ fn captures_err<'t, E: Drop, H: Drop>(plan: Plan<'t, E, H>) -> Result<Plan<'t, E
     Ok(more)
 }
 
-/// A plan with the worker of a capture pipe, if that is open.
+/// Adds the worker of a capture pipe to the plan, if that pipe is open.
 fn drains<'t, E: Drop, H: Drop>(
     pipe: Option<usize>,
     plan: Plan<'t, E, H>,
@@ -115,7 +115,7 @@ fn drains<'t, E: Drop, H: Drop>(
     }
 }
 
-/// A plan with the reader of a capture pipe, if that is open.
+/// Adds the reader of a capture pipe to the plan, if that pipe is open.
 fn reads<'t, E: Drop, H: Drop>(
     pipe: Option<usize>,
     plan: Plan<'t, E, H>,
@@ -128,7 +128,7 @@ fn reads<'t, E: Drop, H: Drop>(
     }
 }
 
-/// The program of some words.
+/// Returns the program of these words: the first word, or an empty text if there are none.
 pub(crate) fn program_of(words: &[String]) -> &str
     ensures { result.now ≡ program_of (map string_bytes words.now) }
 {
@@ -138,14 +138,16 @@ pub(crate) fn program_of(words: &[String]) -> &str
     }
 }
 
-/// Whether the program of a command is made canonical before its child is asked for.
+/// Returns whether the canonical path of a command's program is requested before its spawn.
 pub(crate) fn is_canonical<E, H>(found: &Found<'_, E, H>, words: &[String]) -> bool
     ensures { result ≡ is_canonical (found_of found.now) (map string_bytes words.now) }
 {
     asks_canonical(program_of(words), found.folder.is_some())
 }
 
-/// The plan after a tree that stands below this way: each node before what it wraps, the left side before the right.
+/// Adds the requests of a tree to the plan. `way` is the path from the tree to the root. A node's
+/// first request comes before those of its inner expression, and the left side of a pipe before the
+/// right.
 fn planned<'t, E: Drop, H: Drop>(
     alloc: Global,
     way: &[Crumb<'t, E, H>],
@@ -176,8 +178,8 @@ fn planned<'t, E: Drop, H: Drop>(
     }
 }
 
-/// The plan with a command that finds this outwards: its program is made canonical where that is asked, and then its child is
-/// asked for.
+/// Adds to the plan a command that finds this: first the request for its program's canonical path,
+/// if it is needed, and then its spawn.
 fn commanded<'t, E: Drop, H: Drop>(
     found: Found<'t, E, H>,
     words: &'t [String],
@@ -195,7 +197,7 @@ fn commanded<'t, E: Drop, H: Drop>(
     asks(Item::Spawn(found, words), plan)
 }
 
-/// The plan once a node has asked what it asks before what it wraps.
+/// Adds to the plan the request that a node makes before those of its inner expression.
 fn opened<'t, E: Drop, H: Drop>(
     opening: Opening<'t>,
     plan: Plan<'t, E, H>,
@@ -213,7 +215,8 @@ fn opened<'t, E: Drop, H: Drop>(
     }
 }
 
-/// The place of a node that comes next: that of the item that it asks or, of a capture, of its stream's one pipe.
+/// Returns the place of the node that comes next: that of the item that it adds or, for a capture,
+/// that of its stream's one pipe.
 fn place_for<E, H>(opening: Opening<'_>, plan: &Plan<'_, E, H>) -> usize
     ensures { result ≡ place_for (opening_of opening.entry) (plan_view plan.now) }
 {
@@ -225,7 +228,8 @@ fn place_for<E, H>(opening: Opening<'_>, plan: &Plan<'_, E, H>) -> usize
     }
 }
 
-/// The plan once a node at this place has asked what it asks after what it wraps: that these bytes are fed to its pipe.
+/// Adds to the plan the request that a node at this place makes after those of its inner
+/// expression: the worker that feeds these bytes to its pipe.
 fn closed<'t, E: Drop, H: Drop>(
     feed: Option<&'t [u8]>,
     place: usize,

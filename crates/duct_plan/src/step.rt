@@ -1,4 +1,5 @@
-//! What one node of a tree does: what it asks, how it turns streams, and what it says of folder, variables and hooks.
+//! What one node of a tree does: its requests, where it sends streams, and the folder, the change
+//! of variables and the hook that it sets.
 ghost use Rattle.std.specs.Prelude.{◌≡◌, Some};
 ghost use Rattle.duct_start.specs.Step.{step};
 ghost use Rattle.duct_tree.specs.NodeView.{modifier_view};
@@ -9,7 +10,7 @@ use duct::Stream;
 use duct::tree::Modifier;
 use std::convert::AsStr;
 
-/// What a node asks before what it wraps.
+/// The request that a node makes before those of its inner expression.
 #[derive(Clone, Copy)]
 pub(crate) enum Opening<'t> {
     Nothing,
@@ -22,41 +23,42 @@ pub(crate) enum Opening<'t> {
     CapturesErr,
 }
 
-/// What a node says of a stream.
+/// Where a stream goes inside a node.
 #[derive_where(Clone, Copy)]
 pub(crate) enum Turn<'t, E> {
-    /// This stream is looked for further out.
+    /// Where this stream goes outside the node.
     Follows(Stream),
-    /// It goes to nothing.
+    /// To nothing.
     Nothing,
-    /// It goes to this end of the caller.
+    /// To this caller's end.
     Lends(&'t E),
-    /// It goes to the read end of the pipe at the node's place.
+    /// To the read end of the pipe at the node's place.
     Reads,
-    /// It goes to the write end of the pipe at the node's place.
+    /// To the write end of the pipe at the node's place.
     Writes,
-    /// It goes to the file at the node's place.
+    /// To the file at the node's place.
     Opened,
 }
 
-/// What a node does. Its place is that of the item that it asks or, of a capture, of its stream's one pipe.
+/// What a node does. Its place is that of the item that it adds to the plan or, for a capture, that
+/// of its stream's one pipe.
 #[derive_where(Clone, Copy)]
 pub(crate) struct Step<'t, E, H> {
     pub opening: Opening<'t>,
-    /// The bytes that are fed to the pipe at its place, after what it wraps.
+    /// The bytes that are fed to the pipe at its place, after the requests of its inner expression.
     pub feed: Option<&'t [u8]>,
-    /// What it says of stdin.
+    /// Where stdin goes.
     pub input: Turn<'t, E>,
-    /// What it says of stdout.
+    /// Where stdout goes.
     pub output: Turn<'t, E>,
-    /// What it says of stderr.
+    /// Where stderr goes.
     pub error: Turn<'t, E>,
     pub folder: Option<&'t str>,
     pub change: Option<Change<'t>>,
     pub hook: Option<(&'t H, &'t [E])>,
 }
 
-/// A node that does no more than to ask this before what it wraps.
+/// Returns the step of a node that only makes this request before those of its inner expression.
 fn only<'t, E, H>(opening: Opening<'t>) -> Step<'t, E, H>
     ensures { result ≡ record idle { opening = opening.entry } }
 {
@@ -72,7 +74,7 @@ fn only<'t, E, H>(opening: Opening<'t>) -> Step<'t, E, H>
     }
 }
 
-/// A node that decides or turns stdin.
+/// Returns the step of a node that makes this request and sends stdin there.
 pub(crate) fn at_stdin<'t, E, H>(opening: Opening<'t>, input: Turn<'t, E>) -> Step<'t, E, H>
     ensures { result ≡ record idle { opening = opening.entry; input = input.entry } }
 {
@@ -82,7 +84,7 @@ pub(crate) fn at_stdin<'t, E, H>(opening: Opening<'t>, input: Turn<'t, E>) -> St
     }
 }
 
-/// A node that decides or turns stdout.
+/// Returns the step of a node that makes this request and sends stdout there.
 pub(crate) fn at_stdout<'t, E, H>(opening: Opening<'t>, output: Turn<'t, E>) -> Step<'t, E, H>
     ensures { result ≡ record idle { opening = opening.entry; output = output.entry } }
 {
@@ -92,7 +94,7 @@ pub(crate) fn at_stdout<'t, E, H>(opening: Opening<'t>, output: Turn<'t, E>) -> 
     }
 }
 
-/// A node that decides or turns stderr.
+/// Returns the step of a node that makes this request and sends stderr there.
 pub(crate) fn at_stderr<'t, E, H>(opening: Opening<'t>, error: Turn<'t, E>) -> Step<'t, E, H>
     ensures { result ≡ record idle { opening = opening.entry; error = error.entry } }
 {
@@ -102,7 +104,7 @@ pub(crate) fn at_stderr<'t, E, H>(opening: Opening<'t>, error: Turn<'t, E>) -> S
     }
 }
 
-/// A node that changes the variables.
+/// Returns the step of a node that only changes the variables.
 fn changing<'t, E, H>(change: Change<'t>) -> Step<'t, E, H>
     ensures { result ≡ record idle { change = Some change.entry } }
 {
@@ -112,7 +114,7 @@ fn changing<'t, E, H>(change: Change<'t>) -> Step<'t, E, H>
     }
 }
 
-/// Each kind of node round one expression.
+/// Returns the step of a modifier.
 pub(crate) fn modifier_step<'t, E, H>(modifier: &'t Modifier<E, H>) -> Step<'t, E, H>
     ensures { IsStep (step (modifier_view modifier.now)) result }
 {

@@ -11,7 +11,8 @@ use crate::trace::{first_end, second_end};
 use duct::{Entry, Numbered, Port, Side, Stdio, Stream};
 use duct_plain::checker::Source;
 
-/// The port of a stream that goes there: the parent's own stream at its own place is inherited.
+/// Returns the port of a stream that goes to this target. A stream that goes to the same stream of
+/// the parent is inherited.
 pub(crate) fn port_to<E>(stream: Stream, target: Target<'_, E>) -> Port
     ensures { result ≡ port_to stream (target_of target.entry) }
 {
@@ -30,7 +31,7 @@ pub(crate) fn port_to<E>(stream: Stream, target: Target<'_, E>) -> Port
     }
 }
 
-/// Where a stream that goes there comes from.
+/// Returns where a stream that goes to this target comes from.
 fn stream_to<E: Numbered>(trace: &[&Entry], stream: Stream, target: Target<'_, E>) -> Stdio<Source>
     ensures { stream_of origin_of result
         ≡ stream_to (entry_views trace.now) E.number_of stream (target_of target.entry) }
@@ -52,7 +53,7 @@ fn stream_to<E: Numbered>(trace: &[&Entry], stream: Stream, target: Target<'_, E
     }
 }
 
-/// The three streams of a command, in the order stdin, stdout, stderr.
+/// Returns the three streams of a command, in the order stdin, stdout, stderr.
 pub(crate) fn streams_to<E: Numbered, H>(
     trace: &[&Entry],
     found: &Found<'_, E, H>,

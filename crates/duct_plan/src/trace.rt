@@ -1,4 +1,5 @@
-//! What the trace of a start says: the variables that the system answered, the texts of canonical names, and the numbers of ends.
+//! What the trace of a start shows: the variables that the system returned, the canonical paths,
+//! and the numbers of ends.
 ghost use Rattle.std.specs.Prelude.{◌≡◌, [], ◌∷◌, map, Some, slice_get, slice_index};
 ghost use Rattle.duct_system.specs.EntryView.{entry_view};
 ghost use Rattle.duct_system.specs.Ledger.{got_by};
@@ -9,7 +10,7 @@ ghost use Rattle.duct_plan.specs.EntryViews.{entry_views};
 
 use duct::Entry;
 
-/// The variables that the system answered, at the front of the trace.
+/// Returns the variables in the first entry of the trace, or none if it has none.
 pub(crate) fn pairs_in<'t>(trace: &[&'t Entry]) -> &'t [(String, String)]
     ensures { map pair_text result.now ≡ pairs_in (entry_views trace.now) }
 {
@@ -19,7 +20,7 @@ pub(crate) fn pairs_in<'t>(trace: &[&'t Entry]) -> &'t [(String, String)]
     }
 }
 
-/// The variables that an entry answered.
+/// Returns the variables in an entry, or none if it has none.
 fn pairs_of(entry: &Entry) -> &[(String, String)]
     ensures { map pair_text result.now ≡ pairs_in (entry_view entry.now ∷ []) }
 {
@@ -29,7 +30,7 @@ fn pairs_of(entry: &Entry) -> &[(String, String)]
     }
 }
 
-/// The text that the entry at this place answered a canonical name with.
+/// Returns the canonical path in the entry at this place, or an empty text if there is none.
 pub(crate) fn text_at<'t>(trace: &[&'t Entry], place: usize) -> &'t str
     ensures { result.now ≡ text_in (slice_get (entry_views trace.now) place) }
 {
@@ -39,7 +40,7 @@ pub(crate) fn text_at<'t>(trace: &[&'t Entry], place: usize) -> &'t str
     }
 }
 
-/// The text that an entry answered a canonical name with.
+/// Returns the canonical path in an entry, or an empty text if there is none.
 fn text_of(entry: &Entry) -> &str
     ensures { result.now ≡ text_in (Some (entry_view entry.now)) }
 {
@@ -49,7 +50,8 @@ fn text_of(entry: &Entry) -> &str
     }
 }
 
-/// The number of the first end that the entry at this place got: of a pipe the read end. It is 0 where no such end was got.
+/// Returns the number of the first end (for a pipe, the read end) that the request of the entry at
+/// this place returned, or 0 if there is none.
 pub fn first_end(trace: &[&Entry], place: usize) -> u64
     ensures { result ≡ end_at (entry_views trace.now) place 0 }
 {
@@ -59,7 +61,8 @@ pub fn first_end(trace: &[&Entry], place: usize) -> u64
     }
 }
 
-/// The number of the second end that the entry at this place got: of a pipe the write end. It is 0 where no such end was got.
+/// Returns the number of the second end (for a pipe, the write end) that the request of the entry
+/// at this place returned, or 0 if there is none.
 pub fn second_end(trace: &[&Entry], place: usize) -> u64
     ensures { result ≡ end_at (entry_views trace.now) place 1 }
 {
@@ -69,7 +72,7 @@ pub fn second_end(trace: &[&Entry], place: usize) -> u64
     }
 }
 
-/// The number of the first end that an entry got, or 0.
+/// Returns the number of the first end that an entry's request returned, or 0.
 fn first_of(entry: &Entry) -> u64
     ensures { result ≡ slice_index (got_by (entry_view entry.now)) 0 }
 {
@@ -83,7 +86,7 @@ fn first_of(entry: &Entry) -> u64
     }
 }
 
-/// The number of the second end that an entry got, or 0.
+/// Returns the number of the second end that an entry's request returned, or 0.
 fn second_of(entry: &Entry) -> u64
     ensures { result ≡ slice_index (got_by (entry_view entry.now)) 1 }
 {

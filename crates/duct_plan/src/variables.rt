@@ -1,4 +1,4 @@
-//! The variables that a command is to have.
+//! The variables of a command.
 ghost use Rattle.std.specs.Prelude.{ℕ, ◌≡◌, List, map, IfOk};
 ghost use Rattle.std.specs.BTreeMap.{IsOrdered};
 ghost use Rattle.duct_system.specs.Name.{name_cmp};
@@ -11,7 +11,8 @@ use duct_base::names::EnvNameString;
 use std::alloc::{AllocError, Global};
 use std::collections::BTreeMap;
 
-/// The variables that are found outwards, each name once and in order. They are made from the furthest change to the nearest.
+/// Returns the variables that are found on the path to the root, each name once and in order. They
+/// are made from the furthest change to the nearest.
 pub(crate) fn variables(
     alloc: Global,
     pairs: &[(String, String)],
@@ -30,7 +31,7 @@ pub(crate) fn variables(
     }
 }
 
-/// The variables that these pairs say, each name with its first spelling and its last value.
+/// Returns the variables of these pairs, each name with its first spelling and its last value.
 fn said(
     alloc: Global,
     pairs: &[(String, String)],
@@ -48,7 +49,7 @@ fn said(
     Ok(vars)
 }
 
-/// The variables after a change.
+/// Returns the variables after a change.
 fn changed(
     alloc: Global,
     change: Change<'_>,
@@ -76,7 +77,7 @@ fn changed(
     }
 }
 
-/// A copy of some variables.
+/// Returns a copy of some variables.
 fn copied(
     vars: &BTreeMap<EnvNameString, String>,
 ) -> Result<BTreeMap<EnvNameString, String>, AllocError>
@@ -85,7 +86,7 @@ fn copied(
     ensures ordered { IfOk result (λ copy. IsOrdered name_cmp copy) }
 {
     let copy = vars.clone()?;
-    // A map that answers how long it is ensures that its names ascend.
+    // The contract of `len` states that the names of the map ascend.
     let _ = copy.len();
     Ok(copy)
 }

@@ -1,4 +1,4 @@
-//! The way from a command outwards to the root of its tree.
+//! The path from a command to the root of its tree.
 ghost use Rattle.std.specs.Prelude.{◌≡◌, ◌∷◌, IfOk};
 ghost use Rattle.duct_start.specs.Path.{place_of, step_of};
 ghost use Rattle.duct_plan.specs.Step.{IsStep};
@@ -8,20 +8,21 @@ use crate::step::{Opening, Step, Turn, at_stdin, at_stdout, modifier_step};
 use duct::tree::Modifier;
 use std::alloc::{AllocError, Global};
 
-/// One node round a command, with its place in the plan. A way is a slice of these, the nearest first.
+/// One node around a command, with its place in the plan. A path to the root is a slice of these,
+/// the nearest first.
 #[derive_where(Clone, Copy)]
 pub(crate) enum Crumb<'t, E, H> {
-    /// A pipe, met from its left side.
+    /// A pipe, reached from its left side.
     LeftOf(usize),
-    /// A pipe, met from its right side.
+    /// A pipe, reached from its right side.
     RightOf(usize),
     /// A modifier.
     Within(usize, &'t Modifier<E, H>),
-    /// The capture of stdout that a reader's start puts round the whole tree.
+    /// The capture of stdout that a reader's start puts around the whole tree.
     Captured(usize),
 }
 
-/// The place of a node.
+/// Returns the place of a node.
 pub(crate) fn place_of<E, H>(crumb: &Crumb<'_, E, H>) -> usize
     ensures { result ≡ place_of (crumb_of crumb.now) }
 {
@@ -33,7 +34,7 @@ pub(crate) fn place_of<E, H>(crumb: &Crumb<'_, E, H>) -> usize
     }
 }
 
-/// What a node does.
+/// Returns what a node does.
 pub(crate) fn step_of<'t, E, H>(crumb: &Crumb<'t, E, H>) -> Step<'t, E, H>
     ensures { IsStep (step_of (crumb_of crumb.now)) result }
 {
@@ -45,7 +46,7 @@ pub(crate) fn step_of<'t, E, H>(crumb: &Crumb<'t, E, H>) -> Step<'t, E, H>
     }
 }
 
-/// The way from below a node: that node, and then the way from the node itself.
+/// Returns the path from inside a node: that node, followed by the path from the node itself.
 pub(crate) fn below<'t, E, H>(
     alloc: Global,
     crumb: Crumb<'t, E, H>,

@@ -1,4 +1,4 @@
-//! What is said of a journal beside a plan, and of an error beside a journal, in words.
+//! Compares a journal with a plan, and an error with a journal.
 use crate::texts::TestPlan;
 use duct::{Entry, Error};
 use duct_follows::causes::{answers_last_fault, has_cause};
@@ -8,8 +8,9 @@ use duct_table::stop::Stop;
 use duct_table::words::{fault, first_word};
 use std::alloc::Global;
 
-/// `whole` where a journal follows the whole plan, `prefix` where it follows the plan so far as it goes, `neither`, or `no memory`
-/// where a hook found none, so that it isn't told.
+/// Returns `whole` if a journal follows the whole plan, `prefix` if it follows the plan as far as
+/// the journal goes, and else `neither`. Returns `no memory` if this can't be decided because a
+/// hook fails with `OutOfMemory`. Fails only on allocation failure.
 pub fn followed(alloc: Global, plan: &TestPlan, entries: &[Entry]) -> Result<&'static str, Stop> {
     match told(alloc, plan, entries) {
         Ok(told) => Ok(told),
@@ -29,7 +30,8 @@ fn told(alloc: Global, plan: &TestPlan, entries: &[Entry]) -> Result<&'static st
     }
 }
 
-/// Whether the error of this text has a cause in a journal beside the plan.
+/// Returns whether the error of this text has a cause in a journal, given the plan. Fails if the
+/// text names no error, on allocation failure, and if a hook fails with `OutOfMemory`.
 pub fn is_caused(
     alloc: Global,
     plan: &TestPlan,
@@ -39,7 +41,8 @@ pub fn is_caused(
     has_cause(alloc, plan, entries, &error(text)?).map_err(stopped)
 }
 
-/// Whether the error of this text is that of the last fault of a journal, if there is one.
+/// Returns whether the error of this text is the fault of the journal's last entry that is no
+/// close. Returns true if there is no such fault. Fails if the text names no error.
 pub fn is_last(entries: &[Entry], text: &str) -> Result<bool, Stop> {
     Ok(answers_last_fault(entries, &error(text)?))
 }
@@ -57,7 +60,7 @@ fn error(text: &str) -> Result<Error, Stop> {
     }
 }
 
-/// Why it is not told whether a journal follows.
+/// Turns the reason why a check has no result into a `Stop`.
 pub fn stopped(untold: Untold) -> Stop {
     match untold {
         Untold::HookOutOfMemory => Stop::Text("a hook found no memory"),

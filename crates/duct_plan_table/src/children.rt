@@ -1,4 +1,5 @@
-//! What commands are asked for and their children are given, and the message of a failed command, in words.
+//! Texts for what is asked for each command, what its child gets, and the message of a failed
+//! command.
 use crate::streams::push_stream;
 use crate::texts::{TestFound, TestPlan, begin, push_folder, push_variable};
 use duct::tree::Node;
@@ -15,7 +16,7 @@ use duct_table::stop::Stop;
 use std::alloc::{AllocError, Global};
 use std::sync::Arc;
 
-/// What a row looks at of what a command is asked for.
+/// The part that a row compares of what is asked for a command.
 #[derive(Clone, Copy)]
 pub enum Look {
     Streams,
@@ -23,7 +24,8 @@ pub enum Look {
     Variables,
 }
 
-/// What each command is asked for, where a start made these entries.
+/// Returns what is asked for each command if a start made these entries. Fails if the trace ends
+/// before a command's item, and on allocation failure.
 pub fn asked_text(
     alloc: Global,
     plan: &TestPlan,
@@ -40,7 +42,7 @@ pub fn asked_text(
     Ok(text)
 }
 
-/// Adds what a command is asked for. Returns whether there is one.
+/// Adds what is asked for a command. Returns whether the plan has this command.
 fn push_command(
     alloc: Global,
     text: &mut String,
@@ -83,7 +85,8 @@ fn push_variables(text: &mut String, spec: &CommandSpec) -> Result<(), Error> {
     Ok(())
 }
 
-/// Whether the first four commands are asked for anything.
+/// Returns for each of the first four commands: `yes` if something is asked for it, `no` if the
+/// plan has no such command, and `early` if the trace ends before its item.
 pub fn known_text(alloc: Global, plan: &TestPlan, entries: &[Entry]) -> Result<String, Stop> {
     let traced = trace(alloc, entries)?;
     let mut text = String::new(alloc);
@@ -113,7 +116,8 @@ fn push_known(
     Ok(())
 }
 
-/// The words that the first command's child is given once its hooks ran, or the error by which they stop a start.
+/// Returns the words that the first command's child gets after its hooks ran, or the text of the
+/// error with which a hook stops the start.
 pub fn child_text(alloc: Global, plan: &TestPlan, entries: &[Entry]) -> Result<String, Stop> {
     match wired_first(alloc, plan, entries)? {
         Ok(after) => Ok(joined(alloc, after.spec.words())?),
@@ -121,7 +125,7 @@ pub fn child_text(alloc: Global, plan: &TestPlan, entries: &[Entry]) -> Result<S
     }
 }
 
-/// What the hooks of the first command make of what it is asked for.
+/// Returns the spec and the streams of the first command after its hooks, or the error of a hook.
 fn wired_first(
     alloc: Global,
     plan: &TestPlan,
@@ -134,7 +138,7 @@ fn wired_first(
     }
 }
 
-/// What the first command finds outwards.
+/// Returns what the look-up from the first command outwards finds.
 fn first_found<'p, 't>(plan: &'p TestPlan<'t>) -> Option<&'p TestFound<'t>> {
     for item in plan.items.iter() {
         if let Item::Spawn(found, _) = item {
@@ -144,13 +148,13 @@ fn first_found<'p, 't>(plan: &'p TestPlan<'t>) -> Option<&'p TestFound<'t>> {
     None
 }
 
-/// What the first command is asked for.
+/// Returns what is asked for the first command.
 fn asked_first(alloc: Global, plan: &TestPlan, entries: &[Entry]) -> Result<Option<Wired>, Stop> {
     let traced = trace(alloc, entries)?;
     asked(alloc, plan, traced.as_slice(), 0).map_err(stopped)
 }
 
-/// The words with a space between two.
+/// Joins the words with spaces.
 fn joined(alloc: Global, words: &[String]) -> Result<String, AllocError> {
     let mut text = String::new(alloc);
     for word in words {
@@ -162,7 +166,8 @@ fn joined(alloc: Global, words: &[String]) -> Result<String, AllocError> {
     Ok(text)
 }
 
-/// The message where the one command of an expression, which may stand inside one node, ends with code 1.
+/// Returns the message if the only command of an expression exits with code 1. The command may be
+/// inside one node.
 pub fn message_text(alloc: Global, tree: &Tree<ScriptEnd>) -> Result<String, Stop> {
     let drains = Drains {
         out: false,
@@ -194,7 +199,7 @@ fn shape_of<E, H>(node: &Node<E, H>) -> Result<Shape, Stop> {
     }
 }
 
-/// Why it is not told what a command is asked for.
+/// Turns the reason why it isn't known what is asked for a command into a `Stop`.
 fn stopped(error: AskedError) -> Stop {
     match error {
         AskedError::TraceTooShort => Stop::Text("the trace is too short"),

@@ -1,5 +1,6 @@
-//! The table of plans, starts and journals: what a start asks, by the reference programs and by the library.
-//! Test support: nothing here is proved but that it is safe and ends.
+//! The table of plans, starts and journals: the requests of a start, by the reference programs and
+//! by the library.
+//! Test support: only safety and termination are proved here.
 #![tactic(auto)]
 
 mod checks;

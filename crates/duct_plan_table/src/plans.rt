@@ -1,32 +1,41 @@
-//! The table `plans`: what has to come of expressions.
+//! The table `plans`: the plans of expressions, and what their starts do.
 //!
-//! These lines say what the next ones speak of. A row begins with its expression, and with how that is started: `expression` by
-//! `launch`, `reader` by `launch_reader`, `handle` by `start` and `reader_handle` by `reader`. What these two make is given up at once.
-//! `parent` has the parent's variables, `A:1,B:2`; `journal` what a start added to the journal. Where there is no such line, the start
-//! meets no fault.
+//! These lines set up a row. A row begins with its expression. The key of this line names the call
+//! that starts it: `expression` is `launch`, `reader` is `launch_reader`, `handle` is `start`, and
+//! `reader_handle` is `reader`. The handle of the last two is given up at once. `parent` has the
+//! parent's variables, `A:1,B:2`. `journal` has the entries that a start added to the journal.
+//! Without it, they are the entries of a start without a fault.
 //!
-//! Beside `parent`, these set what the scripted system and the pool are before the expression is started there.
-//! - `canonical` has canonical names, `./x:/real/x`; a path that has none is its own.
-//! - `refuse` says which request of a sort is refused by what: `Spawn 2 NotFound; Drain 1 Other`.
-//! - `children` has what the children answer to polls, in the order of their spawns: `running, code 0; Other`.
-//! - `kept` has the same of children that the pool keeps before. They are numbered from 1, and asked once as they are given.
+//! `parent` and these lines set up the scripted system and the pool for the start of the
+//! expression.
+//! - `canonical` has canonical paths, `./x:/real/x`. A path without one is its own canonical path.
+//! - `refuse` has the requests that are refused, by their sort, their number among those of that
+//!   sort, and the kind of the fault: `Spawn 2 NotFound; Drain 1 Other`.
+//! - `children` has what the children return to polls, in the order of their spawns:
+//!   `running, code 0; Other`.
+//! - `kept` has the same for children that the pool holds before the start. They are numbered from
+//!   1, and each is polled once when the pool gets it.
 //!
-//! Each expression is started so at least once, and whatever holds of every start has to hold of this one.
+//! Each expression is started at least once like this. The start has to pass the checks that every
+//! start has to pass.
 //!
-//! Each other line is compared.
-//! - The plan: `plan`, `items` as they print, and the `places` of the first four commands.
-//! - What each command finds on its way outwards: where its streams go (`goes`), `folders`, `variables` (of the names `NAMES`, in
-//!   any spelling, which are also those of its spec) and `hooks`.
-//! - What each command is asked for: the streams that it is `given`, and the words and the folder with which it `starts`. Whether
-//!   the first four are `asked` for anything, or it is too `early` to tell. What the `child` of the first is given once its hooks ran.
-//! - The `message` of the one command where it fails.
-//! - Of the journal of the last line `added`, whether it `follows` the plan: `whole`, `prefix`, `neither` or `no memory`. The journal of
-//!   another start is `start of b a pipe`.
-//! - Of the error of the last line `error`, whether it has a `cause` in the journal, and whether it is that of the `last` fault there, or
-//!   there is none.
-//! - Of the expression's start there: the `trace` of its journal, what it `returns`, what the `pool` is then, the `calls` of the
-//!   system but for duplicates, ends of the parent's streams and closes, of hooks and of children, the `lent` ends that were
-//!   duplicated, and that it keeps `within` so many ends at once.
+//! Every other line is compared.
+//! - The plan: `plan`, `items` in their debug form, and the `places` of the first four commands.
+//! - What the look-up from each command outwards finds: where its streams go (`goes`), `folders`,
+//!   `variables` and `hooks`. The variables are those with the names of `NAMES`, in any spelling.
+//!   The variables of the command's spec have to be the same.
+//! - What is asked for each command: its streams (`given`), and the words and the folder with which
+//!   it `starts`. `asked`: whether anything is asked for each of the first four commands, or the
+//!   trace ends too `early`. `child`: the words of the first command's child after its hooks ran.
+//! - `message`: the message of the only command if it fails.
+//! - `follows`: whether the journal of the last line `added` follows the plan: `whole`, `prefix`,
+//!   `neither` or `no memory`. `start of b a pipe` is the journal of the start of that expression.
+//! - `cause`: whether the error of the last line `error` has a cause in the journal. `last`:
+//!   whether the error is the last fault there, or there is none.
+//! - Of the start over the scripted system: the `trace` of its journal, what it `returns`, and the
+//!   `pool` after it. `calls` has the requests, except for duplicates, ends of the parent's streams
+//!   and closes, and the calls of hooks and children. `lent` has the caller's ends that were
+//!   duplicated, and `within` the number of ends that may be held at once.
 use crate::checks::{followed, is_caused, is_last};
 use crate::children::{Look, asked_text, child_text, known_text, message_text};
 use crate::starts::{Start, Way, answer_text, calls_text, most_text, planned, started};
@@ -43,7 +52,7 @@ use duct_table::told::{lent_text, pool_text, trace_text};
 use duct_table::words::owned_pairs;
 use std::alloc::Global;
 
-/// What the lines of a row speak of.
+/// What the lines of a row set.
 #[derive(Clone, Copy)]
 struct Row<'t> {
     expression: &'t str,
@@ -73,7 +82,7 @@ impl<'t> Plans<'t> {
         }
     }
 
-    /// What is compared.
+    /// Returns what the line of this key is compared with.
     fn found(&mut self, key: &str, text: &str) -> Result<String, Stop> {
         let row = self.row;
         if is_of_start(key) {
@@ -107,7 +116,7 @@ impl<'t> Table<'t> for Plans<'t> {
         Ok(None)
     }
 
-    /// Starts the expression of the row, unless a line did, since whatever holds of every start has to hold of it.
+    /// Starts the expression of the row, unless a line did, so that the checks of every start run.
     fn end(&mut self) -> Result<(), Stop> {
         let row = self.row;
         let is_over = row.expression.is_empty() || self.is_started;
@@ -130,7 +139,7 @@ fn begun(expression: &str, way: Way) -> Row<'_> {
     }
 }
 
-/// Whether what is compared comes of the start over the scripted system.
+/// Whether the line of this key is compared with the start over the scripted system.
 fn is_of_start(key: &str) -> bool {
     matches!(
         key,
@@ -138,7 +147,7 @@ fn is_of_start(key: &str) -> bool {
     )
 }
 
-/// What is compared of that start.
+/// Returns what a line about that start is compared with.
 fn start_text(alloc: Global, start: &Start, key: &str, text: &str) -> Result<String, Stop> {
     let entries = start.bench.sys.journal();
     match key {
@@ -151,7 +160,7 @@ fn start_text(alloc: Global, start: &Start, key: &str, text: &str) -> Result<Str
     }
 }
 
-/// What is compared of a tree.
+/// Returns what a line about a tree is compared with.
 fn tree_text(alloc: Global, row: Row, tree: &Tree<ScriptEnd>, key: &str) -> Result<String, Stop> {
     if key == "message" {
         return message_text(alloc, tree);
@@ -160,7 +169,7 @@ fn tree_text(alloc: Global, row: Row, tree: &Tree<ScriptEnd>, key: &str) -> Resu
     of_plan(alloc, row, &plan, key)
 }
 
-/// What is compared of a plan.
+/// Returns what a line about a plan is compared with.
 fn of_plan(alloc: Global, row: Row, plan: &TestPlan, key: &str) -> Result<String, Stop> {
     match key {
         "plan" => Ok(plan_text(alloc, plan)?),
@@ -177,19 +186,19 @@ fn of_plan(alloc: Global, row: Row, plan: &TestPlan, key: &str) -> Result<String
     }
 }
 
-/// What is said of the journal of a text.
+/// Returns whether the journal of a text follows the plan.
 fn of_journal(alloc: Global, plan: &TestPlan, text: &str) -> Result<String, Stop> {
     let entries = journal(alloc, text)?;
     said(alloc, followed(alloc, plan, entries.as_slice())?)
 }
 
-/// What is said of the journal of a start.
+/// Returns whether the journal of a start of this expression follows the plan.
 fn of_start(alloc: Global, plan: &TestPlan, expression: &str) -> Result<String, Stop> {
     let start = started(alloc, expression, Way::Launched, Scene::plain())?;
     said(alloc, followed(alloc, plan, start.bench.sys.journal())?)
 }
 
-/// What is compared once a start added entries.
+/// Returns what a line about the entries of a start is compared with.
 fn of_entries(alloc: Global, row: Row, plan: &TestPlan, key: &str) -> Result<String, Stop> {
     let entries = match row.journal {
         Some(text) => journal(alloc, text)?,
@@ -230,7 +239,8 @@ const NAMES: &[&str] = &[
     "[", "_", "a", "b", "c", "d", "foo", "path", "z", "{", "É", "é",
 ];
 
-/// The variables that each command finds by their names, where they are those of its spec.
+/// Returns the variables that each command finds by their names. If they are not those of the
+/// specs, returns both.
 fn variables(
     alloc: Global,
     parent: &str,

@@ -1,4 +1,4 @@
-//! Starts of expressions over the scripted system, what came of them, and what has to hold of each.
+//! Starts expressions over the scripted system, and checks what has to hold for every start.
 use crate::checks::{followed, stopped};
 use crate::texts::TestPlan;
 use duct::tree::{Modifier, Node};
@@ -19,7 +19,8 @@ use duct_table::told::noted_text;
 use std::alloc::{AllocError, Global};
 use std::slice;
 
-/// What runs, by the numbers of its children, input workers and capture workers. Of a handle only the children are known.
+/// The numbers of the children, feeds and drains that a start returned. Of a handle only the
+/// children are known.
 #[derive(Drop, PartialEq, Eq)]
 pub struct Runs {
     pub children: Vec<u64>,
@@ -27,29 +28,36 @@ pub struct Runs {
     pub drains: Vec<u64>,
 }
 
-/// What came of a start. A handle is given up then.
+/// The result of a start. A handle has been given up.
 #[derive(Drop)]
 pub struct Start {
+    /// How the expression was started.
     pub way: Way,
+    /// The system, the pool and the log after the start.
     pub bench: Bench,
+    /// What the start returned.
     pub answer: Result<Runs, Error>,
-    /// How many calls the log had noted when the start began, and when it answered.
+    /// How many calls had been noted when the start began, and when it returned.
     pub calls: (u64, u64),
     /// How many children the pool had been given when the start began.
     given: u64,
 }
 
-/// By which call an expression is started: `launch`, `launch_reader`, `start` or `reader`.
+/// The call that starts an expression.
 #[derive(Clone, Copy, PartialEq, Eq)]
 pub enum Way {
+    /// `launch`.
     Launched,
+    /// `launch_reader`.
     Read,
+    /// `start`.
     Handle,
+    /// `reader`.
     ReaderHandle,
 }
 
 impl Way {
-    /// Whether it makes a handle.
+    /// Whether the call returns a handle.
     fn is_handle(self) -> bool {
         match self {
             Way::Launched | Way::Read => false,
@@ -58,7 +66,7 @@ impl Way {
     }
 }
 
-/// The plan of a start.
+/// Returns the plan of a start. Fails on allocation failure.
 pub fn planned(
     alloc: Global,
     tree: &Tree<ScriptEnd>,
@@ -70,7 +78,8 @@ pub fn planned(
     }
 }
 
-/// Starts the expression of a text over this system and pool. Fails where that does not go as every start has to.
+/// Starts the expression of a text over the system and the pool of a scene. Fails if the start does
+/// what no start may do, if the text or the scene is malformed, and on allocation failure.
 pub fn started(alloc: Global, expression: &str, way: Way, scene: Scene) -> Result<Start, Stop> {
     let bench = bench_of(alloc, scene)?;
     let tree = written(alloc, Some(&bench.calls), expression)?;
@@ -83,13 +92,14 @@ pub fn started(alloc: Global, expression: &str, way: Way, scene: Scene) -> Resul
     Ok(start)
 }
 
-/// Whether the pool keeps each child that it was given.
+/// Whether the pool still holds each child that it was given.
 fn is_kept(start: &Start) -> bool {
     let pool = &start.bench.pool;
     pool.len() as u64 == pool.given()
 }
 
-/// The same of an expression.
+/// Starts an expression over this bench. Fails if the start does what no start may do, and on
+/// allocation failure.
 pub fn started_tree(
     alloc: Global,
     tree: &Tree<ScriptEnd>,
@@ -178,10 +188,10 @@ fn start_reader_handle(
     Ok(Ok(runs?))
 }
 
-/// By how much the id of a child of the scripted system is greater than its number.
+/// The difference between the id and the number of a child of the scripted system.
 const ID: u32 = 1000;
 
-/// What runs, by the ids of its children.
+/// Returns the numbers of the children with these ids.
 fn runs_of_ids(alloc: Global, ids: &[u32]) -> Result<Runs, AllocError> {
     let mut runs = no_runs(alloc);
     for id in ids {
@@ -208,7 +218,7 @@ fn parts_of(alloc: Global, running: Running<Script>) -> Result<Runs, AllocError>
     )
 }
 
-/// What runs, of these children, input workers and capture workers.
+/// Returns the numbers of these children, feeds and drains. Fails on allocation failure.
 pub fn runs_of(
     alloc: Global,
     children: &[Place<ScriptChild>],
@@ -230,7 +240,7 @@ fn numbers<N: Numbered>(alloc: Global, items: &[N]) -> Result<Vec<u64>, AllocErr
     Ok(numbers)
 }
 
-/// What a journal says that runs.
+/// Returns the children, feeds and drains that were started by these entries.
 fn runs_in(alloc: Global, entries: &[Entry]) -> Result<Runs, AllocError> {
     let mut runs = no_runs(alloc);
     for entry in entries {
@@ -244,7 +254,7 @@ fn runs_in(alloc: Global, entries: &[Entry]) -> Result<Runs, AllocError> {
     Ok(runs)
 }
 
-/// Fails where a start did not go as every start has to.
+/// Fails if a start did what no start may do.
 fn is_right(alloc: Global, tree: &Tree<ScriptEnd>, start: &Start) -> Result<(), Stop> {
     let entries = start.bench.sys.journal();
     let bound = deepest(tree.root()).saturating_mul(2).saturating_add(12);
@@ -258,7 +268,7 @@ fn is_right(alloc: Global, tree: &Tree<ScriptEnd>, start: &Start) -> Result<(), 
     is_right_by(alloc, &plan, start)
 }
 
-/// The journal follows the plan, and the answer is what it has to be then.
+/// Fails unless the journal follows the plan and the start returned what fits this.
 fn is_right_by(alloc: Global, plan: &TestPlan, start: &Start) -> Result<(), Stop> {
     let entries = start.bench.sys.journal();
     match followed(alloc, plan, entries)? {
@@ -277,7 +287,8 @@ fn right(holds: bool, otherwise: &'static str) -> Result<(), Stop> {
     }
 }
 
-/// What runs is what the whole plan started, nobody asked it, and the pool was given nothing but the children of a handle.
+/// Checks that a start that followed the whole plan returned what it started. No child was polled
+/// or given to the pool, except for those of a handle.
 fn is_right_answer(alloc: Global, start: &Start, runs: &Runs) -> Result<(), Stop> {
     let Ok(told) = &start.answer else {
         return Err(Stop::Text("the whole plan was refused"));
@@ -293,7 +304,8 @@ fn is_right_answer(alloc: Global, start: &Start, runs: &Runs) -> Result<(), Stop
     are_given(alloc, start, &[])
 }
 
-/// Each of these children, and no other one, was asked once and given to the pool.
+/// Checks that each of these children was polled once and given to the pool, and no other one of
+/// the start.
 fn are_given(alloc: Global, start: &Start, children: &[u64]) -> Result<(), Stop> {
     right(
         polled(alloc, start)?.as_slice() == children,
@@ -306,7 +318,9 @@ fn are_given(alloc: Global, start: &Start, children: &[u64]) -> Result<(), Stop>
     )
 }
 
-/// The error has a cause in what was asked, and each child that was started was asked once and given to the pool.
+/// Checks that a start that followed only a prefix of the plan failed with an error that has a
+/// cause in the journal, and that each child that was started was polled once and given to the
+/// pool.
 fn is_right_refusal(
     alloc: Global,
     plan: &TestPlan,
@@ -336,8 +350,8 @@ fn is_right_refusal(
     are_given(alloc, start, runs.children.as_slice())
 }
 
-/// Whether a start may find no memory behind these entries: before its first request, or at a command, whose spec, hooks and places
-/// take memory.
+/// Whether a start may fail with an allocation failure after these entries: before its first
+/// request, or at a command, whose spec, hooks and places are allocated.
 fn may_find_no_memory(
     alloc: Global,
     plan: &TestPlan,
@@ -349,7 +363,7 @@ fn may_find_no_memory(
     Ok(asked == 0 || is_command)
 }
 
-/// Whether only ends were closed and children polled behind the last hook that was called, where a hook refused the start.
+/// Whether only closes and polls follow the last hook call, if a hook refused the start.
 fn is_still_after(start: &Start, error: &Error) -> bool {
     match error {
         Error::Hook(_) | Error::HookEnd(_) => is_still(&start.bench.calls, start.calls),
@@ -358,7 +372,8 @@ fn is_still_after(start: &Start, error: &Error) -> bool {
     }
 }
 
-/// Whether it was so in this part of the log, where that has a hook.
+/// Whether only closes and polls follow the last hook call of this part of the log, if it has a
+/// hook call.
 fn is_still(log: &CallLog, part: (u64, u64)) -> bool {
     let mut hooked = false;
     let mut still = true;
@@ -372,7 +387,7 @@ fn is_still(log: &CallLog, part: (u64, u64)) -> bool {
     still
 }
 
-/// The children of a start that were asked, in order.
+/// Returns the children of a start that were polled, in order.
 fn polled(alloc: Global, start: &Start) -> Result<Vec<u64>, AllocError> {
     let mut polled = Vec::new(alloc);
     let log: &CallLog = &start.bench.calls;
@@ -386,7 +401,7 @@ fn polled(alloc: Global, start: &Start) -> Result<Vec<u64>, AllocError> {
     Ok(polled)
 }
 
-/// How many ends were held at once.
+/// Returns the greatest number of ends that were held at once.
 fn most_held(alloc: Global, entries: &[Entry]) -> Result<usize, AllocError> {
     let mut most = 0;
     let mut now = 0;
@@ -397,14 +412,14 @@ fn most_held(alloc: Global, entries: &[Entry]) -> Result<usize, AllocError> {
     Ok(most)
 }
 
-/// How many ends are held after these entries, where so many were before.
+/// Returns how many ends are held after these entries, if `before` ends were held before them.
 fn held_after(alloc: Global, before: usize, entries: &[Entry]) -> Result<usize, AllocError> {
     let got = got(alloc, entries)?.len();
     let spent = spent(alloc, entries)?.len();
     Ok(before.saturating_add(got).saturating_sub(spent))
 }
 
-/// How many pipes, inputs, and nodes of a path or of a lent end stand at most round a command.
+/// Returns the greatest number of pipes, inputs, paths and caller's ends around a command.
 fn deepest<E, H>(node: &Node<E, H>) -> usize {
     match node {
         Node::Cmd(_) => 0,
@@ -413,7 +428,7 @@ fn deepest<E, H>(node: &Node<E, H>) -> usize {
     }
 }
 
-/// 1 for such a node, and 0 for any other.
+/// Returns 1 for an input, a path or a caller's end, and 0 for any other node.
 fn depth<E, H>(modifier: &Modifier<E, H>) -> usize {
     match modifier {
         Modifier::StdinBytes(_)
@@ -440,7 +455,8 @@ fn depth<E, H>(modifier: &Modifier<E, H>) -> usize {
     }
 }
 
-/// How many children and workers run, of a handle the children alone, or the text of the error.
+/// Returns the number of children, feeds and drains that a start returned, or the text of its
+/// error. Of a handle there are only the children. Fails on allocation failure.
 pub fn answer_text(
     alloc: Global,
     way: Way,
@@ -457,12 +473,15 @@ pub fn answer_text(
     }
 }
 
-/// What was called during a start, in order. A child of the start stands by its program, one of the pool's by its number.
+/// Returns the calls during a start, in order, except for duplicates, ends of the parent's streams
+/// and closes. A child of the start is named by its program, one of the pool by its number. Fails
+/// on allocation failure.
 pub fn calls_text(alloc: Global, start: &Start) -> Result<String, AllocError> {
     noted_text(alloc, &start.bench, start.calls)
 }
 
-/// This number, where no more ends were held at once, or how many were.
+/// Returns this number if no more ends were held at once, or else the greatest number that was
+/// held. Fails on allocation failure.
 pub fn most_text(alloc: Global, entries: &[Entry], number: &str) -> Result<String, AllocError> {
     let most = most_held(alloc, entries)?;
     match number.parse::<usize>() {

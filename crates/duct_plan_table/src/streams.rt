@@ -1,4 +1,4 @@
-//! Where streams go, in words.
+//! Texts for where streams go.
 use duct::{CommandSpec, Numbered, Port, Stdio, Stream};
 use duct_plain::checker::Source;
 use duct_plan::found::Target;
@@ -24,7 +24,7 @@ fn push_lent(text: &mut String, number: u64) -> Result<(), AllocError> {
     write!(text, " lent-{number}")
 }
 
-/// Adds what a command is asked for as one of its streams, where the spec agrees with it.
+/// Adds what is asked for a stream of a command, or the port of the spec if the two disagree.
 pub fn push_stream(
     text: &mut String,
     spec: &CommandSpec,

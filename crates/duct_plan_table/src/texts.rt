@@ -1,4 +1,4 @@
-//! Plans, and what a command finds, in words.
+//! Texts for plans, and for what the look-up from a command finds.
 use crate::streams::push_target;
 use duct::Numbered;
 use duct_plan::found::{Found, variable};
@@ -8,13 +8,16 @@ use duct_script::system::ScriptEnd;
 use duct_table::hooks::push_words;
 use std::alloc::{AllocError, Global};
 
+/// A plan over the scripted system.
 pub type TestPlan<'t> = Plan<'t, ScriptEnd, ScriptHook>;
 
+/// An item of such a plan.
 pub type TestItem<'t> = Item<'t, ScriptEnd, ScriptHook>;
 
+/// What the look-up from a command of such a plan finds.
 pub type TestFound<'t> = Found<'t, ScriptEnd, ScriptHook>;
 
-/// The items of a plan, and then the places of its capture pipes.
+/// Returns the items of a plan, and then the places of its capture pipes.
 pub fn plan_text(alloc: Global, plan: &TestPlan) -> Result<String, AllocError> {
     let mut text = String::new(alloc);
     for item in plan.items.iter() {
@@ -57,12 +60,12 @@ fn push_spawn(text: &mut String, words: &[String]) -> Result<(), AllocError> {
     Ok(())
 }
 
-/// The items of a plan as they print.
+/// Returns the items of a plan in their debug form.
 pub fn items_text(alloc: Global, plan: &TestPlan) -> Result<String, AllocError> {
     format!(in alloc; "{:?}", plan.items)
 }
 
-/// The places of the items of the first four commands.
+/// Returns the places of the items of the first four commands.
 pub fn places_text(alloc: Global, plan: &TestPlan) -> Result<String, AllocError> {
     let places = [
         plan.command(0),
@@ -73,18 +76,18 @@ pub fn places_text(alloc: Global, plan: &TestPlan) -> Result<String, AllocError>
     format!(in alloc; "{places:?}")
 }
 
-/// What a row looks at of each command: what the look-up from it outwards finds.
+/// The part that a row compares of what the look-up from a command outwards finds.
 #[derive(Clone, Copy)]
 pub enum Find<'a> {
     /// Where stdin, stdout and stderr go.
     Streams,
     Folder,
-    /// The spellings and the values of these names, where the parent has these variables.
+    /// The spellings and the values of these names, if the parent has these variables.
     Variables(&'a [&'a str], &'a [(String, String)]),
     Hooks,
 }
 
-/// What each command finds, from left to right: `a -> ..; b -> ..`.
+/// Returns what each command finds, from left to right: `a -> ..; b -> ..`.
 pub fn found_text(alloc: Global, plan: &TestPlan, find: Find) -> Result<String, AllocError> {
     let mut text = String::new(alloc);
     for item in plan.items.iter() {
@@ -96,7 +99,7 @@ pub fn found_text(alloc: Global, plan: &TestPlan, find: Find) -> Result<String, 
     Ok(text)
 }
 
-/// Begins what is said of a command of these words.
+/// Begins the text of a command with these words.
 pub fn begin(text: &mut String, words: &[String]) -> Result<(), AllocError> {
     if !text.is_empty() {
         text.push_str("; ")?;

@@ -1,5 +1,5 @@
-//! The trace of a start that meets no fault. Ends and children take the numbers from 1 in the order of the requests, of a
-//! pipe the read end before the write end.
+//! The trace of a start without a fault. Ends and children get the numbers from 1 in the order of
+//! the requests; of a pipe, the read end comes before the write end.
 use crate::texts::{TestItem, TestPlan};
 use duct_base::spec::{CommandSpec, Port, spec_of};
 use duct_base::system::{Entry, Stdio};
@@ -9,8 +9,8 @@ use std::alloc::{AllocError, Global};
 use std::collections::BTreeMap;
 use std::sync::Arc;
 
-/// The entries that answer each item of a plan, where the environment is answered with these pairs, and each program's
-/// canonical name stands below `/real/`.
+/// Returns the entry for each item of a plan. The environment has these pairs, and each canonical
+/// path begins with `/real/`. Fails on allocation failure.
 pub fn entries(alloc: Global, plan: &TestPlan, parent: &str) -> Result<Vec<Entry>, AllocError> {
     let mut entries = Vec::new(alloc);
     let mut next = 1;
@@ -24,7 +24,7 @@ pub fn entries(alloc: Global, plan: &TestPlan, parent: &str) -> Result<Vec<Entry
     Ok(entries)
 }
 
-/// The entry of a request other than that for the environment.
+/// Returns the entry for any item other than the environment.
 fn numbered(
     alloc: Global,
     item: &TestItem,
@@ -47,7 +47,7 @@ fn numbered(
     }
 }
 
-/// The read end and the write end of the pipe that stands at this place.
+/// Returns the read end and the write end of the pipe at this place, or two zeros if there is none.
 fn pipe_at(entries: &[Entry], place: usize) -> (u64, u64) {
     match entries.get(place) {
         Some(Entry::Pipe(Ok((reader, writer)))) => (*reader, *writer),
@@ -81,14 +81,14 @@ fn spawned(alloc: Global, words: &[String], number: u64) -> Result<Entry, AllocE
     Ok(Entry::Spawn(spec(alloc, words)?, streams, Ok(number)))
 }
 
-/// The next number.
+/// Takes the next number.
 fn take(next: &mut u64) -> u64 {
     let number = *next;
     *next = number.saturating_add(1);
     number
 }
 
-/// A spec of these words.
+/// Returns a spec with these words.
 fn spec(alloc: Global, words: &[String]) -> Result<CommandSpec, AllocError> {
     let mut texts = Vec::new(alloc);
     for word in words {

@@ -1,4 +1,4 @@
--- Where a list is cut first.
+-- Where a list is split first.
 use Rattle.std.proofs.Common.{◌≡◌, ℕ, zero, suc, ◌+◌, ◌-◌, ◌<◌, ◌≤◌, Bool, true, false, cond, nat_lt, List, [], ◌∷◌, Some, None, map, length, take, drop, get_or, refl, sym, ap, ◌∙◌, arith}
 use Rattle.std.proofs.lemmas.Bool.Decides.{nat_tests}
 use Rattle.std.proofs.lemmas.Grind.{common_steps}
@@ -29,7 +29,7 @@ none_at_end : (at len : ℕ) → cond (nat_lt at len) (Some at) None ≡ None �
 none_at_end at len none = grind (arith, nat_tests)
 
 module _ {A B : Type 0} (p : B → Bool) (f : A → B) where
-  -- at the first that passes
+  -- at the first element that passes the test
   pub cut : (xs : List A) (at : ℕ) → position (λ x. p (f x)) xs ≡ Some at
       → slice_split p (map f xs) ≡ map f (take at xs) ∷ slice_split p (map f (take (length xs - (at + 1)) (drop (at + 1) xs)))
   cut [] at found = absurd cc
@@ -42,7 +42,7 @@ module _ {A B : Type 0} (p : B → Bool) (f : A → B) where
       → length ys ≤ position_or_len (λ y. p (f y)) ys
   past ys none = none_at_end (position_or_len (λ y. p (f y)) ys) (length ys) none
 
-  -- nowhere
+  -- nowhere, if none passes it
   pub uncut : (xs : List A) → position (λ x. p (f x)) xs ≡ None
       → slice_split p (map f xs) ≡ map f xs ∷ []
   uncut [] none = refl

@@ -5,7 +5,7 @@ use Rattle.duct_program.specs.Command.{CommandView, RedirectionView}
 use Rattle.duct_program.specs.Parsed.{◌>>=◌}
 use Rattle.duct_program.specs.declared.usage.Usage.{Usage}
 
--- what was read before, and behind it what is still read
+-- what was read before, followed by what is still read
 abbrev pub behind : List (List ℕ) → List RedirectionView → Result CommandView Usage
     → Result CommandView Usage
 behind words redirections read =

@@ -1,4 +1,4 @@
--- Commands piped one after the other, and redirections round a command.
+-- Commands piped one after the other, and redirections around a command.
 use Rattle.std.proofs.Common.{◌≡◌, ℕ, List, [], ◌∷◌, ◌++◌, ap, length, map, Ok, refl}
 use Rattle.std.specs.declared.option.Option.{Option}
 use Rattle.std.specs.declared.result.Result.{Result}
@@ -10,7 +10,7 @@ use Rattle.duct_program.specs.Pieces.{further}
 use Rattle.duct_program.specs.declared.command.Redirection.{Redirection}
 use Rattle.duct_program.specs.declared.usage.Usage.{Usage}
 
--- the commands of pieces, piped behind a tree
+-- the commands of pieces, piped after a tree
 abbrev pub piped_behind : {E H : Type 0} → TreeView E H → List (List (List ℕ))
     → Result (TreeView E H) Usage
 piped_behind left others = commands_of others >>= λ commands. Ok (piped left commands)
@@ -19,7 +19,7 @@ piped_behind left others = commands_of others >>= λ commands. Ok (piped left co
 abbrev pub pieces_len : Option (List (List ℕ)) → ℕ
 pieces_len rest = length (further rest)
 
--- the last redirection stands innermost
+-- the last redirection is the innermost
 pub last_stands_inside : {E H : Type 0} (front : List Redirection) (last : Redirection)
     (tree : TreeView E H)
     → redirected_tree (map redirection_view (front ++ last ∷ [])) tree

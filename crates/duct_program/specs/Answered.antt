@@ -1,4 +1,4 @@
--- What is answered of arguments: that they are no line, or what is said of the expression that they mean.
+-- What is returned for arguments: a usage error, or what is said of the expression that they mean.
 use Rattle.std.specs.Prelude.{◌≡◌, ℕ, List, Ok, Err}
 use Rattle.std.specs.declared.result.Result.{Result}
 use Rattle.duct_system.specs.declared.error.Error.{Error}
@@ -9,16 +9,16 @@ use Rattle.duct_program.specs.declared.failure.Failure.{Failure}
 use Rattle.duct_program.specs.declared.failure.Failure.TheVariants as failures
 use Rattle.duct_program.specs.declared.usage.Usage.{Usage}
 
--- where an answer is that the arguments are no line, this holds
+-- if the result is a usage error, this holds of it
 abbrev pub IfUsage : {A : Type 0} → Result A Failure → (Usage → Type 0) → Type 0
 IfUsage answer holds = (usage : Usage) → answer ≡ Err (failures.Usage usage) → holds usage
 
--- where a failure is an error of the expression, this holds
+-- if the failure is an error of the expression, this holds of it
 abbrev pub IfRefused : Failure → (Error → Type 0) → Type 0
 IfRefused (failures.Usage usage) holds = Unit {0}
 IfRefused (failures.Error error) holds = holds error
 
--- the expression that arguments mean, whose ends have these numbers and whose hooks this relation
+-- the expression that arguments mean; its ends have these numbers, and its hooks this relation
 abbrev pub line_of : {E H : Type 0} → (E → ℕ) → Allows H → List (List ℕ)
     → Result (TreeView E H) Usage
 line_of number_of allows args = meant args

@@ -1,4 +1,4 @@
--- What the arguments of one command say.
+-- What the arguments of one command mean.
 use Rattle.std.specs.Prelude.{ℕ, List, [], ◌∷◌, Some, None, Ok, Err, if◌then◌else◌, codes}
 use Rattle.std.specs.Str.{bytes_eq}
 use Rattle.std.specs.declared.option.Option.{Option}
@@ -9,7 +9,7 @@ use Rattle.duct_program.specs.declared.usage.Usage.{Usage}
 use Rattle.duct_program.specs.declared.usage.Usage.TheVariants.{MissingPath}
 use Rattle.duct_program.specs.Parsed.{◌>>=◌}
 
--- a stream that goes from or to the file of this path
+-- a stream that is read from or written to the file of this path
 pub record RedirectionView : Type 0 where
   pub stream : Stream
   pub path : List ℕ
@@ -19,7 +19,7 @@ pub record CommandView : Type 0 where
   pub words : List (List ℕ)
   pub redirections : List RedirectionView
 
--- the stream that an argument redirects: none where it is a word
+-- the stream that an argument redirects, or none if it is a word
 abbrev pub redirected : List ℕ → Option Stream
 redirected arg =
     if bytes_eq arg (codes "<") then Some streams.In
@@ -41,7 +41,8 @@ with_redirection stream path command = record {
   redirections = record { stream = stream; path = path } ∷ command.redirections;
 }
 
--- what the arguments of a command say; the stream is that which the argument before them redirects, if it does
+-- what the arguments of a command mean; the stream is the one that the argument before them
+-- redirects, if it redirects one
 abbrev pub parts_of : Option Stream → List (List ℕ) → Result CommandView Usage
 parts_of None [] = Ok (record { words = []; redirections = [] })
 parts_of (Some stream) [] = Err MissingPath

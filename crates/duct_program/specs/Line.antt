@@ -11,7 +11,7 @@ use Rattle.duct_program.specs.Options.{OptionsView, no_options, options_from}
 use Rattle.duct_program.specs.Parsed.{◌>>=◌}
 use Rattle.duct_program.specs.Pieces.{pieces}
 
--- a command that has words
+-- a command, or the error `EmptyCommand` if it has no words
 abbrev pub worded : CommandView → Result CommandView Usage
 worded said = elim said.words [ [] ↦ Err EmptyCommand | word ∷ words ↦ Ok said ]
 
@@ -19,14 +19,14 @@ worded said = elim said.words [ [] ↦ Err EmptyCommand | word ∷ words ↦ Ok 
 abbrev pub command_of : List (List ℕ) → Result CommandView Usage
 command_of piece = parts_of None piece >>= worded
 
--- the command of each piece, up to the first that has none
+-- the command of each piece, or the error of the first piece that has none
 abbrev pub commands_of : List (List (List ℕ)) → Result (List CommandView) Usage
 commands_of [] = Ok []
 commands_of (piece ∷ others) =
     command_of piece >>= λ said. commands_of others >>= λ commands. Ok (said ∷ commands)
 
 module _ {E H : Type 0} where
-  -- what a redirection asks of the command
+  -- the modifier that a redirection puts around its command
   abbrev pub redirects : RedirectionView → ModifierView E H
   redirects redirection =
       elim redirection.stream [
@@ -35,27 +35,27 @@ module _ {E H : Type 0} where
         | streams.Err ↦ stderr_path redirection.path
       ]
 
-  -- redirections round a command; the first one stands outermost
+  -- a command with redirections around it, the first one outermost
   abbrev pub redirected_tree : List RedirectionView → TreeView E H → TreeView E H
   redirected_tree [] tree = tree
   redirected_tree (redirection ∷ others) tree =
       around (redirects redirection) (redirected_tree others tree)
 
-  -- a command with its redirections round it
+  -- a command with its redirections around it
   abbrev pub command_tree : CommandView → TreeView E H
   command_tree said = redirected_tree said.redirections (command said.words)
 
-  -- commands piped behind a tree, from the left
+  -- commands piped after a tree, from left to right
   abbrev pub piped : TreeView E H → List CommandView → TreeView E H
   piped left [] = left
   piped left (right ∷ others) = piped (pipe left (command_tree right)) others
 
-  -- the text for stdin stands round the whole
+  -- a tree with the text for stdin around it, if there is one
   abbrev pub with_input : Option (List ℕ) → TreeView E H → TreeView E H
   with_input None tree = tree
   with_input (Some text) tree = around (stdin_bytes text) tree
 
-  -- `unchecked` stands round that
+  -- that tree with `unchecked` around it, if the options ask for it
   abbrev pub with_options : OptionsView → TreeView E H → TreeView E H
   with_options options tree =
       elim options.unchecked [
@@ -63,7 +63,7 @@ module _ {E H : Type 0} where
         | false ↦ with_input options.stdin tree
       ]
 
-  -- the pipe that pieces mean
+  -- the pipe that the pieces mean
   abbrev pub pipeline_of : List (List (List ℕ)) → Result (TreeView E H) Usage
   pipeline_of [] = Err EmptyCommand
   pipeline_of (first ∷ others) =
@@ -74,7 +74,7 @@ module _ {E H : Type 0} where
   abbrev pub piece_tree : List (List ℕ) → Result (TreeView E H) Usage
   piece_tree piece = command_of piece >>= λ said. Ok (command_tree said)
 
-  -- the expression that arguments mean, or the first fault that is found in them from left to right
+  -- the expression that the arguments mean, or the first usage error in them from left to right
   abbrev pub meant : List (List ℕ) → Result (TreeView E H) Usage
   meant args =
       options_from false no_options args >>= λ front.

@@ -1,4 +1,4 @@
--- The options that stand before the first word.
+-- The options before the first word.
 use Rattle.std.specs.Prelude.{ℕ, List, [], ◌∷◌, Bool, true, false, Some, None, Ok, Err, if◌then◌else◌, codes}
 use Rattle.std.specs.Str.{bytes_eq}
 use Rattle.std.specs.declared.option.Option.{Option}
@@ -15,8 +15,8 @@ pub record OptionsView : Type 0 where
 abbrev pub no_options : OptionsView
 no_options = record { stdin = None; unchecked = false }
 
--- the options in front of some arguments, read behind these options, and the arguments behind them; the truth value says whether the
--- argument before was a `--stdin`, whose text comes first
+-- the options at the front of some arguments, read after these options, and the arguments after
+-- them; the truth value says whether the argument before was a `--stdin`, whose text comes first
 abbrev pub options_from : Bool → OptionsView → List (List ℕ)
     → Result (OptionsView × List (List ℕ)) Usage
 options_from true options [] = Err MissingText

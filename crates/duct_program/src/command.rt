@@ -8,14 +8,14 @@ use crate::usage::Usage;
 use duct_system::spec::Stream;
 use std::alloc::Global;
 
-/// The stream of a command that goes from or to a file.
+/// A stream of a command that is read from or written to a file.
 #[derive(Clone, Copy)]
 pub(crate) struct Redirection<'a> {
     pub stream: Stream,
     pub path: &'a str,
 }
 
-/// What the arguments between two `|` say.
+/// What the arguments between two `|` mean.
 #[derive(Drop)]
 pub(crate) struct Command<'a> {
     pub words: Vec<&'a str>,
@@ -23,7 +23,7 @@ pub(crate) struct Command<'a> {
     pub redirections: Vec<Redirection<'a>>,
 }
 
-/// The stream that an argument redirects: none where it is a word.
+/// The stream that an argument redirects, or `None` if it is a word.
 fn redirected(arg: &str) -> Option<Stream>
     ensures { result ≡ redirected arg.now }
 {

@@ -8,7 +8,8 @@ use duct::Error;
 /// Why the program has no text to print.
 #[derive(Debug, Drop, thiserror::Error)]
 pub enum Failure {
-    /// The arguments are no line, or there was no memory to read them: nothing was started.
+    /// The arguments are no valid line, or an allocation failed while they were read: nothing was
+    /// started.
     #[error("{0}")]
     Usage(Usage),
     /// The expression failed, at its start or later.
@@ -17,8 +18,7 @@ pub enum Failure {
 }
 
 impl Failure {
-    /// Returns the status with which the program ends: 2 where its arguments are at fault, and else
-    /// 1.
+    /// Returns the exit status of the program: 2 where its arguments are wrong, otherwise 1.
     pub fn status(&self) -> u8
         ensures { result ≡ status_of self.now }
     {

@@ -15,10 +15,10 @@ use crate::usage::Usage;
 use duct::{Error, Expression, Stream, cmd};
 use std::alloc::Global;
 
-/// The expression of these arguments: options, and then commands with a `|` between two. The
-/// commands are piped from the left. In a command `<`, `>` and `2>` redirect stdin, stdout and
-/// stderr to the path behind them; the first one stands outermost. `--stdin` gives the whole its
-/// text, and `--unchecked` stands round that. Nothing is started.
+/// Returns the expression of these arguments: options, and then commands with a `|` between two.
+/// The commands are piped from left to right. In a command `<`, `>` and `2>` redirect stdin, stdout
+/// and stderr to the path after them; the first one is the outermost. `--stdin` gives the whole its
+/// text, and `--unchecked` is around that. Nothing is started.
 ///
 /// Fails with the first error from left to right, and with `Usage::Memory` at an allocation
 /// failure.
@@ -30,7 +30,7 @@ pub fn line<E: Drop, H: Drop>(alloc: Global, args: &[String]) -> Result<Expressi
     with_options(alloc, commands, options)
 }
 
-// Commands piped from the left.
+// Commands piped from left to right.
 fn pipeline<E: Drop, H: Drop>(alloc: Global, args: &[String]) -> Result<Expression<E, H>, Usage>
     ensures { ParsesAs tree_view result (pipeline_of (pieces (map string_bytes args.now))) }
 {
@@ -45,7 +45,7 @@ fn pipeline<E: Drop, H: Drop>(alloc: Global, args: &[String]) -> Result<Expressi
     Ok(left)
 }
 
-// The command of one piece, with its redirections round it.
+// The command of one piece, with its redirections around it.
 fn redirected_command<E: Drop, H: Drop>(
     alloc: Global,
     piece: &[String],
@@ -63,7 +63,7 @@ fn redirected_command<E: Drop, H: Drop>(
     redirected_by(command, redirections)
 }
 
-// Redirections round a command, the first one outermost.
+// Puts redirections around a command, the first one outermost.
 #[tactic(auto, using(crate::proofs::Pipes::last_stands_inside))]
 fn redirected_by<E: Drop, H: Drop>(
     command: Expression<E, H>,
@@ -80,7 +80,7 @@ fn redirected_by<E: Drop, H: Drop>(
     Ok(inner)
 }
 
-// One redirection round an expression.
+// Puts one redirection around an expression.
 fn redirect<E: Drop, H: Drop>(
     redirection: Redirection<'_>,
     inner: &Expression<E, H>,
@@ -96,7 +96,7 @@ fn redirect<E: Drop, H: Drop>(
     }
 }
 
-// What the options ask of a whole line round it.
+// Puts what the options ask for around a whole line.
 fn with_options<E: Drop, H: Drop>(
     alloc: Global,
     line: Expression<E, H>,

@@ -1,4 +1,4 @@
-//! The options that stand before the first word.
+//! The options before the first word.
 ghost use Rattle.std.specs.Prelude.{false, map, string_bytes};
 ghost use Rattle.duct_program.specs.Options.{no_options, options_from};
 ghost use Rattle.duct_program.specs.Parsed.{ParsesAs};
@@ -15,7 +15,7 @@ pub(crate) struct Options<'a> {
     pub unchecked: bool,
 }
 
-/// Reads the options before some arguments. Returns them, and the arguments behind them.
+/// Reads the options before some arguments. Returns them, and the arguments after them.
 pub(crate) fn read_options<'a>(args: &'a [String]) -> Result<(Options<'a>, &'a [String]), Usage>
     ensures { ParsesAs (λ read. (options_view read.0, map string_bytes read.1.now)) result
         (options_from false no_options (map string_bytes args.now)) }

@@ -1,4 +1,5 @@
-//! What the program does over any system: it reads the expression of its arguments, and prints the text, or what went wrong.
+//! What the program does over any system: it reads the expression of its arguments, and prints the
+//! text or the error.
 ghost use Rattle.std.specs.Prelude.{◌≡◌, ◌⊎◌, Ok, Err, map, string_bytes, is_some, IfOk, IfErr};
 ghost use Rattle.duct_system.specs.Trace.{segment};
 ghost use Rattle.duct_start.specs.Plan.{plan_of_reader};
@@ -16,8 +17,8 @@ use std::io::Write;
 use std::sync::Wait;
 
 /// Returns what the expression of these arguments prints to stdout, read as `Expression::read`
-/// reads it; it blocks and fails as that does. Where the arguments are no line, or there is no
-/// memory to read them, it fails with `Failure::Usage` and asks nothing.
+/// reads it; it blocks and fails as that does. Where the arguments are no valid line, or an
+/// allocation fails while they are read, it fails with `Failure::Usage` and makes no request.
 pub fn answer<S: System, H: Hook + Drop>(
     rt: &impl Wait,
     alloc: Global,
@@ -52,9 +53,10 @@ pub fn answer<S: System, H: Hook + Drop>(
     }
 }
 
-/// Does the program's work and returns its status. The text that is read goes to `out` with a
-/// newline, status 0. An error goes to `err` behind `host: `, with a newline: status 2 where the
-/// arguments are no line, and else 1. The status is 1, too, where a write fails.
+/// Does the program's work and returns its exit status. The text that is read is written to `out`
+/// with a newline, and the status is 0. An error is written to `err` with `host: ` before it and a
+/// newline after it, and the status is 2 where the arguments are no valid line, otherwise 1. The
+/// status is also 1 where a write fails.
 pub fn perform<S: System>(
     rt: &impl Wait,
     alloc: Global,

@@ -1,9 +1,9 @@
-//! The arguments of a line, cut into those of its commands.
+//! The arguments of a line, split into those of its commands.
 ghost use Rattle.std.specs.Prelude.{◌≡◌, ◌∷◌, map, position, string_bytes};
 ghost use Rattle.std.specs.Option.{option_map};
 ghost use Rattle.duct_program.specs.Pieces.{further, is_bar, pieces};
 
-/// The arguments before the first `|`, and those behind it, where there is one.
+/// The arguments before the first `|`, and those after it, if there is one.
 pub(crate) fn first_piece(args: &[String]) -> (&[String], Option<&[String]>)
     ensures { pieces (map string_bytes args.now) ≡ map string_bytes result.0.now
         ∷ further (option_map (λ behind. map string_bytes behind.now) result.1) }
@@ -14,7 +14,7 @@ pub(crate) fn first_piece(args: &[String]) -> (&[String], Option<&[String]>)
     }
 }
 
-// Where the first `|` stands.
+// The place of the first `|`.
 fn bar(args: &[String]) -> Option<usize>
     ensures { result ≡ position (λ arg. is_bar (string_bytes arg)) args.now }
 {

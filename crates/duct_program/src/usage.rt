@@ -1,11 +1,11 @@
-//! Why arguments are no line.
+//! Why arguments are no valid line.
 ghost use Rattle.std.specs.Prelude.{◌≡◌};
 ghost use Rattle.duct_program.specs.declared.usage.Usage.TheVariants.{Memory};
 
 use std::alloc::{AllocError, AllocFailed};
 use thiserror::Error;
 
-/// Why arguments are no line. The first error, from left to right, is named.
+/// Why arguments are no valid line. The first error, from left to right, is named.
 #[derive(Clone, Copy, Debug, PartialEq, Eq, Error)]
 pub enum Usage {
     /// A command has no words. It is found where the command ends: at its `|`, or at the end.

@@ -1,4 +1,5 @@
--- A reader handle may be shared with another thread where its handle and its reader may go there.
+-- A reader handle may be shared between threads if its children, its workers and its reader may be
+-- sent to another thread, and its runtime may be shared.
 use denote.Param.Send.{IsSend, IsSync, struct_sync, view_sync, recorded_sync}
 use denote.RattleType.{RattleType}
 use denote.Struct.Declared.{shape}

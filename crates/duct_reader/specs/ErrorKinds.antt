@@ -17,7 +17,7 @@ name_of Unsupported = kind.Unsupported
 name_of OutOfMemory = kind.OutOfMemory
 name_of Other = kind.Other
 
--- a fault by its kind, want of memory, and each other error as one of no kind of its own
+-- the kind of a fault, `OutOfMemory` for an allocation failure, and `Other` for each other error
 abbrev pub kind_read : Error → ErrorKind
 kind_read (error.System fault) = name_of fault.kind
 kind_read error.Memory = kind.OutOfMemory

@@ -1,4 +1,4 @@
--- What a read of a handle's pipe answers, and what its token knows then.
+-- What a read of a handle's pipe returns, and what its token knows then.
 use Rattle.std.specs.Prelude.{ℕ, ◌≡◌, ◌<◌, ◌⊎◌, IsSomeAnd, Ok, Err, Some}
 use Rattle.std.specs.declared.alloc.Global.{Global}
 use Rattle.std.specs.declared.result.Result.{Result}
@@ -13,7 +13,7 @@ use Rattle.duct_running.specs.Stored.{Bytes}
 use Rattle.duct_handle.specs.HandleView.{HandleView, SeenView}
 use Rattle.duct_handle.specs.Waited.{IsOf, Waited, at_end}
 
--- what a read answers that waited: no byte, or why the wait failed
+-- what a read returns after a wait: no bytes, or the error of the wait
 abbrev pub at_close : Result (Arc Output Global) Error → Result ℕ Error
 at_close (Ok output) = Ok 0
 at_close (Err e) = Err e
@@ -23,8 +23,8 @@ abbrev pub KnowsOutput : HandleView → SeenView → Type 0
 KnowsOutput handle seen =
     (output : Arc Output Global) × IsSomeAnd seen.known (IsOf handle (Ok (Some output)))
 
--- a read into so much room: the pipe gave some bytes, or there was no room; or the pipe answered a fault; or it gave nothing, and
--- the read waited for what runs
+-- a read into this much room: the pipe gave some bytes, or there was no room; or the pipe failed
+-- with a fault; or it gave nothing, and the read waited for what runs
 abbrev pub ReadsAs : (ℕ → Answer → Type 0) → (ℕ → Said (Unit {0}) → Type 0)
     → (ℕ → Said Bytes → Type 0) → HandleView → ℕ → SeenView → SeenView
     → Result ℕ Error → Type 0
@@ -35,7 +35,7 @@ ReadsAs answer feed drain handle room before after result =
     × Waited answer feed drain handle before after (at_end waited)
     × (result ≡ at_close waited))
 
--- what a read returns at the end of the pipe, after a wait for what runs
+-- what a read returns at EOF, after a wait for what runs
 abbrev pub ClosesAs : (ℕ → Answer → Type 0) → (ℕ → Said (Unit {0}) → Type 0)
     → (ℕ → Said Bytes → Type 0) → HandleView → SeenView → SeenView → Result ℕ Error → Type 0
 ClosesAs answer feed drain handle before after result =

@@ -1,4 +1,4 @@
--- What is answered of all that a start's reader gave.
+-- What is returned of all bytes of a start's reader.
 use Rattle.std.specs.Prelude.{ℕ, ◌≡◌, ◌⊎◌, List, IfSome, string_bytes, Ok, Err}
 use Rattle.std.specs.Str.{IsUtf8}
 use Rattle.std.specs.declared.alloc.Global.{Global}
@@ -25,8 +25,10 @@ module _ (answer : ℕ → Answer → Type 0) (feed : ℕ → Said (Unit {0}) �
   EndsWell = (status : ExitStatus) × (out : List ℕ) × (err : List ℕ)
       × WasConcluded answer feed drain shape numbers (answered status out err)
 
-  -- where the reader tells its bytes, which it had left so: the text is all of them without their last line ends, and what ran ended
-  -- with an output; or the reader answered a fault; or what ran ended otherwise; or it ended with an output, and the bytes are no text
+  -- the text is all bytes that the reader had left, if it tells them, without the line ends at
+  -- their end, and what ran ended with an output; or the reader failed with a fault; or what ran
+  -- ended otherwise; or it ended with an output, and the bytes without those line ends are not
+  -- UTF-8
   abbrev pub ReadsText : Option (List ℕ) → Result (String Global) Error → Type 0
   ReadsText left (Ok text) =
       (bytes : List ℕ) × IfSome left (λ all. bytes ≡ all)

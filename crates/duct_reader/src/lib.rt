@@ -1,4 +1,5 @@
-//! A handle with the pipe that its expression writes to: reads that end as the expression does, and the text of all that is read.
+//! A handle with the pipe that its expression writes to: reads that at EOF end as the expression
+//! does, and the text of all bytes that are read.
 #![tactic(auto)]
 
 mod error;

@@ -109,7 +109,7 @@ impl<S: System, R: Wait> ReaderHandle<S, R> {
 
     /// Reads into the buffer and returns how many bytes. It blocks until the pipe has bytes or is
     /// at EOF. At EOF it waits as `Handle::wait_as` does, and returns 0 where the expression ended
-    /// with an output. Where the buffer has no room it returns 0 and asks nothing.
+    /// with an output. Where the buffer has no room it returns 0 and reads nothing.
     ///
     /// Fails with `Error::System` for a fault of the pipe; the next read reads on. At EOF it fails
     /// as `Handle::wait_as` does: with `Error::Checked` at this and at each further read, with
@@ -129,7 +129,7 @@ impl<S: System, R: Wait> ReaderHandle<S, R> {
         self.close_as(seen)
     }
 
-    // Waits for what runs, as a read does at the end of the pipe.
+    // Waits for what runs, as a read does at EOF.
     fn close_as(&self, seen: &mut Seen<S>) -> Result<usize, Error>
         requires { seen.old.cell ≡ self.now.cell }
         ensures { ClosesAs S.Child.may_answer S.Feed.may_say S.Drain.may_say self.now seen.old

@@ -1,4 +1,4 @@
-//! Bytes as text, without the line ends behind it.
+//! Bytes as text, without the line ends at its end.
 ghost use Rattle.std.specs.Prelude.{◌≡◌, IfOk, IfErr, take, string_bytes};
 ghost use Rattle.std.specs.Str.{IsUtf8};
 ghost use Rattle.duct_system.specs.declared.error.Error.TheVariants.{NotUtf8};
@@ -13,7 +13,7 @@ fn is_line_end(byte: u8) -> bool
     byte == b'\n' || byte == b'\r'
 }
 
-// How many bytes stand before the longest suffix of newlines and carriage returns.
+// How many bytes there are before the longest suffix of newlines and carriage returns.
 fn text_length(bytes: &[u8]) -> usize
     ensures { take result bytes.now ≡ trimmed bytes.now }
 {

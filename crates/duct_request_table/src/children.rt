@@ -1,4 +1,5 @@
-//! Calls of a child: `poll`, `kill`, `signal: 15`, and `ending`, which waits for its end and says how it ended.
+//! Calls on a child: `poll`, `kill`, `signal: 15`, and `ending`, which waits until the child has
+//! ended and gives its exit status.
 use crate::say::{say, tell};
 use duct_base::system::{Child, ExitStatus};
 use duct_table::stop::Stop;
@@ -6,7 +7,9 @@ use std::rt::Clock;
 use std::thread;
 use std::time::Duration;
 
-/// Calls a child.
+/// Makes the call of this key on a child, and appends its result. For any other key than `poll`,
+/// `kill` and `signal`, waits until the child has ended, as `ending` does. Fails if the signal is
+/// not a number, if the wait fails, or on an allocation failure.
 pub fn order<C: Child>(
     rt: &impl Clock,
     child: &mut C,
@@ -22,7 +25,7 @@ pub fn order<C: Child>(
     }
 }
 
-/// Waits for a child's end, over which its number and its id stay.
+/// Waits until a child has ended. Its number and its id have to stay the same.
 fn end<C: Child>(rt: &impl Clock, child: &mut C, said: &mut String) -> Result<(), Stop> {
     let names = (child.number(), child.id());
     let status = ending(rt, child)?;
@@ -34,7 +37,9 @@ fn end<C: Child>(rt: &impl Clock, child: &mut C, said: &mut String) -> Result<()
     }
 }
 
-/// Polls a child until it has ended, for half a minute at most.
+/// Polls a child until it has ended, and returns its exit status. Blocks the thread: it polls at
+/// most 3000 times, and sleeps 10 milliseconds between two polls. Fails at the first poll that
+/// returns a fault, or if the child is still running in the end.
 pub fn ending<C: Child>(rt: &impl Clock, child: &mut C) -> Result<ExitStatus, Stop> {
     for _ in 0..3000 {
         if let Some(ending) = child.poll()? {

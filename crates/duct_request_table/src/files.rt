@@ -1,5 +1,6 @@
-//! Lines that change files: `write: f text`, in which `{feed}` is a line feed, `mode: f rw-r--r--`, `make_folder: f`, `remove_folder: f`, `remove: f`, and `clean: f`, which
-//! removes a file if it is there.
+//! Lines that change files: `write: f text`, in which `{feed}` is a line feed, `mode: f rw-r--r--`,
+//! `make_folder: f`, `remove_folder: f`, `remove: f`, and `clean: f`, which removes a file if it is
+//! there.
 use crate::machine::Real;
 use duct_table::stop::Stop;
 use duct_table::words::first_word;
@@ -7,7 +8,7 @@ use std::fs;
 use std::fs::Permissions;
 use std::os::unix::fs::PermissionsExt;
 
-/// Changes files.
+/// Makes the change of this key. Fails if there is no such key, or if the change fails.
 pub fn arrange<R: Real>(rt: &R, key: &str, text: &str) -> Result<(), Stop> {
     let (path, more) = first_word(text);
     let done = match key {
@@ -25,7 +26,7 @@ pub fn arrange<R: Real>(rt: &R, key: &str, text: &str) -> Result<(), Stop> {
     Ok(done?)
 }
 
-/// The mode that a listing shows so.
+/// The mode that a listing shows like this.
 fn mode(shown: &str) -> Result<u32, Stop> {
     match shown {
         "rw-r--r--" => Ok(0o644),

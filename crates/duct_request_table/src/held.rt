@@ -1,10 +1,14 @@
-//! A host with the ends that it gave, by their numbers, and its requests.
+//! A host with its ends, by their numbers, and its requests.
 //!
-//! - `environment`, `pipe`, `open_read: f`, `create: f`, `duplicate: 3`, `parent: out`, `canonicalize: ./x` and `close: 1` say what was
-//!   returned: the numbers of ends, the canonical name, how many variables there are, or the kind of the fault. `clear` empties the journal.
-//! - `feed: 2` starts a worker that writes `xyz`, and `drain: 1` one that reads; they say what it comes to.
-//! - `read: 1` reads to the end and says the text, `stars: 1` how many bytes there were and whether each was a star; `ready: 1` reads the line
-//!   `ready`. `unread: 2` says by which kind of fault a read is refused.
+//! - `environment`, `pipe`, `open_read: f`, `create: f`, `duplicate: 3`, `parent: out` and
+//!   `canonicalize: ./x` append their result: how many variables there are, the numbers of ends,
+//!   the canonical path, or the kind of the fault. A fault of `duplicate` stops the row instead.
+//!   `close: 1` appends nothing, and `clear` empties the journal.
+//! - `feed: 2` starts a worker that writes `xyz`, and `drain: 1` one that reads. Both wait for the
+//!   worker, and append its result.
+//! - `read: 1` reads to EOF and appends the text. `stars: 1` reads to EOF, and appends how many
+//!   bytes there are and whether each one is a star. `ready: 1` reads the line `ready`. `unread: 2`
+//!   appends the kind of fault with which a read fails, if it does.
 ghost use Rattle.std.specs.Prelude.{◌≡◌, ◌+◌, ◌≤◌, [], ◌∷◌, length, vec_len, IfOk, OnOk, OnErr};
 ghost use Rattle.duct_system.specs.Streams.{ends_of};
 
@@ -23,7 +27,7 @@ use std::io::Read;
 use std::rt::Clock;
 use std::sync::Arc;
 
-/// A host, and the ends that it gave and that aren't spent. There is room for the entry of each.
+/// A host, and its ends that aren't spent. The journal has room for an entry of each end.
 #[derive(Drop)]
 pub struct Requests<R> {
     pub system: Host<R>,
@@ -33,7 +37,7 @@ pub struct Requests<R> {
 }
 
 impl<R: Real> Requests<R> {
-    /// A host that has given no end yet.
+    /// Returns the requests of this host, with no ends yet.
     pub fn new(alloc: Global, system: Host<R>) -> Requests<R> {
         Requests {
             system,
@@ -42,7 +46,7 @@ impl<R: Real> Requests<R> {
         }
     }
 
-    /// Keeps an end that was just given, and says its number.
+    /// Keeps a new end, and appends its number.
     fn keep(&mut self, end: End, said: &mut String) -> Result<(), Stop>
         requires { vec_len self.old.ends + 1 ≤ self.old.system.room }
     {
@@ -51,7 +55,9 @@ impl<R: Real> Requests<R> {
         say(said, &number)
     }
 
-    /// Asks the system for what this key says. Returns whether it is a request.
+    /// Makes the request of this key, and appends its result. Returns whether it is the key of a
+    /// request. Blocks while a worker runs or a read waits. Fails if there is no such end, if the
+    /// text is malformed, if a read fails, or on an allocation failure.
     pub fn ask(
         &mut self,
         rt: &impl Clock,
@@ -124,7 +130,8 @@ impl<R: Real> Requests<R> {
         self.keep(made, said)
     }
 
-    /// Asks for one more end of what this end reads or writes, and says its number.
+    /// Requests a duplicate of this end. Appends its number, or the kind of the fault. Fails on an
+    /// allocation failure.
     pub fn duplicate_of(&mut self, end: &End, said: &mut String) -> Result<(), Stop> {
         match self.system.duplicate(end) {
             Ok(made) => self.keep(made, said),
@@ -132,7 +139,7 @@ impl<R: Real> Requests<R> {
         }
     }
 
-    /// Starts a worker that writes `xyz`, and says what it comes to.
+    /// Starts a worker that writes `xyz`, waits for it, and appends its result.
     fn feed(&mut self, rt: &impl Clock, number: &str, said: &mut String) -> Result<(), Stop> {
         let bytes = Arc::new(self.alloc, Vec::from_slice(self.alloc, b"xyz")?)?;
         let end = taken(&mut self.ends, number)?;
@@ -142,7 +149,7 @@ impl<R: Real> Requests<R> {
         }
     }
 
-    /// Starts a worker that reads, and says what it comes to, as text.
+    /// Starts a worker that reads, waits for it, and appends its result, with the bytes as text.
     fn drain(&mut self, rt: &impl Clock, number: &str, said: &mut String) -> Result<(), Stop> {
         let end = taken(&mut self.ends, number)?;
         let heard = match self.system.start_drain(end) {
@@ -174,13 +181,15 @@ impl<R: Real> Requests<R> {
         }
     }
 
-    /// The text that is read from an end.
+    /// Reads an end to EOF and returns the text. Fails if there is no such end, or if a read fails.
     pub fn text(&mut self, number: &str) -> Result<String, Stop> {
         let end = taken(&mut self.ends, number)?;
         text_of(self.alloc, self.system.reader(end))
     }
 
-    /// Starts a child with these streams, each `inherit`, `null` or the number of an end.
+    /// Starts a child with these streams, each `inherit`, `null` or the number of an end. Returns
+    /// the child, or the fault if the request is refused. Fails if a stream is malformed or there
+    /// is no such end.
     pub fn spawn(&mut self, spec: CommandSpec, io: &str) -> Result<Result<Child<R>, Fault>, Stop> {
         let io = streams(&mut self.ends, io)?;
         Ok(self.system.spawn(spec, io))
@@ -193,7 +202,7 @@ fn text_of<R: Read + Drop>(alloc: Global, mut reader: R) -> Result<String, Stop>
     Ok(text)
 }
 
-/// Fails unless a child has said that it is ready.
+/// Fails unless the next bytes are the line `ready`.
 fn ready<R: Read + Drop>(mut reader: R) -> Result<(), Stop> {
     let mut line = [0u8; 6];
     reader.read_exact(&mut line)?;
@@ -204,7 +213,7 @@ fn ready<R: Read + Drop>(mut reader: R) -> Result<(), Stop> {
     }
 }
 
-/// By which kind of fault a read is refused, if it is.
+/// The kind of fault with which a read fails, if it does.
 fn refused<R: Read + Drop>(mut reader: R) -> Option<Kind> {
     let mut byte = [0u8; 1];
     match reader.read(&mut byte) {
@@ -222,7 +231,7 @@ fn tell_text(said: &mut String, key: &str, text: &str) -> Result<(), Stop> {
     }
 }
 
-/// Says bytes as text.
+/// Appends bytes as text, or their number if they are not UTF-8.
 fn tell_bytes(said: &mut String, bytes: &[u8]) -> Result<(), Stop> {
     match str::from_utf8(bytes) {
         Ok(text) => say(said, &text),
@@ -230,7 +239,8 @@ fn tell_bytes(said: &mut String, bytes: &[u8]) -> Result<(), Stop> {
     }
 }
 
-/// Takes the end of this number out of others.
+/// Removes the end with this number from a list and returns it. Fails, with the list unchanged, if
+/// the number is malformed or there is no such end.
 pub fn taken<E: Numbered>(ends: &mut Vec<E>, number: &str) -> Result<E, Stop>
     ensures taken { OnOk result (vec_len ends.old ≡ vec_len ends.new + 1) }
     ensures left { OnErr result (vec_len ends.old ≡ vec_len ends.new) }
@@ -242,7 +252,7 @@ pub fn taken<E: Numbered>(ends: &mut Vec<E>, number: &str) -> Result<E, Stop>
     }
 }
 
-/// A stream, `inherit`, `null` or an end by its number, which is taken out of others.
+/// Reads a stream: `inherit`, `null`, or an end by its number, which is removed from a list.
 fn stream<E: Numbered>(ends: &mut Vec<E>, word: Option<&str>) -> Result<Stdio<E>, Stop>
     ensures taken { IfOk result (λ made.
         vec_len ends.old ≡ vec_len ends.new + length (ends_of (made ∷ []))) }
@@ -256,7 +266,7 @@ fn stream<E: Numbered>(ends: &mut Vec<E>, word: Option<&str>) -> Result<Stdio<E>
     }
 }
 
-/// Three streams, whose ends are taken out of others.
+/// Reads three streams, whose ends are removed from a list.
 fn streams<E: Numbered>(ends: &mut Vec<E>, io: &str) -> Result<[Stdio<E>; 3], Stop>
     ensures taken { IfOk result
         (λ made. vec_len ends.old ≡ vec_len ends.new + length (ends_of made)) }

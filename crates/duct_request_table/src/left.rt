@@ -1,24 +1,25 @@
-//! What the process has open, and which children it has.
+//! The file descriptors that the process has open, and its children.
 use crate::machine::open_descriptors;
 use std::alloc::AllocError;
 use std::io::ErrorKind;
 use std::rt::Files;
 use std::{fs, io};
 
-/// How many descriptors are open, and how many children there are, with those that ended and that nobody has asked since.
+/// How many file descriptors are open, and how many children there are, including those that have
+/// ended and are not reaped yet.
 #[derive(Clone, Copy, Debug, PartialEq, Eq)]
 pub struct Left {
     pub descriptors: usize,
     pub children: usize,
 }
 
-/// Adds an id, with a blank behind it.
+/// Appends an id, followed by a space.
 fn add_id(ids: &mut String, id: &str) -> Result<(), AllocError> {
     ids.push_str(id)?;
     ids.push(' ')
 }
 
-/// Adds the ids of the threads.
+/// Appends the ids of the threads.
 fn add_threads<R: Files + AllocGlobal + Clone>(rt: &R, ids: &mut String) -> io::Result<()> {
     for entry in fs::read_dir(rt, "/proc/self/task")? {
         let thread = entry?;
@@ -27,7 +28,8 @@ fn add_threads<R: Files + AllocGlobal + Clone>(rt: &R, ids: &mut String) -> io::
     Ok(())
 }
 
-/// How many children a thread has started. One that ended meanwhile has left them to another.
+/// How many children a thread has started, or 0 if the thread has ended, because its children then
+/// belong to another thread.
 fn children_of<R: Files + AllocGlobal>(rt: &R, thread: &str) -> io::Result<usize> {
     let path = format!(in rt.alloc(); "/proc/self/task/{thread}/children")?;
     match fs::read_to_string(rt, path.as_str()) {
@@ -37,7 +39,8 @@ fn children_of<R: Files + AllocGlobal>(rt: &R, thread: &str) -> io::Result<usize
     }
 }
 
-/// Counts both, the children of every thread. It takes a descriptor to count, and never two at a time.
+/// Counts both, with the children of every thread. Counting itself needs a file descriptor, and
+/// never two at a time. Fails if `/proc` can't be read, or on an allocation failure.
 pub fn count_left<R: Files + AllocGlobal + Clone>(rt: &R) -> io::Result<Left> {
     let descriptors = open_descriptors(rt)?;
     let mut threads = String::new(rt.alloc());

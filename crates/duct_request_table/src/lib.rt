@@ -1,6 +1,7 @@
-//! The table of requests over the real machine, and what tables over that machine share: its runtime, one that stands in front of it,
-//! files, descriptors and children as they are there, specs, journals and what requests return in words.
-//! Test support: nothing here is proved but that it is safe and ends.
+//! The table of requests over the real machine, and what the tables over that machine share: its
+//! runtime, a runtime that wraps it, the files, file descriptors and children that exist, and texts
+//! for specs, journals and the results of requests.
+//! Test support: the only properties proved here are safety and termination.
 #![tactic(auto)]
 
 pub mod children;

@@ -1,4 +1,5 @@
-//! The real machine as tables look at it: its runtime, and the descriptors and children of this process.
+//! The real machine as tables see it: its runtime, and the file descriptors and children of this
+//! process.
 use duct_host::parents::Parents;
 use std::fs::File;
 use std::process::Processes;
@@ -6,7 +7,7 @@ use std::rt::{Clock, Env, Files};
 use std::thread::Threads;
 use std::{env, fs, io};
 
-/// A runtime, as what a host and the tables beside it ask of it.
+/// A runtime with everything that a host and its tables use.
 pub trait Real: Processes
     + Files<File = File>
     + Env
@@ -30,7 +31,7 @@ where
         + Drop,
 {}
 
-/// How many descriptors this process has open.
+/// Returns how many file descriptors this process has open. Fails if `/proc/self/fd` can't be read.
 pub fn open_descriptors<R: Files + Alloc + Clone>(rt: &R) -> io::Result<usize> {
     let mut count = 0usize;
     for entry in fs::read_dir(rt, "/proc/self/fd")? {
@@ -40,12 +41,15 @@ pub fn open_descriptors<R: Files + Alloc + Clone>(rt: &R) -> io::Result<usize> {
     Ok(count)
 }
 
-/// The ids of the children of this thread in the order of their starts, also of those that ended and that nobody has asked since.
+/// Returns the ids of the children of this thread in the order of their starts, including those
+/// that have ended and are not reaped yet. Fails if `/proc/thread-self/children` can't be read.
 pub fn children_text<R: Files + AllocGlobal>(rt: &R) -> io::Result<String> {
     fs::read_to_string(rt, "/proc/thread-self/children")
 }
 
-/// The text of a file of rows: `{place}` begins the path of a file of this process, and `{id}` is the number of this process.
+/// Returns the text of a file of rows, in which `{place}` is replaced by the beginning of the path
+/// of a file of this process, and `{id}` by the id of this process. Fails if the folder for
+/// temporary files or the id can't be determined, or on an allocation failure.
 pub fn filled<R: Files + Env + AllocGlobal>(rt: &R, text: &str) -> io::Result<String> {
     let alloc = rt.alloc();
     let folder = env::temp_dir(rt)?.into_string();

@@ -1,10 +1,12 @@
-//! A runtime that stands in front of another one. What it answers of processes and of its environment is written in texts; the rest it
-//! asks the other.
+//! A runtime that wraps another one. Its results for processes and the entries of its environment
+//! come from texts. It passes the rest to the other runtime.
 //!
-//! Commas part the answers, and each question takes the next one: a start, a poll, a wait and a kill, of children and of the shell
-//! alike, a pipe, a duplicate of a stream of the parent's, and what is asked of `/dev/zero`. `ok` is a process that starts, goes on, or
-//! takes a kill, and else has the other runtime asked. `status 256` is an end, as the machine writes it. Another word is the kind of a
-//! fault.
+//! The results are separated by commas, and each of these calls takes the next one: a start, a
+//! poll, a wait and a kill, of children and of the shell alike, a pipe, a duplicate of one of the
+//! parent's streams, and opening or canonicalizing `/dev/zero`. `ok` means that a process starts,
+//! is still running or accepts a kill; a wait fails with `Other`; any other call is passed to the
+//! other runtime. `status 256` is the raw status that a poll or a wait returns. Any other word is
+//! the kind of an error.
 ghost use Rattle.std.specs.Io.{WritesAtMost};
 
 use duct_host::parents::Parents;
@@ -26,7 +28,8 @@ use std::sync::{Arc, Wait};
 use std::thread::Threads;
 use std::time::Duration;
 
-/// The answers of rows, a line for each, how many rows were begun, and how many answers of the last one were given.
+/// The results of the rows, one line for each; how many rows have begun; and how many results of
+/// the last row were taken.
 #[derive(Drop)]
 struct Answers {
     rows: String,
@@ -34,14 +37,15 @@ struct Answers {
     given: AtomicUsize,
 }
 
-/// A process that answers by a text. Its clones share the answers.
+/// A process whose results come from a text. Its clones share the results.
 #[derive(Clone, Drop)]
 pub struct Script {
     answers: Arc<Answers>,
 }
 
 impl Script {
-    /// One with the answers of these rows, a line for each. It stands at the first row.
+    /// Returns a process with the results of these rows, one line for each. It is at the first row.
+    /// Fails on an allocation failure.
     pub fn new(alloc: Global, rows: &str) -> Result<Script, AllocError> {
         let answers = Answers {
             rows: String::from_str(alloc, rows)?,
@@ -52,30 +56,30 @@ impl Script {
         Ok(Script { answers })
     }
 
-    /// Begins the next row.
+    /// Begins the next row. The first call begins the first row.
     pub fn begin(&self) {
         let _ = self.answers.begun.fetch_add(1, Ordering::SeqCst);
         self.answers.given.store(0, Ordering::SeqCst);
     }
 
-    /// The answers of the row.
+    /// The results of the current row.
     fn row(&self) -> &str {
         let begun = self.answers.begun.load(Ordering::SeqCst);
         let mut rows = self.answers.rows.as_str().lines();
         rows.nth(begun.saturating_sub(1)).unwrap_or("")
     }
 
-    /// How many questions were asked.
+    /// Returns how many calls asked for a result in the current row.
     pub fn given(&self) -> usize {
         self.answers.given.load(Ordering::SeqCst)
     }
 
-    /// Whether as many questions were asked as there are answers.
+    /// Returns whether as many calls asked for a result in the current row as it has results.
     pub fn is_spent(&self) -> bool {
         self.given() == self.row().split(", ").count()
     }
 
-    /// The next answer. Behind the last one each is a fault.
+    /// Takes the next result. After the last one, each is an error.
     fn next(&self) -> io::Result<Option<ExitStatus>> {
         let place = self.answers.given.fetch_add(1, Ordering::SeqCst);
         let answer = self.row().split(", ").nth(place).unwrap_or("none");
@@ -88,7 +92,7 @@ impl Script {
     }
 }
 
-/// The kind of this name.
+/// The error kind with this name, or `Other`.
 fn kind(name: &str) -> ErrorKind {
     match name {
         "Interrupted" => ErrorKind::Interrupted,
@@ -123,8 +127,9 @@ impl OpenProcess for Script {
     }
 }
 
-/// A runtime with such answers, and with entries of an environment, each with a NUL behind it. A shell that would get the parent's
-/// variables isn't started, nor is one whose streams aren't all null.
+/// A runtime with these results, and with the entries of an environment, each followed by a NUL. It
+/// doesn't start a shell that would get the parent's variables, or one whose streams aren't all
+/// null.
 #[derive(Clone, Drop)]
 pub struct Odd<R> {
     real: R,
@@ -134,7 +139,7 @@ pub struct Odd<R> {
 }
 
 impl<R> Odd<R> {
-    /// One whose environment has no entry.
+    /// Returns a runtime whose environment has no entry.
     pub fn new(alloc: Global, real: R, script: Script) -> Odd<R> {
         Odd {
             real,
@@ -144,7 +149,8 @@ impl<R> Odd<R> {
         }
     }
 
-    /// One whose environment has these entries, and others that it shows at once.
+    /// Returns a runtime whose environment has the entries in `entries` where it is read one by
+    /// one, and those in `shown` where it is read at once.
     pub fn with_entries(real: R, script: Script, shown: String, entries: String) -> Odd<R> {
         Odd {
             real,
@@ -154,7 +160,7 @@ impl<R> Odd<R> {
         }
     }
 
-    /// Takes an answer where `/dev/zero` is asked for.
+    /// Takes a result if the path is `/dev/zero`.
     fn named(&self, path: &str) -> io::Result<()> {
         if path == "/dev/zero" {
             self.script.next()?;
@@ -163,7 +169,7 @@ impl<R> Odd<R> {
     }
 }
 
-/// Whether all that is written to each of these streams is gone.
+/// Whether each of these streams is `/dev/null`.
 fn are_null<R: Processes, B: Allocator + Clone>(
     rt: &R,
     alloc: &B,
@@ -174,7 +180,7 @@ fn are_null<R: Processes, B: Allocator + Clone>(
     Ok(is_null(rt, &looks, stdin)? && is_null(rt, &looks, stdout)? && is_null(rt, &looks, stderr)?)
 }
 
-/// The program that sees whether its stdout is null.
+/// The command that tests whether its stdout is `/dev/null`.
 fn looks<B: Allocator + Clone>(alloc: &B) -> io::Result<Command<B>> {
     let mut looks = Command::new(alloc.clone()?, "/usr/bin/test")?;
     looks.arg("/proc/self/fd/1")?.arg("-ef")?.arg("/dev/null")?;
@@ -182,7 +188,7 @@ fn looks<B: Allocator + Clone>(alloc: &B) -> io::Result<Command<B>> {
     Ok(looks)
 }
 
-/// Whether a program that has this stream for its stdout sees there what it looks for.
+/// Whether this command succeeds with the stream as its stdout.
 fn is_null<R: Processes, B: Allocator + Clone>(
     rt: &R,
     looks: &Command<B>,
@@ -255,7 +261,7 @@ impl<R: Clock> Clock for Odd<R> {
     }
 }
 
-/// Copies an entry to the start of a buffer that it fits in, and returns its length.
+/// Copies an entry to the start of a buffer, and returns its length. Fails if it doesn't fit.
 fn fill(buf: &mut [u8], entry: &[u8]) -> Result<usize, FillError>
     ensures { WritesAtMost result buf.new }
 {

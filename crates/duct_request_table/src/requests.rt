@@ -1,13 +1,19 @@
-//! The table `host requests`: requests of a host on the real machine. Each row has a host of its own.
+//! The table `host requests`: requests of a host on the real machine. Each row has a host of its
+//! own.
 //!
-//! - Requests stand in `held`, calls of the last child in `children`, and changes of files in
-//!   `files`; `{nul}` is a NUL. `{place}` begins the path of a file of this process, and `{id}` is the number of this process.
-//! - `spawn: null 2 inherit (/bin/echo,a b)` has the words of a command in brackets, and none without them. `folder: /in` and
-//!   `variables: A=1,B=2` are those of the commands that follow. `read_id: 1` says whether the text is the child's id and a line feed.
-//! - `journal` says the journal, and `opened` how many more descriptors are open than at first.
-//! - `adopt_pipe: xyz` adopts the ends of a pipe of somebody else with this text in it, and `adopt_file: f` a file; `lend: 1` asks for
-//!   a duplicate of an adopted end, and `drop: 1` drops one.
-//! - `says` is compared: it has what was said behind the last such line. At the end of a row no descriptor is left open.
+//! - `held` describes the requests, `children` the calls on the last child, and `files` the changes
+//!   of files. `{nul}` is a NUL, `{place}` is the beginning of the path of a file of this process,
+//!   and `{id}` is the id of this process.
+//! - `spawn: null 2 inherit (/bin/echo,a b)` has the words of a command in parentheses. Without
+//!   them, the command has no words. `folder: /in` and `variables: A=1,B=2` apply to the commands
+//!   that follow. `read_id: 1` reads to EOF, and appends whether the text is the child's id and a
+//!   line feed.
+//! - `journal` appends the journal, and `opened` how many more file descriptors are open than at
+//!   the beginning of the row.
+//! - `adopt_pipe: xyz` adopts both ends of a new pipe with this text in it, and `adopt_file: f`
+//!   adopts a file. `lend: 1` requests a duplicate of an adopted end, and `drop: 1` drops one.
+//! - `says` is compared with all that was appended after the last such line. At the end of a row,
+//!   as many file descriptors have to be open as at its beginning.
 use crate::children::order;
 use crate::files::arrange;
 use crate::held::{Requests, taken};
@@ -26,7 +32,7 @@ use std::io;
 use std::io::Write;
 use std::mem::replace;
 
-/// A host with its ends, the ends that it adopted, the last child, and what was said so far.
+/// A host with its ends, the adopted ends, the last child, and the text so far.
 #[derive(Drop)]
 struct Row<R: Real> {
     rt: R,
@@ -39,7 +45,7 @@ struct Row<R: Real> {
     opened: usize,
 }
 
-/// The table of requests.
+/// The table of requests over a runtime.
 #[derive(Drop)]
 pub struct HostRequests<R: Real> {
     rt: R,
@@ -47,6 +53,7 @@ pub struct HostRequests<R: Real> {
 }
 
 impl<R: Real> HostRequests<R> {
+    /// Returns a table over this runtime that has read no line yet.
     pub fn new(rt: R) -> HostRequests<R> {
         HostRequests { rt, row: None }
     }
@@ -187,7 +194,7 @@ impl<R: Real> Row<R> {
         say(&mut self.said, &number)
     }
 
-    /// Asks for a duplicate of an adopted end.
+    /// Requests a duplicate of an adopted end.
     fn lend(&mut self, number: &str) -> Result<(), Stop> {
         let end = taken(&mut self.adopted, number)?;
         self.held.duplicate_of(&end, &mut self.said)?;
@@ -208,7 +215,7 @@ fn words_of(text: &str) -> (&str, Option<&str>) {
     }
 }
 
-/// The number that a line has.
+/// The number in a text that is a number and a line feed.
 fn id_in(text: &str) -> Option<u32> {
     text.strip_suffix('\n').and_then(|text| text.parse().ok())
 }

@@ -1,14 +1,14 @@
-//! What lines say: values, each behind the others, and the kinds of faults.
+//! Texts of results: values, one after another, and the kinds of faults.
 use duct_system::system::Fault;
 use duct_table::stop::Stop;
 use std::fmt::{Debug, Write};
 
-/// Says a value.
+/// Appends the debug text of a value, followed by `; `. Fails on an allocation failure.
 pub fn say<T: Debug>(said: &mut String, value: &T) -> Result<(), Stop> {
     Ok(write!(said, "{value:?}; ")?)
 }
 
-/// Says what was returned: a value, or the kind of the fault.
+/// Appends a result: the value, or the kind of the fault. Fails on an allocation failure.
 pub fn tell<T: Debug>(said: &mut String, returned: &Result<T, Fault>) -> Result<(), Stop> {
     match returned {
         Ok(value) => say(said, value),

@@ -1,11 +1,12 @@
-//! The specs of commands that are written as texts: the words that commas part, a folder if its text isn't empty, and variables, as
-//! `A=1,B=2`.
+//! The specs of commands that are written as texts: words separated by commas, a folder if its text
+//! isn't empty, and variables such as `A=1,B=2`.
 use duct_base::names::EnvNameString;
 use duct_base::spec::{CommandSpec, Port, spec_of};
 use std::alloc::{AllocError, Global};
 use std::collections::BTreeMap;
 
-/// The spec of a command, whose streams are inherited. It has no words where there is no text of them.
+/// Builds the spec of a command whose streams are inherited. It has no words if `words` is `None`.
+/// Fails on an allocation failure.
 pub fn spec(
     alloc: Global,
     words: Option<&str>,

@@ -1,10 +1,10 @@
-//! A journal in words: each call with what was asked and what was returned, but for the words of commands, the bytes of inputs and the
-//! variables of the parent.
+//! A journal as a text: each request with its arguments and its result, but without the specs of
+//! commands, the bytes of feeds and the variables of the parent.
 use duct_base::system::Entry;
 use std::alloc::AllocError;
 use std::fmt::{Debug, Write};
 
-/// Adds a journal, a few words for each entry.
+/// Appends a journal, with a short text for each entry. Fails on an allocation failure.
 pub fn story(text: &mut String, entries: &[Entry]) -> Result<(), AllocError> {
     for entry in entries {
         push_entry(text, entry)?;
@@ -34,12 +34,12 @@ fn push_entry(text: &mut String, entry: &Entry) -> Result<(), AllocError> {
     }
 }
 
-/// Adds a call and what was returned.
+/// Appends a request and its result.
 fn push_answer<A: Debug>(text: &mut String, call: &str, answer: &A) -> Result<(), AllocError> {
     write!(text, "{call} {answer:?}; ")
 }
 
-/// Adds a call with what was asked and what was returned.
+/// Appends a request with its argument and its result.
 fn push_request<Q: Debug, A: Debug>(
     text: &mut String,
     call: &str,
@@ -49,7 +49,7 @@ fn push_request<Q: Debug, A: Debug>(
     write!(text, "{call} {asked:?} {answer:?}; ")
 }
 
-/// Adds a call on a path and what was returned.
+/// Appends a request for a path and its result.
 fn push_named<A: Debug>(
     text: &mut String,
     call: &str,

@@ -1,4 +1,4 @@
--- Variables that are said, put in or taken away, and what a look-up finds of them.
+-- Variables that are made of pairs, inserted or removed, and what a look-up finds in them.
 use Rattle.std.specs.Prelude.{Bool, true, false, ℕ, List, [], ◌∷◌, ◌++◌, cond, map, string_bytes, Some, None}
 use Rattle.std.specs.declared.cmp.Ordering.TheVariants.{Less}
 use Rattle.std.specs.declared.string.String.{String}
@@ -16,11 +16,11 @@ use Rattle.duct_system.proofs.Entries.{insert_var, are_ordered}
 use Rattle.duct_system.proofs.Variables.{name_equiv, name_ties, none_there, same_at, variable_in-with, said_of-more}
 use Rattle.duct_start.specs.Found.{Change, Sets, Removes, Replaces, variable}
 
--- what is found of a name in these variables is what was said of it
+-- a look-up of a name in these variables finds what these pairs have for it
 abbrev pub FindsSaid : {Z : Type 0} → List (List ℕ × String Z) → Vars → Type 0
 FindsSaid es said = (name : List ℕ) → variable_in name (map var_view es) ≡ said_of name said
 
--- one more pair that is said and put in
+-- one more pair is inserted
 pub finds_more : {Z : Type 0} (es new : List (List ℕ × String Z))
     (pairs : List (String Z × String Z)) (item : String Z × String Z) (k : List ℕ) (v : String Z)
     → FindsSaid es (map pair_text pairs) → IsStrictlySortedBy name_cmp (keys_of es)
@@ -79,7 +79,7 @@ module _ (name k : List ℕ) where
       → is_same_name name other ≡ true → ⊥
   apart other differ one two = let same = sym (same_at name k other one) ∙ two in let tie = name_ties k other ∙ differ in cc
 
-  -- a name that was taken away is not found in any spelling, and each other name finds what it found
+  -- a removed name is not found in any spelling, and each other name is found as before
   variable_in-remove_entry : (vars : Vars) → AreOrdered vars →
       variable_in name (remove_entry (is_at (name_cmp k)) vars) ≡ cond (is_same_name name k) None (variable_in name vars)
   unfolding IsStrictlySortedBy
@@ -102,7 +102,7 @@ module _ (name k : List ℕ) where
           ∙ gone_later e (variable_in name es) (is_same_name name k) (is_same_name name e.0) (apart e.0 is)
 
 module _ {Z : Type 0} (es new : List (List ℕ × String Z)) where
-  -- a variable that was put in
+  -- a variable that was inserted
   pub put_in : (k : List ℕ) (v : String Z) (other value : List ℕ)
       → k ≡ other → string_bytes v ≡ value → new ≡ insert_entry name_cmp es k v
       → AreOrdered (map var_view es) → (pairs : Vars) (name : List ℕ)
@@ -113,7 +113,7 @@ module _ {Z : Type 0} (es new : List (List ℕ × String Z)) where
       ∙ variable_in-with name (map var_view es) k (string_bytes v) ordered
       ∙ (λ i. cond (is_same_name name (same_name i)) (Some (spelled (same_name i) (variable_in name (map var_view es)), same_value i)) (variable_in name (map var_view es)))
 
-  -- a name that was taken away
+  -- a name that was removed
   pub taken_away : (k : List ℕ) → new ≡ remove_entry (is_at (name_cmp k)) es
       → AreOrdered (map var_view es) → (pairs : Vars) (name : List ℕ)
       → variable_in name (map var_view new)
@@ -122,7 +122,7 @@ module _ {Z : Type 0} (es new : List (List ℕ × String Z)) where
       ap (λ xs. variable_in name (map var_view xs)) is ∙ ap (variable_in name) (removed_vars (is_at (name_cmp k)) es)
       ∙ variable_in-remove_entry name k (map var_view es) ordered
 
--- what is found behind some changes decides what is found from them on
+-- what is found after some changes decides what is found from them on
 pub found_behind : (pairs : Vars) (changes some other : List Change)
     → ((name : List ℕ) → variable pairs some name ≡ variable pairs other name)
     → (name : List ℕ)

@@ -1,4 +1,4 @@
--- Changes of variables that are gathered, the nearest first, and then made, the furthest first.
+-- Changes of variables: collected with the nearest first, then applied with the furthest first.
 use Rattle.std.specs.Prelude.{ℕ, List, [], ◌∷◌, ◌++◌, map, Some, None}
 use Rattle.std.specs.Borrow.{Bor}
 use Rattle.std.specs.BTreeMap.{BTreeMap}
@@ -12,7 +12,7 @@ use Rattle.duct_run.specs.declared.variables.Change as declared
 use Rattle.duct_run.specs.declared.variables.Gathered.{Gathered}
 use Rattle.duct_run.proofs.Changed.{found_behind}
 
--- one more change that was gathered
+-- one more change is collected
 pub one_more : (some more : List declared.Change) (change : declared.Change)
     (outer here all : List Change) → more ≡ some ++ change ∷ []
     → change_of change ∷ outer ≡ here
@@ -21,7 +21,7 @@ one_more some more change outer here all is next so_far =
     ap (λ xs. map change_of xs ++ outer) is ∙ ap (λ xs. xs ++ outer) (map-append change_of some (change ∷ []))
     ∙ append_assoc (map change_of some) (change_of change ∷ []) outer ∙ ap (λ xs. map change_of some ++ xs) next ∙ so_far
 
--- what stands outside of variables that replace all is not looked at
+-- the changes outside variables that replace all others are not read
 pub replaced : (some outer here all : List Change) (vars : Vars) → Replaces vars ∷ outer ≡ here
     → some ++ here ≡ all → (pairs : Vars) (name : List ℕ)
     → variable pairs (some ++ Replaces vars ∷ []) name ≡ variable pairs all name
@@ -29,7 +29,7 @@ replaced some outer here all vars next so_far pairs name =
     found_behind pairs some (Replaces vars ∷ []) (Replaces vars ∷ outer) (λ other. refl) name
     ∙ ap (λ xs. variable pairs xs name) (ap (λ xs. some ++ xs) next ∙ so_far)
 
--- the first variables are those that replace all others
+-- the code begins with the variables that replace all others
 pub begun_whole : (gathered : Gathered) (whole : Bor (BTreeMap (List ℕ) (String Global)))
     (vars : Vars) → gathered.whole ≡ Some whole → vars ≡ map var_view whole.now.entries
     → (pairs : Vars) (name : List ℕ)
@@ -39,7 +39,7 @@ begun_whole gathered whole vars is same pairs name =
     ap (λ vs. variable pairs (map change_of gathered.changes.items ++ Replaces vs ∷ []) name) same
     ∙ ap (λ o. variable pairs (map change_of gathered.changes.items ++ whole_of o) name) (sym is)
 
--- or what the environment says
+-- or with those of the environment
 pub begun_said : (gathered : Gathered) (vars pairs : Vars) → gathered.whole ≡ None
     → ((name : List ℕ) → variable_in name vars ≡ said_of name pairs) → (name : List ℕ)
     → variable pairs (map change_of gathered.changes.items ++ Replaces vars ∷ []) name
@@ -48,7 +48,7 @@ begun_said gathered vars pairs is said name =
     found_behind pairs (map change_of gathered.changes.items) (Replaces vars ∷ []) [] said name
     ∙ ap (λ o. variable pairs (map change_of gathered.changes.items ++ whole_of o) name) (sym is)
 
--- the furthest change that is left is made
+-- the furthest remaining change is applied
 pub one_made : (old left : List declared.Change) (change : declared.Change)
     (before after pairs : Vars) → old ≡ left ++ change ∷ []
     → ((name : List ℕ)

@@ -1,4 +1,5 @@
--- A run that was refused, and then gave up what it held, is a start that is refused, and leaves its children to the pool.
+-- A run that failed and gave up what it held is a start that failed and left its children to the
+-- pool.
 use Rattle.std.proofs.Common.{◌≡◌, ℕ, ◌+◌, ◌*◌, ◌^◌, ◌<◌, ◌≤◌, List, [], ◌++◌, length, arith, length-append}
 use Rattle.std.proofs.lemmas.List.{length-reverse}
 use Rattle.std.specs.Prelude.{map, reverse}
@@ -33,7 +34,7 @@ module _ {E H C F D V W : Type 0} (allows : Allows H) (refuses : Refuses H) (num
   abbrev seen : Holdings
   seen = held_view number_of child feed drain held
 
-  -- by place it holds the same ends
+  -- the list of ends to close has the same ends as the view of what is held
   same_ends : (n : ℕ) → count_of n (held_ends number_of held) ≡ count_of n (ends seen)
   same_ends n =
       let places = map number_of held.stack.items in

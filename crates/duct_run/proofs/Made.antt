@@ -1,4 +1,5 @@
--- A spec that was made for a command is the one that its tree asks, where the ports are those of where its streams go.
+-- The spec that is made for a command is the one that its tree asks for, where each port is that of
+-- its stream's target.
 use Rattle.std.specs.Prelude.{ℕ, List}
 use Rattle.std.proofs.Common.{◌≡◌, ◌∙◌}
 use Rattle.duct_system.specs.SpecView.{SpecView, Vars}

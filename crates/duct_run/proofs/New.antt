@@ -1,4 +1,5 @@
--- A run that came to its end is a start that runs, where nobody has asked what it holds.
+-- What a successful run holds is a running start, where no child was polled or given an order and
+-- no worker was polled.
 use Rattle.std.proofs.Common.{◌≡◌, ℕ, List, [], ◌∷◌, ◌++◌, refl, ap, sym, ◌∙◌, subst}
 use Rattle.std.proofs.lemmas.List.Elements.{All-append, All-head, All-tail}
 use Rattle.std.specs.List.{All}
@@ -21,7 +22,7 @@ use Rattle.duct_start.proofs.Whole.{segment_is}
 use Rattle.duct_run.specs.HeldView.{AreNew, held_view}
 use Rattle.duct_run.specs.declared.held.Held.{Held}
 
--- jobs that nobody has polled are known by their numbers
+-- jobs that were never polled are determined by their numbers
 unpolled_all : {J V : Type 0} (job : J → JobView V) (jobs : List J)
     → All (λ j. job j ≡ unpolled_job (job j).number) jobs →
     map job jobs ≡ map (λ number. unpolled_job number) (map (λ j. (job j).number) jobs)
@@ -32,7 +33,7 @@ unpolled_all {J} {V} job (j ∷ jobs) all =
 
 module _ {E H C F D V W : Type 0} (child : C → ChildView) (feed : F → JobView V) (drain : D → JobView W) (number_of : E → ℕ) (tree : TreeView E H) (shape : Shape) (held : Held E C F D)
     (new : AreNew child feed drain held) (seen : shape_view shape ≡ shape_of_tree tree) where
-  -- what runs
+  -- what the run leaves
   abbrev pub run : RunningView C F D
   run = record {
     shape = shape;

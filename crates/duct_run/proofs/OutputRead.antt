@@ -1,4 +1,4 @@
--- Where stdout's capture pipe is open, its two ends may be spent.
+-- Where stdout's capture pipe is open, there is room to give away its two ends.
 use Rattle.std.proofs.Common.{◌≡◌, ℕ, ◌≤◌, true, ◌++◌, length, arith, length-append}
 use Rattle.std.specs.Prelude.{Some, None, is_some}
 use Rattle.std.specs.declared.option.Option.{Option}

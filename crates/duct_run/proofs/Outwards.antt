@@ -1,4 +1,4 @@
--- One scope further outwards, as the code reads it.
+-- One step to the scope outside, as the code reads it.
 use Rattle.std.specs.Prelude.{List, ◌++◌, Some, slice_get}
 use Rattle.std.specs.Option.{option_map, option_or}
 use Rattle.std.proofs.Common.{Option, ◌≡◌, ℕ, ◌+◌, ◌-◌, ◌<◌, ◌≤◌, length, get_or, refl, ap, sym, ◌∙◌, arith}
@@ -12,7 +12,7 @@ use Rattle.duct_start.proofs.ScopeIn.{scope_in_root, scope_in_next}
 use Rattle.duct_run.specs.ScopeView.{scope_view, scopes_view, setting_view}
 use Rattle.duct_run.specs.declared.scope.Scope.{Scope}
 
--- this scope was read for an index that is not the root's
+-- this scope was read at an index that is not the root's
 pub record IsRead {E H : Type 0} (scopes : List (Scope E H)) (n : ℕ) (here : Scope E H)
     : Type 0 where
   pub outwards : AreOutwards (scopes_view scopes)
@@ -28,14 +28,14 @@ module _ {E H : Type 0} {scopes : List (Scope E H)} {n : ℕ} {here : Scope E H}
       slice_get-map (λ s. scope_view s) scopes (n - 1)
       ∙ ap (λ o. option_map (λ s. scope_view s) o) (slice_get_read scopes (length scopes) (n - 1) here refl low read.is)
 
-  -- the one outside of it has a lower index
+  -- the index of the scope outside is lower
   pub outer_below : here.outer < n
   outer_below = omega (arith, read.outwards (n - 1) (scope_view here) stands_there, read.above)
 
   pub outer_within : here.outer ≤ length scopes
   outer_within = omega (arith, outer_below, read.within)
 
-  -- it is that of its node inside the one outside of it
+  -- the scope is its node inside the scope outside
   pub is_next : scope_in (scopes_view scopes) n
       ≡ scope_within (said (setting_view here.setting)) (scope_in (scopes_view scopes) here.outer)
   is_next =
@@ -43,28 +43,28 @@ module _ {E H : Type 0} {scopes : List (Scope E H)} {n : ℕ} {here : Scope E H}
       sym (ap (λ m. scope_in (scopes_view scopes) m) next)
       ∙ scope_in_next (scopes_view scopes) (n - 1) (scope_view here) read.outwards stands_there
 
-  -- the folder is what its node sets, or else that of the one outside of it
+  -- the folder is the one that the node sets, or else that of the scope outside
   pub folder_is : (folder : Option (List ℕ)) → folder ≡ (said (setting_view here.setting)).folder
       → option_or folder (scope_in (scopes_view scopes) here.outer).folder
       ≡ (scope_in (scopes_view scopes) n).folder
   folder_is folder set =
       ap (λ o. option_or o (scope_in (scopes_view scopes) here.outer).folder) set ∙ sym (ap (λ (s : plan.Scope E H). s.folder) is_next)
 
-  -- the changes are its node's, and then those of the one outside of it
+  -- the changes are those of the node, then those of the scope outside
   pub changes_are : (changes : List Change) → (said (setting_view here.setting)).changes ≡ changes
       → changes ++ (scope_in (scopes_view scopes) here.outer).changes
       ≡ (scope_in (scopes_view scopes) n).changes
   changes_are changes said =
       sym (ap (λ (s : plan.Scope E H). s.changes) is_next ∙ ap (λ cs. cs ++ (scope_in (scopes_view scopes) here.outer).changes) said)
 
-  -- the hooks are those of the one outside of it, and then its node's
+  -- the hooks are those of the scope outside, then that of the node
   pub hooks_are : (hooks : List (H × List E)) → (said (setting_view here.setting)).hooks ≡ hooks
       → (scope_in (scopes_view scopes) here.outer).hooks ++ hooks
       ≡ (scope_in (scopes_view scopes) n).hooks
   hooks_are hooks said =
       sym (ap (λ (s : plan.Scope E H). s.hooks) is_next ∙ ap (λ hs. (scope_in (scopes_view scopes) here.outer).hooks ++ hs) said)
 
--- nothing stands round the root
+-- the root's scope sets nothing
 pub root_is : {E H : Type 0} (scopes : List (Scope E H)) (n : ℕ) → n ≤ 0
     → scope_in (scopes_view scopes) n ≡ rooted
 root_is scopes n low =

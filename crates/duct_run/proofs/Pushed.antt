@@ -1,4 +1,4 @@
--- The stack of a run, as its table grows and shrinks.
+-- The stack of a run, as its vector grows and shrinks.
 use Rattle.std.proofs.Common.{◌+◌, ◌≤◌, length-append, ◌≡◌, ℕ, ◌<◌, List, [], ◌∷◌, ◌++◌, length, ap, sym, ◌∙◌, subst, get_or, refl, arith}
 use Rattle.std.proofs.Math.Nat.{min-le_right}
 use Rattle.std.proofs.lemmas.List.Elements.{All-append, All-cons, All-nil}
@@ -36,7 +36,7 @@ module _ {E : Type 0} (f : E → ℕ) where
       → stack_view f v ≡ f y ∷ f x ∷ stack_view f t
   pushed_two t u v x y one two = pushed u v y two ∙ ap (λ (l : List ℕ). f y ∷ l) (pushed t u x one)
 
-  -- what stands at an index of the table stands at that depth of the stack
+  -- the item at an index of the vector is at that depth of the stack
   pub at_depth : (t : List E) (n : ℕ) (x d : E) → n < length t → x ≡ get_or t n d
       → level (stack_view f t) n ≡ Some (f x)
   at_depth t n x d within is =
@@ -48,36 +48,36 @@ module _ {E : Type 0} (f : E → ℕ) where
   pub length_stack : (t : List E) → length (stack_view f t) ≡ length t
   length_stack t = length-reverse (map f t) ∙ length-map t f
 
--- the same stack, written otherwise
+-- the same stack in another form
 pub goes_over : {E H : Type 0} (allows : Allows H) (number_of : E → ℕ) (act : Action E H)
     (now next : JournalView) (held : Holdings) (s t : List ℕ) → t ≡ s
     → Goes allows number_of act now next held (holding s held)
     → Goes allows number_of act now next held (holding t held)
 goes_over allows number_of act now next held s t is goes = subst (λ l. Goes allows number_of act now next held (holding l held)) (sym is) goes
 
--- the same holdings, written otherwise
+-- the same holdings in another form
 pub goes_as : {E H : Type 0} (allows : Allows H) (number_of : E → ℕ) (act : Action E H)
     (now next : JournalView) (held kept other : Holdings) → other ≡ kept
     → Goes allows number_of act now next held kept
     → Goes allows number_of act now next held other
 goes_as allows number_of act now next held kept other is goes = subst (λ l. Goes allows number_of act now next held l) (sym is) goes
 
--- all of a list with one more
+-- a property of all items of a list, for the list with one more item
 pub all_pushed : {A : Type 0} (P : A → Type 0) (t u : List A) (x : A) → u ≡ t ++ x ∷ []
     → All P t → P x → All P u
 all_pushed P t u x is all one = subst (λ l. All P l) (sym is) (All-append P t (x ∷ []) all (All-cons P x [] one (All-nil P)))
 
--- nothing was asked
+-- no request was made
 pub still : (now : JournalView) → AddsNothing now now
 still now = record { entries_are = refl; added_is = refl; next_grows = omega arith; room_grows = omega arith }
 
--- the same bytes, written otherwise
+-- the same bytes in another form
 pub as_bytes : (n : ℕ) (given bytes : List ℕ) (answer : Result (Unit {0}) Fault)
     (now next : JournalView) → given ≡ bytes → GivesEnds (Feed n given answer) 1 now next
     → GivesEnds (Feed n bytes answer) 1 now next
 as_bytes n given bytes answer now next is gives = subst (λ (l : List ℕ). GivesEnds (Feed n l answer) 1 now next) is gives
 
--- a job with this view has its number in it
+-- a job with the view of an unpolled job of some number has that number
 pub unpolled_same : {V : Type 0} (view : JobView V) (n : ℕ) → view ≡ unpolled_job n
     → view ≡ unpolled_job view.number
 unpolled_same {V} view n is = is ∙ ap (λ (v : JobView V). unpolled_job v.number) (sym is)
@@ -88,13 +88,13 @@ long_stream f Inherit = refl
 long_stream f Null = refl
 long_stream f (End e) = refl
 
--- the ends of three streams are as many as those of their numbers
+-- three streams have as many ends as their views have numbers
 pub many_as : {E : Type 0} (f : E → ℕ) (s : Streams E)
     → length (end_of (stream_of f s.input)) + (length (end_of (stream_of f s.output))
     + length (end_of (stream_of f s.error))) ≡ many_ends s
 many_as f s = omega (arith, long_stream f s.input, long_stream f s.output, long_stream f s.error)
 
--- what three ports take stood on the stack
+-- the ends that three ports take were on the stack
 pub hand_fits : {E : Type 0} (f : E → ℕ) (s : Streams E) (ports : Three Port) (stack : List ℕ)
     → many ports.input + (many ports.output + many ports.error) ≤ length stack
     → streams_view f s ≡ taken_by ports stack → many_ends s ≤ length stack
@@ -102,7 +102,7 @@ hand_fits f s ports stack full is =
     let all : length (handed (streams_view f s) (left_by ports stack)) ≡ length stack = ap (λ (t : Three (Stdio ℕ)). length (handed t (left_by ports stack))) is ∙ ap (λ l. length l) (handed_taken ports stack full) in
     omega (arith, all, handed_long (streams_view f s) (left_by ports stack), many_as f s)
 
--- the ends of a spawn
+-- the number of ends of a spawn
 pub many_given : {E : Type 0} (f : E → ℕ) (s : Streams E)
     → length (ends_of (s.input ∷ s.output ∷ s.error ∷ [])) ≡ many_ends s
 many_given f s =

@@ -1,4 +1,4 @@
--- A request that went on, and one that stopped.
+-- A request that succeeded, and one that failed.
 use Rattle.std.specs.Prelude.{Ok, Err}
 use Rattle.duct_system.specs.declared.error.Error.{Error}
 use Rattle.duct_start.specs.Actions.{Action}

@@ -1,4 +1,5 @@
--- What goes on or is refused wherever a run stands does so too where the system answered these variables.
+-- An action that succeeds or fails from any state of a run does so where the system returned these
+-- variables.
 use Rattle.std.proofs.Common.{ℕ, OnOk, IfErr}
 use Rattle.std.proofs.lemmas.Result.{on_ok_weaker, IfErr-weaker}
 use Rattle.std.specs.declared.result.Result.{Result}

@@ -1,4 +1,4 @@
--- One action more of a run's list, where the system answered these variables.
+-- One more action of a run's list, where the system returned these variables.
 use Rattle.std.proofs.Common.{◌≡◌, ℕ, ◌+◌, ◌<◌, ◌≤◌, List, [], ◌∷◌, ◌++◌, All, length, map, drop, get_or, suc, refl, ap, sym, ◌∙◌, arith, subst}
 use Rattle.std.proofs.lemmas.List.{drop_all, get_or-map, length-map}
 use Rattle.std.proofs.lemmas.List.Elements.{All-get_or}
@@ -35,13 +35,13 @@ use Rattle.duct_run.specs.declared.held.Held.{Held}
 use Rattle.duct_start.proofs.Running.{items_grow}
 use Rattle.duct_run.proofs.Pushed.{still}
 
--- whether a pipe is held is seen by its numbers
+-- a mapped option has a value where the option has one
 pub some_mapped : {A B : Type 0} (f : A → B) (o : Option A)
     → is_some (option_map f o) ≡ is_some o
 some_mapped f None = refl
 some_mapped f (Some x) = refl
 
--- an action pops as many ends, whatever its scope
+-- an action pops as many ends in each scope
 pub pops_resolved : {E H : Type 0} (scopes : List (Scope E H)) (act : ActionOf E ℕ)
     → pops (resolved scopes act) ≡ pops act
 pops_resolved scopes (action.open_read path) = refl
@@ -58,7 +58,7 @@ pops_resolved scopes (action.spawn i words ports) = refl
 pops_resolved scopes (action.feed bytes) = refl
 pops_resolved scopes (action.finish which) = refl
 
--- the actions from an index on, its own first
+-- the actions from an index on, starting with the one at the index
 pub rest_is : {E H : Type 0} (scopes : List (Scope E H)) (xs : List (declared.Action E)) (i : ℕ)
     (x : declared.Action E) → i < length xs → x ≡ get_or xs i x
     → resolved_all scopes (actions_view (drop i xs))
@@ -67,12 +67,12 @@ rest_is {E} {H} scopes xs i x within is =
     let next : suc i ≡ i + 1 = omega arith in
     ap (λ (l : List (declared.Action E)). resolved_all scopes (actions_view l)) (drop-cons xs i x within ∙ ap (λ (y : declared.Action E). y ∷ drop (suc i) xs) (sym is) ∙ ap (λ (k : ℕ). x ∷ drop k xs) next)
 
--- no action is left behind the last
+-- no action is left after the last
 pub rest_none : {E H : Type 0} (scopes : List (Scope E H)) (xs : List (declared.Action E)) (i : ℕ)
     → length xs ≤ i → resolved_all scopes (actions_view (drop i xs)) ≡ []
 rest_none {E} {H} scopes xs i past = ap (λ (l : List (declared.Action E)). resolved_all scopes (actions_view l)) (drop_all i xs past)
 
--- the action at an index names a scope that is there, as all do
+-- the action at an index names an existing scope, as all do
 pub within_at : {E : Type 0} (count : ℕ) (xs : List (declared.Action E)) (i : ℕ)
     (x : declared.Action E) → i < length xs → x ≡ get_or xs i x
     → All (IsWithin count) (actions_view xs) → IsWithin count (action_view x)
@@ -107,7 +107,7 @@ module _ {E C F D V W : Type 0} (end : E → ℕ) (child : C → ChildView) (fee
     error_worker = subst (λ (o : Option D). All (λ d. drain d ≡ unpolled_job (drain d).number) (option_to_list o)) (sym same.error_worker) is.error_worker;
   }
 
--- the workers stay, over one action and over several
+-- the workers are the same after one action and after several
 pub workers_same : {E C F D : Type 0} (old new : Held E C F D) → AreSame old new
     → HasSameWorkers old new
 workers_same old new same = record { output_worker = same.output_worker; error_worker = same.error_worker }
@@ -145,7 +145,7 @@ module _ {E H : Type 0} (allows : Allows H) (refuses : Refuses H) (number_of : E
               stopped_by_as (trace (stopped.added ++ l)) place error (slice_get items place) (slice_get (items ++ more) place) (λ x there. get_front items more place x there) (refused.cause is l later);
         }
 
-    -- a run is at its goal where no action is left
+    -- a run is at its goal when no action is left
     pub stands_done : (goal : State E H) (actions : List (Action E H)) (now : JournalView)
         (held : Holdings) → actions ≡ []
         → Stood allows number_of course goal actions now held
@@ -162,7 +162,7 @@ module _ {E H : Type 0} (allows : Allows H) (refuses : Refuses H) (number_of : E
       goal_here : after stood.state (act ∷ rest) ≡ goal
       goal_here = ap (λ (l : List (Action E H)). after stood.state l) (sym is) ∙ stood.goal_is
 
-      -- it goes on
+      -- the action succeeds
       pub goes_on_saying : (next : JournalView) (other : Holdings)
           → GoesSaying allows number_of pairs act now next kept other
           → Stood allows number_of course goal rest next other
@@ -173,7 +173,7 @@ module _ {E H : Type 0} (allows : Allows H) (refuses : Refuses H) (number_of : E
         goal_is = goal_here;
       }
 
-      -- it is refused
+      -- the action fails
       pub refused_now : (next : JournalView) (other : Holdings) (error : Error)
           → RefusedSaying allows refuses number_of pairs act now next kept other error
           → Refused allows refuses number_of course goal.plan.items next other error
@@ -183,13 +183,13 @@ module _ {E H : Type 0} (allows : Allows H) (refuses : Refuses H) (number_of : E
           subst (λ (l : List (Item E H)). Refused allows refuses number_of course l next other error) all
           (refused_more (advance stood.state act).plan.items more.0 next other error (refused course stood.state same ready_here.0 stood.stands))
 
-      -- without memory nothing was asked
+      -- on allocation failure no request was made
       pub memory_refused : (error : Error) → error ≡ Memory
           → Refused allows refuses number_of course goal.plan.items now kept error
       memory_refused error memory = plain_refused allows refuses number_of course goal.plan.items now kept error (λ hooks. subst (λ (e : Error). IsHooks e) memory hooks)
           (memory_now allows number_of course goal actions rest act now kept stood is now error (still now) (subst (λ (e : Error). IsWantOfMemory e) (sym memory) tt))
 
-      -- what the action needs is held, with room to give it back
+      -- what the action needs is held, and there is room to give it away
       pub can_here : (pops act ≤ length kept.stack) × CanDo act kept
       can_here = can_now allows number_of course goal actions rest act now kept stood is
 

@@ -12,7 +12,7 @@ use Rattle.duct_run.specs.declared.action.Ports.{Ports}
 abbrev pub ports_view : Ports → Three Port
 ports_view ports = record { input = ports.input; output = ports.output; error = ports.error }
 
--- an action; paths, words and bytes as what they are made of
+-- an action; paths, words and bytes as lists of bytes
 abbrev pub action_view : {E : Type 0} → Action E → ActionOf E ℕ
 action_view (OpenRead path) = action.open_read path.now
 action_view (Create path) = action.create path.now

@@ -1,4 +1,4 @@
--- What the scopes round a command ask of the variables, as it is gathered.
+-- The changes that the scopes around a command make to the variables, as the code collects them.
 use Rattle.std.specs.Prelude.{ℕ, List, [], ◌∷◌, ◌++◌, map, Some, None}
 use Rattle.std.specs.Borrow.{Bor}
 use Rattle.std.specs.BTreeMap.{BTreeMap}
@@ -16,7 +16,7 @@ abbrev pub change_of : declared.Change → Change
 change_of (Sets name value) = found.Sets name.now value.now
 change_of (Removes name) = found.Removes name.now
 
--- the variables in place of all others, if there are such
+-- the variables that replace all others, if a scope sets them
 abbrev pub whole_of : {Z : Type 0} → Option (Bor (BTreeMap (List ℕ) (String Z))) → List Change
 whole_of None = []
 whole_of (Some vars) = Replaces (map var_view vars.now.entries) ∷ []

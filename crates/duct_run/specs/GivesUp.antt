@@ -1,4 +1,4 @@
--- A run that was refused, and gave up what it held.
+-- A run that failed and gave up what it held.
 use Rattle.std.specs.Prelude.{ℕ, List, []}
 use Rattle.duct_base.specs.Pool.{PoolView, IsGiven}
 use Rattle.duct_system.specs.Child.{Answer, ChildView}
@@ -14,7 +14,8 @@ use Rattle.duct_run.specs.HeldEnds.{held_ends}
 use Rattle.duct_run.specs.HeldView.{AreNew, held_view}
 use Rattle.duct_run.specs.declared.held.Held.{Held}
 
--- the run was refused with this error and held this; the pool was swept while it ran, each end was closed, and each child given
+-- the run failed with this error and held this; the pool was swept while it ran, each end was
+-- closed, and each child was given to the pool
 pub record GivesUp {E H C F D V W : Type 0} (allows : Allows H) (refuses : Refuses H)
     (end : E → ℕ) (child : C → ChildView) (feed : F → JobView V) (drain : D → JobView W)
     (may : ℕ → Answer → Type 0) (ending : Ending E H) (actions : List (Action E H))

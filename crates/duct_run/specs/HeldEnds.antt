@@ -4,7 +4,8 @@ use Rattle.std.specs.Option.{option_map}
 use Rattle.duct_start.specs.Holdings.{pair_of}
 use Rattle.duct_run.specs.declared.held.Held.{Held}
 
--- all ends by numbers, in order of place: the stack from its bottom, then the pipe of stdout and that of stderr
+-- the numbers of all ends, in the order in which they are closed: the stack from its bottom, then
+-- the capture pipes of stdout and stderr
 abbrev pub held_ends : {E C F D : Type 0} → (E → ℕ) → Held E C F D → List ℕ
 held_ends number_of held =
     let numbers = option_map (λ pair. (number_of pair.0, number_of pair.1)) in

@@ -11,11 +11,11 @@ use Rattle.duct_start.specs.Holdings.{Holdings}
 use Rattle.duct_start.specs.Standing.{Course, Stood}
 use Rattle.duct_run.specs.declared.held.Held.{Held}
 
--- the stack by numbers, its top first
+-- the numbers of the ends on the stack, the top first
 abbrev pub stack_view : {E : Type 0} → (E → ℕ) → List E → List ℕ
 stack_view number_of items = reverse (map number_of items)
 
--- all that is held by numbers
+-- all that is held, by numbers
 abbrev pub held_view : {E C F D V W : Type 0} → (E → ℕ) → (C → ChildView) → (F → JobView V)
     → (D → JobView W) → Held E C F D → Holdings
 held_view end child feed drain held = record {
@@ -28,7 +28,7 @@ held_view end child feed drain held = record {
       (option_to_list held.output_worker ++ option_to_list held.error_worker);
 }
 
--- the same is held
+-- both hold the same
 pub record AreSame {E C F D : Type 0} (old new : Held E C F D) : Type 0 where
   pub stack : new.stack.items ≡ old.stack.items
   pub output : new.output ≡ old.output
@@ -54,7 +54,7 @@ pub record HasRoom {E C F D : Type 0} (held : Held E C F D) : Type 0 where
   pub children : vec_len held.children + 1 ≤ vec_capacity held.children
   pub feeds : vec_len held.feeds + 1 ≤ vec_capacity held.feeds
 
--- nobody has asked the children or polled the workers
+-- no child was polled or given an order, and no worker was polled
 pub record AreNew {E C F D V W : Type 0} (child : C → ChildView) (feed : F → JobView V)
     (drain : D → JobView W) (held : Held E C F D) : Type 0 where
   pub children : All (λ c. IsUnasked (child c)) held.children.items
@@ -69,7 +69,7 @@ pub record HasSameWorkers {E C F D : Type 0} (old new : Held E C F D) : Type 0 w
   pub output_worker : new.output_worker ≡ old.output_worker
   pub error_worker : new.error_worker ≡ old.error_worker
 
--- some run stands before these actions, where the system answered these variables
+-- some run has these actions left to perform, where the system returned these variables
 abbrev pub SomeStood : {E H : Type 0} → Allows H → (E → ℕ) → Vars → List (Action E H)
     → JournalView → Holdings → Type 0
 SomeStood {E} {H} allows number_of pairs actions now held =

@@ -1,4 +1,4 @@
--- The spec that is made for a command, by the scope that it stands in.
+-- The spec that is made for a command in its scope.
 use Rattle.std.specs.Prelude.{ℕ, List, ◌≡◌, string_bytes, Some, None}
 use Rattle.std.specs.declared.option.Option.{Option}
 use Rattle.std.specs.declared.string.String.{String}
@@ -13,13 +13,13 @@ use Rattle.duct_start.specs.Commands.{Names}
 use Rattle.duct_start.specs.Found.{variable}
 use Rattle.duct_start.specs.Plan.{program_of}
 
--- the program of some words: its canonical name where one was asked, or the first word
+-- the program of some words: its canonical path where that was asked for, else the first word
 abbrev pub program_text : {Z : Type 0} → Option (String Z) → List (List ℕ) → List ℕ
 program_text None words = program_of words
 program_text (Some program) words = string_bytes program
 
--- the spec has these words with this program, the folder and the variables of the scope, each name once and in order, and these
--- ports
+-- the spec has these words with this program, the folder and the variables of the scope, each name
+-- once and in order, and these ports
 pub record IsMade {E H : Type 0} (pairs : Vars) (program : List ℕ) (scope : Scope E H)
     (words : List (List ℕ)) (ports : Three Port) (spec : SpecView) : Type 0 where
   pub words_are : spec.words ≡ with_program program words
@@ -28,7 +28,7 @@ pub record IsMade {E H : Type 0} (pairs : Vars) (program : List ℕ) (scope : Sc
   pub vars_ordered : AreOrdered spec.vars
   pub ports_are : (stream : Stream) → port_of stream spec ≡ port_in ports stream
 
--- the spec is made with the name that was found for the program, where one was asked
+-- the spec is made with the canonical path of the program, where that was asked for
 pub record IsPrepared {E H : Type 0} (allows : Allows H) (number_of : E → ℕ) (pairs : Vars)
     (scope : Scope E H) (words : List (List ℕ)) (ports : Three Port) (now next : JournalView)
     (spec : SpecView) : Type 0 where

@@ -1,4 +1,4 @@
--- A canonical name that was refused.
+-- A canonical path that the system refused.
 use Rattle.std.specs.Prelude.{ℕ, List, ◌≡◌, true, Err}
 use Rattle.duct_system.specs.EntryView.{Canonicalize}
 use Rattle.duct_system.specs.Journal.{JournalView, IsRefused}
@@ -9,7 +9,7 @@ use Rattle.duct_start.specs.Actions.{Scope}
 use Rattle.duct_start.specs.Commands.{is_named}
 use Rattle.duct_start.specs.Plan.{program_of}
 
--- it was to be asked, and the system refused it with this error
+-- the command needs the canonical path of its program, and the system refused it with this error
 pub record NameRefused {E H : Type 0} (scope : Scope E H) (words : List (List ℕ))
     (now next : JournalView) (error : Error) : Type 0 where
   pub fault : Fault

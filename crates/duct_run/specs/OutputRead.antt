@@ -5,7 +5,7 @@ use Rattle.std.specs.declared.option.Option.{Option}
 use Rattle.duct_system.specs.EntryView.{Close, Reader}
 use Rattle.duct_system.specs.Journal.{JournalView, GivesEnds}
 
--- a capture pipe by numbers, if it is open
+-- the numbers of the two ends of a capture pipe, if it is open
 abbrev pub pipe_view : {E : Type 0} → (E → ℕ) → Option (E × E) → Option (ℕ × ℕ)
 pipe_view end pipe = option_map (λ ends. (end ends.0, end ends.1)) pipe
 

@@ -10,7 +10,7 @@ use Rattle.duct_run.specs.declared.scope.Setting.{Setting}
 use Rattle.duct_run.specs.declared.scope.Setting.TheVariants.{Dir, Env, EnvRemove, FullEnv, BeforeSpawn}
 use Rattle.duct_run.specs.declared.scope.Scope as declared
 
--- what the node of a scope says
+-- what the node of a scope sets
 abbrev pub setting_view : {E H : Type 0} → Setting E H → Says E H
 setting_view (Dir path) = says_folder path.now
 setting_view (Env name value) = says_change (Sets name.now value.now)
@@ -18,7 +18,7 @@ setting_view (EnvRemove name) = says_change (Removes name.now)
 setting_view (FullEnv vars) = says_change (Replaces (map var_view vars.now.entries))
 setting_view (BeforeSpawn hook ends) = says_hook hook.now ends.now
 
--- a scope with the index of the one outside of it
+-- a scope with the index of the scope outside it
 abbrev pub scope_view : {E H : Type 0} → declared.Scope E H → ListedScope E H
 scope_view scope = (setting_view scope.setting, scope.outer)
 
@@ -26,6 +26,6 @@ scope_view scope = (setting_view scope.setting, scope.outer)
 abbrev pub scopes_view : {E H : Type 0} → List (declared.Scope E H) → List (ListedScope E H)
 scopes_view scopes = map (λ s. scope_view s) scopes
 
--- what stands round the commands of a list, the root's first
+-- what each scope of a list sets for its commands, the root's first
 abbrev pub all_scopes : {E H : Type 0} → List (declared.Scope E H) → List (Scope E H)
 all_scopes scopes = scopes_from (rooted ∷ []) (scopes_view scopes)

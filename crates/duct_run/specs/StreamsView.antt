@@ -5,7 +5,7 @@ use Rattle.duct_system.specs.declared.system.Stdio.{Stdio}
 use Rattle.duct_start.specs.Actions.{Three}
 use Rattle.duct_run.specs.declared.streams.Streams.{Streams}
 
--- the three by number
+-- the three streams, with ends by number
 abbrev pub streams_view : {E : Type 0} → (E → ℕ) → Streams E → Three (Stdio ℕ)
 streams_view number_of streams = record {
   input = stream_of number_of streams.input;
@@ -13,7 +13,7 @@ streams_view number_of streams = record {
   error = stream_of number_of streams.error;
 }
 
--- how many ends they have
+-- how many ends the three streams have
 abbrev pub many_ends : {E : Type 0} → Streams E → ℕ
 many_ends streams =
     length (end_of streams.input) + (length (end_of streams.output) + length (end_of streams.error))

@@ -1,9 +1,11 @@
--- What contracts read of a system and of its handles.
+-- What contracts read of a system and its handles.
 use Rattle.std.specs.Prelude.{ℕ}
 use Rattle.duct_system.specs.Child.{Answer, ChildView}
 use Rattle.duct_system.specs.Job.{JobView}
 use Rattle.duct_system.specs.Journal.{JournalView}
 
+-- the journal of a system, the number of an end, the views of children and workers, and what a
+-- child may return from a poll
 pub record SystemViews (S E C F D V W : Type 0) : Type 1 where
   pub journal : S → JournalView
   pub number_of : E → ℕ

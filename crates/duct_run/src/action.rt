@@ -1,10 +1,11 @@
-//! The actions of a start, in the order in which they run.
+//! The actions that a start runs.
 use duct_system::spec::Port;
 use duct_system::system::Side;
 use std::alloc::AllocError;
 use std::sync::Arc;
 
-/// The ports of the three streams of a command. The ends of those that are `Given` stand on the stack, stderr's on top.
+/// The ports of the three streams of a command. The ends of the `Given` ports are on the stack,
+/// stderr's on top.
 #[derive(Clone, Copy)]
 pub struct Ports {
     pub input: Port,
@@ -12,31 +13,32 @@ pub struct Ports {
     pub error: Port,
 }
 
-/// One action. What it gets is pushed onto a stack of ends, and what it gives is popped.
+/// One action of a start. An end that it gets is pushed onto the stack of ends, except those of a
+/// capture pipe; an end that it gives away is popped.
 pub enum Action<'a, E> {
-    /// Opens the file to be read.
+    /// Opens the file at this path for reading.
     OpenRead(&'a str),
-    /// Makes the file.
+    /// Creates or empties the file at this path, and opens it for writing.
     Create(&'a str),
-    /// Opens a pipe, and leaves its write end on top.
+    /// Opens a pipe and pushes both ends, the write end on top.
     Pipe,
-    /// Opens a pipe, and leaves its read end on top.
+    /// Opens a pipe and pushes both ends, the read end on top.
     Input,
-    /// Opens the capture pipe of a stream, unless it is open.
+    /// Opens the capture pipe of this stream, unless it is open.
     Capture(Side),
-    /// Duplicates the end at this depth, counted from the bottom.
+    /// Duplicates the end at this depth of the stack, counted from the bottom.
     Duplicate(usize),
-    /// Duplicates the write end of the capture pipe of a stream.
+    /// Duplicates the write end of the capture pipe of this stream.
     Tap(Side),
-    /// Duplicates an end of the caller.
+    /// Duplicates this caller's end.
     Lend(&'a E),
-    /// Gets the parent's own stream.
+    /// Gets one more end of this stream of the parent.
     Parent(Side),
-    /// Closes the top.
+    /// Closes the end on top.
     Close,
-    /// Starts the command of these words inside the scope of this index, with the ends that its ports pop.
+    /// Starts the command with these words in the scope of this index. Its ports pop their ends.
     Spawn(usize, &'a [String], Ports),
-    /// Starts the worker that writes these bytes to the top.
+    /// Starts the worker that writes these bytes to the end on top.
     Feed(&'a Arc<Vec<u8>>),
 }
 

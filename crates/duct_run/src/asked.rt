@@ -1,4 +1,4 @@
-//! The spec that a command is to be asked with, before its hooks: by the scopes round it, its words and its ports.
+//! The spec of a command before its hooks run, made from its scopes, its words and its ports.
 ghost use Rattle.std.specs.Prelude.{◌≡◌, ◌≤◌, length, map, string_bytes, IfOk, IsOkUnless};
 ghost use Rattle.std.specs.Option.{option_copied, option_map};
 ghost use Rattle.duct_system.specs.SpecView.{pair_text};
@@ -16,7 +16,8 @@ use duct_system::error::Error;
 use duct_system::spec::{CommandSpec, spec_of};
 use std::alloc::Global;
 
-/// The folder of a command inside the scope of this index, the root's being 0: that of the nearest scope that sets one.
+/// Returns the folder of a command in the scope of this index (0 is the root's): that of the
+/// nearest scope that sets one.
 pub(crate) fn folder_in<'a, E, H>(scopes: &[Scope<'a, E, H>], scope: usize) -> Option<&'a str>
     requires within { scope ≤ length scopes.now }
     requires outwards { AreOutwards (scopes_view scopes.now) }
@@ -33,7 +34,7 @@ pub(crate) fn folder_in<'a, E, H>(scopes: &[Scope<'a, E, H>], scope: usize) -> O
     None
 }
 
-// The folder that a setting sets.
+// Returns the folder that a setting sets, if it sets one.
 fn folder_of<'a, E, H>(setting: Setting<'a, E, H>) -> Option<&'a str>
     ensures { option_copied result ≡ (said (setting_view setting.entry)).folder }
 {
@@ -46,9 +47,10 @@ fn folder_of<'a, E, H>(setting: Setting<'a, E, H>) -> Option<&'a str>
     }
 }
 
-/// The spec of a command inside the scope of this index, the root's being 0, where these are the pairs of the system's
-/// environment: its words, with the canonical name of its program where one was asked, the folder and the variables of its
-/// scopes, and its ports. Refused, by `Error::Memory`, only for want of memory.
+/// Returns the spec of a command in the scope of this index (0 is the root's). `pairs` is the
+/// environment that the system returned. The spec has the words, with the canonical path of the
+/// program where `program` is one, the folder and the variables of the scopes, and the ports. Fails
+/// only with `Error::Memory`, on allocation failure.
 pub(crate) fn asked_spec<E, H>(
     alloc: Global,
     pairs: &[(String, String)],
@@ -72,7 +74,7 @@ pub(crate) fn asked_spec<E, H>(
     Ok(spec)
 }
 
-// A copy of the words, with this program in place of the first where there is one.
+// Copies the words, with `program` in place of the first one if there is a `program`.
 fn words_with(
     alloc: Global,
     program: Option<String>,
@@ -96,7 +98,7 @@ fn words_with(
     Ok(copy)
 }
 
-// A copy of a text, if there is one.
+// Copies a text, if there is one.
 fn copied(alloc: Global, text: Option<&str>) -> Result<Option<String>, Error>
     ensures text { IfOk result (λ copy. option_map string_bytes copy ≡ option_copied text.entry) }
     ensures memory { IsOkUnless result Error.Memory }

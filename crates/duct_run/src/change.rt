@@ -1,4 +1,4 @@
-//! The hooks of a command, one after the other.
+//! Runs the hooks of a command, one after the other.
 ghost use Rattle.std.specs.Prelude.{◌≡◌, ◌≤◌, ◌+◌, ◌∷◌, [], length, map, OnOk, IfErr};
 ghost use Rattle.std.specs.Option.{option_to_list};
 ghost use Rattle.duct_start.specs.Commands.{Alters, Breaks};
@@ -14,7 +14,8 @@ use duct_system::error::Error;
 use duct_system::spec::{CommandSpec, Hook, Stream};
 use duct_system::system::System;
 
-// Runs one hook: it changes the spec, and its places are looked for among the ends beside it.
+// Runs one hook on the spec, then sets the streams according to the ports of the new spec. A place
+// that the spec names is looked up among the hook's ends.
 fn change<S: System, H: Hook>(
     sys: &mut S,
     hook: &H,
@@ -45,7 +46,7 @@ fn change<S: System, H: Hook>(
     Ok(())
 }
 
-// Runs the hooks of a command inside the scope of this index, the outermost first.
+// Runs the hooks of a command in the scope of this index, the outermost first.
 pub(crate) fn change_all<S: System, H: Hook>(
     sys: &mut S,
     scopes: &[Scope<'_, S::End, H>],
@@ -78,7 +79,7 @@ pub(crate) fn change_all<S: System, H: Hook>(
     }
 }
 
-// The hook of a setting, with the ends beside it.
+// Returns the hook of a setting and the hook's ends, if the setting is a hook.
 fn hook_of<'a, E, H>(setting: Setting<'a, E, H>) -> Option<(&'a H, &'a [E])>
     ensures { (said (setting_view setting.entry)).hooks
         ≡ map (λ pair. (pair.0.now, pair.1.now)) (option_to_list result) }

@@ -1,4 +1,5 @@
-//! A command: the place of its child, its canonical name, its hooks, and its spawn.
+//! Starts a command: makes the seat of its child, asks for the canonical path of its program, runs
+//! its hooks and spawns it.
 
 ghost use Rattle.std.specs.Prelude.{◌≡◌, ◌≤◌, ◌+◌, ◌++◌, length, map, string_bytes, IfOk, IfErr, OnOk, vec_len, vec_capacity};
 ghost use Rattle.duct_system.specs.SpecView.{pair_text};
@@ -30,7 +31,7 @@ use duct_system::error::Error;
 use duct_system::spec::{CommandSpec, Hook, Port};
 use duct_system::system::{Numbered, Stdio, System};
 
-// The program of some words.
+// Returns the program of a command: the first of its words, or an empty text if it has none.
 fn program_of(words: &[String]) -> &str
     ensures { result.now ≡ program_of (map string_bytes words.now) }
 {
@@ -40,7 +41,7 @@ fn program_of(words: &[String]) -> &str
     }
 }
 
-// The canonical name of a command's program, where it is to be asked.
+// Asks for the canonical path of a command's program, if the command needs it.
 fn canonical<S: System, H: Hook>(
     sys: &mut S,
     scopes: &[Scope<'_, S::End, H>],
@@ -63,7 +64,7 @@ fn canonical<S: System, H: Hook>(
     Ok(Some(sys.canonicalize(program)?))
 }
 
-// What a port takes off the stack.
+// Returns the stream of a port. A `Given` port pops the end on top of the stack.
 fn take<E: Numbered>(stack: &mut Vec<E>, port: Port) -> Stdio<E>
     requires { many port ≤ vec_len stack.old }
     ensures stream { stream_of E.number_of result ≡ taken port (stack_view E.number_of
@@ -80,7 +81,7 @@ fn take<E: Numbered>(stack: &mut Vec<E>, port: Port) -> Stdio<E>
     }
 }
 
-// What three ports take off the stack; stderr's end is on top.
+// Returns the streams of three ports. Stderr's end is on top of the stack.
 fn take_all<E: Numbered>(stack: &mut Vec<E>, ports: Ports) -> Streams<E>
     requires { many ports.input + (many ports.output + many ports.error) ≤ vec_len stack.old }
     ensures streams { streams_view E.number_of result ≡ taken_by (ports_view ports) (stack_view
@@ -100,7 +101,7 @@ fn take_all<E: Numbered>(stack: &mut Vec<E>, ports: Ports) -> Streams<E>
     }
 }
 
-// Puts the end of a stream back onto the stack, if it has one.
+// Pushes the end of a stream back onto the stack, if it has one.
 fn put<E: Numbered>(stack: &mut Vec<E>, stream: Stdio<E>)
     requires { vec_len stack.old + 1 ≤ vec_capacity stack.old }
     ensures items { stack_view E.number_of stack.new.items ≡ end_of (stream_of E.number_of stream)
@@ -114,7 +115,7 @@ fn put<E: Numbered>(stack: &mut Vec<E>, stream: Stdio<E>)
     }
 }
 
-// Puts the ends of three streams back onto the stack, stderr's on top.
+// Pushes the ends of three streams back onto the stack, stderr's last.
 fn put_all<E: Numbered>(stack: &mut Vec<E>, streams: Streams<E>)
     requires { vec_len stack.old + 3 ≤ vec_capacity stack.old }
     ensures { stack_view E.number_of stack.new.items
@@ -125,7 +126,8 @@ fn put_all<E: Numbered>(stack: &mut Vec<E>, streams: Streams<E>)
     put(stack, streams.error);
 }
 
-// The place of a command's child, and the spec that is asked of the system, with the canonical name of its program where that is due.
+// Makes the seat of a command's child and the spec of the command before its hooks, with the
+// canonical path of its program where it needs one.
 fn prepared<S: System, H: Hook>(
     sys: &mut S,
     pairs: &Vec<(String, String)>,
@@ -153,7 +155,8 @@ fn prepared<S: System, H: Hook>(
     Ok((seat, spec))
 }
 
-// Starts the command of these words inside the scope of this index, with the ends that its ports take off the stack.
+// Starts the command with these words in the scope of this index, with the ends that its ports pop
+// off the stack.
 pub(crate) fn command<S: System, H: Hook>(
     sys: &mut S,
     pairs: &Vec<(String, String)>,

@@ -1,4 +1,4 @@
-//! What is done once a run has ended: the ends that it holds are closed, and its children are given to a pool.
+//! How a run gives up what it holds: it closes its ends and gives its children to a pool.
 ghost use Rattle.std.specs.Prelude.{◌≡◌, ◌≤◌, length, map};
 ghost use Rattle.std.specs.Option.{option_map};
 ghost use Rattle.duct_base.specs.Pool.{IsGiven};
@@ -10,7 +10,7 @@ use crate::held::Held;
 use duct_base::pool::{Place, Pool, pool_take};
 use duct_system::system::{Child, System};
 
-// Closes each end of a stack, in order of its places.
+// Closes each end of a stack, from the bottom to the top.
 fn close_stack<S: System>(sys: &mut S, stack: Vec<S::End>)
     requires { length (map S.End.number_of stack.items) ≤ (S.journal_view sys.old).room }
     ensures { Closes (map S.End.number_of stack.items) (S.journal_view sys.old)
@@ -21,7 +21,7 @@ fn close_stack<S: System>(sys: &mut S, stack: Vec<S::End>)
     }
 }
 
-// Closes the two ends of a capture pipe, if it is open, the read end first.
+// Closes both ends of a capture pipe, the read end first, if the pipe is open.
 fn close_pair<S: System>(sys: &mut S, pair: Option<(S::End, S::End)>)
     requires { length (pair_of (option_map (λ p. (S.End.number_of p.0, S.End.number_of p.1)) pair))
         ≤ (S.journal_view sys.old).room }
@@ -34,8 +34,9 @@ fn close_pair<S: System>(sys: &mut S, pair: Option<(S::End, S::End)>)
     }
 }
 
-/// Gives these children to a pool, in order. Each is asked once: one that runs goes behind the others, one that ended counts
-/// as reaped, and one that answered a fault as lost. It takes no memory.
+/// Gives these children to a pool, in order. Each is polled once: one that runs is appended to the
+/// pool, one that has ended counts as reaped, and one whose poll returned a fault counts as lost.
+/// It allocates nothing and doesn't block.
 pub fn give_all<C: Child>(pool: &mut Pool<C>, children: Vec<Place<C>>)
     ensures { IsGiven C.may_answer C.child_view children.items pool.old pool.new }
 {
@@ -44,8 +45,8 @@ pub fn give_all<C: Child>(pool: &mut Pool<C>, children: Vec<Place<C>>)
     }
 }
 
-// Closes each end that a run holds, in order of place: its stack from the bottom, then the pipes of stdout and of stderr. Gives its
-// children to a pool, and lets its workers go.
+// Closes each end that a run holds: the stack from the bottom, then the capture pipes of stdout and
+// stderr. Gives its children to a pool and drops its workers.
 pub(crate) fn give_up<S: System>(
     sys: &mut S,
     pool: &mut Pool<S::Child>,

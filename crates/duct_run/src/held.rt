@@ -6,20 +6,27 @@ use duct_system::error::Error;
 use duct_system::system::Numbered;
 use std::alloc::Global;
 
-/// A stack of ends, with the two capture pipes that are open, the read end of each first; the children from left to right and the
-/// input workers, in order; and the workers of stdout's and of stderr's capture pipe.
+/// What a run holds.
 #[derive(Drop)]
 pub struct Held<E, C, F, D> {
+    /// The stack of ends, its top last.
     pub stack: Vec<E>,
+    /// Stdout's capture pipe while it is open: the read end, then the write end.
     pub output: Option<(E, E)>,
+    /// Stderr's capture pipe while it is open: the read end, then the write end.
     pub error: Option<(E, E)>,
+    /// The children, from left to right.
     pub children: Vec<C>,
+    /// The input workers, in the order of their starts.
     pub feeds: Vec<F>,
+    /// The worker of stdout's capture pipe.
     pub output_worker: Option<D>,
+    /// The worker of stderr's capture pipe.
     pub error_worker: Option<D>,
 }
 
-/// Nothing, with room for so many ends, children and input workers. Refused, by `Error::Memory`, only for want of memory.
+/// Returns a `Held` that holds nothing, with room for this many ends, children and input workers.
+/// Fails only with `Error::Memory`, on allocation failure.
 pub fn nothing_held<E: Drop, C: Drop, F: Drop, D: Drop>(
     alloc: Global,
     ends: usize,
@@ -43,7 +50,7 @@ pub fn nothing_held<E: Drop, C: Drop, F: Drop, D: Drop>(
     })
 }
 
-// Pops the top.
+// Pops the end on top.
 pub(crate) fn top<E: Numbered>(stack: &mut Vec<E>) -> E
     requires { 1 ≤ vec_len stack.old }
     ensures items { stack.old.items ≡ stack.new.items ++ result ∷ [] }
@@ -56,7 +63,7 @@ pub(crate) fn top<E: Numbered>(stack: &mut Vec<E>) -> E
     }
 }
 
-// Makes room for what any one action gets. Where there is room already, it takes no memory.
+// Makes room for what any one action gets. It allocates nothing if there is room already.
 pub(crate) fn make_room<E, C, F, D>(held: &mut Held<E, C, F, D>) -> Result<(), Error>
     ensures same { AreSame held.old held.new }
     ensures room { OnOk result (HasRoom held.new) }

@@ -1,4 +1,4 @@
-//! The second half of a start: a list of actions is run over a system. No tree is known here.
+//! The second half of a start: it runs a list of actions on a system. Nothing here knows the tree.
 #![tactic(auto)]
 
 pub mod action;

@@ -1,11 +1,12 @@
-//! The places that a hook names in a spec.
+//! The places that a hook names in a spec: indexes into the hook's ends.
 ghost use Rattle.std.specs.Prelude.{◌≡◌};
 ghost use Rattle.duct_start.specs.Chain.{missing, missing_at, with_found};
 ghost use Rattle.duct_run.specs.Places.{with_places_found};
 
 use duct_system::spec::{CommandSpec, Port, Stream, give};
 
-/// The first place of a spec that is not there among so many ends, in the order stdin, stdout, stderr.
+/// Returns the first place of a spec that is out of range for this many ends, in the order stdin,
+/// stdout, stderr.
 pub(crate) fn missing(count: usize, spec: &CommandSpec) -> Option<usize>
     ensures { result ≡ missing count spec.now }
 {
@@ -14,7 +15,7 @@ pub(crate) fn missing(count: usize, spec: &CommandSpec) -> Option<usize>
         .or(missing_at(count, spec.port(Stream::Err)))
 }
 
-// The place that a port names, if it is not there.
+// Returns the place that a port names, if it is out of range.
 fn missing_at(count: usize, port: Port) -> Option<usize>
     ensures { result ≡ missing_at count port }
 {
@@ -24,7 +25,7 @@ fn missing_at(count: usize, port: Port) -> Option<usize>
     }
 }
 
-/// Makes each stream `Given` whose place was found.
+/// Makes each stream `Given` that names a place.
 pub(crate) fn find(spec: &mut CommandSpec)
     ensures { spec.new ≡ with_places_found spec.old }
 {
@@ -33,7 +34,7 @@ pub(crate) fn find(spec: &mut CommandSpec)
     find_one(spec, Stream::Err);
 }
 
-// Makes a stream `Given` if it has a place.
+// Makes a stream `Given` if it names a place.
 fn find_one(spec: &mut CommandSpec, stream: Stream)
     ensures { spec.new ≡ with_found stream spec.old }
 {

@@ -1,4 +1,5 @@
-//! The requests of a run, one function for each action but a command's.
+//! The requests of a run: one function for each action but the spawn, and those that finish the
+//! capture pipes.
 ghost use Rattle.std.specs.Prelude.{◌≡◌, ◌<◌, ◌≤◌, ◌+◌, length, None, Ok, OnOk, IfErr, IsSome, is_some, vec_len, vec_capacity};
 ghost use Rattle.std.specs.Arc.{arc_value};
 ghost use Rattle.duct_system.specs.declared.system.Side.TheVariants as side;
@@ -15,7 +16,7 @@ use duct_system::spec::Hook;
 use duct_system::system::{Side, System};
 use std::sync::Arc;
 
-// Opens a file to be read.
+// Opens a file for reading.
 pub(crate) fn open_read<S: System, H: Hook>(
     sys: &mut S,
     path: &str,
@@ -30,7 +31,7 @@ pub(crate) fn open_read<S: System, H: Hook>(
     Ok(())
 }
 
-// Makes a file.
+// Creates or empties a file and opens it for writing.
 pub(crate) fn create<S: System, H: Hook>(
     sys: &mut S,
     path: &str,
@@ -45,7 +46,7 @@ pub(crate) fn create<S: System, H: Hook>(
     Ok(())
 }
 
-// Opens a pipe, and leaves its write end on top.
+// Opens a pipe and pushes both ends, the write end on top.
 pub(crate) fn open_pipe<S: System, H: Hook>(
     sys: &mut S,
     held: &mut Held<S::End, Place<S::Child>, S::Feed, S::Drain>,
@@ -60,7 +61,7 @@ pub(crate) fn open_pipe<S: System, H: Hook>(
     Ok(())
 }
 
-// Opens a pipe, and leaves its read end on top.
+// Opens a pipe and pushes both ends, the read end on top.
 pub(crate) fn open_input<S: System, H: Hook>(
     sys: &mut S,
     held: &mut Held<S::End, Place<S::Child>, S::Feed, S::Drain>,
@@ -75,7 +76,7 @@ pub(crate) fn open_input<S: System, H: Hook>(
     Ok(())
 }
 
-// Duplicates the end at a depth.
+// Duplicates the end at a depth of the stack.
 pub(crate) fn duplicate<S: System, H: Hook>(
     sys: &mut S,
     depth: usize,
@@ -91,7 +92,7 @@ pub(crate) fn duplicate<S: System, H: Hook>(
     Ok(())
 }
 
-// Duplicates an end of the caller.
+// Duplicates a caller's end.
 pub(crate) fn lend<S: System, H: Hook>(
     sys: &mut S,
     end: &S::End,
@@ -106,7 +107,7 @@ pub(crate) fn lend<S: System, H: Hook>(
     Ok(())
 }
 
-// Gets one of the parent's own streams.
+// Gets one more end of one of the parent's own streams.
 pub(crate) fn parent<S: System, H: Hook>(
     sys: &mut S,
     side: Side,
@@ -121,7 +122,7 @@ pub(crate) fn parent<S: System, H: Hook>(
     Ok(())
 }
 
-// Closes the top.
+// Closes the end on top.
 pub(crate) fn close<S: System, H: Hook>(
     sys: &mut S,
     held: &mut Held<S::End, Place<S::Child>, S::Feed, S::Drain>,
@@ -240,7 +241,7 @@ pub(crate) fn tap<S: System, H: Hook>(
     }
 }
 
-// Starts the worker that writes the bytes to the top.
+// Starts the worker that writes the bytes to the end on top.
 pub(crate) fn feed<S: System, H: Hook>(
     sys: &mut S,
     bytes: &Arc<Vec<u8>>,
@@ -259,7 +260,7 @@ pub(crate) fn feed<S: System, H: Hook>(
     Ok(())
 }
 
-// Closes the write end of stdout's capture pipe, and starts the worker of its read end, if it is open.
+// If stdout's capture pipe is open, closes its write end and starts the worker of its read end.
 pub(crate) fn finish_out<S: System, H: Hook>(
     sys: &mut S,
     held: &mut Held<S::End, Place<S::Child>, S::Feed, S::Drain>,
@@ -285,7 +286,7 @@ pub(crate) fn finish_out<S: System, H: Hook>(
     Ok(())
 }
 
-// Closes the write end of stderr's capture pipe, and starts the worker of its read end, if it is open.
+// If stderr's capture pipe is open, closes its write end and starts the worker of its read end.
 pub(crate) fn finish_err<S: System, H: Hook>(
     sys: &mut S,
     held: &mut Held<S::End, Place<S::Child>, S::Feed, S::Drain>,

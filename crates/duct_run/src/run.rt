@@ -1,4 +1,4 @@
-//! The run of a list of actions over a system.
+//! Runs a list of actions on a system.
 ghost use Rattle.std.specs.Prelude.{◌≡◌, ◌≤◌, [], All, length, map, OnOk, IfErr, vec_len};
 ghost use Rattle.duct_system.specs.SpecView.{pair_text};
 ghost use Rattle.duct_start.specs.Actions.{State, pops};
@@ -24,7 +24,7 @@ use duct_system::error::Error;
 use duct_system::spec::Hook;
 use duct_system::system::System;
 
-// One action.
+// Performs one action. A spawn sweeps the pool first.
 fn perform<S: System, H: Hook>(
     sys: &mut S,
     pool: &mut Pool<S::Child>,
@@ -67,7 +67,7 @@ fn perform<S: System, H: Hook>(
     }
 }
 
-// All actions, one after the other, up to the first that is refused.
+// Performs the actions in order, up to the first that fails.
 pub(crate) fn perform_all<S: System, H: Hook>(
     sys: &mut S,
     pool: &mut Pool<S::Child>,

@@ -1,9 +1,10 @@
-//! What stands round the commands of a start beside their streams: a list of scopes, each with the one outside of it.
+//! What is set around the commands of a start besides their streams: a list of scopes, each with
+//! the index of the scope outside it.
 use duct_system::names::EnvNameString;
 use std::alloc::AllocError;
 use std::collections::BTreeMap;
 
-/// What a node says of folder, variables and hooks.
+/// What a node sets: the folder, a change of the variables, or a hook.
 pub enum Setting<'a, E, H> {
     Dir(&'a str),
     Env(&'a EnvNameString, &'a str),
@@ -20,10 +21,12 @@ impl<E, H> Clone for Setting<'_, E, H> {
 
 impl<E, H> Copy for Setting<'_, E, H> {}
 
-/// One scope: its node, and the index of the scope outside of it. The root's has the index 0 and stands in no list; the first of a
-/// list has the index 1.
+/// One scope. The root's scope has index 0 and is not in the list; the first scope of a list has
+/// index 1.
 pub struct Scope<'a, E, H> {
+    /// What its node sets.
     pub setting: Setting<'a, E, H>,
+    /// The index of the scope outside it.
     pub outer: usize,
 }
 

@@ -1,4 +1,4 @@
-//! A start: its actions are run, and what a refusal leaves is given up.
+//! A start: it runs its actions, and where one of them fails it gives up what it holds.
 ghost use Rattle.std.specs.Prelude.{◌≡◌, ◌≤◌, All, length, is_some, true, None, OnOk, IfOk, IfErr, IsSome};
 ghost use Rattle.duct_system.specs.Trace.{segment};
 ghost use Rattle.duct_start.specs.Holdings.{empty};
@@ -22,7 +22,7 @@ use duct_system::error::Error;
 use duct_system::spec::Hook;
 use duct_system::system::System;
 
-// The environment, then the actions.
+// Asks for the environment, then performs the actions.
 fn run_actions<S: System, H: Hook>(
     sys: &mut S,
     pool: &mut Pool<S::Child>,
@@ -47,7 +47,7 @@ fn run_actions<S: System, H: Hook>(
     perform_all(sys, pool, &pairs, scopes, actions, held)
 }
 
-// The environment, the actions, and the workers of the capture pipes.
+// Asks for the environment, performs the actions, and starts the workers of the capture pipes.
 fn run<S: System, H: Hook>(
     sys: &mut S,
     pool: &mut Pool<S::Child>,
@@ -75,7 +75,7 @@ fn run<S: System, H: Hook>(
     finish_err::<S, H>(sys, held)
 }
 
-// Closes the write end of stdout's capture pipe, and makes a reader of its read end.
+// Closes the write end of stdout's capture pipe and returns a reader of its read end.
 fn read_output<S: System>(sys: &mut S, output: &mut Option<(S::End, S::End)>) -> S::Reader
     requires open { IsSome output.old }
     requires room { 2 ≤ (S.journal_view sys.old).room }
@@ -92,7 +92,8 @@ fn read_output<S: System>(sys: &mut S, output: &mut Option<(S::End, S::End)>) ->
     }
 }
 
-// The environment, the actions, stderr's capture worker, and the reader of stdout's capture pipe.
+// Asks for the environment, performs the actions, starts stderr's capture worker, and returns the
+// reader of stdout's capture pipe.
 fn run_reader<S: System, H: Hook>(
     sys: &mut S,
     pool: &mut Pool<S::Child>,
@@ -124,9 +125,13 @@ fn run_reader<S: System, H: Hook>(
     Ok(read_output(sys, &mut held.output))
 }
 
-/// Runs the actions of a start, where nothing is held yet, and answers what they leave. Before each command the pool is swept.
-/// Refused by the fault of the first request that is, by a hook, or by `Error::Memory`. Then each end that is held is closed,
-/// each child that was started is asked once and goes into the pool if it runs, and the workers are let go.
+/// Runs the actions of a start and returns what they leave held. `held` has to be empty. The pool
+/// is swept before each command. It doesn't wait for the commands.
+///
+/// Fails with `Error::System` where the system refuses a request, with `Error::Hook` or
+/// `Error::HookEnd` where a hook stops a command, and with `Error::Memory`. Then each end that is
+/// held is closed, each child that was started is polled once and goes into the pool if it runs,
+/// and the workers are dropped.
 pub fn start<S: System, H: Hook>(
     sys: &mut S,
     pool: &mut Pool<S::Child>,
@@ -161,10 +166,11 @@ pub fn start<S: System, H: Hook>(
     }
 }
 
-/// Runs the actions of a reader's start, which open stdout's capture pipe, where nothing is held yet. Answers what they leave, and
-/// the reader of that pipe, which has no worker. Before each command the pool is swept. Refused by the fault of the first request
-/// that is, by a hook, or by `Error::Memory`. Then each end that is held is closed, each child that was started is asked once and
-/// goes into the pool if it runs, and the workers are let go.
+/// Runs the actions of a reader's start, which open stdout's capture pipe. Returns what they leave
+/// held, and the reader of that pipe, which has no worker. `held` has to be empty. The pool is
+/// swept before each command. It doesn't wait for the commands.
+///
+/// Fails as `start` does, and leaves the same.
 pub fn start_reader<S: System, H: Hook>(
     sys: &mut S,
     pool: &mut Pool<S::Child>,

@@ -17,7 +17,7 @@ pub struct Streams<E> {
     pub error: Stdio<E>,
 }
 
-// Closes what a stream has, if it is an end.
+// Closes the end of a stream, if it has one.
 pub(crate) fn let_go<S: System, H: Hook>(sys: &mut S, stream: Stdio<S::End>)
     requires room { length (end_of stream) ≤ (S.journal_view sys.old).room }
     ensures goes { LetsGo {E = S.End} {H = H} H.allows S.End.number_of (S.journal_view sys.old)
@@ -32,7 +32,8 @@ pub(crate) fn let_go<S: System, H: Hook>(sys: &mut S, stream: Stdio<S::End>)
     }
 }
 
-// Turns a stream to where a hook's port says, by a duplicate where that is an end beside the hook. What the stream had is closed.
+// Sets a stream according to a hook's port. For a place the stream gets a duplicate of that end of
+// the hook. The end that the stream had is closed; a `Given` port leaves the stream as it is.
 pub(crate) fn settle<S: System, H: Hook>(
     sys: &mut S,
     ends: &[S::End],

@@ -1,4 +1,4 @@
-//! The variables that a command is to have.
+//! The environment variables of a command.
 ghost use Rattle.std.specs.Prelude.{ℕ, ◌≡◌, ◌≤◌, ◌∷◌, [], List, length, map, IfOk, IsOkUnless};
 ghost use Rattle.duct_system.specs.SpecView.{AreOrdered, Vars, pair_text, said_of, var_view, variable_in};
 ghost use Rattle.duct_start.specs.Found.{Replaces, variable};
@@ -12,25 +12,26 @@ use duct_system::names::EnvNameString;
 use std::alloc::Global;
 use std::collections::BTreeMap;
 
-// What a scope asks of one variable.
+// A scope's change of one variable.
 #[derive(Clone, Copy)]
 enum Change<'a> {
     Sets(&'a EnvNameString, &'a str),
     Removes(&'a EnvNameString),
 }
 
-// What the scopes round a command ask of the variables.
+// The changes that the scopes around a command make to the variables.
 #[derive(Drop)]
 struct Gathered<'a> {
-    // The nearest first.
+    // The changes of single variables, the nearest scope's first.
     changes: Vec<Change<'a>>,
-    // What a scope further out has in place of all variables.
+    // The variables of the nearest scope that replaces all variables, if there is one.
     whole: Option<&'a BTreeMap<EnvNameString, String>>,
 }
 
-/// The variables of a command inside the scope of this index, the root's being 0, where these are the pairs of the system's
-/// environment. Each name stands there once, in order. What stands outside of a scope that replaces all variables is not read.
-/// Refused, by `Error::Memory`, only for want of memory.
+/// Returns the variables of a command in the scope of this index (0 is the root's). `pairs` is the
+/// environment that the system returned. Each name occurs once, and the names are in order. Scopes
+/// outside one that replaces all variables are not read. Fails only with `Error::Memory`, on
+/// allocation failure.
 pub(crate) fn variables_in<E, H>(
     alloc: Global,
     pairs: &[(String, String)],
@@ -57,7 +58,7 @@ pub(crate) fn variables_in<E, H>(
     Ok(vars)
 }
 
-// What is asked of the variables from this scope outwards.
+// Collects the changes of the variables from this scope outwards.
 fn changes_in<'a, E, H>(
     alloc: Global,
     scopes: &[Scope<'a, E, H>],
@@ -93,7 +94,7 @@ fn changes_in<'a, E, H>(
     })
 }
 
-// The variables that these pairs say, each name with its first spelling and its last value.
+// Makes a map of these pairs. Each name has its first spelling and its last value.
 fn said(alloc: Global, pairs: &[(String, String)]) -> Result<BTreeMap<EnvNameString, String>, Error>
     ensures found { IfOk result (λ vars. (name : List ℕ) →
         variable_in name (map var_view vars.entries) ≡ said_of name (map pair_text pairs.now)) }
@@ -107,7 +108,7 @@ fn said(alloc: Global, pairs: &[(String, String)]) -> Result<BTreeMap<EnvNameStr
     Ok(vars)
 }
 
-// A copy of some variables.
+// Copies some variables.
 fn copied(vars: &BTreeMap<EnvNameString, String>) -> Result<BTreeMap<EnvNameString, String>, Error>
     ensures vars { IfOk result
         (λ copy. map var_view copy.entries ≡ map var_view vars.now.entries) }
@@ -115,12 +116,12 @@ fn copied(vars: &BTreeMap<EnvNameString, String>) -> Result<BTreeMap<EnvNameStri
     ensures memory { IsOkUnless result Error.Memory }
 {
     let copy = vars.clone()?;
-    // A map that answers how long it is ensures that its names ascend.
+    // The contract of `len` ensures that the names of the map ascend.
     let _ = copy.len();
     Ok(copy)
 }
 
-// The variables after a change.
+// Applies a change to the variables.
 fn changed(
     alloc: Global,
     change: Change<'_>,

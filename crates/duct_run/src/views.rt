@@ -1,4 +1,4 @@
-//! What contracts read of a system and of its handles, in one word.
+//! What contracts read of a system and its handles, under one name.
 ghost use Rattle.std.specs.declared.alloc.Global.{Global};
 ghost use Rattle.std.specs.declared.sync.Arc.{Arc};
 ghost use Rattle.std.specs.declared.vec.Vec.{Vec};
@@ -7,8 +7,10 @@ ghost use Rattle.duct_run.specs.SystemViews.{SystemViews};
 
 use duct_system::system::System;
 
-/// Nothing is bounded by it. Under the bound `S: System` a clause writes `⟦<S as Seen>⟧.views`.
+/// Every `System` has this trait, and no bound names it. Under the bound `S: System` a clause
+/// writes `⟦<S as Seen>⟧.views`.
 pub trait Seen: System {
+    /// The views of the system and its handles.
     ghost views: { SystemViews Self Self.End Self.Child Self.Feed Self.Drain (Unit {0})
         (Arc (Vec ℕ Global) Global) };
 }

@@ -1,10 +1,10 @@
--- A list of which one after the other was changed, from the first on.
+-- A list whose items are changed one after the other, from the first on.
 use Rattle.std.specs.Prelude.{ℕ, zero, suc, List, [], ◌∷◌, length}
 use Rattle.std.specs.List.{AllZip}
 use Rattle.std.proofs.Common.{◌≡◌, ◌+◌, ◌≤◌, add-one, ap, sym, subst, arith}
 use Rattle.duct_running.specs.Polled.{ChangedAt}
 
--- the first ones were changed, and the others are as before
+-- this many items from the first on were changed, and the others are as before
 abbrev pub ChangedTo : {T : Type 0} → (T → T → Type 0) → ℕ → List T → List T → Type 0
 ChangedTo changes zero befores afters = afters ≡ befores
 ChangedTo changes (suc count) [] [] = Unit {0}
@@ -30,13 +30,13 @@ module _ {T : Type 0} (changes : T → T → Type 0) where
   next_changed (suc count) (before ∷ befores) (b ∷ between) (after ∷ afters) so_far changed =
       (subst (λ (l : T). changes before l) (sym changed.0) so_far.0, next_changed count befores between afters so_far.1 changed.1)
 
-  -- one more was changed
+  -- one more item was changed
   pub one_more_changed : (count : ℕ) (befores between afters : List T)
       → ChangedTo changes count befores between → ChangedAt changes count between afters
       → ChangedTo changes (count + 1) befores afters
   one_more_changed count befores between afters so_far changed = rw add-one (next_changed count befores between afters so_far changed)
 
-  -- all of them were
+  -- all items were changed
   pub all_changed : (count : ℕ) (befores afters : List T)
       → length befores ≤ count → ChangedTo changes count befores afters
       → AllZip changes befores afters
@@ -47,7 +47,7 @@ module _ {T : Type 0} (changes : T → T → Type 0) where
   all_changed (suc count) (before ∷ befores) [] few changed = absurd changed
   all_changed (suc count) (before ∷ befores) (after ∷ afters) few changed = (changed.0, all_changed count befores afters (omega arith) changed.1)
 
-  -- as many are there as before
+  -- there are as many items as before
   pub length_kept : (at : ℕ) (befores afters : List T)
       → ChangedAt changes at befores afters → length afters ≡ length befores
   length_kept at [] afters changed = absurd changed

@@ -1,4 +1,4 @@
--- One poll of a worker that is held, and what it changes.
+-- One poll of a worker, and what it changes.
 use Rattle.std.specs.Prelude.{ℕ, zero, suc, true, false, List, [], ◌∷◌, ◌++◌, map, length, get_or, set, slice_get, Some, None}
 use Rattle.std.specs.Option.{option_map, option_to_list}
 use Rattle.std.specs.declared.option.Option.{Option}
@@ -24,7 +24,7 @@ polled_while_runs said.Running P Q due p = p
 polled_while_runs (said.Done value) P Q due p = absurd (cc)
 polled_while_runs (said.Fault fault) P Q due p = absurd (cc)
 
--- and one that has finished is not
+-- a worker that has finished is not polled
 left_when_over : (kept : Said (Unit {0})) (P Q : Type 0) → is_said_due (Some kept) ≡ false → Q
     → WhileRuns kept P Q
 left_when_over said.Running P Q over q = absurd (cc)
@@ -65,7 +65,8 @@ module _ {F : Type 0} (view : F → JobView (Unit {0})) (may : ℕ → Said (Uni
   within : (items feeds : List F) (at : ℕ) → items ≡ feeds → at < length feeds → at < length items
   within items feeds at same low = subst (λ (fs : List F). at < length fs) (sym same) low
 
-  -- the same, by the words that a core keeps of the input workers, beside these children and capture workers
+  -- the same, by the words that a core keeps of the input workers, with these children and capture
+  -- workers
   module _ (children : List ChildView) (output error : Option (JobView Bytes)) where
     abbrev stored : List F → Latest
     stored items = stored_latest children (map view items) output error
@@ -88,7 +89,7 @@ module _ {F : Type 0} (view : F → JobView (Unit {0})) (may : ℕ → Said (Uni
         subst (λ (fs : List F). ChangedAt (PolledIfRuns may same refusable) at (map view fs) (map view (set items at after))) same'
         (asked items at before after heard (within items feeds at same' low) found polls (due_in items at kept is ∙ due))
 
-    -- a core that was told what the worker said keeps the words that are stored
+    -- a core that was given the worker's result keeps the words that are stored
     pub words_in_step : (items feeds : List F) (at : ℕ) (before after : F) (heard : Said (Unit {0}))
         (kept later : Latest) → items ≡ feeds → kept ≡ stored items → at < length feeds →
         before ≡ get_or items at before → Polls before heard after → later ≡ latest_after kept (from_input at heard) →
@@ -97,7 +98,7 @@ module _ {F : Type 0} (view : F → JobView (Unit {0})) (may : ℕ → Said (Uni
         told ∙ ap (λ (w : Latest). latest_after w (from_input at heard)) is
         ∙ ap (λ (ws : List (Said (Unit {0}))). record (stored items) { inputs = ws }) (words_changed items at before after heard (within items feeds at same' low) found polls)
 
--- a capture worker's bytes after one more word
+-- the bytes of a capture worker's word after one more result
 pub bytes_kept : (kept heard : Said Bytes)
     → kept_after (bytes_said kept) (bytes_said heard) ≡ bytes_said (kept_after kept heard)
 bytes_kept said.Running heard = refl
@@ -106,7 +107,7 @@ bytes_kept (said.Fault fault) heard = refl
 
 module _ {D : Type 0} (view : D → JobView Bytes) (may : ℕ → Said Bytes → Type 0) (same : Bytes → Bytes → Type 0) (refusable : Type 0)
     (children : List ChildView) (feeds : List (JobView (Unit {0}))) where
-  -- a core that was told what a capture worker said keeps the words that are stored
+  -- a core that was given a capture worker's result keeps the words that are stored
   pub output_in_step : (output : Option D) (error : Option (JobView Bytes)) (before after : D)
       (heard : Said Bytes) (kept later : Latest) →
       kept ≡ stored_latest children feeds (option_map view output) error → output ≡ Some before → PollsJob may same refusable (view before) heard (view after) →
@@ -125,14 +126,14 @@ module _ {D : Type 0} (view : D → JobView Bytes) (may : ℕ → Said Bytes →
       ∙ ap (λ (s : Said (List ℕ)). record (stored_latest children feeds output None) { error = Some s })
       (bytes_kept (view before).kept heard ∙ sym (ap (λ (j : JobView Bytes). bytes_said j.kept) polls.after_is))
 
--- there is room for a capture worker as before
+-- there is still room for the capture workers, where stderr's is replaced
 pub error_fits : {D : Type 0} (output error : Option D) (before after : D) (room : ℕ)
     → error ≡ Some before → length (option_to_list output ++ option_to_list error) ≤ room →
     length (option_to_list output ++ option_to_list (Some after)) ≤ room
 error_fits None error before after room there fits = rw there at fits
 error_fits (Some worker) error before after room there fits = rw there at fits
 
--- the capture worker that the outcome waits for, as a core found, was polled
+-- the capture worker that the outcome waits for, as the core found, was polled
 polled_where : (may : ℕ → Said Bytes → Type 0) (same : Bytes → Bytes → Type 0) (refusable : Type 0)
     (before after : Option (JobView Bytes)) (stream : Side) (waited : Option Side) →
     waited ≡ Some stream → IsThereAndPolled may same refusable before after → PolledWhere may same refusable stream waited before after

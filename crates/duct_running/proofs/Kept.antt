@@ -1,4 +1,4 @@
--- A poll leaves the shape, the numbers and the orders.
+-- A poll leaves the shape, the numbers and the orders as they were.
 use Rattle.std.specs.Prelude.{ℕ, List, [], ◌∷◌, map, MatchOption, Some, None}
 use Rattle.std.specs.Option.{option_map}
 use Rattle.std.specs.declared.option.Option.{Option}
@@ -89,7 +89,7 @@ module _ {C F D V W : Type 0} (child : C → ChildView) (feed : F → JobView V)
     orders_are = children_kept (λ (c : ChildView). c.orders) (λ answer child. refl) may _ _ children;
   }
 
-  -- and what stays behind more
+  -- one poll after others
   pub stays_on : (first : RunningView C F D) → Stays child feed drain first before
       → Stays child feed drain before after → Stays child feed drain first after
   stays_on first old new = record {

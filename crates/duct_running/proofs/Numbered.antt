@@ -8,7 +8,7 @@ use Rattle.duct_system.specs.Job.{JobView}
 use Rattle.duct_start.specs.Running.{RunningView}
 use Rattle.duct_running.specs.NumbersView.{NumbersView, numbers_in}
 
--- the numbers of these
+-- a view with these numbers
 abbrev pub numbers_with : List ℕ → List ℕ → Option ℕ → Option ℕ → NumbersView
 numbers_with children feeds output error = record { children = children; feeds = feeds; output = output; error = error }
 
@@ -21,18 +21,18 @@ module _ {X V : Type 0} (view : X → V) (number_of : X → ℕ) (number : V →
   number_seen None = refl
   number_seen (Some x) = ap (λ n. Some n) (has_number x)
 
--- the same children, input workers and captures
+-- with equal numbers the views are equal
 pub numbers_same : {children children' feeds feeds' : List ℕ} {output output' error error' : Option ℕ} →
     children ≡ children' → feeds ≡ feeds' → output ≡ output' → error ≡ error' →
     numbers_with children feeds output error ≡ numbers_with children' feeds' output' error'
 numbers_same children feeds output error = λ i. numbers_with (children i) (feeds i) (output i) (error i)
 
--- the numbers of what runs, by the children and workers themselves
+-- the numbers of a running expression, read from the children and workers themselves
 abbrev pub own_numbers : {C F D : Type 0} → (C → ℕ) → (F → ℕ) → (D → ℕ) → RunningView C F D → NumbersView
 own_numbers child feed drain running =
     numbers_with (map child running.children) (map feed running.feeds) (option_map drain running.output) (option_map drain running.error)
 
--- those in its view are these
+-- the numbers in its view are these
 pub numbers_own : {C F D V W : Type 0} (child : C → ChildView) (feed : F → JobView V) (drain : D → JobView W)
     (child_number : C → ℕ) (feed_number : F → ℕ) (drain_number : D → ℕ) → ((c : C) → (child c).number ≡ child_number c) →
     ((f : F) → (feed f).number ≡ feed_number f) → ((d : D) → (drain d).number ≡ drain_number d) → (running : RunningView C F D) →

@@ -1,4 +1,4 @@
--- One order to a child that is held, and the orders to all of them in turn.
+-- One order to a child, and the orders to all children in turn.
 use Rattle.std.specs.Prelude.{ℕ, zero, Bool, true, false, List, [], ◌∷◌, ◌++◌, map, length, get_or, set, slice_get, MatchOption, Ok, Err, None}
 use Rattle.std.specs.declared.option.Option.{Option}
 use Rattle.std.specs.Result.{result_and}
@@ -20,7 +20,7 @@ module _ (may : ℕ → Order → Bool → Obeyed → Type 0) (order : Order) wh
   word_kept before after answer (inl (heard, given)) = ap (λ (c : ChildView). said c) given
   word_kept before after answer (inr (heard, unasked, none)) = ap (λ (c : ChildView). said c) unasked
 
-  -- and no id
+  -- an order changes no id
   pub id_kept : (before after : ChildView) (answer : Obeyed)
       → OrdersChild may order before answer after → after.process ≡ before.process
   id_kept before after answer (inl (heard, given)) = ap (λ (c : ChildView). c.process) given
@@ -32,7 +32,7 @@ module _ (may : ℕ → Order → Bool → Obeyed → Type 0) (order : Order) wh
   ordered_once before after answer orders none =
       subst (λ ending. MatchOption ending (OrdersChild may order before answer after) (λ status. (answer ≡ Ok tt) × (after ≡ before))) (sym none) orders
 
-  -- by the words that a core keeps of the children, beside these workers
+  -- the same, by the words that a core keeps of the children, with these workers
   module _ {C : Type 0} (view : C → ChildView) (feeds : List (JobView (Unit {0}))) (output error : Option (JobView Bytes)) where
     abbrev stored : List C → Latest
     stored items = stored_latest (map view items) feeds output error
@@ -41,7 +41,7 @@ module _ (may : ℕ → Order → Bool → Obeyed → Type 0) (order : Order) wh
         → is_word_due (slice_get (words view items) at) ≡ is_due kept at
     due_is items at kept is = ap (λ (w : Latest). is_due w at) (sym is)
 
-    -- a child that has ended is as before, and answers Ok
+    -- a child that has ended is as before, and the result is Ok
     pub unordered_in : (items children : List C) (at : ℕ) (kept : Latest) → items ≡ children
         → kept ≡ stored items → at < length children → is_due kept at ≡ false
         → ChangedAt (λ before. OrderedIfDue may order before (Ok tt)) at (map view children) (map view children)
@@ -49,7 +49,7 @@ module _ (may : ℕ → Order → Bool → Obeyed → Type 0) (order : Order) wh
         left_at view (λ before. OrderedIfDue may order before (Ok tt)) (λ child ended. left_alone child.ending child.last _ _ ended (refl, refl)) children at low
         (ap (λ cs. is_word_due (slice_get (words view cs) at)) (sym same) ∙ due_is items at kept is ∙ over)
 
-    -- another is given the order
+    -- a child that has not ended is given the order
     pub ordered_in : (items children : List C) (at : ℕ) (before after : C) (answer : Obeyed)
         (kept : Latest) → items ≡ children
         → kept ≡ stored items → at < length children → is_due kept at ≡ true
@@ -60,7 +60,7 @@ module _ (may : ℕ → Order → Bool → Obeyed → Type 0) (order : Order) wh
         (changed_at view (λ b. OrderedIfDue may order b answer) items at before after (within view items children at same low) found (due_is items at kept is ∙ due)
         (λ alive. ordered_once (view before) (view after) answer orders (no_ending (view before).ending (view before).last alive)))
 
-    -- the words that are kept stay those that are stored
+    -- the words that the core keeps are still those that are stored
     pub words_in_order : (items children : List C) (at : ℕ) (before after : C) (answer : Obeyed)
         (kept : Latest) → items ≡ children
         → kept ≡ stored items → at < length children
@@ -69,14 +69,14 @@ module _ (may : ℕ → Order → Bool → Obeyed → Type 0) (order : Order) wh
         is ∙ ap (λ (ws : List Word). record (stored items) { commands = ws })
         (sym (same_at view (λ c. said c) items at before after (within view items children at same low) found (word_kept (view before) (view after) answer orders)))
 
-  -- the first ones were ordered, with these answers, and the others are as before
+  -- the first children were given the order, with these results, and the others are as before
   abbrev pub OrderedTo : List ChildView → List Obeyed → List ChildView → Type 0
   OrderedTo befores [] afters = afters ≡ befores
   OrderedTo [] (answer ∷ answers) afters = ⊥
   OrderedTo (before ∷ befores) (answer ∷ answers) [] = ⊥
   OrderedTo (before ∷ befores) (answer ∷ answers) (after ∷ afters) = OrderedIfDue may order before answer after × OrderedTo befores answers afters
 
-  -- one more was ordered
+  -- one more child was given the order
   pub one_more_ordered : (befores : List ChildView) (answers : List Obeyed)
       (between afters : List ChildView) (answer : Obeyed) → OrderedTo befores answers between
       → ChangedAt (λ before. OrderedIfDue may order before answer) (length answers) between afters → OrderedTo befores (answers ++ answer ∷ []) afters
@@ -92,7 +92,7 @@ module _ (may : ℕ → Order → Bool → Obeyed → Type 0) (order : Order) wh
   one_more_ordered (before ∷ befores) (a ∷ answers) (b ∷ between) (after ∷ afters) answer so_far changed =
       (subst (λ (c : ChildView). OrderedIfDue may order before a c) (sym changed.0) so_far.0, one_more_ordered befores answers between afters answer so_far.1 changed.1)
 
-  -- all of them were
+  -- all children were given the order
   pub all_ordered : (befores : List ChildView) (answers : List Obeyed) (afters : List ChildView)
       → length befores ≤ length answers
       → OrderedTo befores answers afters → AllOrdered may order befores answers afters
@@ -103,7 +103,7 @@ module _ (may : ℕ → Order → Bool → Obeyed → Type 0) (order : Order) wh
   all_ordered (before ∷ befores) (answer ∷ answers) [] few so_far = absurd so_far
   all_ordered (before ∷ befores) (answer ∷ answers) (after ∷ afters) few so_far = (so_far.0, all_ordered befores answers afters (omega arith) so_far.1)
 
--- the leftmost fault stays the leftmost
+-- the leftmost fault after one more result
 pub leftmost_next : (answers : List Obeyed) (answer : Obeyed)
     → result_and (leftmost answers) answer ≡ leftmost (answers ++ answer ∷ [])
 leftmost_next [] (Ok done) = refl

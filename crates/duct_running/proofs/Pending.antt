@@ -1,4 +1,4 @@
--- While an expression runs, some child or worker said that it does.
+-- Where a poll of an expression returns nothing yet, some child or worker may return that it runs.
 use Rattle.std.specs.Prelude.{ℕ, zero, suc, Bool, true, false, List, [], ◌∷◌, ◌++◌, map, length, slice_get, MatchOption, Ok, Err, Some, None}
 use Rattle.std.specs.Option.{option_map, option_to_list}
 use Rattle.std.specs.declared.option.Option.{Option}
@@ -23,7 +23,7 @@ use Rattle.duct_running.specs.Polled.{AllAsked, AllPolled, AskedIfDue, Gives, Is
 use Rattle.duct_running.specs.Stored.{Bytes, stored_latest, stored_word}
 use Rattle.duct_running.specs.Told.{OneRuns, SomeSays}
 
--- a poll answers nothing yet where the outcome waits
+-- a poll returns nothing yet only where the outcome waits
 waits_for : (o : OutcomeView) (t : Endings) (reply : ReplyView) → AnswersOutcome o t reply
     → Gives reply (Ok None) → o ≡ waits
 waits_for waits t reply answers gives = refl
@@ -42,7 +42,7 @@ waits_for (finished output error) t (answered status out err) answers gives = ab
 waits_for (finished output error) t (failed text) answers gives = absurd gives
 waits_for (finished output error) t no_memory answers gives = absurd (cc)
 
--- for something that runs, and else for a capture worker
+-- the outcome waits for a command or an input worker that runs, else for a capture worker
 waits_where : (fault : Option Fault) (runs : Bool) (next : OutcomeView)
     → ended fault runs next ≡ waits → (runs ≡ true) ⊎
     ((fault ≡ None) × (runs ≡ false) × (next ≡ waits))
@@ -66,7 +66,7 @@ some_runs-append (said.Running ∷ xs) ys runs = inl refl
 some_runs-append (said.Fault fault ∷ xs) ys runs = some_runs-append xs ys runs
 some_runs-append (said.Done value ∷ xs) ys runs = some_runs-append xs ys runs
 
--- what runs has a word that says so
+-- a command or an input worker has the word Running
 abbrev HasRunning : List Word → List (Said (Unit {0})) → Type 0
 HasRunning commands inputs = ((k : ℕ) × (slice_get commands k ≡ Some word.Running)) ⊎ ((k : ℕ) × (slice_get inputs k ≡ Some said.Running))
 
@@ -108,7 +108,7 @@ has_running (input t) c i commands inputs many fed runs =
     (λ last. inr (i + input_count t, input_runs (slice_get inputs (i + input_count t)) (there inputs (i + input_count t) (omega (arith, fed))) last))
 has_running (unchecked t) c i commands inputs many fed runs = has_running t c i commands inputs many fed runs
 
--- what one of a list says, one of a longer list says
+-- what one of some numbers may return, one of more numbers may return
 module _ {A : Type 0} (may : ℕ → A → Type 0) (answer : A) where
   says_here : (n : ℕ) (ns : List ℕ) → may n answer → SomeSays may answer (n ∷ ns)
   says_here n ns says = (n, Contains-append_left (n ∷ []) ns n (0, omega arith, refl), says)
@@ -132,7 +132,7 @@ module _ (may : ℕ → Answer → Type 0) where
   running_answer (Ok None) is = refl
   running_answer (Err fault) is = absurd (cc)
 
-  -- a child whose word is Running after a poll said so
+  -- a child whose word is Running after a poll may return that it runs
   child_runs : (before after : ChildView) → AskedIfDue may before after
       → word_in after ≡ word.Running → may after.number (Ok None)
   child_runs before after asked runs =
@@ -155,7 +155,7 @@ module _ (may : ℕ → Answer → Type 0) where
   children_run (before ∷ befores) (after ∷ afters) (suc k) asked runs = says_later may (Ok None) after.number (map (λ (c : ChildView). c.number) afters) (children_run befores afters k asked.1 runs)
 
 module _ {T : Type 0} (may : ℕ → Said T → Type 0) (same : T → T → Type 0) (refusable : Type 0) where
-  -- a worker that keeps Running after a poll said so
+  -- a worker that keeps Running after a poll kept it before, and returned it in the poll
   running_said : (before heard : Said T) → kept_after before heard ≡ said.Running
       → (before ≡ said.Running) × (heard ≡ said.Running)
   running_said said.Running heard is = (refl, is)
@@ -188,7 +188,7 @@ module _ {T : Type 0} (may : ℕ → Said T → Type 0) (same : T → T → Type
       says_here may said.Running after.number (map (λ (j : JobView T). j.number) afters) (feed_runs before.kept before after refl asked.0 (cc))
   feeds_run (before ∷ befores) (after ∷ afters) (suc k) asked runs = says_later may said.Running after.number (map (λ (j : JobView T). j.number) afters) (feeds_run befores afters k asked.1 runs)
 
--- the word of a capture worker that keeps no result
+-- a capture worker whose word is Running keeps Running
 no_bytes : (kept : Said Bytes) → bytes_said kept ≡ said.Running → kept ≡ said.Running
 no_bytes said.Running is = refl
 no_bytes (said.Done value) is = absurd (cc)
@@ -201,7 +201,7 @@ module _ (may : ℕ → Said Bytes → Type 0) (same : Bytes → Bytes → Type 
   abbrev bytes_in : Option (JobView Bytes) → Option (Said (List ℕ))
   bytes_in worker = option_map (λ (j : JobView Bytes). bytes_said j.kept) worker
 
-  -- a capture worker that was polled, or that the outcome did not wait for, and of which it waits now, said so
+  -- a capture worker that was polled and whose word is Running may return that it runs
   drain_runs : (before after : Option (JobView Bytes))
       → IsThereAndPolled may same refusable before after → captured (bytes_in after) ≡ said.Running
       → SomeSays may said.Running (numbers after)
@@ -225,7 +225,7 @@ module _ (may : ℕ → Said Bytes → Type 0) (same : Bytes → Bytes → Type 
   error_runs (Some side.Out) before after left wait runs = absurd (let e : Some side.Out ≡ Some side.Err = wait (ap (λ o. captured (bytes_in o)) (sym left) ∙ runs) in cc)
   error_runs None before after left wait runs = absurd (let e : None ≡ Some side.Err = wait (ap (λ o. captured (bytes_in o)) (sym left) ∙ runs) in cc)
 
--- a poll that answers nothing yet was told so by somebody
+-- where a poll returns nothing yet, one of these children and workers may return that it runs
 module _ (answer : ℕ → Answer → Type 0) (feed : ℕ → Said (Unit {0}) → Type 0) (feed_same : Unit {0} → Unit {0} → Type 0) (feed_refusable : Type 0)
     (drain : ℕ → Said Bytes → Type 0) (drain_same : Bytes → Bytes → Type 0) (drain_refusable : Type 0) (shape : ShapeView)
     (children asked : List ChildView) (feeds fed : List (JobView (Unit {0}))) (output read error drained : Option (JobView Bytes)) where

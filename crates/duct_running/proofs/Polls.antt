@@ -1,4 +1,4 @@
--- One poll of a child that is held, and what it changes.
+-- One poll of a child, and what it changes.
 use Rattle.std.specs.Prelude.{ℕ, zero, suc, true, false, List, [], ◌∷◌, map, length, get_or, set, slice_get, MatchOption, Ok, Err, Some, None}
 use Rattle.std.specs.declared.option.Option.{Option}
 use Rattle.std.proofs.Common.{◌≡◌, ◌<◌, refl, ap, sym, ◌∙◌, subst, arith}
@@ -15,13 +15,13 @@ use Rattle.duct_running.specs.Stored.{Bytes, word_of, stored_word, stored_latest
 abbrev pub said : ChildView → Word
 said child = stored_word child.ending child.last
 
--- a child whose word is none of an ending has no ending
+-- a child whose word is not an ending has no ending
 pub no_ending : (ending : Option ExitStatus) (last : Option Answer)
     → is_word_due (Some (stored_word ending last)) ≡ true → ending ≡ None
 no_ending (Some status) last due = absurd (cc)
 no_ending None last due = refl
 
--- a child whose word is an ending has that ending, and is not asked
+-- a child whose word is an ending has that ending, and is not polled
 pub left_alone : (ending : Option ExitStatus) (last : Option Answer) (P Q : Type 0)
     → is_word_due (Some (stored_word ending last)) ≡ false → Q → MatchOption ending P (λ status. Q)
 left_alone (Some status) last P Q over q = q
@@ -29,7 +29,7 @@ left_alone None (Some (Err fault)) P Q over q = absurd (cc)
 left_alone None (Some (Ok found)) P Q over q = absurd (cc)
 left_alone None None P Q over q = absurd (cc)
 
--- the word of the first answer after which a child has its ending
+-- the word that a child without an ending stores after a poll is the word of the poll's result
 word_heard : (answer : Answer) → stored_word (ending_after None answer) (Some answer)
     ≡ word_of answer
 word_heard (Ok (Some status)) = refl
@@ -62,7 +62,7 @@ module _ {C : Type 0} (view : C → ChildView) where
       → at < length items
   within items children at same low = subst (λ (cs : List C). at < length cs) (sym same) low
 
-  -- another child in the place of one that is the same in this
+  -- the parts of the children stay, where a child is replaced by one with the same part
   pub same_at : {X : Type 0} (part : ChildView → X) (children : List C) (at : ℕ) (before after : C)
       → at < length children → before ≡ get_or children at before →
       part (view after) ≡ part (view before) → map part (map view (set children at after)) ≡ map part (map view children)
@@ -70,7 +70,7 @@ module _ {C : Type 0} (view : C → ChildView) where
   same_at part (child ∷ children) zero before after low is same = ap (λ w. w ∷ map part (map view children)) (same ∙ ap (λ c. part (view c)) is)
   same_at part (child ∷ children) (suc at) before after low is same = ap (λ ws. part (view child) ∷ ws) (same_at part children at before after (omega arith) is same)
 
-  -- the ids of the children that are held stay, where another comes in the place of one with the same id
+  -- the ids stay those of the children, where a child is replaced by one with the same id
   pub named_in : (items children : List C) (at : ℕ) (before after : C) (ids : List ℕ)
       → items ≡ children → at < length children → before ≡ get_or items at before →
       (view after).process ≡ (view before).process → ids ≡ map (λ c. c.process) (map view items) → ids ≡ map (λ c. c.process) (map view (set items at after))
@@ -84,7 +84,7 @@ module _ {C : Type 0} (view : C → ChildView) where
     left_at left (child ∷ children) zero low over = (left (view child) over, refl)
     left_at left (child ∷ children) (suc at) low over = (refl, left_at left children at (omega arith) over)
 
-    -- another is changed
+    -- a child that has not ended is changed
     pub changed_at : (children : List C) (at : ℕ) (before after : C) → at < length children
         → before ≡ get_or children at before → is_word_due (slice_get (words children) at) ≡ true →
         (is_word_due (Some (said (view before))) ≡ true → changes (view before) (view after)) → ChangedAt changes at (map view children) (map view (set children at after))
@@ -116,7 +116,7 @@ module _ {C : Type 0} (view : C → ChildView) (may : ℕ → Answer → Type 0)
       ap (λ w. w ∷ words view children) (word_changed (view child) (view after) may answer polls' (no_ending (view child).ending (view child).last due))
   words_changed (child ∷ children) (suc at) before after answer low is polls due = ap (λ ws. said (view child) ∷ ws) (words_changed children at before after answer (omega arith) is polls due)
 
-  -- the same, by the words that a core keeps of the children, beside these workers
+  -- the same, by the words that a core keeps of the children, with these workers
   module _ (feeds : List (JobView (Unit {0}))) (output error : Option (JobView Bytes)) where
     abbrev stored : List C → Latest
     stored items = stored_latest (map view items) feeds output error
@@ -139,7 +139,7 @@ module _ {C : Type 0} (view : C → ChildView) (may : ℕ → Answer → Type 0)
         subst (λ (cs : List C). ChangedAt (AskedIfDue may) at (map view cs) (map view (set items at after))) same
         (asked items at before after answer (within view items children at same low) found polls (due_in items at kept is due))
 
-    -- a core that was told what the child answered keeps the words that are stored
+    -- a core that was given the child's result keeps the words that are stored
     pub words_in_step : (items children : List C) (at : ℕ) (before after : C) (answer : Answer)
         (kept later : Latest) (heard : Word) → items ≡ children
         → kept ≡ stored items → at < length children →

@@ -1,4 +1,4 @@
--- What runs may go to another thread where its children and its workers may.
+-- A running expression may be sent to another thread where its children and workers may.
 use denote.Builtin.{u32}
 use denote.Param.Send.{IsSend, sendable, struct_send, view_send, recorded_send}
 use denote.RattleType.{RattleType}

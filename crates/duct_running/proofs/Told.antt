@@ -1,4 +1,4 @@
--- One more answer that was told leaves all told.
+-- After one more result, each stored result still is one that may be returned.
 use Rattle.std.specs.Prelude.{ℕ, zero, suc, Bool, List, [], ◌∷◌, All, IfSome, map, length, get_or, set, Ok, Err, Some, None}
 use Rattle.std.specs.Option.{option_map, option_to_list}
 use Rattle.std.specs.declared.option.Option.{Option}
@@ -15,7 +15,7 @@ use Rattle.duct_running.specs.Polled.{WhileRuns}
 use Rattle.duct_running.specs.Stored.{AreUnasked, Bytes}
 use Rattle.duct_running.specs.Told.{AreTold, IsKeptTold, IsTold}
 
--- a child is told after a poll
+-- the ending of a child after a poll is one that it may return
 ending_told : (may : ℕ → Answer → Type 0) (number : ℕ) (before : Option ExitStatus)
     (answer : Answer) → may number answer
     → IfSome before (λ status. may number (Ok (Some status))) →
@@ -31,7 +31,7 @@ told_after may before after answer polls told =
     let here : IsTold may (child_after answer before) = record { answered = polls.told; ended = ending_told may before.number before.ending answer polls.told told.ended } in
     subst (λ (c : ChildView). IsTold may c) (sym polls.after_is) here
 
--- and after an order
+-- the results that a child stores after an order are ones that it may return
 told_ordered : (may : ℕ → Answer → Type 0) (obeys : ℕ → Order → Bool → Obeyed → Type 0) (order : Order)
     (before after : ChildView) (answer : Obeyed) →
     OrdersChild obeys order before answer after → IsTold may before → IsTold may after
@@ -40,7 +40,7 @@ told_ordered may obeys order before after answer (inl (heard, given)) told =
     subst (λ (c : ChildView). IsTold may c) (sym given) here
 told_ordered may obeys order before after answer (inr (heard, unasked, none)) told = subst (λ (c : ChildView). IsTold may c) (sym unasked) told
 
--- a worker is told after a poll
+-- what a worker keeps after a poll is a result that it may return
 kept_told : {T : Type 0} (may : ℕ → Said T → Type 0) (number : ℕ) (kept heard : Said T)
     → may number heard → WhileRuns kept (Unit {0}) (may number kept) →
     WhileRuns (kept_after kept heard) (Unit {0}) (may number (kept_after kept heard))
@@ -56,7 +56,7 @@ job_told : {T : Type 0} (may : ℕ → Said T → Type 0) (same : T → T → Ty
 job_told may same refusable before after heard polls told =
     subst (λ j. IsKeptTold may j) (sym polls.after_is) (kept_told may before.number before.kept heard polls.told told)
 
--- one of a list in the place of another
+-- a property of all items of a list, where one item is replaced
 all_with : {X Y : Type 0} (view : X → Y) (P : Y → Type 0) (items : List X) (at : ℕ)
     (before after : X) → at < length items → before ≡ get_or items at before →
     (P (view before) → P (view after)) → All P (map view items) → All P (map view (set items at after))
@@ -121,7 +121,7 @@ module _ (answer : ℕ → Answer → Type 0) (feed : ℕ → Said (Unit {0}) �
       error_told = t.error_told;
     })
 
-    -- where stderr's was
+    -- where stderr's capture worker was polled
     pub error_told : (output : Option (JobView Bytes)) (error : Option D) → error ≡ Some before
         → ∥ AreTold answer feed drain children feeds output (option_map view error) ∥₁
         → ∥ AreTold answer feed drain children feeds output (option_map view (Some after)) ∥₁
@@ -132,7 +132,7 @@ module _ (answer : ℕ → Answer → Type 0) (feed : ℕ → Said (Unit {0}) �
       error_told = job_told drain same refusable (view before) (view after) heard polls (rw there at t.error_told);
     })
 
-  -- before anybody is asked, nothing was told
+  -- children and workers that were never polled store no result
   module _ {C F D : Type 0} (child : C → ChildView) (job : F → JobView (Unit {0})) (worker : D → JobView Bytes) where
     silent_child : (c : ChildView) → IsUnasked c → IsTold answer c
     silent_child c unasked = record { answered = rw unasked.silent tt; ended = rw unasked.alive tt }

@@ -1,4 +1,5 @@
--- What a core that was told nothing knows is what children and workers store that nobody has asked.
+-- A core that was given no result has the words that children and workers store which were never
+-- polled.
 use Rattle.std.specs.Prelude.{ℕ, zero, suc, List, [], ◌∷◌, All, map, length, is_some, if◌then◌else◌, Some, None}
 use Rattle.std.specs.List.{range_with_len}
 use Rattle.std.specs.Option.{option_map, option_to_list}

@@ -1,4 +1,4 @@
--- What was concluded of what children and workers were told.
+-- What was concluded from the results of children and workers.
 use Rattle.std.specs.Prelude.{ℕ, ◌≡◌, ◌⊎◌, List, Err, map}
 use Rattle.std.specs.Option.{option_map}
 use Rattle.std.specs.declared.option.Option.{Option}
@@ -15,8 +15,8 @@ use Rattle.duct_running.specs.Polled.{Gives, Polled}
 use Rattle.duct_running.specs.Stored.{Bytes, stored_latest}
 use Rattle.duct_running.specs.Told.{AreTold}
 
--- there are children and workers of these numbers, which store what was told of their numbers, and this is its outcome in a tree
--- of this shape
+-- there are children and workers of these numbers, each stores results that one of its number may
+-- return, and the reply is the outcome of these results in a tree of this shape
 pub record Concluded (answer : ℕ → Answer → Type 0) (feed : ℕ → Said (Unit {0}) → Type 0)
     (drain : ℕ → Said Bytes → Type 0) (shape : ShapeView) (numbers : NumbersView)
     (reply : ReplyView) : Type 0 where
@@ -31,13 +31,14 @@ pub record Concluded (answer : ℕ → Answer → Type 0) (feed : ℕ → Said (
   pub told : ∥ AreTold answer feed drain children feeds output error ∥₁
   pub concludes : Concludes shape (stored_latest children feeds output error) reply
 
--- the same, without the children and workers
+-- some children and workers of these numbers store results that they may return, and the reply is
+-- the outcome of these results in a tree of this shape
 abbrev pub WasConcluded : (ℕ → Answer → Type 0) → (ℕ → Said (Unit {0}) → Type 0)
     → (ℕ → Said Bytes → Type 0) → ShapeView → NumbersView → ReplyView → Type 0
 WasConcluded answer feed drain shape numbers reply =
     ∥ Concluded answer feed drain shape numbers reply ∥₁
 
--- the answer is given by what was concluded, or there was no memory
+-- a poll returned what was concluded, or `Error::Memory`
 abbrev pub IsEnding : (ℕ → Answer → Type 0) → (ℕ → Said (Unit {0}) → Type 0)
     → (ℕ → Said Bytes → Type 0) → ShapeView → NumbersView → Polled → Type 0
 IsEnding answer feed drain shape numbers polled =
@@ -45,7 +46,8 @@ IsEnding answer feed drain shape numbers polled =
     × Gives reply polled)
     ⊎ (polled ≡ Err error.Memory)
 
--- the same, or shape and numbers differ, which no start brings about
+-- a poll returned what was concluded, or `Error::Memory`, or the error `Other` because the shape or
+-- the numbers differ, which no start causes
 abbrev pub IsAnswer : (ℕ → Answer → Type 0) → (ℕ → Said (Unit {0}) → Type 0)
     → (ℕ → Said Bytes → Type 0) → ShapeView → NumbersView → Polled → Type 0
 IsAnswer answer feed drain shape numbers polled =

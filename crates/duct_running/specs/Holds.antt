@@ -1,4 +1,4 @@
--- What a start that runs keeps beside its children and workers.
+-- What a running expression keeps, besides its children and workers.
 use Rattle.std.specs.Prelude.{ℕ, ◌≡◌, ◌≤◌, List, [], ◌++◌, length, map, vec_capacity}
 use Rattle.std.specs.Option.{option_map, option_to_list}
 use Rattle.std.specs.declared.alloc.Global.{Global}
@@ -12,8 +12,9 @@ use Rattle.duct_status.specs.ShapeView.{ShapeView, command_count, input_count}
 use Rattle.duct_running.specs.Stored.{Bytes, stored_latest}
 use Rattle.duct_running.specs.Told.{AreTold}
 
--- its words are those that children and workers store, which were told of their numbers; there are as many of them as its shape
--- has; its ids are those of the children; and there is room for the capture workers
+-- the core's words are those that the children and workers store, each one that its child or worker
+-- may return; there are as many of these as the shape has; the ids are the children's; and there is
+-- room for the capture workers
 pub record Holds {C F D : Type 0} (child : C → ChildView) (feed : F → JobView (Unit {0}))
     (drain : D → JobView Bytes) (answer : ℕ → Answer → Type 0)
     (feed_says : ℕ → Said (Unit {0}) → Type 0) (drain_says : ℕ → Said Bytes → Type 0)

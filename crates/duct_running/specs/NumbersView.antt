@@ -8,15 +8,15 @@ use Rattle.duct_status.specs.ShapeView.{ShapeView, command_count, input_count}
 use Rattle.duct_start.specs.Running.{RunningView}
 use Rattle.duct_running.specs.declared.numbers.Numbers.{Numbers}
 
--- those of the children from left to right, of the input workers in tree order, and of the capture workers of stdout and of
--- stderr
+-- the numbers of the children from left to right, of the input workers in tree order, and of the
+-- capture workers of stdout and of stderr
 pub record NumbersView : Type 0 where
   pub children : List ℕ
   pub feeds : List ℕ
   pub output : Option ℕ
   pub error : Option ℕ
 
--- those of what runs
+-- the numbers of a running expression
 abbrev pub numbers_in : {C F D V W : Type 0} → (C → ChildView) → (F → JobView V)
     → (D → JobView W) → RunningView C F D → NumbersView
 numbers_in child feed drain running = record {
@@ -26,7 +26,7 @@ numbers_in child feed drain running = record {
   error = option_map (λ d. d.number) (option_map drain running.error);
 }
 
--- what contracts see of the numbers beside it
+-- what contracts see of a `Numbers`
 abbrev pub numbers_view : Numbers → NumbersView
 numbers_view numbers = record {
   children = numbers.children.items;
@@ -35,7 +35,7 @@ numbers_view numbers = record {
   error = numbers.error;
 }
 
--- there are none, with room for those of the children and input workers of this shape
+-- there are no numbers of children and input workers yet, with room for those of this shape
 pub record HaveRoom (shape : ShapeView) (numbers : Numbers) : Type 0 where
   pub no_children : numbers.children.items ≡ []
   pub no_feeds : numbers.feeds.items ≡ []

@@ -1,4 +1,4 @@
--- An order to the commands of a start that have not ended, and the leftmost fault of their answers.
+-- An order to each command of a start that has not ended, and the leftmost fault of the results.
 use Rattle.std.specs.Prelude.{ℕ, Bool, List, [], ◌∷◌, ◌≡◌, MatchOption, Ok, Err}
 use Rattle.std.specs.declared.result.Result.{Result}
 use Rattle.duct_system.specs.Child.{ChildView, Obeyed, OrdersChild}
@@ -6,14 +6,14 @@ use Rattle.duct_system.specs.declared.error.Error.{Error}
 use Rattle.duct_system.specs.declared.error.Error.TheVariants as error
 use Rattle.duct_system.specs.declared.system.Order.{Order}
 
--- a child was given an order, or had ended, answers Ok and is as before
+-- a child was given an order; or it had ended, the result is Ok and the child is as before
 abbrev pub OrderedIfDue : (ℕ → Order → Bool → Obeyed → Type 0) → Order → ChildView → Obeyed
     → ChildView → Type 0
 OrderedIfDue may order before answer after =
     MatchOption before.ending (OrdersChild may order before answer after)
     (λ status. (answer ≡ Ok tt) × (after ≡ before))
 
--- the same of each of them, with as many answers
+-- the same of each child, with one result for each
 abbrev pub AllOrdered : (ℕ → Order → Bool → Obeyed → Type 0) → Order → List ChildView
     → List Obeyed → List ChildView → Type 0
 AllOrdered may order [] [] [] = Unit {0}
@@ -24,18 +24,18 @@ AllOrdered may order (before ∷ befores) (answer ∷ answers) [] = ⊥
 AllOrdered may order (before ∷ befores) (answer ∷ answers) (after ∷ afters) =
     OrderedIfDue may order before answer after × AllOrdered may order befores answers afters
 
--- the leftmost fault, and Ok where there is none
+-- the leftmost fault, or Ok where there is none
 abbrev pub leftmost : List Obeyed → Obeyed
 leftmost [] = Ok tt
 leftmost (Ok done ∷ answers) = leftmost answers
 leftmost (Err fault ∷ answers) = Err fault
 
--- the fault of the answer is the error of the result, or neither has any
+-- the fault of an order is the error of the result, or both are Ok
 abbrev pub OrderAnswers : Obeyed → Result (Unit {0}) Error → Type 0
 OrderAnswers (Ok done) result = result ≡ Ok tt
 OrderAnswers (Err fault) result = result ≡ Err (error.System fault)
 
--- each of them was given the order if it had not ended, and the result is the leftmost fault of their answers
+-- each child was given the order if it had not ended, and the result is the leftmost fault
 abbrev pub IsOrdered : (ℕ → Order → Bool → Obeyed → Type 0) → Order → List ChildView
     → Result (Unit {0}) Error → List ChildView → Type 0
 IsOrdered may order befores result afters =

@@ -1,4 +1,5 @@
--- What a poll of a start that runs asks, and what it answers by the outcome of the words that are stored.
+-- What a poll of a running expression polls, and what it returns for the outcome of the stored
+-- words.
 use Rattle.std.specs.Prelude.{ℕ, zero, suc, List, [], ◌∷◌, ◌≡◌, MatchOption, string_bytes, Ok, Err, Some, None, IsOkAnd, IsErrAnd, IsSomeAnd}
 use Rattle.std.specs.declared.option.Option.{Option}
 use Rattle.std.specs.declared.result.Result.{Result}
@@ -21,7 +22,7 @@ use Rattle.duct_system.specs.declared.system.Said.TheVariants as said
 use Rattle.duct_system.specs.declared.system.Side.{Side}
 use Rattle.duct_system.specs.declared.system.Side.TheVariants as side
 
--- what a poll answers: nothing yet, an output, or an error
+-- what a poll returns: nothing yet, an output, or an error
 abbrev pub Polled : Type 0
 Polled = Result (Option (Arc Output Global)) Error
 
@@ -35,7 +36,7 @@ abbrev pub IsChecked : List ℕ → Error → Type 0
 IsChecked text (error.Checked message) = string_bytes (arc_value message) ≡ text
 IsChecked text other = ⊥
 
--- the answer that a reply of the core gives
+-- what a poll returns for a reply of the core
 abbrev pub Gives : ReplyView → Polled → Type 0
 Gives pending polled = polled ≡ Ok None
 Gives (faulted fault) polled = polled ≡ Err (error.System fault)
@@ -46,7 +47,7 @@ Gives no_memory polled = polled ≡ Err error.Memory
 Gives noted polled = ⊥
 Gives unknown polled = ⊥
 
--- the reply is one to the question how an expression ended
+-- the reply is one to the question how the expression ended
 abbrev pub IsConclusion : ReplyView → Type 0
 IsConclusion noted = ⊥
 IsConclusion unknown = ⊥
@@ -56,7 +57,7 @@ IsConclusion (answered status out err) = Unit {0}
 IsConclusion (failed text) = Unit {0}
 IsConclusion no_memory = Unit {0}
 
--- the answer is the outcome of these words
+-- a poll returned the outcome of these words
 abbrev pub IsOutcome : ShapeView → Latest → Polled → Type 0
 IsOutcome shape words polled =
     (reply : ReplyView) × Concludes shape words reply × Gives reply polled
@@ -67,7 +68,7 @@ AskedIfDue may before after =
     MatchOption before.ending ((answer : Answer) × PollsChild may before answer after)
     (λ status. after ≡ before)
 
--- each of them was polled once, or had ended and is as before
+-- each child was polled once, or had ended and is as before
 abbrev pub AllAsked : (ℕ → Answer → Type 0) → List ChildView → List ChildView → Type 0
 AllAsked may = AllZip (AskedIfDue may)
 
@@ -77,7 +78,7 @@ abbrev pub IsPolled : {T : Type 0} → (ℕ → Said T → Type 0) → (T → T 
 IsPolled {T} may same refusable before after =
     (heard : Said T) × PollsJob may same refusable before heard after
 
--- the first where a worker of this word has not finished, and else the second
+-- the first where a worker of this word has not finished, else the second
 abbrev pub WhileRuns : {T : Type 0} → Said T → Type 0 → Type 0 → Type 0
 WhileRuns said.Running runs over = runs
 WhileRuns (said.Done value) runs over = over
@@ -89,7 +90,7 @@ abbrev pub PolledIfRuns : {T : Type 0} → (ℕ → Said T → Type 0) → (T �
 PolledIfRuns may same refusable before after =
     WhileRuns before.kept (IsPolled may same refusable before after) (after ≡ before)
 
--- each of them was polled once, or had finished and is as before
+-- each worker was polled once, or had finished and is as before
 abbrev pub AllPolled : {T : Type 0} → (ℕ → Said T → Type 0) → (T → T → Type 0) → Type 0
     → List (JobView T) → List (JobView T) → Type 0
 AllPolled may same refusable = AllZip (PolledIfRuns may same refusable)
@@ -102,7 +103,7 @@ IsThereAndPolled may same refusable (Some before) None = ⊥
 IsThereAndPolled may same refusable (Some before) (Some after) =
     IsPolled may same refusable before after
 
--- the first where the outcome waits for this stream's capture worker, and else the second
+-- the first where the outcome waits for this stream's capture worker, else the second
 abbrev pub WhereAwaited : Side → Option Side → Type 0 → Type 0 → Type 0
 WhereAwaited stream None waits left = left
 WhereAwaited side.Out (Some side.Out) waits left = waits
@@ -110,14 +111,14 @@ WhereAwaited side.Out (Some side.Err) waits left = left
 WhereAwaited side.Err (Some side.Out) waits left = left
 WhereAwaited side.Err (Some side.Err) waits left = waits
 
--- a stream's capture worker was polled once where the outcome waited for it, and else is as before
+-- a stream's capture worker was polled once where the outcome waited for it, else it is as before
 abbrev pub PolledWhere : {T : Type 0} → (ℕ → Said T → Type 0) → (T → T → Type 0) → Type 0 → Side
     → Option Side → Option (JobView T) → Option (JobView T) → Type 0
 PolledWhere may same refusable stream awaited before after =
     WhereAwaited stream awaited (IsThereAndPolled may same refusable before after)
     (after ≡ before)
 
--- this holds of the one at this place before and after, and the others are as before
+-- the relation holds of the item at this place before and after, and the other items are as before
 abbrev pub ChangedAt : {T : Type 0} → (T → T → Type 0) → ℕ → List T → List T → Type 0
 ChangedAt changes at [] afters = ⊥
 ChangedAt changes zero (before ∷ befores) [] = ⊥

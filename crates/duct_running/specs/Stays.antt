@@ -1,4 +1,4 @@
--- What stays of what runs while it is only polled.
+-- What polls leave unchanged in a running expression.
 use Rattle.std.specs.Prelude.{◌≡◌, map}
 use Rattle.duct_system.specs.Child.{ChildView}
 use Rattle.duct_system.specs.Job.{JobView}
@@ -6,7 +6,7 @@ use Rattle.duct_status.specs.ShapeView.{shape_view}
 use Rattle.duct_start.specs.Running.{RunningView}
 use Rattle.duct_running.specs.NumbersView.{numbers_in}
 
--- the shape, the numbers, and the orders that the children were given
+-- the shape, the numbers, and the orders that the children were given are as before
 pub record Stays {C F D V W : Type 0} (child : C → ChildView) (feed : F → JobView V)
     (drain : D → JobView W) (before after : RunningView C F D) : Type 0 where
   pub shape_is : shape_view after.shape ≡ shape_view before.shape

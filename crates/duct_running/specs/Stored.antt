@@ -1,4 +1,4 @@
--- What children and workers store of what they were asked, as the words that a core is told.
+-- The results that children and workers store, as the words that a core is given.
 use Rattle.std.specs.Prelude.{ℕ, ◌≡◌, List, All, map, Ok, Err, Some, None}
 use Rattle.std.specs.Option.{option_map, option_to_list}
 use Rattle.std.specs.declared.alloc.Global.{Global}
@@ -14,20 +14,20 @@ use Rattle.duct_status.specs.declared.status.Word.{Word}
 use Rattle.duct_status.specs.declared.status.Word.TheVariants as word
 use Rattle.duct_system.specs.declared.system.ExitStatus.{ExitStatus}
 
--- the word of an answer
+-- the word for the result of a child's poll
 abbrev pub word_of : Answer → Word
 word_of (Ok (Some status)) = word.Ended status
 word_of (Ok None) = word.Running
 word_of (Err fault) = word.Fault fault
 
--- the word that a child stores: its ending, else the fault of its last answer, and else Running
+-- the word that a child stores: its ending, else the fault of its last poll, else Running
 abbrev pub stored_word : Option ExitStatus → Option Answer → Word
 stored_word (Some status) last = word.Ended status
 stored_word None (Some (Err fault)) = word.Fault fault
 stored_word None (Some (Ok found)) = word.Running
 stored_word None None = word.Running
 
--- the bytes that a capture worker gives
+-- the bytes that a capture worker returns
 abbrev pub Bytes : Type 0
 Bytes = Arc (Vec ℕ Global) Global
 
@@ -48,7 +48,7 @@ stored_in child feed drain running =
     stored_latest (map child running.children) (map feed running.feeds)
     (option_map drain running.output) (option_map drain running.error)
 
--- nobody has asked these children or polled these workers
+-- no child was polled or given an order, and no worker was polled
 pub record AreUnasked {C F D V W : Type 0} (child : C → ChildView) (feed : F → JobView V)
     (drain : D → JobView W) (children : List C) (feeds : List F) (output error : Option D)
     : Type 0 where

@@ -1,4 +1,5 @@
--- That what children and workers store was told of their numbers.
+-- Each result that a child or a worker stores is one that a child or a worker of its number may
+-- return.
 use Rattle.std.specs.Prelude.{ℕ, ◌⊎◌, ◌++◌, List, All, Contains, IfSome, Ok, Some, None}
 use Rattle.std.specs.Option.{option_to_list}
 use Rattle.std.specs.declared.option.Option.{Option}
@@ -10,12 +11,12 @@ use Rattle.duct_running.specs.Polled.{WhileRuns}
 use Rattle.duct_running.specs.NumbersView.{NumbersView}
 use Rattle.duct_running.specs.Stored.{Bytes}
 
--- the last answer of a child, and its ending, may be answered by a child of its number
+-- a child of this number may return the result of the last poll, and the ending
 pub record IsTold (may : ℕ → Answer → Type 0) (child : ChildView) : Type 0 where
   pub answered : IfSome child.last (λ answer. may child.number answer)
   pub ended : IfSome child.ending (λ status. may child.number (Ok (Some status)))
 
--- the result or the fault that a worker keeps may be said by one of its number
+-- a worker of this number may return the result or the fault that it keeps
 abbrev pub IsKeptTold : {T : Type 0} → (ℕ → Said T → Type 0) → JobView T → Type 0
 IsKeptTold may job = WhileRuns job.kept (Unit {0}) (may job.number job.kept)
 
@@ -28,11 +29,11 @@ pub record AreTold (answer : ℕ → Answer → Type 0) (feed : ℕ → Said (Un
   pub output_told : IfSome output (IsKeptTold drain)
   pub error_told : IfSome error (IsKeptTold drain)
 
--- one of these numbers may answer this
+-- one of these numbers may return this
 abbrev pub SomeSays : {A : Type 0} → (ℕ → A → Type 0) → A → List ℕ → Type 0
 SomeSays may answer numbers = (number : ℕ) × Contains numbers number × may number answer
 
--- a child, an input worker or a capture worker of these numbers may say that it runs
+-- a child, an input worker or a capture worker of these numbers may return that it runs
 abbrev pub OneRuns : (ℕ → Answer → Type 0) → (ℕ → Said (Unit {0}) → Type 0)
     → (ℕ → Said Bytes → Type 0) → NumbersView → Type 0
 OneRuns answer feed drain numbers =

@@ -1,4 +1,5 @@
-//! An expression that runs: what is asked of its children and workers, what they are told, and what they said so far.
+//! A running expression: how its children and workers are polled, the orders to its children, and
+//! the results so far.
 #![tactic(auto)]
 
 pub mod numbers;

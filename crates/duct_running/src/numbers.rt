@@ -1,4 +1,5 @@
-//! The numbers of the children and the workers of a start, and how they are compared with those of what runs.
+//! The numbers of a start's children and workers, and how they are compared with those of a running
+//! expression.
 ghost use Rattle.std.specs.Prelude.{◌≡◌, ◌↔◌, ◌≤◌, [], length, map, vec_capacity, IfOk, IsOkUnless, IsTrue};
 ghost use Rattle.std.specs.Option.{option_map};
 ghost use Rattle.duct_running.specs.NumbersView.{HaveRoom, numbers_in, numbers_view};
@@ -10,18 +11,22 @@ use duct_base::status::Shape;
 use duct_base::system::{Numbered, System};
 use std::alloc::Global;
 
-/// The numbers of the children from left to right, of the input workers in tree order, and of the capture workers of stdout
-/// and of stderr.
+/// The numbers of a start's children and workers.
 #[derive(Drop)]
 pub struct Numbers {
+    /// The numbers of the children, from left to right.
     pub children: Vec<u64>,
+    /// The numbers of the input workers, in tree order.
     pub feeds: Vec<u64>,
+    /// The number of stdout's capture worker, if there is one.
     pub output: Option<u64>,
+    /// The number of stderr's capture worker, if there is one.
     pub error: Option<u64>,
 }
 
 impl Numbers {
-    /// None, with room for those of so many children and input workers. Refused, by `Error::Memory`, only for want of memory.
+    /// Returns a `Numbers` without numbers, with room for those of this many children and input
+    /// workers. Fails only with `Error::Memory`, on allocation failure.
     pub fn with_room(alloc: Global, children: usize, feeds: usize) -> Result<Numbers, Error>
         ensures children { IfOk result (λ numbers. numbers.children.items ≡ []) }
         ensures feeds { IfOk result (λ numbers. numbers.feeds.items ≡ []) }
@@ -39,7 +44,7 @@ impl Numbers {
         })
     }
 
-    /// Whether these are the same.
+    /// Returns whether both have the same numbers.
     pub fn is_same(&self, other: &Numbers) -> bool
         ensures { IsTrue result ↔ (numbers_view self.now ≡ numbers_view other.now) }
     {
@@ -50,7 +55,7 @@ impl Numbers {
     }
 }
 
-// Notes the numbers of these, for which there is room.
+// Appends the numbers of these items, for which there is room.
 fn note<N: Numbered>(numbers: &mut Vec<u64>, items: &[N])
     requires empty { numbers.old.items ≡ [] }
     requires room { length items.now ≤ vec_capacity numbers.old }
@@ -61,7 +66,7 @@ fn note<N: Numbered>(numbers: &mut Vec<u64>, items: &[N])
     }
 }
 
-// The number of this, if it is there.
+// Returns the number of an item, if there is one.
 fn number_of<N: Numbered>(item: &Option<N>) -> Option<u64>
     ensures { result ≡ option_map N.number_of item.now }
 {
@@ -71,7 +76,7 @@ fn number_of<N: Numbered>(item: &Option<N>) -> Option<u64>
     }
 }
 
-// Whether these have these numbers, in order.
+// Returns whether these items have these numbers, in order.
 fn have_numbers<N: Numbered>(items: &[N], numbers: &[u64]) -> bool
     ensures { IsTrue result ↔ (map N.number_of items.now ≡ numbers.now) }
 {
@@ -86,7 +91,7 @@ fn have_numbers<N: Numbered>(items: &[N], numbers: &[u64]) -> bool
     true
 }
 
-// Whether these children and workers have these numbers.
+// Returns whether these children and workers have these numbers.
 fn are_numbered<C: Numbered, F: Numbered, D: Numbered>(
     children: &[C],
     feeds: &[F],
@@ -108,7 +113,8 @@ fn are_numbered<C: Numbered, F: Numbered, D: Numbered>(
 }
 
 impl<S: System> Running<S> {
-    /// Notes the numbers of the children and the workers in what has none so far, and room for them.
+    /// Writes the numbers of the children and the workers to `numbers`, which has none of children
+    /// and input workers yet, and room for them. It allocates nothing.
     pub fn note_numbers(&self, numbers: &mut Numbers)
         requires { HaveRoom (shape_view self.now.shape) numbers.old }
         ensures { numbers_view numbers.new
@@ -120,7 +126,7 @@ impl<S: System> Running<S> {
         numbers.error = number_of(&self.error);
     }
 
-    /// Whether it has this shape, and children and workers of these numbers.
+    /// Returns whether it has this shape, and children and workers with these numbers.
     pub fn is_of(&self, shape: &Shape, numbers: &Numbers) -> bool
         ensures { IsTrue result ↔ ((shape_view self.now.shape ≡ shape_view shape.now)
             × (numbers_in S.Child.child_view S.Feed.job_view S.Drain.job_view self.now

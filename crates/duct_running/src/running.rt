@@ -1,4 +1,4 @@
-//! An expression that runs: its children, its workers, and what they said so far.
+//! A running expression: its children, its workers, and the results so far.
 ghost use Rattle.std.specs.Prelude.{◌≡◌, ◌<◌, ◌≤◌, [], ◌++◌, length, map, is_some, vec_capacity, Ok, None};
 ghost use Rattle.std.specs.Option.{option_map, option_to_list};
 ghost use Rattle.duct_system.specs.declared.system.Side.TheVariants.{Out, Err};
@@ -21,8 +21,9 @@ use duct_base::system::{Child, ExitStatus, Fault, Job, Output, Side, System};
 use std::marker::Model;
 use std::sync::Arc;
 
-/// What a start leaves: its children, its workers, and what they said so far. It is asked by `poll`, ordered by `kill`
-/// and `signal`, and is to be spent: by `into_parts` or `give_up`.
+/// What a start leaves: its children, its workers, and their results so far. `poll` polls them, and
+/// `kill` and `signal` send orders to the children. It has to be spent, by `into_parts` or
+/// `give_up`.
 pub struct Running<S: System> {
     pub(crate) core: Core,
     // The ids of the children.
@@ -31,9 +32,9 @@ pub struct Running<S: System> {
     pub(crate) feeds: Vec<S::Feed>,
     pub(crate) output: Option<S::Drain>,
     pub(crate) error: Option<S::Drain>,
-    // Whether a command said `Running` at the last poll.
+    // Whether a command reported `Running` at the last poll; true before the first poll.
     busy: bool,
-    // Empty, with room for the capture workers, so that `into_parts` takes no memory.
+    // Empty, with room for the capture workers, so that `into_parts` allocates nothing.
     room: Vec<S::Drain>,
 }
 
@@ -61,7 +62,7 @@ impl<S: System> Model for Running<S> {
         r.ids.items r.children.items r.feeds.items r.output r.error r.room };
 }
 
-// The word of a child's answer.
+// Returns the word for the result of a child's poll.
 fn word(answer: Result<Option<ExitStatus>, Fault>) -> Word
     ensures { result ≡ word_of answer }
 {
@@ -72,7 +73,7 @@ fn word(answer: Result<Option<ExitStatus>, Fault>) -> Word
     }
 }
 
-// Notes the ids of these children, for which there is room.
+// Appends the ids of these children, for which there is room.
 fn note_ids<C: Child>(ids: &mut Vec<u32>, children: &[Place<C>])
     requires empty { ids.old.items ≡ [] }
     requires room { length children.now ≤ vec_capacity ids.old }
@@ -83,15 +84,19 @@ fn note_ids<C: Child>(ids: &mut Vec<u32>, children: &[Place<C>])
     }
 }
 
-/// Room for what runs beside what a start gets: for the ids of the children, and for the capture workers in `into_parts`.
+/// The room that a `Running` needs besides what a start gets.
 #[derive(Drop)]
 pub struct Room<D> {
+    /// Empty, with room for the ids of the children.
     pub ids: Vec<u32>,
+    /// Empty, with room for the capture workers.
     pub drains: Vec<D>,
 }
 
-/// What a start leaves: a core that was told nothing, and children and workers that nobody has asked yet, as many as its
-/// shape has commands, inputs and captures. Room for the ids and the capture workers was made before. For a start alone.
+/// Makes a `Running` of what a start leaves: a core that was given no result yet, and children and
+/// workers that were never polled. There are as many children and input workers as the shape has
+/// commands and inputs, and the capture workers that the core expects. `room` has room for the ids
+/// and the capture workers, so it allocates nothing. Only a start calls it.
 pub fn running_of<S: System>(
     core: Core,
     children: Vec<Place<S::Child>>,
@@ -134,7 +139,8 @@ pub fn running_of<S: System>(
 }
 
 impl<S: System> Running<S> {
-    /// The ids by which the machine knows the children, one a command, from left to right. It takes no memory.
+    /// Returns the process ids of the children, one for each command, from left to right. It
+    /// allocates nothing.
     pub fn pids(&self) -> &[u32]
         ensures count { length result.now ≡ command_count (shape_view self.now.shape) }
         ensures ids { result.now ≡ map (λ c. c.process) (map S.Child.child_view self.now.children) }
@@ -142,12 +148,14 @@ impl<S: System> Running<S> {
         &self.ids
     }
 
-    /// Whether a command said `Running` at the last poll, or was not polled yet. No clause says so; tests do.
+    /// Returns whether a command reported `Running` at the last poll; true before the first poll.
+    /// No contract states it; the tests of waits check it.
     pub fn is_busy(&self) -> bool {
         self.busy
     }
 
-    /// What children and workers store was told of their numbers. It asks nothing.
+    /// Does nothing. Its contract says that each result which a child or a worker stores is one
+    /// that a child or a worker of its number may return.
     pub fn are_told(&self)
         ensures { ∥ AreTold S.Child.may_answer S.Feed.may_say S.Drain.may_say
             (map S.Child.child_view self.now.children) (map S.Feed.job_view self.now.feeds)
@@ -157,8 +165,9 @@ impl<S: System> Running<S> {
         let _ = &self.core;
     }
 
-    /// The children from left to right, the input workers in tree order, and the capture workers of stdout and of stderr.
-    /// Nobody polls them from then on.
+    /// Returns the children from left to right, the input workers in tree order, and the capture
+    /// workers of stdout and of stderr. It allocates nothing. After that only the caller can poll
+    /// them.
     pub fn into_parts(self) -> (Vec<Place<S::Child>>, Vec<S::Feed>, Vec<S::Drain>)
         ensures children { result.0.items ≡ self.children }
         ensures feeds { result.1.items ≡ self.feeds }
@@ -184,7 +193,7 @@ impl<S: System> Running<S> {
         (children, feeds, drains)
     }
 
-    // Polls the child at this place, if it has not ended, and tells the core.
+    // Polls the child at this place, if it has not ended, and passes the result to the core.
     fn ask(&mut self, at: usize)
         requires { at < length self.old.children }
         ensures shape { shape_view self.new.shape ≡ shape_view self.old.shape }
@@ -202,7 +211,7 @@ impl<S: System> Running<S> {
         let _ = self.core.step(Event::Command(at, heard));
     }
 
-    // Forgets who said `Running`.
+    // Forgets that a command reported `Running`.
     fn begin_poll(&mut self)
         ensures { self.new ≡ self.old }
     {
@@ -223,7 +232,8 @@ impl<S: System> Running<S> {
         }
     }
 
-    // Polls the input worker at this place, if it has not finished, and tells the core.
+    // Polls the input worker at this place, if it has not finished, and passes the result to the
+    // core.
     fn ask_feed(&mut self, at: usize)
         requires { at < length self.old.feeds }
         ensures shape { shape_view self.new.shape ≡ shape_view self.old.shape }
@@ -255,7 +265,8 @@ impl<S: System> Running<S> {
         }
     }
 
-    // Polls stdout's capture worker, if the outcome waits for it, and tells the core.
+    // Polls stdout's capture worker, if the outcome waits for it, and passes the result to the
+    // core.
     fn ask_output(&mut self)
         ensures shape { shape_view self.new.shape ≡ shape_view self.old.shape }
         ensures children { self.new.children ≡ self.old.children }
@@ -277,7 +288,8 @@ impl<S: System> Running<S> {
         let _ = self.core.step(Event::Drain(Side::Out, heard));
     }
 
-    // Polls stderr's capture worker, if the outcome waits for it, and tells the core.
+    // Polls stderr's capture worker, if the outcome waits for it, and passes the result to the
+    // core.
     fn ask_error(&mut self)
         ensures shape { shape_view self.new.shape ≡ shape_view self.old.shape }
         ensures children { self.new.children ≡ self.old.children }
@@ -299,11 +311,17 @@ impl<S: System> Running<S> {
         let _ = self.core.step(Event::Drain(Side::Err, heard));
     }
 
-    /// Asks each child that has not ended, once and from left to right, and then each input worker that has not finished,
-    /// once and in tree order; then stdout's capture worker where the outcome waits for it, and then stderr's likewise.
-    /// Answers the outcome of what children and workers then store: nothing while it waits for one of them, the first fault
-    /// in tree order, or how the expression ended. A checked failure is `Error::Checked`. `Error::Memory` comes only for
-    /// want of memory; all that was heard is kept, and the next poll tries again.
+    /// Polls each child that has not ended, once and from left to right, and then each input worker
+    /// that has not finished, once and in tree order. Then it polls stdout's capture worker, if the
+    /// outcome waits for it, and then stderr's likewise. It doesn't block.
+    ///
+    /// Returns the outcome of all results that are stored then: `Ok(None)` while it waits for a
+    /// child or a worker, or the output once all have ended.
+    ///
+    /// Fails with `Error::System` for the first fault in tree order, also while others run, with
+    /// `Error::Checked` for a checked failure, and with `Error::Memory` only on allocation failure
+    /// or where the output has too many owners. No result is lost by `Error::Memory`: the next poll
+    /// tries again.
     pub fn poll(&mut self) -> Result<Option<Arc<Output>>, Error>
         ensures shape { shape_view self.new.shape ≡ shape_view self.old.shape }
         ensures asked { AllAsked S.Child.may_answer (map S.Child.child_view self.old.children)
@@ -311,7 +329,8 @@ impl<S: System> Running<S> {
         ensures asked_feeds { AllPolled S.Feed.may_say S.Feed.same S.Feed.refusable
             (map S.Feed.job_view self.old.feeds) (map S.Feed.job_view self.new.feeds) }
 
-        // By what children and input workers now store, and the capture workers stored before.
+        // Whether it is polled depends on what the children and input workers store now, and on
+        // what the capture workers stored before.
         ensures asked_output { PolledWhere S.Drain.may_say S.Drain.same S.Drain.refusable Out
             (awaited (shape_view self.new.shape)
             (stored_in S.Child.child_view S.Feed.job_view S.Drain.job_view
@@ -319,7 +338,8 @@ impl<S: System> Running<S> {
             (option_map S.Drain.job_view self.old.output)
             (option_map S.Drain.job_view self.new.output) }
 
-        // By what children, input workers and stdout's capture worker now store, and stderr's stored before.
+        // Whether it is polled depends on what the children, the input workers and stdout's capture
+        // worker store now, and on what stderr's stored before.
         ensures asked_error { PolledWhere S.Drain.may_say S.Drain.same S.Drain.refusable Err
             (awaited (shape_view self.new.shape)
             (stored_in S.Child.child_view S.Feed.job_view S.Drain.job_view
@@ -340,7 +360,7 @@ impl<S: System> Running<S> {
         self.conclude()
     }
 
-    // The outcome of what the children and the workers said.
+    // Returns the outcome of the results of the children and the workers.
     fn conclude(&mut self) -> Result<Option<Arc<Output>>, Error>
         ensures shape { shape_view self.new.shape ≡ shape_view self.old.shape }
         ensures commands { length self.new.children ≡ command_count (shape_view self.new.shape) }
@@ -356,7 +376,7 @@ impl<S: System> Running<S> {
     }
 }
 
-// What a poll answers by the core's reply to the question.
+// Converts the core's reply to the result of a poll.
 fn answer(reply: Reply) -> Result<Option<Arc<Output>>, Error>
     requires { IsConclusion (reply_view reply) }
     ensures { Gives (reply_view reply) result }

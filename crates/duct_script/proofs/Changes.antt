@@ -10,13 +10,13 @@ use Rattle.duct_script.specs.declared.hook.Change.{Change}
 use Rattle.duct_script.specs.declared.hook.Change.TheVariants.{Word, Var, NoVar, NoVars, Folder, Port}
 use Rattle.duct_script.specs.Change.{port_to, with_port, changed_by, changed}
 
--- no target is a given end
+-- no target becomes the port `Given`
 target_not_given : (to : Target) → port_to to ≡ Given → ⊥
 target_not_given Inherit is = cc
 target_not_given Null is = cc
 target_not_given (Place place) is = cc
 
--- a stream that goes to a target
+-- redirecting a stream to a target gives no stream an end
 with_port_gives_nothing : (stream : Stream) (to : Target) (spec : SpecView)
     → GivesNothing spec (with_port stream (port_to to) spec)
 with_port_gives_nothing In to spec In is = absurd (target_not_given to is)
@@ -29,14 +29,14 @@ with_port_gives_nothing Err to spec In is = is
 with_port_gives_nothing Err to spec Out is = is
 with_port_gives_nothing Err to spec Err is = absurd (target_not_given to is)
 
--- the streams of two specs are the same
+-- a change that keeps all ports gives no stream an end
 same_ports : (before after : SpecView) → after.input ≡ before.input → after.output ≡ before.output
     → after.error ≡ before.error → GivesNothing before after
 same_ports before after input output error In is = cc
 same_ports before after input output error Out is = cc
 same_ports before after input output error Err is = cc
 
--- one change
+-- one change gives no stream an end
 change_gives_nothing : (change : Change) (spec : SpecView)
     → GivesNothing spec (changed_by change spec)
 change_gives_nothing (Word word) spec = same_ports spec (changed_by (Word word) spec) refl refl refl
@@ -46,7 +46,7 @@ change_gives_nothing NoVars spec = same_ports spec (changed_by NoVars spec) refl
 change_gives_nothing (Folder folder) spec = same_ports spec (changed_by (Folder folder) spec) refl refl refl
 change_gives_nothing (Port stream to) spec = with_port_gives_nothing stream to spec
 
--- all changes
+-- a list of changes gives no stream an end
 pub changes_give_nothing : (changes : List Change) (spec : SpecView)
     → GivesNothing spec (changed changes spec)
 changes_give_nothing [] spec = λ stream is. is

@@ -1,4 +1,4 @@
--- An order that is answered by a list is answered as the interface says.
+-- An order whose result comes from a list has a result that the interface allows.
 use Rattle.std.proofs.Common.{inl, inr}
 use Rattle.duct_system.specs.Child.{ChildView, Obeyed, OrdersChild}
 use Rattle.duct_system.specs.declared.system.Order.{Order}

@@ -1,4 +1,4 @@
--- Paths that are put into a map and looked up in it, by their texts.
+-- Inserting paths into a map and looking them up, by their texts.
 use Rattle.std.specs.Prelude.{ℕ, List, [], ◌∷◌, map, string_bytes, Some, true, false, cond}
 use Rattle.std.specs.BTreeMap.{insert_entry, is_at}
 use Rattle.std.specs.Map.{lookup}
@@ -13,7 +13,7 @@ use Rattle.std.proofs.Common.{◌≡◌, ap, refl, sym, ◌∙◌}
 use Rattle.duct_system.specs.SpecView.{pair_text}
 use Rattle.duct_script.specs.Paths.{Paths, canonical_of}
 
--- the texts of a map with one more entry are the texts of the map with the text of that entry
+-- the texts of a map after an insertion are the map's texts with the text of the new entry inserted
 pub insert_texts : {Z : Type 0} (es : List (String Z × String Z)) (k v : String Z)
     → map pair_text (insert_entry string_cmp es k v)
     ≡ insert_entry (slice_cmp nat_cmp) (map pair_text es) (string_bytes k) (string_bytes v)
@@ -24,7 +24,7 @@ insert_texts (e ∷ es) k v =
     ≡ match_ordering o ((string_bytes k, string_bytes v) ∷ pair_text e ∷ map pair_text es) ((string_bytes e.0, string_bytes v) ∷ map pair_text es) (pair_text e ∷ insert_entry (slice_cmp nat_cmp) (map pair_text es) (string_bytes k) (string_bytes v)))
     [ Less ↦ refl | Equal ↦ refl | Greater ↦ ap (λ r. pair_text e ∷ r) (insert_texts es k v) ]
 
--- the canonical name of a path among texts is the text of what the map has at that path
+-- the canonical path of a path among the texts is the text of the map's value for that path
 pub canonical_of-map : {Z : Type 0} (name : List ℕ) (es : List (String Z × String Z)) →
     canonical_of name (map pair_text es) ≡ option_map string_bytes (lookup (is_at (λ k. slice_cmp nat_cmp name (string_bytes k))) es)
 canonical_of-map name [] = refl
@@ -34,7 +34,7 @@ canonical_of-map {Z} name (e ∷ es) =
     ≡ option_map string_bytes (cond b (Some e.1) (lookup (is_at (λ k. slice_cmp nat_cmp name (string_bytes k))) es)))
     [ true ↦ refl | false ↦ canonical_of-map name es ]
 
--- the text of what the map answers is the canonical name among the texts
+-- the text of what the map returns is the canonical path among the texts
 pub canonical_of-found : {Z : Type 0} (name : List ℕ) (es : List (String Z × String Z))
     (paths : Paths) (answer : Option (String Z)) →
     map pair_text es ≡ paths → answer ≡ lookup (is_at (λ k. slice_cmp nat_cmp name (string_bytes k))) es → option_map string_bytes answer ≡ canonical_of name paths

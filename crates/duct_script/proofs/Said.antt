@@ -1,4 +1,4 @@
--- What a drain says again.
+-- What a drain returns again.
 use Rattle.std.specs.Prelude.{ℕ, List, ◌≡◌, IfSome, IfNone, Some, None}
 use Rattle.std.specs.Option.{unwrap_or}
 use Rattle.std.specs.declared.option.Option.{Option}
@@ -7,7 +7,8 @@ use Rattle.duct_system.specs.declared.system.Said.{Said}
 use Rattle.duct_system.specs.declared.system.Said.TheVariants.{Running, Done, Fault}
 use Rattle.duct_script.specs.Said.{Shared, SameBytes, word_of}
 
--- one more owner of what is kept says it again, and where it was refused Running is said, which happens at bytes alone
+-- a clone of what is kept is the same result again; if cloning fails, which happens only for bytes,
+-- the result is Running
 pub says_again : (kept said : Said Shared) (answer : Option (Said Shared)) →
     word_of said ≡ word_of kept → IfSome answer (λ again. word_of again ≡ word_of said) → IfNone answer ((bytes : List ℕ) × (word_of said ≡ Done bytes)) →
     SaysAgain SameBytes (Unit {0}) kept (unwrap_or answer Running)

@@ -1,4 +1,4 @@
--- A capture worker of the scripted system may go to another thread.
+-- A capture worker of the scripted system can be sent to another thread.
 use denote.Param.Send.{IsSend, sendable}
 use Rattle.std.proofs.Crossing.{crosses}
 use Rattle.duct_script.specs.contracts.job.ScriptDrain

@@ -1,4 +1,4 @@
--- What a hook with a list of changes makes of a spec, and which specs it refuses.
+-- How a hook with a list of changes changes a spec, and which specs it refuses.
 use Rattle.std.specs.Prelude.{ℕ, Bool, false, ◌||◌, List, [], ◌∷◌, ◌++◌, Some, None, nat_eq, string_bytes, if◌then◌else◌}
 use Rattle.std.specs.Cmp.Lexicographic.{pointwise}
 use Rattle.std.specs.declared.option.Option.{Option}
@@ -21,7 +21,7 @@ port_to target.Inherit = port.Inherit
 port_to target.Null = port.Null
 port_to (target.Place place) = port.Place place
 
--- the spec with this port of a stream
+-- the spec with this port for a stream
 abbrev pub with_port : Stream → Port → SpecView → SpecView
 with_port In to spec = record spec { input = to }
 with_port Out to spec = record spec { output = to }
@@ -43,12 +43,12 @@ abbrev pub changed : List Change → SpecView → SpecView
 changed [] spec = spec
 changed (first ∷ rest) spec = changed rest (changed_by first spec)
 
--- whether a word is among some words
+-- whether a word is one of these words
 abbrev pub has_word : List ℕ → List (List ℕ) → Bool
 has_word word [] = false
 has_word word (first ∷ rest) = pointwise nat_eq first word || has_word word rest
 
--- the fault by which a spec is refused, if it is
+-- the fault with which a spec is refused, if it is
 abbrev pub refusal_of : HookAnswer → SpecView → Option Fault
 refusal_of Obey spec = None
 refusal_of (Refuse fault) spec = Some fault

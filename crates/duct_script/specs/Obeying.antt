@@ -1,9 +1,9 @@
--- A child that obeys each order.
+-- A child whose orders succeed.
 use Rattle.std.specs.Prelude.{List, [], ◌≡◌, None}
 use Rattle.duct_script.specs.declared.child.ChildScript.{ChildScript}
 use Rattle.duct_script.specs.declared.child.PollAnswer.{PollAnswer}
 
--- a child that gives these answers to polls, obeys each order, and has no gate
+-- a child whose polls return these results, whose orders succeed, and which has no gate
 pub record IsObeying (answers : List PollAnswer) (script : ChildScript) : Type 0 where
   pub polls_are : script.polls.items.items ≡ answers
   pub kills_are : script.kills.items.items ≡ []

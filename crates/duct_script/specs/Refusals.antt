@@ -23,7 +23,8 @@ place_of Drain = 9
 place_of Reader = 10
 place_of Close = 11
 
--- whether a refusal is for the request of this number among all, and of this number among those of the sort at this place
+-- whether a refusal is for the request with this number among all requests, and with this number
+-- among those of the sort at this place
 abbrev pub is_for : ℕ → ℕ → ℕ → Refusal → Bool
 is_for place among_all among_sort refusal =
     elim refusal.sort [
@@ -39,16 +40,16 @@ fault_for place among_all among_sort (refusal ∷ refusals) =
     if is_for place among_all among_sort refusal then Some refusal.fault
     else fault_for place among_all among_sort refusals
 
--- how many requests of a sort there are once there was one more
+-- how many requests of a sort there are after one more
 abbrev pub count_after : Sort → Requests → ℕ
 count_after sort requests = one_more (slice_index requests.of_sort (place_of sort))
 
--- the fault that is set for the next request, where that is of this sort
+-- the fault that is set for the next request, if that is of this sort
 abbrev pub next_fault : Sort → Requests → Option Fault
 next_fault sort requests =
     fault_for (place_of sort) (one_more requests.asked) (count_after sort requests) requests.refusals.items
 
--- the requests once one more of this sort was counted
+-- the requests after one more of this sort is counted
 abbrev pub with_request : Sort → Requests → Requests
 with_request sort requests = record requests {
   asked = one_more requests.asked;

@@ -6,7 +6,7 @@ use Rattle.std.specs.declared.sync.Arc.{Arc}
 use Rattle.std.specs.Arc.{arc_value}
 use Rattle.duct_script.specs.declared.calls.CallLog.{CallLog}
 
--- one more owner of a log, if there is a log; the allocation of that owner may fail
+-- one more owner of the log, if there is a log; making that owner may fail
 abbrev pub SharesLog : Option (Arc CallLog Global) → Option (Arc CallLog Global) → Type 0
 SharesLog None shared = shared ≡ None
 SharesLog (Some log) None = Unit {0}

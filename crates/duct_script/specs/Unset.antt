@@ -3,8 +3,8 @@ use Rattle.std.specs.Prelude.{[], ◌≡◌, None, false, replicate}
 use Rattle.std.specs.Arc.{arc_value}
 use Rattle.duct_script.specs.declared.system.Script.{Script}
 
--- no request was counted for any sort, no variable, canonical name, child, feed, drain, reader or log is set, the bytes that
--- its drains share are none, and it finds memory
+-- no request of any sort is counted; no variable, canonical path, child, feed, drain, reader or log
+-- is set; the bytes that its drains share are empty; and it is not starved
 pub record IsUnset (sys : Script) : Type 0 where
   pub of_sort_are : sys.requests.of_sort ≡ replicate 12 0
   pub variables_are : sys.variables.items ≡ []

@@ -7,7 +7,7 @@ use Rattle.duct_script.specs.declared.child.ScriptChild.{ScriptChild}
 use Rattle.duct_script.specs.declared.job.ScriptDrain.{ScriptDrain}
 use Rattle.duct_script.specs.declared.job.ScriptFeed.{ScriptFeed}
 
--- a child; its id is 1000 more than its number
+-- a child; its id is its number plus 1000, but at most 2 ^ 32 - 1
 abbrev pub child_view : ScriptChild → ChildView
 child_view child = record {
   number = child.number;

@@ -1,18 +1,18 @@
-//! Lists of answers that a test writes.
+//! Lists of results that a test sets.
 ghost use Rattle.std.specs.Prelude.{◌≡◌, []};
 ghost use Rattle.duct_script.specs.Answers.{next_or, left_of};
 
 use std::alloc::Global;
 use std::collections::VecDeque;
 
-/// Answers in the order in which they are given. The last one is repeated.
+/// Results, in the order in which they are returned. The last one is repeated.
 #[derive(Drop)]
 pub struct Answers<T> {
     items: VecDeque<T>,
 }
 
 impl<T: Copy + Drop> Answers<T> {
-    /// The list of these answers.
+    /// Returns the list of these results.
     pub fn of(items: Vec<T>) -> Answers<T>
         ensures { result.items.items ≡ items.items }
     {
@@ -21,7 +21,7 @@ impl<T: Copy + Drop> Answers<T> {
         }
     }
 
-    /// The empty list.
+    /// Returns the empty list.
     pub fn none(alloc: Global) -> Answers<T>
         ensures { result.items.items ≡ [] }
     {
@@ -30,7 +30,7 @@ impl<T: Copy + Drop> Answers<T> {
         }
     }
 
-    /// Gives the next answer, or the other one where the list is empty. The last answer stays in the list.
+    /// Returns the next result, or `other` if the list is empty. The last result stays in the list.
     pub fn next_or(&mut self, other: T) -> T
         ensures answer { result ≡ next_or other self.old.items.items }
         ensures rest { self.new.items.items ≡ left_of self.old.items.items }

@@ -1,5 +1,5 @@
-//! A log that a scripted system, its children and the hooks of a test write to, so that a test sees in which order they
-//! were called. Threads may share it, and nobody waits for it.
+//! A log to which a scripted system, its children and the hooks of a test write, so that a test
+//! sees the order of their calls. Threads may share it, and no call of it blocks.
 
 use crate::requests::Sort;
 use std::alloc::{AllocError, Global};
@@ -12,9 +12,9 @@ pub enum Call {
     Request(Sort),
     /// A hook with this label.
     Hook(u8),
-    /// A poll of the child of this number.
+    /// A poll of the child with this number.
     Poll(u64),
-    /// A kill or a signal of the child of this number.
+    /// A kill or a signal of the child with this number.
     Order(u64),
 }
 
@@ -26,7 +26,7 @@ pub struct CallLog {
 }
 
 impl CallLog {
-    /// An empty log for this many calls.
+    /// Returns an empty log for `most` calls. Fails only on allocation failure.
     pub fn new(alloc: Global, most: usize) -> Result<CallLog, AllocError> {
         let mut cells = Vec::with_capacity(alloc, most)?;
         for _ in 0..most {
@@ -38,7 +38,7 @@ impl CallLog {
         })
     }
 
-    /// Notes a call. Once the log is full it is only counted.
+    /// Notes a call. Once the log is full, calls are only counted.
     pub fn write(&self, call: Call) {
         let place = self.noted.fetch_add(1, Ordering::SeqCst);
         let (word, number) = match call {
@@ -53,12 +53,12 @@ impl CallLog {
         }
     }
 
-    /// How many calls were noted.
+    /// Returns how many calls were made, including those that were only counted.
     pub fn noted(&self) -> u64 {
         self.noted.load(Ordering::SeqCst)
     }
 
-    /// The call at this place, counted from 0.
+    /// Returns the call at this place, counted from 0, or `None` if none is noted there.
     pub fn get(&self, place: usize) -> Option<Call> {
         let cell = self.cells.get(place)?;
         let word = cell[0].load(Ordering::SeqCst);
@@ -73,7 +73,7 @@ impl CallLog {
     }
 }
 
-/// The words of calls that are no request. A request has the place of its sort, counted from 1.
+/// The codes of calls that are not requests. The code of a request is 1 plus the place of its sort.
 const HOOK: u64 = 100;
 
 const POLL: u64 = 101;

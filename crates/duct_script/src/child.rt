@@ -10,18 +10,21 @@ use duct_system::system::{Child, ExitStatus, Fault, Kind, Numbered, Order};
 use std::alloc::Global;
 use std::sync::Arc;
 
-/// What a child answers to a poll.
+/// The result of a poll of a child.
 #[derive(Clone, Copy, Debug, PartialEq, Eq)]
 pub enum PollAnswer {
+    /// The child still runs.
     Running,
+    /// The child has ended with this exit status.
     Ended(ExitStatus),
+    /// The poll fails with this fault.
     Fault(Fault),
 }
 
 impl PollAnswer {
     ghost use Rattle.duct_script.specs.Told.{told_by};
 
-    /// The answer in the form of the interface.
+    /// Returns the result in the form of the interface.
     fn told(self) -> Result<Option<ExitStatus>, Fault>
         ensures { result ≡ told_by self }
     {
@@ -33,18 +36,19 @@ impl PollAnswer {
     }
 }
 
-/// What a child answers to polls, kills and signals. An empty list of polls says Running, another empty list Ok.
+/// The results of a child's polls, kills and signals. With an empty list, a poll returns `Running`,
+/// and a kill or a signal `Ok`.
 #[derive(Drop)]
 pub struct ChildScript {
     pub polls: Answers<PollAnswer>,
     pub kills: Answers<Result<(), Fault>>,
     pub signals: Answers<Result<(), Fault>>,
-    /// A gate that whoever asks for its number has to pass.
+    /// A gate at which each call of the child's `number` waits.
     pub gate: Option<Gate>,
 }
 
 impl ChildScript {
-    /// A child that says Running and obeys.
+    /// Returns the script of a child that keeps running and whose orders succeed.
     pub fn running(alloc: Global) -> ChildScript
         ensures { IsObeying [] result }
     {
@@ -57,7 +61,7 @@ impl ChildScript {
     }
 }
 
-/// A child whose answers come from lists.
+/// A child whose results come from lists.
 #[derive(Drop)]
 pub struct ScriptChild {
     number: u64,
@@ -73,7 +77,8 @@ impl ScriptChild {
     ghost use Rattle.duct_script.specs.Told.{Obeys};
     ghost use Rattle.duct_script.specs.Views.{child_view};
 
-    /// The child of this number, as it is before anybody asks it. It notes its calls in this log.
+    /// Returns the child with this number, before any poll or order. It notes its calls in this
+    /// log, if there is one.
     pub fn new(
         alloc: Global,
         number: u64,
@@ -96,14 +101,15 @@ impl ScriptChild {
         }
     }
 
-    /// Notes a call, where there is a log.
+    /// Notes a call in the log, if there is one.
     fn note(&self, call: Call) {
         if let Some(calls) = &self.calls {
             calls.write(call);
         }
     }
 
-    /// Notes an order with the answer that a list has for it, where there is memory.
+    /// Notes an order with the next result of its list, and returns that result. On allocation
+    /// failure nothing is noted, and the result is `OutOfMemory`.
     fn order(&mut self, order: Order) -> Result<(), Fault>
         ensures { OrdersChild
             (Obeys self.old.script) order (child_view self.old) result (child_view self.new) }
@@ -120,14 +126,14 @@ impl ScriptChild {
         answer
     }
 
-    /// How often it was polled.
+    /// Returns how often the child was polled.
     pub fn polls(&self) -> u64
         ensures { result ≡ self.now.polls }
     {
         self.polls
     }
 
-    /// The orders that it was given, with their answers.
+    /// Returns the orders that were noted, with their results.
     pub fn orders(&self) -> &[(Order, Result<(), Fault>)]
         ensures { result.now ≡ self.now.orders.items }
     {

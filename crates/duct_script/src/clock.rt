@@ -1,4 +1,4 @@
-//! A clock that shows the moments of a list.
+//! A clock that returns the times of a list.
 ghost use Rattle.std.specs.Prelude.{◌≡◌};
 ghost use Rattle.duct_script.specs.Shows.{Shows};
 
@@ -6,8 +6,8 @@ use duct_system::system::Clock;
 use std::sync::atomic::{AtomicU64, Ordering};
 use std::time::Duration;
 
-/// A clock that shows the next moment of a list each time that it is asked. The last one is repeated, and an empty list
-/// shows its zero. Threads may share it.
+/// A clock that returns the next time of a list at each call of `now`. The last one is repeated;
+/// with an empty list the clock returns its zero. Threads may share it.
 #[derive(Drop)]
 pub struct ScriptClock {
     moments: Vec<Duration>,
@@ -15,7 +15,7 @@ pub struct ScriptClock {
 }
 
 impl ScriptClock {
-    /// A clock that shows these moments.
+    /// Returns a clock with these times.
     pub fn new(moments: Vec<Duration>) -> ScriptClock
         ensures { result.moments ≡ moments }
     {
@@ -25,7 +25,7 @@ impl ScriptClock {
         }
     }
 
-    /// How often it was asked.
+    /// Returns how often the time was read.
     pub fn asked(&self) -> u64 {
         self.asked.load(Ordering::SeqCst)
     }

@@ -1,4 +1,4 @@
-//! A gate at which a test lets a thread stand still.
+//! A gate at which a test makes threads wait.
 
 use std::alloc::{AllocError, Global};
 use std::sync::Arc;
@@ -17,11 +17,12 @@ struct GateState {
     standing: AtomicU64,
 }
 
-/// How often a thread looks whether a gate was opened before it goes on all the same, so that each test ends.
+/// How often a thread checks whether a gate was opened. Then it goes on anyway, so that each test
+/// ends.
 const MOST_LOOKS: u64 = 20_000_000;
 
 impl Gate {
-    /// An open gate.
+    /// Returns an open gate. Fails only on allocation failure.
     pub fn new(alloc: Global) -> Result<Gate, AllocError> {
         let state = GateState {
             shut: AtomicU64::new(0),
@@ -32,29 +33,30 @@ impl Gate {
         })
     }
 
-    /// One more owner of it.
+    /// Returns one more owner of the gate. Fails only if its `Arc` can't be cloned.
     pub fn share(&self) -> Result<Gate, AllocError> {
         Ok(Gate {
             state: Arc::try_clone(&self.state)?,
         })
     }
 
-    /// Shuts it: who comes stands still.
+    /// Shuts the gate: from now on, `pass` waits.
     pub fn shut(&self) {
         self.state.shut.store(1, Ordering::SeqCst);
     }
 
-    /// Opens it.
+    /// Opens the gate.
     pub fn open(&self) {
         self.state.shut.store(0, Ordering::SeqCst);
     }
 
-    /// How many threads stand at it.
+    /// Returns how many threads wait at the gate.
     pub fn standing(&self) -> u64 {
         self.state.standing.load(Ordering::SeqCst)
     }
 
-    /// Stands still while it is shut, and answers whether it is open then.
+    /// Waits while the gate is shut. Returns true once it is open, and false if it stays shut too
+    /// long.
     pub fn pass(&self) -> bool {
         if self.state.shut.load(Ordering::SeqCst) == 0 {
             return true;
@@ -65,7 +67,7 @@ impl Gate {
         opened
     }
 
-    /// Looks again and again whether it is open.
+    /// Checks again and again whether the gate is open, at most `MOST_LOOKS` times.
     fn opens(&self) -> bool {
         for _ in 0..MOST_LOOKS {
             if self.state.shut.load(Ordering::SeqCst) == 0 {

@@ -1,10 +1,10 @@
-//! Readers and writers that stand still at a gate.
+//! Readers and writers that wait at a gate.
 
 use crate::gate::Gate;
 use std::io;
 use std::io::{Read, Write};
 
-/// A reader or a writer each of whose reads and writes passes a gate first.
+/// A reader or a writer that waits at a gate before each read and each write.
 #[derive(Drop)]
 pub struct Gated<T> {
     pub gate: Gate,

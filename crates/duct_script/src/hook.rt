@@ -1,4 +1,4 @@
-//! A hook that does what a list says.
+//! A hook that makes the changes of a list.
 ghost use Rattle.std.specs.Prelude.{◌≡◌, ◌≢◌, [], string_bytes, map, None, OnOk, OnErr, IfErr};
 ghost use Rattle.duct_system.specs.declared.spec.Port.TheVariants.{Given};
 ghost use Rattle.duct_system.specs.declared.system.Kind.TheVariants.{OutOfMemory};
@@ -13,12 +13,14 @@ use duct_system::system::{Fault, Kind};
 use std::alloc::Global;
 use std::sync::Arc;
 
-/// Where a hook lets a stream go.
+/// Where a hook sends a stream.
 #[derive(Clone, Copy, Debug, PartialEq, Eq, Drop)]
 pub enum Target {
+    /// To the parent's own stream.
     Inherit,
+    /// To nothing.
     Null,
-    /// The end at this place of those that stand beside the hook.
+    /// To the end at this place among the hook's ends, counted from 0.
     Place(usize),
 }
 
@@ -27,42 +29,46 @@ pub enum Target {
 pub enum Change {
     /// Adds an argument at the end.
     Word(String),
-    /// Sets a variable: its name, its value.
+    /// Sets a variable: its name, then its value.
     Var(String, String),
-    /// Takes a variable away.
+    /// Removes a variable.
     NoVar(String),
-    /// Takes all variables away.
+    /// Removes all variables.
     NoVars,
     /// Sets the folder.
     Folder(String),
-    /// Lets a stream go somewhere else.
+    /// Sends a stream to this target.
     Port(Stream, Target),
 }
 
-/// What a hook answers in the end.
+/// What a hook returns after its changes.
 #[derive(Debug, PartialEq, Eq, Drop)]
 pub enum HookAnswer {
-    /// It lets the child be started.
+    /// It allows the child to be started.
     Obey,
-    /// It refuses each spec by this fault.
+    /// It refuses each spec with this fault.
     Refuse(Fault),
-    /// It refuses, by this fault, a spec that has this word when the hook first sees it, and no other.
+    /// It refuses, with this fault, each spec that has this word when the hook first sees it. It
+    /// allows every other spec.
     RefuseWord(String, Fault),
 }
 
-/// A hook that makes the changes of a list, in order, and then answers. Where there is no memory for a change it answers
-/// `OutOfMemory`.
+/// A hook that makes the changes of a list, in order, and then returns `answer`. If a change finds
+/// no memory, it returns `OutOfMemory`.
 #[derive(Drop)]
 pub struct ScriptHook {
+    /// The changes that it makes, in order.
     pub changes: Vec<Change>,
+    /// What it returns after the changes.
     pub answer: HookAnswer,
-    /// What the log knows it by.
+    /// Its label in the log.
     pub label: u8,
+    /// The log in which it notes its calls, if there is one.
     pub calls: Option<Arc<CallLog>>,
 }
 
 impl ScriptHook {
-    /// A hook that changes nothing and lets each child be started.
+    /// Returns a hook that changes nothing and allows each child to be started.
     pub fn new(alloc: Global) -> ScriptHook
         ensures changes { result.changes.items ≡ [] }
         ensures answer { result.answer ≡ Obey }
@@ -102,7 +108,7 @@ impl Hook for ScriptHook {
     }
 }
 
-/// By which fault a spec is refused, if it is.
+/// Returns the fault with which a spec is refused, if it is.
 fn refusal(answer: &HookAnswer, spec: &CommandSpec) -> Option<Fault>
     ensures { result ≡ refusal_of answer.now spec.now }
 {
@@ -119,7 +125,7 @@ fn refusal(answer: &HookAnswer, spec: &CommandSpec) -> Option<Fault>
     }
 }
 
-/// Whether a word is among some words.
+/// Returns whether a word is one of these words.
 fn contains(words: &[String], word: &str) -> bool
     ensures { result ≡ has_word word.now (map string_bytes words.now) }
 {
@@ -131,7 +137,7 @@ fn contains(words: &[String], word: &str) -> bool
     false
 }
 
-/// Makes all changes, in order.
+/// Makes all changes, in order. Fails only with `OutOfMemory`.
 fn make_all(changes: &[Change], spec: &mut CommandSpec) -> Result<(), Fault>
     ensures ok { OnOk result (spec.new ≡ changed changes.now spec.old) }
     ensures given { OnOk result (GivesNothing spec.old spec.new) }
@@ -145,7 +151,7 @@ fn make_all(changes: &[Change], spec: &mut CommandSpec) -> Result<(), Fault>
     Ok(())
 }
 
-/// Makes a change. Refused, with the spec as it was, only for want of memory.
+/// Makes a change. Fails only on allocation failure; the spec is then unchanged.
 fn make(change: &Change, spec: &mut CommandSpec) -> Result<(), Error>
     ensures ok { OnOk result (spec.new ≡ changed_by change.now spec.old) }
     ensures err { OnErr result (spec.new ≡ spec.old) }
@@ -161,7 +167,7 @@ fn make(change: &Change, spec: &mut CommandSpec) -> Result<(), Error>
     Ok(())
 }
 
-/// The target as a port.
+/// Returns the target as a port.
 fn port(target: Target) -> Port
     ensures port { result ≡ port_to target }
     ensures given { result ≢ Given }
@@ -173,7 +179,7 @@ fn port(target: Target) -> Port
     }
 }
 
-/// Lets a stream go to a port.
+/// Sends a stream to a port.
 fn redirect(spec: &mut CommandSpec, stream: Stream, port: Port)
     requires { port ≢ Given }
     ensures { spec.new ≡ with_port stream port spec.old }

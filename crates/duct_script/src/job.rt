@@ -10,13 +10,14 @@ use std::collections::VecDeque;
 use std::snapshot::Snapshot;
 use std::sync::Arc;
 
-/// What a feed says, in order. An empty list says `Done`.
+/// The results of a feed's polls, in order. With an empty list, a poll returns `Done`.
 pub type FeedScript = Answers<Said<()>>;
 
-/// What a drain says, in order. The last one is repeated, and an empty list says `Done` with no bytes.
+/// The results of a drain's polls, in order. The last one is repeated. With an empty list, a poll
+/// returns `Done` with no bytes.
 pub type DrainScript = VecDeque<Said<Arc<Vec<u8>>>>;
 
-/// A worker that writes nothing and says what a list says.
+/// A worker that writes nothing and whose results come from a list.
 #[derive(Drop)]
 pub struct ScriptFeed {
     number: u64,
@@ -28,7 +29,7 @@ pub struct ScriptFeed {
 impl ScriptFeed {
     ghost use Rattle.duct_script.specs.Views.{feed_view};
 
-    /// The feed of the end of this number, before anybody asks it.
+    /// Returns the feed of the end with this number, before any poll.
     pub fn new(number: u64, script: FeedScript) -> ScriptFeed
         ensures job { feed_view result ≡ unpolled_job number }
         ensures script { result.script ≡ script }
@@ -41,7 +42,7 @@ impl ScriptFeed {
         }
     }
 
-    /// How often it was polled.
+    /// Returns how often the feed was polled.
     pub fn polls(&self) -> u64
         ensures { result ≡ self.now.polls }
     {
@@ -89,7 +90,7 @@ impl Job for ScriptFeed {
     }
 }
 
-/// A worker that reads nothing and says what a list says.
+/// A worker that reads nothing and whose results come from a list.
 #[derive(Drop)]
 pub struct ScriptDrain {
     number: u64,
@@ -104,8 +105,8 @@ pub struct ScriptDrain {
 impl ScriptDrain {
     ghost use Rattle.duct_script.specs.Views.{drain_view};
 
-    /// The drain of the end of this number, before anybody asks it. It shares these bytes, which are none, where its list
-    /// is empty.
+    /// Returns the drain of the end with this number, before any poll. If `script` is empty, its
+    /// polls return `empty`, which should hold no bytes.
     pub fn new(number: u64, script: DrainScript, empty: Arc<Vec<u8>>) -> ScriptDrain
         ensures job { drain_view result ≡ unpolled_job number }
         ensures script { result.script ≡ script }
@@ -123,7 +124,7 @@ impl ScriptDrain {
         }
     }
 
-    /// How often it was polled.
+    /// Returns how often the drain was polled.
     pub fn polls(&self) -> u64
         ensures { result ≡ self.now.polls }
     {
@@ -176,14 +177,15 @@ impl Job for ScriptDrain {
     }
 }
 
-/// Whether nothing is said yet.
+/// Returns whether there is no result yet.
 fn is_running(said: &Said<Arc<Vec<u8>>>) -> bool
     ensures { IsTrue result ↔ (said.now ≡ Running) }
 {
     matches!(said, Said::Running)
 }
 
-/// The same, with one more owner of its bytes, if that isn't refused.
+/// Returns the same result, with one more owner of its bytes, or `None` if that owner can't be
+/// made.
 fn said_again(said: &Said<Arc<Vec<u8>>>) -> Option<Said<Arc<Vec<u8>>>>
     ensures same { IfSome result (λ again. word_of again ≡ word_of said.now) }
     ensures refused { IfNone result ((bytes : List ℕ) × (word_of said.now ≡ Done bytes)) }

@@ -1,5 +1,5 @@
-//! A system for tests, whose answers come from lists that a test writes. It is proved to keep the interface to the
-//! operating system.
+//! A system for tests, whose results come from lists that a test sets. It is proved to keep the
+//! contracts of the interface to the operating system.
 #![tactic(auto)]
 
 pub mod answers;

@@ -10,24 +10,25 @@ use std::io::{ErrorKind, Read};
 /// What a read does.
 #[derive(Clone, Copy, Drop)]
 pub enum ReadStep {
-    /// It gives a piece of this length, or less where the buffer or the bytes are shorter; the rest of the piece is given by
-    /// the reads that follow. A piece of no bytes counts as one of one byte.
+    /// It returns a piece of this length, or less if the buffer or the bytes are shorter. The reads
+    /// that follow return the rest of the piece. A piece of 0 bytes counts as one of 1 byte.
     Piece(usize),
-    /// It fails by an error of this kind.
+    /// It fails with an error of this kind.
     Fault(ErrorKind),
 }
 
-/// The bytes that a reader gives, and how its reads go. Once the steps are used up, a read gives all that is left.
+/// The bytes that a reader returns, and what its reads do. After the last step, a read returns all
+/// that is left, as far as its buffer holds it.
 #[derive(Drop)]
 pub struct ReaderScript {
     pub bytes: Vec<u8>,
     pub steps: VecDeque<ReadStep>,
-    /// A gate that each read has to pass.
+    /// A gate at which each read waits.
     pub gate: Option<Gate>,
 }
 
 impl ReaderScript {
-    /// A reader of no bytes.
+    /// Returns the script of a reader with no bytes.
     pub fn empty(alloc: Global) -> ReaderScript
         ensures bytes { result.bytes.items ≡ [] }
         ensures steps { result.steps.items ≡ [] }
@@ -53,7 +54,7 @@ pub struct ScriptReader {
 }
 
 impl ScriptReader {
-    /// The reader of the end of this number, before anything is read.
+    /// Returns the reader of the end with this number, before anything is read.
     pub fn new(number: u64, script: ReaderScript) -> ScriptReader
         ensures number { result.number ≡ number }
         ensures bytes { result.bytes ≡ script.bytes }
@@ -71,7 +72,7 @@ impl ScriptReader {
         }
     }
 
-    /// The number of its end.
+    /// Returns the number of its end.
     pub fn number(&self) -> u64
         ensures { result ≡ self.now.number }
     {
@@ -82,7 +83,8 @@ impl ScriptReader {
 impl ScriptReader {
     ghost use Rattle.duct_script.specs.Steps.{step_of};
 
-    /// Takes the next step: the most bytes that it gives, which is at least one.
+    /// Takes the next step. Returns the most bytes that the read may return, which is at least 1,
+    /// or the kind of its error.
     fn step(&mut self) -> Result<usize, ErrorKind>
         ensures told { result ≡ step_of self.old.steps.items }
         ensures most { IfOk result (λ most. 0 < most) }
@@ -97,7 +99,7 @@ impl ScriptReader {
         }
     }
 
-    /// Gives bytes, at most so many.
+    /// Copies bytes into the buffer, at most `most`, and returns how many.
     fn give(&mut self, buf: &mut [u8], most: usize) -> usize
         requires { 0 < most }
         ensures count { result
@@ -117,7 +119,7 @@ impl ScriptReader {
         count
     }
 
-    /// Puts what is left of a piece in front of the steps that follow, while bytes are left.
+    /// Puts the rest of a piece back before the steps that follow, if bytes are left.
     fn put_back(&mut self, length: usize)
         ensures bytes { self.new.bytes ≡ self.old.bytes }
         ensures given { self.new.given ≡ self.old.given }

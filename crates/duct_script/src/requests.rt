@@ -1,11 +1,11 @@
-//! The requests that a scripted system was asked, counted, and the faults that a test set for some of them.
+//! The count of the requests to a scripted system, and the faults that a test set for some of them.
 ghost use Rattle.std.specs.Prelude.{◌≡◌, ◌<◌, ◌≤◌, ◌++◌, ◌∷◌, [], replicate, IfSome, IfNone, OnOk, OnErr};
 ghost use Rattle.duct_script.specs.Refusals.{place_of, fault_for, next_fault, with_request};
 
 use duct_system::system::Fault;
 use std::alloc::{AllocError, Global};
 
-/// A sort of request: a call that adds entries of this name.
+/// The sort of a request. Each sort has the name of the entry that its requests add to the journal.
 #[derive(Clone, Copy, Debug, PartialEq, Eq)]
 pub enum Sort {
     Environment,
@@ -26,7 +26,7 @@ pub enum Sort {
 const SORTS: usize = 12;
 
 impl Sort {
-    /// Its place among all sorts, counted from 0.
+    /// Returns the place of this sort among all sorts, counted from 0.
     pub fn place(self) -> usize
         ensures place { result ≡ place_of self }
         ensures within { result < SORTS }
@@ -63,7 +63,7 @@ impl Sort {
         Sort::Close,
     ];
 
-    /// The sort at this place among all sorts, counted from 0.
+    /// Returns the sort at this place among all sorts, counted from 0, or `None` if there is none.
     pub fn at(place: usize) -> Option<Sort>
         ensures some { IfSome result (λ sort. place_of sort ≡ place) }
         ensures none { IfNone result (SORTS ≤ place) }
@@ -72,7 +72,8 @@ impl Sort {
     }
 }
 
-/// A fault for the request of this number, counted among those of its sort where it has one, else among all.
+/// A fault for the request with this number. It is counted among the requests of its sort if it has
+/// one, otherwise among all requests.
 #[derive(Clone, Copy, Drop)]
 struct Refusal {
     sort: Option<Sort>,
@@ -84,7 +85,8 @@ impl Refusal {
     ghost use Rattle.std.specs.Prelude.{◌≡◌};
     ghost use Rattle.duct_script.specs.Refusals.{is_for};
 
-    /// Whether it is for the request of this number among all, and of this number among those of the sort at this place.
+    /// Returns whether the fault is for the request with the number `among_all` among all requests,
+    /// and with the number `among_sort` among those of the sort at `place`.
     fn is_for(&self, place: usize, among_all: u64, among_sort: u64) -> bool
         ensures { result ≡ is_for place among_all among_sort self.now }
     {
@@ -95,7 +97,7 @@ impl Refusal {
     }
 }
 
-/// The requests so far, counted from 1, and the faults that are set.
+/// The count of the requests so far, from 1, and the faults that are set.
 #[derive(Drop)]
 pub struct Requests {
     asked: u64,
@@ -104,7 +106,7 @@ pub struct Requests {
 }
 
 impl Requests {
-    /// No request so far, and no fault.
+    /// Returns the count before the first request, with no fault set.
     pub fn new(alloc: Global) -> Requests
         ensures asked { result.asked ≡ 0 }
         ensures of_sort { result.of_sort ≡ replicate SORTS 0 }
@@ -117,7 +119,8 @@ impl Requests {
         }
     }
 
-    /// Sets a fault for the request of this number, counted among those of its sort where one is named.
+    /// Sets a fault for the request with this number, counted among those of `sort` if one is
+    /// named, otherwise among all. Fails only on allocation failure; no fault is then set.
     pub fn refuse(
         &mut self,
         sort: Option<Sort>,
@@ -139,14 +142,14 @@ impl Requests {
         Ok(())
     }
 
-    /// How many requests there were.
+    /// Returns how many requests there were.
     pub fn asked(&self) -> u64
         ensures { result ≡ self.now.asked }
     {
         self.asked
     }
 
-    /// Counts a request of this sort, and answers the fault that is set for it.
+    /// Counts a request of this sort, and returns the fault that is set for it, if there is one.
     pub fn count(&mut self, sort: Sort) -> Option<Fault>
         ensures fault { result ≡ next_fault sort self.old }
         ensures counted { self.new ≡ with_request sort self.old }
@@ -159,8 +162,7 @@ impl Requests {
     }
 }
 
-/// The fault of the first refusal for the request of this number among all, and of this number among those of the sort at
-/// this place.
+/// Returns the fault of the first refusal for the request with these numbers, as `is_for` decides.
 fn first_fault(refusals: &[Refusal], place: usize, among_all: u64, among_sort: u64) -> Option<Fault>
     ensures { result ≡ fault_for place among_all among_sort refusals.now }
 {

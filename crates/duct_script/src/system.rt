@@ -27,7 +27,7 @@ use std::alloc::{AllocError, Global};
 use std::collections::{BTreeMap, VecDeque};
 use std::sync::Arc;
 
-/// An end of a scripted system. It has a number, and nothing reads or writes it.
+/// An end of a scripted system. It has a number, and nothing reads from it or writes to it.
 #[derive(Debug, Drop)]
 pub struct ScriptEnd {
     number: u64,
@@ -41,7 +41,9 @@ impl Numbered for ScriptEnd {
     }
 }
 
-/// A system whose answers come from lists that a test writes. A request for which no fault is set is answered Ok.
+/// A system whose results come from lists that a test sets. A request succeeds unless a fault is
+/// set for it, it finds no memory, or no number is left. The calls that set something fail only on
+/// allocation failure, and then set nothing.
 #[derive(Drop)]
 pub struct Script {
     journal: Journal,
@@ -63,7 +65,8 @@ impl Script {
     ghost use Rattle.duct_script.specs.Unset.{IsUnset};
     ghost use Rattle.duct_script.specs.Views.{child_view, feed_view, drain_view};
 
-    /// A system with no variables, whose requests are all answered Ok, and whose next number is 1.
+    /// Returns a system with no variables and no faults set, whose next number is 1. Fails only on
+    /// allocation failure.
     pub fn new(alloc: Global) -> Result<Script, AllocError>
         ensures journal { IfOk result
             (λ sys. sys.journal ≡ record { entries = []; added = 0; next = 1; room = 0 }) }
@@ -86,7 +89,8 @@ impl Script {
         })
     }
 
-    /// Sets a fault for the request of this number, counted from 1 among all. For a Close or a Reader it is ignored.
+    /// Sets a fault for the request with this number, counted from 1 among all requests. A fault
+    /// for a `Close` or a `Reader` is ignored.
     pub fn refuse(&mut self, request: u64, fault: Fault) -> Result<(), AllocError>
         ensures ok { OnOk result
             (self.new.requests.refusals.items ≡ self.old.requests.refusals.items
@@ -100,7 +104,8 @@ impl Script {
         self.requests.refuse(None, request, fault)
     }
 
-    /// Sets a fault for the request of this number, counted from 1 among those of its sort.
+    /// Sets a fault for the request with this number, counted from 1 among those of its sort. A
+    /// fault for a `Close` or a `Reader` is ignored.
     pub fn refuse_sort(&mut self, sort: Sort, request: u64, fault: Fault) -> Result<(), AllocError>
         ensures ok { OnOk result
             (self.new.requests.refusals.items ≡ self.old.requests.refusals.items
@@ -114,7 +119,7 @@ impl Script {
         self.requests.refuse(Some(sort), request, fault)
     }
 
-    /// Sets one more variable of the environment, behind those that are set. A name may be set twice.
+    /// Adds a variable to the environment, after those that are set. A name may be set twice.
     pub fn variable(&mut self, name: &str, value: &str) -> Result<(), AllocError>
         ensures ok { OnOk result
             (map pair_text self.new.variables.items ≡ map pair_text self.old.variables.items
@@ -131,7 +136,7 @@ impl Script {
         Ok(())
     }
 
-    /// Sets the canonical name of a path. Each other path is its own.
+    /// Sets the canonical path of a path. Every other path is its own canonical path.
     pub fn canonical(&mut self, path: &str, text: &str) -> Result<(), AllocError>
         ensures ok { OnOk result
             (map pair_text self.new.canonical.entries
@@ -146,8 +151,8 @@ impl Script {
         Ok(())
     }
 
-    /// Sets what the next child says for which nothing is set yet: the first is that of the first spawn that is Ok. A child
-    /// for which nothing is set says Running and obeys.
+    /// Sets the results of one more child. Each successful spawn takes the first results that are
+    /// left. If there are none, its child keeps running, and its orders succeed.
     pub fn child(&mut self, script: ChildScript) -> Result<(), AllocError>
         ensures ok { OnOk result
             (self.new.children.items ≡ self.old.children.items ++ script ∷ []) }
@@ -158,7 +163,7 @@ impl Script {
         Ok(())
     }
 
-    /// The same by a list of answers to polls, for a child that obeys.
+    /// Sets the poll results of one more child, as `child` does. Its orders succeed.
     pub fn polls(&mut self, answers: &[PollAnswer]) -> Result<(), AllocError>
         ensures ok { OnOk result
             ((script : ChildScript)
@@ -174,7 +179,8 @@ impl Script {
         Ok(())
     }
 
-    /// Sets what the next feed says for which nothing is set yet. A feed for which nothing is set says `Done`.
+    /// Sets the results of one more feed. Each feed that is started takes the first results that
+    /// are left. If there are none, its polls return `Done`.
     pub fn feed(&mut self, script: FeedScript) -> Result<(), AllocError>
         ensures ok { OnOk result (self.new.feeds.items ≡ self.old.feeds.items ++ script ∷ []) }
         ensures err { OnErr result (self.new.feeds.items ≡ self.old.feeds.items) }
@@ -184,7 +190,8 @@ impl Script {
         Ok(())
     }
 
-    /// Sets what the next drain says for which nothing is set yet. A drain for which nothing is set says `Done` with no bytes.
+    /// Sets the results of one more drain. Each drain that is started takes the first results that
+    /// are left. If there are none, its polls return `Done` with no bytes.
     pub fn drain(&mut self, script: DrainScript) -> Result<(), AllocError>
         ensures ok { OnOk result (self.new.drains.items ≡ self.old.drains.items ++ script ∷ []) }
         ensures err { OnErr result (self.new.drains.items ≡ self.old.drains.items) }
@@ -194,7 +201,8 @@ impl Script {
         Ok(())
     }
 
-    /// Sets what the next reader gives for which nothing is set yet. A reader for which nothing is set gives no bytes.
+    /// Sets the bytes and the reads of one more reader. Each reader takes the first that are left.
+    /// If there are none, it returns no bytes.
     pub fn bytes(&mut self, script: ReaderScript) -> Result<(), AllocError>
         ensures ok { OnOk result (self.new.readers.items ≡ self.old.readers.items ++ script ∷ []) }
         ensures err { OnErr result (self.new.readers.items ≡ self.old.readers.items) }
@@ -204,21 +212,23 @@ impl Script {
         Ok(())
     }
 
-    /// Sets the log in which each request is noted, and each poll and order of the children of later spawns.
+    /// Sets the log that notes each later request, and each poll and order of the children that are
+    /// spawned later.
     pub fn note_in(&mut self, calls: Arc<CallLog>)
         ensures { self.new ≡ record self.old { calls = Some calls } }
     {
         self.calls = Some(calls);
     }
 
-    /// Says whether the system finds no memory from now on. A request that is given an end needs none.
+    /// Sets whether the system finds no memory from now on. A request that takes an end is not
+    /// affected.
     pub fn starve(&mut self, starved: bool)
         ensures { self.new ≡ record self.old { starved = starved } }
     {
         self.starved = starved;
     }
 
-    /// Passes over the numbers below this one.
+    /// Skips the numbers below this one.
     pub fn skip_numbers_below(&mut self, number: u64)
         ensures { self.new ≡ record self.old {
           journal = record self.old.journal { next = max self.old.journal.next number };
@@ -228,8 +238,9 @@ impl Script {
         let _ = self.journal.take_numbers(number.saturating_sub(next));
     }
 
-    /// An end of somebody else, with the next number. No entry is added, and no room is made: such an end is to be lent
-    /// alone. Refused by `Other` where no number is left.
+    /// Returns an end that no request returned, with the next number. No entry is added and no room
+    /// is made, so that such an end may only be lent. Fails with `Other` if no number is left;
+    /// nothing is then changed.
     pub fn adopt(&mut self) -> Result<ScriptEnd, Fault>
         ensures number { IfOk result
             (λ end. (end.number ≡ self.old.journal.next)
@@ -246,21 +257,22 @@ impl Script {
         }
     }
 
-    /// How many entries can be added without memory.
+    /// Returns how many entries can be added without an allocation.
     pub fn room(&self) -> usize
         ensures { result ≡ self.now.journal.room }
     {
         self.journal.room()
     }
 
-    /// How many requests there were, since the system was made.
+    /// Returns how many requests were counted since the system was made.
     pub fn requests(&self) -> u64
         ensures { result ≡ self.now.requests.asked }
     {
         self.requests.asked()
     }
 
-    /// Counts a request, notes it, and answers the fault that is set for it.
+    /// Counts a request, notes it in the log, and returns the fault that is set for it, if there is
+    /// one.
     fn ask(&mut self, sort: Sort) -> Option<Fault>
         ensures fault { result ≡ next_fault sort self.old.requests }
         ensures counted { self.new
@@ -287,8 +299,9 @@ impl Script {
         self.journal.prepare(ends)
     }
 
-    /// Makes room for the entry of a request and for the ends that it would get, and only then counts the request and
-    /// answers the fault that is set for it. Where there is no memory nothing is counted.
+    /// Makes room for the entry of a request and for the ends that it returns. Then counts the
+    /// request, and returns the fault that is set for it, if there is one. If making room fails,
+    /// nothing is counted.
     fn begin(&mut self, sort: Sort, ends: usize) -> Result<Option<Fault>, Fault>
         ensures fault { IfOk result (λ fault. fault ≡ next_fault sort self.old.requests) }
         ensures ok { OnOk result (self.new ≡ record self.old {
@@ -303,7 +316,9 @@ impl Script {
         Ok(self.ask(sort))
     }
 
-    /// Takes this many numbers in a row for the answer of a request for which this fault is set, if one is.
+    /// Takes this many consecutive numbers for the result of a request, and returns the first.
+    /// Fails with the fault that is set for the request, if there is one, and with `Other` if too
+    /// few numbers are left.
     fn answer(&mut self, fault: Option<Fault>, count: u64) -> Result<u64, Fault>
         ensures ok { IfOk result (λ first. (first ≡ self.old.journal.next)
             × (self.new ≡ record self.old {
@@ -324,7 +339,8 @@ impl Script {
         }
     }
 
-    /// The end that a request was answered. Where it was refused, the room that was made for it is given back.
+    /// Returns the end of a request's result. If the request failed, the room that was made for the
+    /// end is given back.
     fn got(&mut self, answer: Result<u64, Fault>) -> Result<ScriptEnd, Fault>
         requires { 0 < self.old.journal.room }
         ensures ok { IfOk result (λ end. answer ≡ Ok end.number) }
@@ -343,7 +359,8 @@ impl Script {
         }
     }
 
-    /// Says that the room of these ends isn't wanted any more. One of them had its room used by the entry that spent them.
+    /// Gives back the room of these ends, except for that of one: the entry that spent them has
+    /// used it.
     fn spent(&mut self, ends: usize)
         ensures { self.new ≡ record self.old {
           journal = record self.old.journal { room = self.old.journal.room - (ends - 1) };
@@ -354,7 +371,7 @@ impl Script {
         self.journal.give_back(others.min(room));
     }
 
-    /// What a path is answered as its canonical name: the text that was set for it, or the path itself.
+    /// Returns the canonical path of a path: the text that was set for it, or the path itself.
     fn canonical_text<'a>(&'a self, path: &'a str) -> &'a str
         ensures { result.now
             ≡ unwrap_or (canonical_of path.now (map pair_text self.now.canonical.entries))
@@ -366,7 +383,7 @@ impl Script {
         }
     }
 
-    /// The next child, with this number.
+    /// Returns the next child, with this number.
     fn next_child(&mut self, number: u64) -> ScriptChild
         ensures number { result.number ≡ number }
         ensures unasked { IsUnasked (child_view result) }
@@ -383,7 +400,7 @@ impl Script {
         ScriptChild::new(alloc, number, script, self.shared_calls())
     }
 
-    /// One more owner of the log, if there is one and it isn't refused.
+    /// Returns one more owner of the log, or `None` if there is no log or that owner can't be made.
     fn shared_calls(&self) -> Option<Arc<CallLog>>
         ensures { SharesLog self.now.calls result }
     {
@@ -391,7 +408,7 @@ impl Script {
         Arc::try_clone(calls).ok()
     }
 
-    /// The next feed, with this number.
+    /// Returns the next feed, with this number.
     fn next_feed(&mut self, number: u64) -> ScriptFeed
         ensures job { feed_view result ≡ unpolled_job number }
         ensures script { IsNext self.old.feeds.items
@@ -406,7 +423,9 @@ impl Script {
         ScriptFeed::new(number, script)
     }
 
-    /// Counts the start of a drain, and answers the next one, with this number.
+    /// Counts the start of a drain, and returns the next one, with this number. Fails with the
+    /// fault that is set for it, if there is one, and with `OutOfMemory` if its bytes can't get one
+    /// more owner.
     fn next_drain(&mut self, number: u64) -> Result<ScriptDrain, Fault>
         ensures job { IfOk result (λ job. drain_view job ≡ unpolled_job number) }
         ensures script { IfOk result (λ job.
@@ -439,7 +458,7 @@ impl Script {
     }
 }
 
-/// One more text of these bytes.
+/// Returns a copy of a text.
 fn copy_of(alloc: Global, text: &str) -> Result<String, Fault>
     ensures ok { IfOk result (λ copy. string_bytes copy ≡ text.now) }
     ensures err { IfErr result (λ fault. fault.kind ≡ OutOfMemory) }
@@ -447,7 +466,7 @@ fn copy_of(alloc: Global, text: &str) -> Result<String, Fault>
     String::from_str(alloc, text).map_err(|_| Fault::new(Kind::OutOfMemory))
 }
 
-/// One more list of these variables.
+/// Returns a copy of these variables.
 fn copies_of(alloc: Global, variables: &[(String, String)]) -> Result<Vec<(String, String)>, Fault>
     ensures ok { IfOk result (λ copies. map pair_text copies.items ≡ map pair_text variables.now) }
     ensures err { IfErr result (λ fault. fault.kind ≡ OutOfMemory) }
@@ -465,7 +484,7 @@ fn copies_of(alloc: Global, variables: &[(String, String)]) -> Result<Vec<(Strin
     Ok(copies)
 }
 
-/// The stream with its end's number in place of the end, and how many ends it has.
+/// Returns the stream with its end's number in place of the end, and how many ends it has.
 fn numbered(stream: Stdio<ScriptEnd>) -> (Stdio<u64>, usize)
     ensures stream { result.0 ≡ stream_of (λ e. e.number) stream }
     ensures ends { result.1 ≡ length (end_of stream) }
@@ -478,7 +497,7 @@ fn numbered(stream: Stdio<ScriptEnd>) -> (Stdio<u64>, usize)
     }
 }
 
-/// The streams with their ends' numbers in place of the ends, and how many ends they have.
+/// Returns the streams with their ends' numbers in place of the ends, and how many ends they have.
 fn numbered_streams(io: [Stdio<ScriptEnd>; 3]) -> ([Stdio<u64>; 3], usize)
     ensures streams { result.0 ≡ map (stream_of (λ e. e.number)) io }
     ensures ends { result.1 ≡ length (ends_of io) }

@@ -1,9 +1,10 @@
-//! Entries of a journal in words, so that a test can compare a whole one with a text.
+//! Entries of a journal as text, so that a test can compare a whole journal with a text.
 
 use duct_system::system::{Entry, Fault, Stdio};
 use std::fmt;
 
-/// An entry in words: the request, then its answer, which is `ok` with what was answered, or the kind of the fault.
+/// An entry as text: the request, then its result, which is `ok` with what was returned, or the
+/// kind of the fault.
 #[derive(Drop)]
 pub struct Words<'a>(pub &'a Entry);
 
@@ -60,7 +61,7 @@ impl fmt::Display for Kind {
     }
 }
 
-/// An answer with a number.
+/// A result with a number.
 #[derive(Drop)]
 struct Number(Result<u64, Fault>);
 
@@ -73,7 +74,7 @@ impl fmt::Display for Number {
     }
 }
 
-/// An answer with nothing.
+/// A result without a value.
 #[derive(Drop)]
 struct Done(Result<(), Fault>);
 

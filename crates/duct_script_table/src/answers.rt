@@ -1,4 +1,4 @@
-//! What a new child, feed, drain or reader of the scripted system says, in words.
+//! The results of a new child, feed, drain or reader of the scripted system, as texts.
 use duct_base::spec::{Port, spec_of};
 use duct_base::system::{Child, ExitStatus, Fault, Job, Kind, Numbered, Said, Stdio, System};
 use duct_script::calls::CallLog;
@@ -20,7 +20,8 @@ fn start(alloc: Global, sys: &mut Script) -> Result<ScriptChild, Fault> {
     sys.spawn(spec, [Stdio::Inherit, Stdio::Inherit, Stdio::Inherit])
 }
 
-/// Polls a new child so often, and adds its answers, its count of polls and its id.
+/// Polls a new child this many times. Appends the results, its count of polls and its id. Fails if
+/// the child can't be started, or on an allocation failure.
 pub fn push_polls(
     alloc: Global,
     sys: &mut Script,
@@ -47,8 +48,10 @@ fn push_poll(
     }
 }
 
-/// Kills a new child, sends it signal 15, and kills it twice. Adds the orders that it keeps, whether the last one was obeyed, and its count
-/// of polls. An order that found no memory is not kept, and nobody is asked.
+/// Kills a new child, sends it signal 15, and kills it twice. Appends the orders that it keeps,
+/// whether the last one succeeded, and its count of polls. Checks that an order that fails to
+/// allocate is neither kept nor noted in the log. Fails if that does not hold, if the child can't
+/// be started, or on an allocation failure.
 pub fn push_orders(alloc: Global, sys: &mut Script, text: &mut String) -> Result<(), Stop> {
     let log = Arc::new(alloc, CallLog::new(alloc, 8)?)?;
     sys.note_in(Arc::try_clone(&log)?);
@@ -76,7 +79,8 @@ fn push_kept(child: &ScriptChild, last: bool, text: &mut String) -> Result<(), A
     write!(text, "{last} | {} polls", child.polls())
 }
 
-/// Starts a feed of a file, polls it three times, and adds what it says, its count of polls and its number.
+/// Starts a feed of a file, and polls it three times. Appends the results, its count of polls and
+/// its number. Fails if the file or the feed is refused, or on an allocation failure.
 pub fn push_feed(alloc: Global, sys: &mut Script, text: &mut String) -> Result<(), Stop> {
     let bytes = Arc::new(alloc, Vec::new(alloc))?;
     let end = sys.open_read("f")?;
@@ -95,7 +99,7 @@ fn poll_feed(feed: &mut ScriptFeed, text: &mut String) -> Result<(), AllocError>
     write!(text, "| {} polls | number {}", feed.polls(), feed.number())
 }
 
-/// The same of a drain of a file.
+/// Does the same with a drain of a file.
 pub fn push_drain(sys: &mut Script, text: &mut String) -> Result<(), Stop> {
     let end = sys.open_read("f")?;
     let mut drain = sys.start_drain(end)?;
@@ -122,7 +126,9 @@ fn push_drained(said: &Said<Arc<Vec<u8>>>, text: &mut String) -> Result<(), Allo
     }
 }
 
-/// Reads a file into buffers of these lengths, of at most four bytes, and adds what comes.
+/// Reads a file into buffers of these lengths, each of at most four bytes. Appends the bytes or the
+/// kind of the error of each read. Fails if the file is refused, if a length is not a number, or on
+/// an allocation failure.
 pub fn push_reads(sys: &mut Script, lengths: &str, text: &mut String) -> Result<(), Stop> {
     let end = sys.open_read("f")?;
     let mut reader = sys.reader(end);

@@ -1,4 +1,4 @@
-//! Ends by their numbers, and the requests that are given some.
+//! Ends by their numbers, and the requests that take some.
 use duct_base::spec::{Port, spec_of};
 use duct_base::system::{Fault, Numbered, Stdio, System};
 use duct_script::system::{Script, ScriptEnd};
@@ -7,7 +7,7 @@ use std::alloc::{AllocError, Global};
 use std::collections::BTreeMap;
 use std::sync::Arc;
 
-/// Takes the end of this number out of others.
+/// Removes the end with this number from a list and returns it, if it is there.
 pub fn taken(ends: &mut Vec<ScriptEnd>, number: u64) -> Option<ScriptEnd> {
     for place in 0..ends.len() {
         if place < ends.len() && ends[place].number() == number {
@@ -17,7 +17,7 @@ pub fn taken(ends: &mut Vec<ScriptEnd>, number: u64) -> Option<ScriptEnd> {
     None
 }
 
-/// Adds the numbers of ends, each behind a space.
+/// Appends the numbers of ends, each after a space. Fails on an allocation failure.
 pub fn push_numbers(text: &mut String, ends: &[ScriptEnd]) -> Result<(), AllocError> {
     for end in ends {
         write!(text, " {}", end.number())?;
@@ -25,7 +25,7 @@ pub fn push_numbers(text: &mut String, ends: &[ScriptEnd]) -> Result<(), AllocEr
     Ok(())
 }
 
-/// Asks for one more end of what the end of this number stands for, if that is there.
+/// Requests a duplicate of the end with this number. Returns `None` if there is no such end.
 pub fn duplicate(
     sys: &mut Script,
     ends: &[ScriptEnd],
@@ -39,7 +39,8 @@ pub fn duplicate(
     None
 }
 
-/// Asks for a pipe, and keeps both of its ends. Returns the fault, if there is one.
+/// Requests a pipe, and keeps both of its ends. Returns the fault if the request is refused. Fails
+/// if the list of ends can't grow.
 pub fn pipe(sys: &mut Script, ends: &mut Vec<ScriptEnd>) -> Result<Option<Fault>, AllocError> {
     match sys.pipe() {
         Ok((reader, writer)) => {
@@ -51,7 +52,10 @@ pub fn pipe(sys: &mut Script, ends: &mut Vec<ScriptEnd>) -> Result<Option<Fault>
     }
 }
 
-/// Starts the command `a b` with these streams, each `inherit`, `null` or the number of an end. Returns the fault, if there is one.
+/// Starts the command `a b` with these streams, each `inherit`, `null` or the number of an end. An
+/// end that isn't there becomes `null`. If the journal has no room, the streams are
+/// `null inherit inherit` instead. Returns the fault if the request is refused. Fails if a stream
+/// is malformed, or on an allocation failure.
 pub fn spawn(
     alloc: Global,
     sys: &mut Script,
@@ -88,7 +92,7 @@ fn stream(ends: &mut Vec<ScriptEnd>, word: Option<&str>) -> Result<Stdio<ScriptE
     }
 }
 
-/// The number of the reader of this end.
+/// Requests the reader of this end, and returns its number. Fails if the journal has no room.
 pub fn read(sys: &mut Script, end: ScriptEnd) -> Result<u64, Stop> {
     if sys.room() > 0 {
         return Ok(sys.reader(end).number());
@@ -96,7 +100,8 @@ pub fn read(sys: &mut Script, end: ScriptEnd) -> Result<u64, Stop> {
     Err(Stop::Text("no room"))
 }
 
-/// Asks a request that is given this end. Returns the fault, if there is one.
+/// Makes a request that takes this end: `feed`, `drain`, or `close` for any other name. Returns the
+/// fault if it is refused. Fails if the journal has no room, or on an allocation failure.
 pub fn give(
     alloc: Global,
     sys: &mut Script,

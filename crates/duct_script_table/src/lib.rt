@@ -1,5 +1,6 @@
-//! The table of the scripted system: what it answers, counts and keeps, and what its children, workers and readers say.
-//! Test support: nothing here is proved but that it is safe and ends.
+//! The table of the scripted system: what it returns, counts and keeps, and what its children,
+//! workers and readers return.
+//! Test support: the only properties proved here are safety and termination.
 #![tactic(auto)]
 
 mod answers;

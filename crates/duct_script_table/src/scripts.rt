@@ -1,19 +1,26 @@
-//! The table `scripts`: the scripted system, asked directly. Each row has a system of its own.
+//! The table `scripts`: requests that are made directly to the scripted system. Each row has a
+//! system of its own.
 //!
-//! A line `asks` has requests that `; ` part, which name an end by its number; one of an end that isn't there is not asked: `environment`,
-//! `pipe`, `open_read f`, `create f`, `duplicate 3`, `parent out`, `canonicalize ./x`, `spawn 1 null inherit`, `feed 2`, `drain 1`, `reader 1`,
-//! `close 1`. Beside them `adopt` gets an end of somebody else, and `clear` clears the journal. The others set what the system answers:
+//! A line `asks` has requests, separated by `; `: `environment`, `pipe`, `open_read f`, `create f`,
+//! `duplicate 3`, `parent out`, `canonicalize ./x`, `spawn 1 null inherit`, `feed 2`, `drain 1`,
+//! `reader 1`, `close 1`. They name an end by its number. If there is no such end, `spawn` has the
+//! stream `null` instead, and any other request is skipped. `adopt` gets an end from outside the
+//! system, and `clear` clears the journal. The others set what the system returns:
 //!
-//! - `variable A 1`, `canonical ./x /x`, `refuse 2 Other`, `refuse_sort pipe 2 Other`, `starve`, `nourish`, `skip 3`;
-//! - `child running,Other,code 3,signal 9`: the polls of the next child; `orders done,Other Other`: its kills and its signals;
-//! - `feeds running,Other,done`, `drains running,done xy`: the next feed and the next drain; `bytes xyz 2,Interrupted`: what the
-//!   next reader gives, and by which pieces and errors.
+//! - `variable A 1`, `canonical ./x /x`, `refuse 2 Other`, `refuse_sort pipe 2 Other`, `starve`,
+//!   `nourish`, `skip 3`;
+//! - `child running,Other,code 3,signal 9`: the results of the next child's polls;
+//!   `orders done,Other Other`: the results of the next child's kills and of its signals;
+//! - `feeds running,Other,done`, `drains running,done xy`: the results of the next feed and of the
+//!   next drain; `bytes xyz 2,Interrupted`: the bytes of the next reader, and the pieces and errors
+//!   that its reads return.
 //!
-//! Each other line is compared.
-//! - `says`: what was answered so far, which ends aren't spent, how many requests were asked, and the room. Where a row wants each answer to be
-//!   Ok and memory was refused, it stops by that.
+//! Every other line is compared.
+//! - `says`: the results so far, the ends that aren't spent, the number of requests, and the room.
+//!   If a row wants each result to be `ok`, an allocation failure stops it.
 //! - `journal`: its entries.
-//! - What a new child, feed, drain or reader says: `polls 5`, `ordered`, `fed`, `drained`, `reads 4 2`.
+//! - `polls 5`, `ordered`, `fed`, `drained`, `reads 4 2`: the results of a new child, feed, drain
+//!   or reader.
 use crate::answers::{push_drain, push_feed, push_orders, push_polls, push_reads};
 use crate::ends::{duplicate, give, pipe, push_numbers, read, spawn, taken};
 use duct_base::system::{Fault, Kind, System};
@@ -40,6 +47,7 @@ pub struct Scripts {
 }
 
 impl Scripts {
+    /// Returns a table that has read no line yet.
     pub fn new(alloc: Global) -> Scripts {
         Scripts { alloc, bench: None }
     }
@@ -66,7 +74,7 @@ impl<'t> Table<'t> for Scripts {
     }
 }
 
-/// A system, the ends that it gave and that aren't spent, and the answers so far.
+/// A system, its ends that aren't spent, and the results so far.
 #[derive(Drop)]
 struct Bench {
     alloc: Global,
@@ -85,7 +93,7 @@ impl Bench {
         })
     }
 
-    /// What is compared, as it is.
+    /// The text that is found for a line with this key.
     fn found(&mut self, key: &str, wanted: &str) -> Result<String, Stop> {
         let mut text = String::new(self.alloc);
         match first_word(key) {
@@ -145,7 +153,7 @@ impl Bench {
         self.note(answer)
     }
 
-    /// Notes an answer: `ok`, or the fault's kind.
+    /// Notes a result: `ok`, or the kind of the fault.
     fn note(&mut self, answer: Option<Fault>) -> Result<(), Stop> {
         match answer {
             None => self.answers.push_str("ok ")?,
@@ -154,7 +162,7 @@ impl Bench {
         Ok(())
     }
 
-    /// Asks for one end, and keeps it.
+    /// Requests one end, and keeps it.
     fn get(&mut self, word: &str, rest: &str) -> Result<(), Stop> {
         let got = match word {
             "open_read" => self.sys.open_read(rest),
@@ -175,7 +183,7 @@ impl Bench {
         }
     }
 
-    /// Asks a request that is given one end.
+    /// Makes a request that takes one end.
     fn spend(&mut self, word: &str, number: u64) -> Result<(), Stop> {
         let Some(end) = taken(&mut self.ends, number) else {
             return Ok(());
@@ -192,7 +200,8 @@ impl Bench {
     }
 }
 
-/// Stops where memory was refused and not by the row: by that, or, where a row that wants each answer to be Ok got another one, by this.
+/// Fails if an allocation failed and the row wants each result to be `ok`: with the allocation
+/// failure, or with a text if some other result isn't `ok`.
 fn refusal(answers: &str, wanted: &str) -> Result<(), Stop> {
     let (wanted, _) = wanted.split_once('|').unwrap_or((wanted, ""));
     if !answers.contains(REFUSED) || wanted.contains(REFUSED) || !are_ok(wanted) {
@@ -204,10 +213,10 @@ fn refusal(answers: &str, wanted: &str) -> Result<(), Stop> {
     Err(Stop::Text("another answer"))
 }
 
-/// The answer of what was refused memory.
+/// The result of a request for an allocation failure.
 const REFUSED: &str = "OutOfMemory";
 
-/// Whether each answer is Ok, but for want of memory.
+/// Whether each result is `ok`, except for allocation failures.
 fn are_ok(answers: &str) -> bool {
     let mut are_ok = true;
     for word in answers.split_whitespace() {
@@ -216,7 +225,7 @@ fn are_ok(answers: &str) -> bool {
     are_ok
 }
 
-/// Sets what the system is to answer.
+/// Sets what the system returns, or clears its journal.
 fn set(alloc: Global, sys: &mut Script, word: &str, rest: &str) -> Result<(), Stop> {
     let (first, second) = first_word(rest);
     match word {
@@ -236,7 +245,7 @@ fn set(alloc: Global, sys: &mut Script, word: &str, rest: &str) -> Result<(), St
     Ok(())
 }
 
-/// The sort of requests of this name.
+/// The sort of request with this name.
 fn sort(name: &str) -> Result<Sort, Stop> {
     match name {
         "pipe" => Ok(Sort::Pipe),
@@ -246,7 +255,7 @@ fn sort(name: &str) -> Result<Sort, Stop> {
     }
 }
 
-/// Sets what the next child, feed, drain or reader says.
+/// Sets the results of the next child, feed, drain or reader.
 fn set_lists(alloc: Global, sys: &mut Script, word: &str, rest: &str) -> Result<(), Stop> {
     match word {
         "child" => set_children(alloc, sys, rest),
@@ -258,7 +267,7 @@ fn set_lists(alloc: Global, sys: &mut Script, word: &str, rest: &str) -> Result<
     }
 }
 
-/// Sets what the next child answers to kills and to signals.
+/// Sets the results of the next child's kills and of its signals.
 fn set_orders(alloc: Global, sys: &mut Script, rest: &str) -> Result<(), Stop> {
     let (kills, signals) = first_word(rest);
     let mut script = ChildScript::running(alloc);
@@ -267,7 +276,7 @@ fn set_orders(alloc: Global, sys: &mut Script, rest: &str) -> Result<(), Stop> {
     Ok(sys.child(script)?)
 }
 
-/// Sets what the next reader gives, and by which steps.
+/// Sets the bytes of the next reader, and the steps of its reads.
 fn set_bytes(alloc: Global, sys: &mut Script, rest: &str) -> Result<(), Stop> {
     let (bytes, steps) = first_word(rest);
     let mut script = ReaderScript::empty(alloc);

@@ -1,4 +1,5 @@
--- The capture pipes: each is opened once, and at the end its write end is closed and its read end handed on.
+-- The capture pipes: each is opened once, and at the end its write end is closed and its read end
+-- is passed on.
 use Rattle.std.proofs.Common.{◌≡◌, ◌≢◌, ℕ, ◌≤◌, List, [], ◌∷◌, ◌++◌, length, refl, ap, sym, ◌∙◌, arith, subst, length-append, inl, inr}
 use Rattle.std.proofs.lemmas.List.{append-nil}
 use Rattle.std.specs.Prelude.{Some, None, Ok, Err, is_some, true, false, if◌then◌else◌, unwrap_or}
@@ -38,13 +39,13 @@ pair_reads : (L : List EntryView) (o : Option ℕ) (r w : ℕ) → IsPair L o (S
 pair_reads L None r w is = absurd is
 pair_reads L (Some place) r w is = is.0
 
--- what is held without stdout's capture pipe, and with these on the stack
+-- what is held without stdout's capture pipe, and with these ends pushed onto the stack
 abbrev pub without_out : List ℕ → Holdings → Holdings
 without_out tops held = record held { stack = tops ++ held.stack; out = None }
 
--- the pipe of Out
+-- stdout's capture pipe
 module _ {E H : Type 0} (allows : Allows H) (number_of : E → ℕ) where
-  -- it is open already
+  -- the pipe is open already
   pub capture_out_same : (pair : ℕ × ℕ) (now : JournalView) (held : Holdings) → held.out ≡ Some pair
       → Goes allows number_of (action.capture side.Out) now now held held
   capture_out_same pair now held is = λ course st ready stands.
@@ -100,7 +101,7 @@ module _ {E H : Type 0} (allows : Allows H) (number_of : E → ℕ) where
         | inr nothing ↦ stops_unasked allows number_of course st then_st.plan.items (AskPipe ∷ []) now next held (System fault) stands refl nothing.1 nothing.2
       ])
 
-  -- its write end is closed, and its read end stands on the stack for a moment
+  -- its write end is closed, and its read end is on the stack for a moment
   abbrev pub mid_out : State E H → State E H
   mid_out st = record { stack = ReaderAt (unwrap_or st.plan.out 0) ∷ st.stack; plan = record { items = st.plan.items; out = None; err = st.plan.err } }
 
@@ -165,13 +166,13 @@ module _ {E H : Type 0} (allows : Allows H) (number_of : E → ℕ) where
         (stops_more allows number_of course one then_st asked mid next before kept entry first refl ch (few_of course.bound kept (omega (arith, stands.shaped.stack, ready.low))) fault refl
         (λ more later. ((sources_now allows number_of course one then_st asked mid next before kept entry first refl ch more later).stack.0.0, tt)))
 
--- what is held without stderr's capture pipe, and with these on the stack
+-- what is held without stderr's capture pipe, and with these ends pushed onto the stack
 abbrev pub without_err : List ℕ → Holdings → Holdings
 without_err tops held = record held { stack = tops ++ held.stack; err = None }
 
--- the pipe of Err
+-- stderr's capture pipe
 module _ {E H : Type 0} (allows : Allows H) (number_of : E → ℕ) where
-  -- it is open already
+  -- the pipe is open already
   pub capture_err_same : (pair : ℕ × ℕ) (now : JournalView) (held : Holdings) → held.err ≡ Some pair
       → Goes allows number_of (action.capture side.Err) now now held held
   capture_err_same pair now held is = λ course st ready stands.
@@ -227,7 +228,7 @@ module _ {E H : Type 0} (allows : Allows H) (number_of : E → ℕ) where
         | inr nothing ↦ stops_unasked allows number_of course st then_st.plan.items (AskPipe ∷ []) now next held (System fault) stands refl nothing.1 nothing.2
       ])
 
-  -- its write end is closed, and its read end stands on the stack for a moment
+  -- its write end is closed, and its read end is on the stack for a moment
   abbrev mid_err : State E H → State E H
   mid_err st = record { stack = ReaderAt (unwrap_or st.plan.err 0) ∷ st.stack; plan = record { items = st.plan.items; out = st.plan.out; err = None } }
 

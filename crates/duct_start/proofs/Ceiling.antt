@@ -1,4 +1,4 @@
--- The least number above the ends of a tree.
+-- The least number above the numbers of a tree's ends.
 use Rattle.std.proofs.Common.{ℕ, ◌+◌, ◌<◌, ◌≤◌, List, [], ◌∷◌, arith}
 use Rattle.std.specs.Prelude.{max}
 use Rattle.std.specs.List.{All}
@@ -28,11 +28,11 @@ module _ {E : Type 0} (number_of : E → ℕ) where
       omega (arith, All-head (λ end. number_of end < most) end ends all, least_least most ends (All-tail (λ end. number_of end < most) end ends all))
 
 module _ {E H : Type 0} (number_of : E → ℕ) (tree : TreeView E H) where
-  -- each end of a tree is below its ceiling
+  -- each end of a tree has a number below the ceiling of the tree
   pub ends_below : All (λ end. number_of end < ceiling number_of tree) (ends_in tree)
   ends_below = all_below number_of (ends_in tree)
 
-  -- where the ends came before a start, so did the ceiling
+  -- if the ends came before a start, the ceiling is at most the old journal's next number
   pub ceiling_low : (old : JournalView) → AreEarlier number_of old tree
       → ceiling number_of tree ≤ old.next
   ceiling_low old earlier = least_least number_of old.next (ends_in tree) earlier

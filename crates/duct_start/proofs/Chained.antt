@@ -1,4 +1,4 @@
--- A chain of hooks by where ends come from is one by their origins.
+-- A chain of hooks over targets is also a chain of hooks over the origins of these targets.
 use Rattle.std.proofs.Common.{◌≡◌, ℕ, inl, inr, List, [], ◌∷◌, refl, ap, sym, ◌∙◌}
 use Rattle.std.proofs.lemmas.List.{length-map}
 use Rattle.std.proofs.lemmas.Option.{slice_get-map}
@@ -20,7 +20,7 @@ use Rattle.duct_start.specs.Found.{Lends}
 use Rattle.duct_start.proofs.Wires.{origin_of}
 
 module _ {O P : Type 0} (f : O → P) where
-  -- the streams and the ends beside hooks as something else
+  -- a spec with its streams, or hooks with their ends, with each end mapped by `f`
   abbrev pub wired_as : WiredTo O → WiredTo P
   wired_as wired = record {
     spec = wired.spec;
@@ -79,7 +79,7 @@ module _ {O P : Type 0} (f : O → P) where
     chain_stops_as refuses (hook ∷ hooks) before e (inl stops) = inl (stops_as refuses hook.0 hook.1 before e stops)
     chain_stops_as refuses (hook ∷ hooks) before e (inr rest) = inr (wired_as rest.0, changes_as hook.0 hook.1 before rest.0 rest.1, chain_stops_as refuses hooks rest.0 e rest.2)
 
--- the ends beside hooks are lent ones
+-- the origins of a hook's ends are caller's ends
 lent_ends : {E : Type 0} (entries : List EntryView) (number_of : E → ℕ) (ends : List E)
     → map (origin_of entries number_of) (map Lends ends) ≡ map (λ end. Lent (number_of end)) ends
 lent_ends entries number_of [] = refl

@@ -43,7 +43,7 @@ pub handed_long : {A : Type 0} (s : Three (Stdio A)) (rest : List A) → length 
 handed_long s rest =
     omega (arith, length-append (end_of s.error) (end_of s.output ++ (end_of s.input ++ rest)), length-append (end_of s.output) (end_of s.input ++ rest), length-append (end_of s.input) rest)
 
--- three streams and what is below them
+-- a stack with three streams pushed onto it is below the bound
 pub handed_few : {A : Type 0} (s : Three (Stdio A)) (rest : List A) (bound : ℕ)
     → length rest + 3 < bound → length (handed s rest) < bound
 handed_few s rest bound low = omega (arith, handed_long s rest, few_ends s.error, few_ends s.output, few_ends s.input, low)
@@ -53,7 +53,7 @@ module _ {E H : Type 0} (allows : Allows H) (number_of : E → ℕ) (course : Co
   abbrev StandsBy : Three (Stdio ℕ) → Three (Stdio (Target E)) → JournalView → Type 0
   StandsBy s t now = Stands allows number_of course (with_stack (handed t state.stack) state) now (holding (handed s held.stack) held)
 
-  -- each of the three streams is settled where it stands
+  -- each of the three streams is changed at its position on the stack
   pub input_settled : (s : Three (Stdio ℕ)) (t : Three (Stdio (Target E))) (p : Port)
       (new : Stdio ℕ) (now then : JournalView) → AreAlike s t
       → Settles {E = E} {H = H} allows number_of ends p now then s.input new
@@ -96,7 +96,7 @@ module _ {E H : Type 0} (allows : Allows H) (number_of : E → ℕ) (course : Co
       (handed_few t state.stack course.bound low) stands in
       (record { input = alike.input; output = alike.output; error = done.0 }, done.1)
 
-  -- a stream that could not be settled
+  -- a stream that could not be changed
   pub stream_unsettled : (s : Three (Stdio ℕ)) (t : Three (Stdio (Target E)))
       (now then : JournalView) (error : Error)
       → Unsettled {E = E} {H = H} allows number_of ends now then error → StandsBy s t now
@@ -105,14 +105,14 @@ module _ {E H : Type 0} (allows : Allows H) (number_of : E → ℕ) (course : Co
       unsettled course state held (handed s held.stack) (handed t state.stack) below (handed_few t state.stack course.bound low) stands
 
 module _ {H O : Type 0} (allows : Allows H) where
-  -- one hook more
+  -- a chain with one more hook
   pub chain_more : (hooks : List (H × List O)) (hook : H) (ends : List O)
       (before between after : WiredTo O) → Chain allows hooks before between
       → Changes allows hook ends between after → Chain allows (hooks ++ (hook, ends) ∷ []) before after
   chain_more [] hook ends before between after chain changes = (after, subst (λ (w : WiredTo O). Changes allows hook ends w after) chain changes, refl)
   chain_more (x ∷ hooks) hook ends before between after chain changes = (chain.0, chain.1, chain_more hooks hook ends chain.0 between after chain.2 changes)
 
-  -- one hook more, which stops
+  -- a chain with one more hook, which stops the start
   pub chain_stops : (refuses : Refuses H) (hooks : List (H × List O)) (hook : H) (ends : List O)
       (before between : WiredTo O) (error : Error) → Chain allows hooks before between
       → Stops allows refuses hook ends between error
@@ -120,7 +120,7 @@ module _ {H O : Type 0} (allows : Allows H) where
   chain_stops refuses [] hook ends before between error chain stops = inl (subst (λ (w : WiredTo O). Stops allows refuses hook ends w error) chain stops)
   chain_stops refuses (x ∷ hooks) hook ends before between error chain stops = inr (chain.0, chain.1, chain_stops refuses hooks hook ends chain.0 between error chain.2 stops)
 
-  -- further hooks behind one that stops
+  -- a chain that stops the start, with more hooks after it
   pub stops_front : (refuses : Refuses H) (hooks more : List (H × List O)) (before : WiredTo O)
       (error : Error) → ChainStops allows refuses hooks before error
       → ChainStops allows refuses (hooks ++ more) before error
@@ -138,7 +138,7 @@ module _ {E H : Type 0} (allows : Allows H) (number_of : E → ℕ) (course : Co
   lower : All (λ end. number_of end < course.base) ends
   lower = All-head (λ pair. All (λ end. number_of end < course.base) pair.1) (hook, ends) [] below
 
-  -- a hook made a spec of which each place is there, and each stream was settled
+  -- one more hook has run: it has an end at each place in its spec, and each stream was changed
   pub staged_more : (i o e : Stdio ℕ) (one two then : JournalView)
       → Makes allows hook spec made → missing (length ends) made ≡ None
       → Settles {E = E} {H = H} allows number_of ends made.input now one s.input i
@@ -165,7 +165,7 @@ module _ {E H : Type 0} (allows : Allows H) (number_of : E → ℕ) (course : Co
         stands = third.1;
       }
 
-  -- the hook refused
+  -- the hook stopped the command
   pub hooked_by : (refuses : Refuses H) (error : Error)
       → Stops allows refuses hook (map Lends ends) staged.wired error
       → Hooked allows refuses number_of course state held before (hooks ++ (hook, ends) ∷ []) now s error
@@ -175,7 +175,7 @@ module _ {E H : Type 0} (allows : Allows H) (number_of : E → ℕ) (course : Co
     stops = subst (λ l. ChainStops allows refuses l before error) (sym (lends-append hooks ((hook, ends) ∷ []))) (chain_stops allows refuses (lends hooks) hook (map Lends ends) before staged.wired error staged.chain stops);
   }
 
--- the same, wherever a command stands among its hooks
+-- the same, after any earlier hooks of a command
 module _ {E H : Type 0} (allows : Allows H) (number_of : E → ℕ) (hook : H) (ends : List E) (spec made : SpecView) (s : Three (Stdio ℕ)) where
   pub alters_one : (i o e : Stdio ℕ) (now one two then : JournalView)
       → Makes allows hook spec made → missing (length ends) made ≡ None
@@ -281,7 +281,7 @@ module _ {E H : Type 0} (allows : Allows H) (refuses : Refuses H) (number_of : E
         subst (λ l. Halts allows refuses number_of course state held before l then u error) (append_assoc hooks first more)
         (b course state held before (hooks ++ first) low (back_below course.base below) (a course state held before hooks low (front_below course.base below) staged))
 
--- some hooks, written otherwise
+-- the same for an equal list of hooks
 pub alters_as : {E H : Type 0} (allows : Allows H) (number_of : E → ℕ)
     (hooks others : List (H × List E)) (now then : JournalView) (spec made : SpecView)
     (s t : Three (Stdio ℕ)) → hooks ≡ others

@@ -15,7 +15,7 @@ closes_none now = record {
   room_is = omega arith;
 }
 
--- one end more
+-- one more end was closed
 pub closes_next : (numbers : List ℕ) (number : ℕ) (old now then : JournalView)
     → Closes numbers old now → GivesEnds (Close number) 1 now then
     → Closes (numbers ++ number ∷ []) old then

@@ -1,4 +1,4 @@
--- A run that was refused, and then closed all that it held, is a start that is refused.
+-- A run that failed, and then closed all ends that it held, is a start that fails.
 use Rattle.std.proofs.Common.{◌≡◌, ℕ, zero, suc, inl, inr, ◌+◌, ◌*◌, ◌-◌, ◌≤◌, List, [], ◌∷◌, ◌++◌, length, refl, ap, sym, ◌∙◌, arith, subst, append_assoc, length-append}
 use Rattle.std.proofs.lemmas.Bool.{cases_lt}
 use Rattle.std.proofs.lemmas.List.{append-nil, take-append-le}
@@ -73,7 +73,7 @@ module _ (added : List EntryView) (numbers : List ℕ) where
   closed_fault : last_fault closed ≡ last_fault added
   closed_fault = ap (λ (l : List EntryView). option_and_then fault_of (slice_get l (length l - 1))) closed_asked
 
-  -- closes let what is held fall
+  -- closes keep the bound on the ends that are held
   closed_few : (bound : ℕ) → HeldFew bound added → HeldFew bound closed
   closed_few bound few = λ count. elim (cases_lt (length added) count) [
     | inl lt ↦ past (count - length added) count (omega (arith, lt))
@@ -226,7 +226,7 @@ may_answer entries added error (hooked clean is) same = by error is
     by Memory is = absurd is
 may_answer entries added error (refused front entry fault clean is) same = inr (same ∙ last_is front entry fault is)
 
--- a start that was refused, by its run and the closes behind it
+-- a start that failed, by its run and the closes after it
 
 module _ {E H : Type 0} (allows : Allows H) (refuses : Refuses H) (number_of : E → ℕ) (tree : TreeView E H) (plan : Plan E H) (course : Course) (items : List (Item E H)) (now then : JournalView)
     (held : Holdings) (error : Error) (run : Refused allows refuses number_of course items now held error) (numbers : List ℕ)
@@ -278,7 +278,7 @@ module _ {E H : Type 0} (allows : Allows H) (refuses : Refuses H) (number_of : E
       let some = ap (λ (l : List ℕ). count_of n l) (closes_spent numbers) in
       (omega (arith, got_more, spent_more, none, some, same n, books.even n), omega (arith, got_more, none, books.once n))
 
-  -- a run that was refused is, once all that it held was closed, a start that is refused
+  -- a run that failed is a start that fails, once all ends that it held are closed
   pub refused_start : StartRefused allows refuses number_of tree plan course.old then error
   refused_start =
       let books = run.stopped.books in
@@ -309,7 +309,7 @@ pub refused_room : {E H : Type 0} (allows : Allows H) (refuses : Refuses H) (num
     → length (ends held) ≤ now.room
 refused_room allows refuses number_of course items now held error run = omega (arith, run.stopped.books.room_is)
 
--- the same, where all that was held was closed in some order
+-- the same, where all ends that were held were closed in some order
 module _ {E H : Type 0} (allows : Allows H) (refuses : Refuses H) (number_of : E → ℕ) (course : Course) (items : List (Item E H)) (now then : JournalView) (held : Holdings) (error : Error)
     (run : Refused allows refuses number_of course items now held error) (numbers : List ℕ)
     (same : (n : ℕ) → count_of n numbers ≡ count_of n (ends held)) (many : length numbers ≡ length (ends held)) (closes : Closes numbers now then) where

@@ -5,7 +5,7 @@ use Rattle.duct_start.specs.Found.{Found}
 use Rattle.duct_start.specs.Plan.{Plan, asks, commanded, is_canonical, program_of}
 use Rattle.duct_start.specs.Step.{Item, AskCanonicalize, AskSpawn}
 
--- the items of a command, its canonical name before its spawn where that is asked
+-- the items of a command: its spawn, after the request for a canonical path if one is needed
 abbrev pub items_if : {E H : Type 0} → Bool → Found E H → List (List ℕ) → List (Item E H)
 items_if true found words = AskCanonicalize (program_of words) ∷ AskSpawn found words ∷ []
 items_if false found words = AskSpawn found words ∷ []
@@ -13,7 +13,7 @@ items_if false found words = AskSpawn found words ∷ []
 abbrev pub items_of : {E H : Type 0} → Found E H → List (List ℕ) → List (Item E H)
 items_of found words = items_if (is_canonical found words) found words
 
--- a plan with more items
+-- a plan with more items at its end
 abbrev pub with_items : {E H : Type 0} → List (Item E H) → Plan E H → Plan E H
 with_items items plan = record { items = plan.items ++ items; out = plan.out; err = plan.err }
 

@@ -1,4 +1,4 @@
--- A command as a whole: its canonical name, its hooks and its spawn.
+-- A command as a whole: its canonical path, its hooks and its spawn.
 use Rattle.std.proofs.Common.{◌≡◌, ℕ, ◌+◌, ◌-◌, ◌≤◌, List, [], ◌∷◌, ◌++◌, length, refl, ap, sym, ◌∙◌, arith, subst, append_assoc, length-append}
 use Rattle.std.specs.Prelude.{Bool, true, false, Err, Ok, Some, if◌then◌else◌, slice_get}
 use Rattle.duct_system.specs.EntryView.{EntryView, Canonicalize, Spawn}
@@ -34,7 +34,7 @@ use Rattle.duct_start.proofs.Stacks.{get_seam}
 use Rattle.duct_start.proofs.Standing.{as_many, few_now, sources_now, stands_more, stops_unasked}
 use Rattle.duct_start.proofs.Wires.{alike_by, handed_taken}
 
--- an error for want of memory is not a hook's
+-- an allocation failure is not a hook's error
 unasked_plain : (e : Error) → IsWantOfMemory e → IsHooks e → ⊥
 unasked_plain (error.System fault) un is = is
 unasked_plain error.Memory un is = is
@@ -66,7 +66,7 @@ module _ {E H : Type 0} (allows : Allows H) (number_of : E → ℕ) (scope : Sco
           let place : length (xs ++ entry ∷ []) - 1 ≡ length xs = omega (arith, length-append xs (entry ∷ [])) in
           ap (λ n. text_in (slice_get (xs ++ entry ∷ []) n)) place ∙ ap text_in (get_seam xs entry)
 
-  -- it was asked and answered
+  -- the canonical path was requested and returned
   pub names_some : (now next : JournalView) (text : List ℕ) → is_named scope words ≡ true
       → Asks (Canonicalize (program_of words) (Ok text)) now next
       → Names {E = E} {H = H} allows number_of scope words now next text
@@ -84,7 +84,7 @@ module _ {E H : Type 0} (allows : Allows H) (number_of : E → ℕ) (scope : Sco
       sym whole.books.entries_are ∙ asked.entries_are ∙ ap (λ (l : List EntryView). l ++ entry ∷ []) stands.books.entries_are ∙ append_assoc old stands.added (entry ∷ []) in
       named_answer course more held next text whole stands.added (split_second old old whole.added (stands.added ++ entry ∷ []) refl seen) (named scope words state) (sym (named_as true is state)) (is_named scope words) is
 
-  -- it was asked and refused
+  -- the canonical path was requested and refused
   pub name_quits : (now next : JournalView) (held : Holdings) (ports : Three Port) (fault : Fault)
       → is_named scope words ≡ true
       → IsRefused (Canonicalize (program_of words) (Err fault)) 0 fault now next
@@ -98,14 +98,14 @@ module _ {E H : Type 0} (allows : Allows H) (number_of : E → ℕ) (scope : Sco
     abbrev act : Action E H
     act = action.spawn scope words ports
 
-    -- no memory before anything was asked
+    -- an allocation failed before the command made a request
     pub unasked_refused : (next : JournalView) (e : Error) → AddsNothing now next → IsWantOfMemory e
         → RefusedSaying allows refuses number_of pairs act now next held held e
     unasked_refused next e nothing un = λ course state is ready stands.
         plain_refused allows refuses number_of course _ next held e (unasked_plain e un)
         (memory_quits allows number_of act (λ st. items_of (found_by scope ports st.stack) words) now next held e (λ st. ap (λ p. p.items) (commanded_is (found_by scope ports st.stack) words st.plan)) nothing un course state ready stands)
 
-    -- the canonical name was refused
+    -- the request for the canonical path was refused
     pub name_refused : (next : JournalView) (fault : Fault) → is_named scope words ≡ true
         → IsRefused (Canonicalize (program_of words) (Err fault)) 0 fault now next
         → RefusedSaying allows refuses number_of pairs act now next held held (System fault)
@@ -113,7 +113,7 @@ module _ {E H : Type 0} (allows : Allows H) (number_of : E → ℕ) (scope : Sco
         plain_refused allows refuses number_of course _ next held (System fault) (λ no. no) (name_quits now next held ports fault is refused course state ready stands)
 
     module _ (one : JournalView) (program : List ℕ) (names : Names {E = E} {H = H} allows number_of scope words now one program) where
-      -- no memory for the spec
+      -- an allocation for the spec failed
       pub spec_refused : (e : Error) → IsWantOfMemory e
           → RefusedSaying allows refuses number_of pairs act now one held held e
       spec_refused e un = λ course state is ready stands.
@@ -135,7 +135,7 @@ module _ {E H : Type 0} (allows : Allows H) (number_of : E → ℕ) (scope : Sco
               let n = (names course state held stands).0 in
               (n.added ++ [], held.stack, (n.sources [] (record { fresh = λ k lt. refl })).stack)
 
-          -- the command stands before its hooks
+          -- the command before its hooks run
           abbrev under : State E H
           under = with_stack (left_by ports state.stack) (named scope words state)
 
@@ -182,7 +182,7 @@ module _ {E H : Type 0} (allows : Allows H) (number_of : E → ℕ) (scope : Sco
             (spawn_goes allows number_of course scope words ports state held asked program n.0.added ready.full ready.needs (asked_is course state same ready stands) (as_many n.0) n.1 (tops course state same ready stands)
             two next spec t staged number count gives many)
 
-        -- the system refused the child
+        -- the system refused the spawn
         pub spawn_refused : (next : JournalView) (spec : SpecView) (t : Three (Stdio ℕ))
             (two : JournalView) (fault : Fault) (count : ℕ)
             → Alters allows number_of scope.hooks one two asked spec (taken_by ports held.stack) t
@@ -198,7 +198,7 @@ module _ {E H : Type 0} (allows : Allows H) (number_of : E → ℕ) (scope : Sco
             (spawn_quits allows number_of course scope words ports state held asked program n.0.added ready.full ready.needs (asked_is course state same ready stands) (as_many n.0) n.1 (tops course state same ready stands)
             two next spec t staged fault count refused many))
 
-        -- a hook stopped it, or a request among the hooks
+        -- a hook stopped the command, or a request failed while its hooks ran
         pub hooks_refused : (next : JournalView) (t : Three (Stdio ℕ)) (e : Error)
             → Breaks allows refuses number_of scope.hooks one next asked (taken_by ports held.stack) t e
             → RefusedSaying allows refuses number_of pairs act now next held

@@ -1,5 +1,5 @@
--- What a run started is what its tree asks: a child for each command, an input worker for each input. A capture pipe is open where a
--- node of the tree asks it.
+-- A run starts what its tree contains: a child for each command, and a feed worker for each input.
+-- A capture pipe is open if a node of the tree opens it.
 use Rattle.std.proofs.Common.{◌≡◌, ℕ, ◌+◌, List, [], ◌∷◌, ◌++◌, length, refl, ap, sym, ◌∙◌, arith}
 use Rattle.std.specs.Prelude as std
 use Rattle.std.specs.Prelude.{Bool, true, false, Some, None, Ok, is_some, if◌then◌else◌, ◌||◌, map}
@@ -37,7 +37,7 @@ use Rattle.duct_start.proofs.Commanded.{items_if, items_of, commanded_is, with_i
 use Rattle.duct_start.proofs.Joined.{tree_leads}
 use Rattle.duct_start.proofs.Resolved.{list_resolves}
 
--- entries that were not refused started what their kinds say
+-- entries without a fault started what their kinds say
 children_counted : (added : List EntryView) → IsClean added
     → length (children_in added) ≡ spawns (map entry_kind (trace added))
 children_counted [] clean = refl
@@ -52,7 +52,7 @@ feeds_counted (Feed number bytes (Ok done) ∷ added) clean = omega (arith, feed
 feeds_counted (Feed number bytes (std.Err fault) ∷ added) clean = absurd (cc)
 feeds_counted (entry ∷ added) clean = feeds_counted added clean.1
 
--- as many children are held as the plan has spawns, and as many input workers as it has feeds
+-- a run holds as many children as the plan has spawns, and as many feed workers as it has feeds
 pub counted : {E H : Type 0} (allows : Allows H) (number_of : E → ℕ) (course : Course)
     (state : State E H) (now : JournalView) (held : Holdings)
     → Stands allows number_of course state now held
@@ -89,7 +89,7 @@ none_fetches K (parents Err) In = tt
 none_fetches K (parents Err) Out = tt
 none_fetches K (parents Err) Err = tt
 
--- the second of two lists of items starts so many children and so many input workers more than the first
+-- the second list of items starts this many more children and feed workers than the first
 record AddsKinds {E H : Type 0} (children workers : ℕ) (items more : List (Item E H)) : Type 0 where
   pub spawns : spawns_asked more ≡ spawns_asked items + children
   pub feeds : feeds_asked more ≡ feeds_asked items + workers
@@ -174,13 +174,14 @@ module _ {E H : Type 0} where
   adds_reads None plan = adds_none plan.items
   adds_reads (Some place) plan = adds_items plan.items _
 
-  -- the plan after a tree
+  -- the plan after a tree starts a child for each command, and a feed worker for each input
   pub planned_counts : (tree : TreeView E H)
       → (spawns_asked (planned [] tree begun).items ≡ command_count (shape_of_tree tree))
       × (feeds_asked (planned [] tree begun).items ≡ input_count (shape_of_tree tree))
   planned_counts tree = let adds = adds_tree [] tree begun in (omega (arith, adds.spawns), omega (arith, adds.feeds))
 
-  -- a run that stands at the whole plan of a tree holds a child for each command and a worker for each input
+  -- a run that has made all requests of a tree's plan holds a child for each command and a feed
+  -- worker for each input
   pub started_counts : (allows : Allows H) (number_of : E → ℕ) (course : Course) (state : State E H)
       (now : JournalView) (held : Holdings) (tree : TreeView E H)
       → Stands allows number_of course state now held → state.plan.items ≡ (plan_of tree).items
@@ -194,7 +195,7 @@ module _ {E H : Type 0} where
       let here = planned_counts tree in
       (omega (arith, all.0, ap (λ l. spawns_asked l) is, out.spawns, err.spawns, here.0), omega (arith, all.1, ap (λ l. feeds_asked l) is, out.feeds, err.feeds, here.1))
 
-  -- so does one that stands at the whole plan of a reader's start
+  -- so does a run that has made all requests of the plan of a reader's start
   pub reader_counts : (allows : Allows H) (number_of : E → ℕ) (course : Course) (state : State E H)
       (now : JournalView) (held : Holdings) (tree : TreeView E H)
       → Stands allows number_of course state now held
@@ -228,7 +229,7 @@ module _ {E H : Type 0} where
       is_some (f (commanded found words plan)) ≡ (is_some (f plan) || false)
   opens_spawn f found words plan same = ap (λ p. is_some (f p)) (commanded_is found words plan) ∙ ap (λ o. is_some o) (same (items_of found words)) ∙ sym (or-false (is_some (f plan)))
 
-  -- one action
+  -- a capture pipe is open after one action exactly if it was open before or the action opens it
   action_opens : (which : Side) (state : State E H) (act : Action E H) → NoneFinishes (act ∷ []) →
       is_some (capture_at which (advance state act).plan) ≡ (is_some (capture_at which state.plan) || is_capture which act)
   action_opens side.Out state (action.capture side.Out) none = opens_there (λ p. p.out) state.plan.out state.plan _ refl refl
@@ -255,7 +256,7 @@ module _ {E H : Type 0} where
   none_rest (action.finish which) actions none = absurd none
   none_rest act actions none = none
 
-  -- a capture pipe is open after some actions where it was open before or one of them opens it
+  -- a capture pipe is open after some actions exactly if it was open before or one of them opens it
   pub actions_open : (which : Side) (state : State E H) (actions : List (Action E H))
       → NoneFinishes actions
       → is_some (capture_at which (after state actions).plan)
@@ -275,7 +276,7 @@ module _ {E H : Type 0} where
   resolved_same side.Out scopes act = refl
   resolved_same side.Err scopes act = refl
 
-  -- what opens a capture pipe does so whatever stands round its commands
+  -- whether actions open a capture pipe does not depend on the scopes of their commands
   pub resolved_captures : (which : Side) (scopes : List (Scope E H)) (actions : List (ActionOf E ℕ))
       → captures_in which (resolved_all scopes actions) ≡ captures_in which actions
   resolved_captures which scopes [] = refl
@@ -314,11 +315,11 @@ module _ {E H : Type 0} where
       let r = row modifier in
       none_wrapped r.opens _ (none_flat inner (scope_if r.says s) (wires_in r n w) (deeper r.opens n))
 
-  -- the list of a tree is done with no capture pipe
+  -- the actions of a tree finish no capture pipe
   pub flat_none : (tree : TreeView E H) → NoneFinishes (flat_of tree)
   flat_none tree = none_flat tree rooted outside 0
 
-  -- a capture pipe of a tree is open after it where the tree's list opens it
+  -- a capture pipe is open after a tree exactly if the actions of the tree open it
   pub flat_captures : (which : Side) (tree : TreeView E H)
       → is_some (capture_at which (planned [] tree begun)) ≡ captures_in which (flat_of tree)
   flat_captures which tree =
@@ -331,7 +332,7 @@ module _ {E H : Type 0} where
       none_begun side.Out = refl
       none_begun side.Err = refl
 
-  -- and where its list with scopes by index does
+  -- the same for its actions with scopes by index
   pub list_captures : (which : Side) (tree : TreeView E H)
       → is_some (capture_at which (planned [] tree begun))
       ≡ captures_in which (listed_of tree).actions

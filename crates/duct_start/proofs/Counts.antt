@@ -8,7 +8,7 @@ use Rattle.std.specs.Prelude.{◌==◌, true, false, reverse}
 use Rattle.duct_system.specs.Ledger.{count_of}
 use Rattle.duct_start.specs.Standing.{AreFresh}
 
--- two counts of which one is none
+-- two counts add up to at most 1, if each is at most 1 and one of them is 0
 pub once_of : (next n a b : ℕ) → a ≤ 1 → b ≤ 1 → (next ≤ n → a ≡ 0) → (n < next → b ≡ 0) → a + b ≤ 1
 once_of next n a b first second old new = elim (cases_lt n next) [ inl lt ↦ omega (arith, new lt) | inr le ↦ omega (arith, old le) ]
 
@@ -32,14 +32,14 @@ count-reverse m [] = refl
 count-reverse m (x ∷ xs) =
     omega (arith, ap (λ l. count_of m l) (reverse-append (x ∷ []) xs), count-append m (reverse xs) (x ∷ []), count-cons m x xs, count-reverse m xs)
 
--- a number that does not stand in a list is another than its first
+-- a number that is not in a list differs from the list's only element
 pub other_than : (n m : ℕ) → count_of n (m ∷ []) ≡ 0 → (n == m) ≡ false
 other_than n m none = grind (arith, nat_tests)
 
 pub is_itself : (n : ℕ) → (n == n) ≡ true
 is_itself n = grind (arith, nat_tests)
 
--- numbers that a request got
+-- the numbers that a request got: none, one or two
 
 pub fresh_none : (next then : ℕ) → next ≤ then → AreFresh next then []
 fresh_none next then le = record { newer = le; once = λ n. omega arith; above = λ n lt. refl; below = λ n lt. refl }

@@ -1,4 +1,4 @@
--- A duplicate of an end of the caller comes from that end, where no request got its number.
+-- A duplicate of a caller's end comes from that end, if no request got that end's number.
 use Rattle.std.proofs.Common.{◌≡◌, ℕ, ◌≤◌, List, [], ◌∷◌, subst, ap, ◌∙◌, arith, inl, inr}
 use Rattle.std.specs.Prelude.{Ok, reverse, ◌==◌, false}
 use Rattle.duct_system.specs.EntryView.{EntryView, Pipe, OpenRead, Create, Duplicate, Parent}
@@ -8,7 +8,7 @@ use Rattle.duct_start.specs.Sources.{IsDuplicate, IsDuplicateBefore}
 use Rattle.duct_start.proofs.Counts.{count-cons, count_same, is_itself, other_than}
 use Rattle.duct_start.proofs.Origins.{count_got-reverse, lent_before}
 
--- a duplicate was got
+-- a request got the number of a duplicate
 was_got : (entries : List EntryView) (lent n : ℕ) → IsDuplicateBefore entries lent n
     → 1 ≤ count_of n (got entries)
 was_got [] lent n is = absurd is
@@ -22,7 +22,7 @@ was_got (Create path (Ok end) ∷ entries) lent n is = omega (arith, count-cons 
 was_got (Parent side (Ok end) ∷ entries) lent n is = omega (arith, count-cons n end (got entries), was_got entries lent n is)
 was_got (entry ∷ entries) lent n is = was_got entries lent n is
 
--- its number was got once, and so not by another entry
+-- that number was got once, so no other entry got it
 other_end : (n end : ℕ) (numbers : List ℕ) → count_of n (end ∷ numbers) ≤ 1
     → 1 ≤ count_of n numbers → (n == end) ≡ false
 other_end n end numbers once some = other_than n end (omega (arith, once, some, count-cons n end numbers))
@@ -69,7 +69,8 @@ module _ (lent : ℕ) where
       (duplicate_before entries n is (less_none lent end (got entries) none) (λ k. less_once k end (got entries) (once k)))
   duplicate_before (entry ∷ entries) n is none once = duplicate_before entries n is none once
 
-  -- a duplicate of an end comes from that end, where no request got its number and each number was got once
+  -- a duplicate of an end comes from that end, if no request got that end's number and each number
+  -- was got at most once
   pub duplicate_origin : (entries : List EntryView) (n : ℕ) → IsDuplicate entries lent n
       → count_of lent (got entries) ≡ 0 → ((k : ℕ) → count_of k (got entries) ≤ 1)
       → origin entries n ≡ Lent lent

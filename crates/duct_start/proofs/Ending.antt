@@ -1,4 +1,4 @@
--- A run that was refused asks nothing but closes after the refusal.
+-- A run makes no request but closes after a request that was refused.
 use Rattle.std.proofs.Common.{◌≡◌, ℕ, List, [], ◌∷◌, ◌++◌, refl, sym, subst, append_assoc}
 use Rattle.std.proofs.lemmas.List.{append-nil}
 use Rattle.std.specs.Prelude.{map, Some, None, IfSome}
@@ -29,7 +29,7 @@ clean_stop : (xs rest : List EntryView) → IsClean xs → StopsAtFault rest →
 clean_stop [] rest clean stops = stops
 clean_stop (x ∷ xs) rest clean stops = (if_none (fault_of x) (λ fault. OnlyCloses (xs ++ rest)) clean.0, clean_stop xs rest clean.1 stops)
 
--- after the refusal there are only closes
+-- after the request that was refused there are only closes
 pub ended_stops : (added : List EntryView) (error : Error) (numbers : List ℕ)
     → Ended added error → StopsAtFault (added ++ map Close numbers)
 ended_stops added error numbers (unasked clean un) = clean_stop added (map Close numbers) clean (closes_stop numbers)
@@ -38,6 +38,6 @@ ended_stops added error numbers (refused front entry fault clean is) =
     subst StopsAtFault (sym (append_assoc front (entry ∷ []) (map Close numbers)))
     (clean_stop front (entry ∷ map Close numbers) clean (if_all (fault_of entry) (OnlyCloses (map Close numbers)) (closes_only numbers), closes_stop numbers))
 
--- what is clean has no fault to stop at
+-- entries without a fault have no fault to stop at
 pub clean_stops : (added : List EntryView) → IsClean added → StopsAtFault added
 clean_stops added clean = subst StopsAtFault (append-nil added) (clean_stop added [] clean tt)

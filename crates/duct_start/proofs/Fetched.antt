@@ -1,4 +1,4 @@
--- A command fetches what its streams are wired to, and is spawned with it.
+-- A command fetches the ends that its streams are wired to, and is spawned with them.
 use Rattle.std.proofs.Common.{◌≡◌, ℕ, ◌+◌, ◌≤◌, ◌<◌, List, [], ◌∷◌, length, refl, ap, sym, ◌∙◌, arith, subst}
 use Rattle.std.specs.Prelude.{Bool, true, false, Some, IsSome, unwrap_or}
 use Rattle.duct_start.specs.Asked.{port_to}
@@ -15,7 +15,7 @@ use Rattle.duct_start.specs.Plan.{Plan, commanded}
 use Rattle.duct_start.proofs.Keeping.{Keeps, keeps_same}
 use Rattle.duct_start.proofs.Stacks.{level_under, level_within, leads_none, leads_one, leads_append}
 
--- a stack with the end that a port is given
+-- a stack with the end that a port takes pushed onto it, if the port takes one
 abbrev pub put : {A : Type 0} → Port → A → List A → List A
 put port.Given x stack = x ∷ stack
 put p x stack = stack
@@ -39,7 +39,8 @@ few port.Null = omega arith
 few port.Given = omega arith
 few (port.Place place) = omega arith
 
--- what a wire leads to stays, as long as what it names stays
+-- the next state keeps what a wire may lead to: the ends at their depths, and the open capture
+-- pipes
 pub record Grows {E H : Type 0} (state next : State E H) : Type 0 where
   pub levels : (n : ℕ) (x : Target E) → level state.stack n ≡ Some x → level next.stack n ≡ Some x
   pub keeps : Keeps state.plan next.plan
@@ -123,14 +124,15 @@ module _ {E H : Type 0} (number_of : E → ℕ) (base : ℕ) where
     below = fits.below;
   }
 
-  -- what a stream is wired to is fetched, its port is that of where it goes, and by it the stream goes there
+  -- the end that a stream is wired to is fetched, the stream has the port of where it goes, and by
+  -- that port it goes there
   record IsFetched (bound : ℕ) (state : State E H) (s : Stream) (w : Wire E) (t : Target E) : Type 0 where
     leads : Leads number_of base bound state (fetches w s) (record { stack = put (port_at w s) t state.stack; plan = state.plan })
     port_is : port_at w s ≡ port_to s t
     goes : (stack : List (Target E)) → given s (port_at w s) (put (port_at w s) t stack) ≡ t
 
   module _ (bound : ℕ) where
-    -- by one action that pushes it
+    -- one action fetches the end by pushing it
     by_one : (state : State E H) (s : Stream) (w : Wire E) (t : Target E) (x : Action E H)
         → fetches {E = E} {K = Scope E H} w s ≡ x ∷ [] → port_at w s ≡ port.Given
         → port_to s t ≡ port.Given →
@@ -161,7 +163,7 @@ module _ {E H : Type 0} (number_of : E → ℕ) (base : ℕ) where
     fetched state Err b w t which is_out low = by_one state Err w t (action.parent side.Out) refl refl refl refl tt refl low
     fetched state Err b w t which is_err low = record { leads = leads_none number_of base bound state; port_is = refl; goes = λ stack. refl }
 
-    -- a command's actions lead to its item, and leave the stack as it was
+    -- the actions of a command lead to its items, and leave the stack as it was
     pub command_leads : (state : State E H) (scope : Scope E H) (wires : Three (Wire E))
         (found : Found E H) (words : List (List ℕ)) →
         WiresFit number_of base state scope wires found → length state.stack + 3 < bound →

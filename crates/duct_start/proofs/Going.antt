@@ -1,4 +1,4 @@
--- Each kind of action goes on, or quits.
+-- Each kind of action succeeds or fails.
 use Rattle.std.proofs.Common.{◌≡◌, ◌≢◌, ℕ, ◌+◌, ◌<◌, ◌≤◌, List, [], ◌∷◌, ◌++◌, length, refl, ap, sym, ◌∙◌, arith, append_assoc, length-append, subst, inl, inr, suc, zero}
 use Rattle.std.proofs.lemmas.List.{append-nil}
 use Rattle.std.proofs.lemmas.Bool.{cases_lt}
@@ -33,7 +33,7 @@ use Rattle.duct_start.proofs.Origins.{later_more, origin_stays, origin-more, ori
 use Rattle.duct_start.proofs.Sources.{duplicate_first, duplicated, pair_level, pair_popped, surely}
 use Rattle.duct_start.proofs.Standing.{Changes, as_many, stands_more, stops_more, stops_unasked, sources_now, few_now, few_of}
 
--- with these on the stack
+-- what is held, with these ends pushed onto the stack
 abbrev pub on : List ℕ → Holdings → Holdings
 on tops held = record held { stack = tops ++ held.stack }
 
@@ -46,7 +46,7 @@ adds_as entry a b c d now next adds more less = record {
   room_is = omega (arith, adds.room_is, more, less);
 }
 
--- the same ends more on both sides
+-- as many ends are pushed onto the one stack as onto the other
 pushed_shape : {E H : Type 0} (numbers : List ℕ) (targets : List (Target E))
     (asked : List (Item E H)) (st : State E H) (held : Holdings) → length numbers ≡ length targets
     → IsShaped st held →
@@ -59,7 +59,7 @@ less_long : {A B : Type 0} (n : A) (rest : List A) (stack : List B)
 less_long n rest [] is = absurd (omega (arith, is))
 less_long n rest (x ∷ stack) is = omega (arith, is)
 
--- one end less on both sides
+-- one end is popped from both stacks
 popped_shape : {E H : Type 0} (n : ℕ) (rest : List ℕ) (then st : State E H) (kept held : Holdings)
     → held.stack ≡ n ∷ rest → kept.stack ≡ rest → then.stack ≡ drop 1 st.stack →
     kept.out ≡ held.out → kept.err ≡ held.err → then.plan.out ≡ st.plan.out → then.plan.err ≡ st.plan.err → IsShaped st held → IsShaped then kept
@@ -90,7 +90,7 @@ plain_changes entry count given now next held stack out err adds many less fresh
   drains_are = sym (append-nil held.drains) ∙ ap (λ (l : List ℕ). held.drains ++ l) (sym no_drain);
 }
 
--- an entry that changed nothing of what is held
+-- an entry that did not change what is held
 pub none_changes : (entry : EntryView) (now next : JournalView) (held : Holdings) →
     Asks entry now next → got_by entry ≡ [] → spent_by entry ≡ [] → child_by entry ≡ []
     → feed_by entry ≡ [] → drain_by entry ≡ [] → Changes entry now next held held
@@ -112,7 +112,7 @@ push_changes entry n now next held gets got none no_child no_feed no_drain =
     (subst (λ (l : List ℕ). AreFresh now.next next.next l) (sym got) (fresh_one now.next next.next n gets.1.after_old gets.1.below_new)) no_child no_feed no_drain
     (λ m. omega (arith, ap (λ (l : List ℕ). count_of m l) got, ap (λ (l : List ℕ). count_of m l) none, count-cons m n (ends held))) (omega (arith, g, s))
 
--- the end that an entry opened, whatever comes later
+-- the origin of an end that an entry opened, whatever entries come later
 pub opened_here : (course : Course) (added more : List EntryView) (entry : EntryView)
     (n next which : ℕ) → n < next → IsLater course next more → is_traced entry ≡ true
     → origin_before (entry ∷ reverse added) n ≡ Opened n → slice_index (got_by entry) which ≡ n
@@ -128,7 +128,7 @@ get_counts [] d m is = cc
 get_counts (x ∷ xs) zero m is = let same : x ≡ m = cc in omega (arith, count-cons m x xs, ap (λ k. count_of m (k ∷ [])) same, count_same m)
 get_counts (x ∷ xs) (suc d) m is = omega (arith, count-cons m x xs, get_counts xs d m is)
 
--- what stands at a depth is held
+-- the end at a depth of the stack is held
 level_counts : (stack : List ℕ) (d m : ℕ) → level stack d ≡ Some m → 1 ≤ count_of m stack
 level_counts stack d m is = omega (arith, get_counts (reverse stack) d m is, count-reverse m stack)
 
@@ -144,7 +144,7 @@ fed_top : {E : Type 0} (early : Type 0) (number_of : E → ℕ) (L : List EntryV
 fed_top early number_of L n rest (WriterAt place ∷ stack) writer is = is.0.0
 fed_top early number_of L n rest stack writer is = absurd writer
 
--- an entry that popped the top
+-- an entry that spent the end on top of the stack
 pub pop_changes : (entry : EntryView) (n : ℕ) (rest children feeds drains : List ℕ)
     (now next : JournalView) (held : Holdings) → GivesEnds entry 1 now next
     → got_by entry ≡ [] → spent_by entry ≡ n ∷ [] → held.stack ≡ n ∷ rest
@@ -167,7 +167,7 @@ pop_changes entry n rest children feeds drains now next held gives none spent is
     }
 
 module _ {E H : Type 0} (allows : Allows H) (number_of : E → ℕ) where
-  -- a request that got one end
+  -- an action whose request got one end
   got_goes : (act : Action E H) (asked : State E H → List (Item E H)) (x : State E H → Target E)
       (entry : EntryView) (n : ℕ) (now next : JournalView) (held : Holdings) →
       ((st : State E H) → advance st act ≡ record { stack = x st ∷ st.stack; plan = record { items = st.plan.items ++ asked st; out = st.plan.out; err = st.plan.err } }) →
@@ -229,7 +229,7 @@ module _ {E H : Type 0} (allows : Allows H) (number_of : E → ℕ) where
             ∙ rw is_itself (origin_lent (number_of end) stands.added (let lt : number_of end < course.old.next = omega (arith, ready.needs, early) in stands.books.above (number_of end) lt)),
       ))
 
-  -- a duplicate of an end that is held
+  -- an action that duplicates an end that is held
   dup_goes : (act : Action E H) (x : State E H → Target E) (m n : ℕ) (now next : JournalView)
       (held : Holdings) → ((st : State E H) → advance st act ≡ action.pushes (x st) st)
       → 1 ≤ count_of m (ends held) →
@@ -272,7 +272,7 @@ module _ {E H : Type 0} (allows : Allows H) (number_of : E → ℕ) where
       (omega (arith, count-append w held.stack (pair_of held.out ++ pair_of held.err), count-append w (pair_of held.out) (pair_of held.err), ap (λ o. count_of w (pair_of o)) is, count-cons w r (w ∷ []), count_same w))
       (λ course st ready L s. surely (IsEarly course) (pair_writes L st.plan.err r w (subst (λ o. IsPair L st.plan.err o) is s.err))) gets
 
-  -- a pipe, of which the one end or the other is on top
+  -- an action that opens a pipe, with either end on top
   two_goes : (act : Action E H) (a b n m : ℕ) (x y : State E H → Target E) (now next : JournalView)
       (held : Holdings) →
       ((st : State E H) → advance st act ≡ record { stack = x st ∷ y st ∷ st.stack; plan = record { items = st.plan.items ++ AskPipe ∷ []; out = st.plan.out; err = st.plan.err } }) →
@@ -362,7 +362,7 @@ module _ {E H : Type 0} (allows : Allows H) (number_of : E → ℕ) where
         (omega (arith, few_now allows number_of course st now held stands, ap (λ (l : List ℕ). length (l ++ (pair_of held.out ++ pair_of held.err))) is)) fault refl
         (λ more later. ((refl, fed (Err fault) (holding rest held) course st ready stands ch more later), tt))
 
-  -- no memory before anything was asked
+  -- an allocation failed before the action made a request
   pub memory_quits : (act : Action E H) (asked : State E H → List (Item E H))
       (now next : JournalView) (held : Holdings) (error : Error) →
       ((st : State E H) → (advance st act).plan.items ≡ st.plan.items ++ asked st)
@@ -371,7 +371,7 @@ module _ {E H : Type 0} (allows : Allows H) (number_of : E → ℕ) where
   memory_quits act asked now next held error items nothing un = λ course st ready stands.
       stops_unasked allows number_of course st (advance st act).plan.items (asked st) now next held error stands (items st) nothing un
 
-  -- a refusal of a request that is given no end, with its entry or without
+  -- a request that was given no end was refused, with or without its entry
   pub quits_none : (act : Action E H) (asked : State E H → List (Item E H)) (entry : EntryView)
       (fault : Fault) (now next : JournalView) (held : Holdings)
       → ((st : State E H) → (advance st act).plan.items ≡ st.plan.items ++ asked st)
@@ -413,7 +413,7 @@ module _ {E H : Type 0} (allows : Allows H) (number_of : E → ℕ) where
     parent_quits side.Err refused =
         quits_none (action.parent side.Err) (λ st. []) (Parent side.Err (Err fault)) fault now next held (λ st. sym (append-nil st.plan.items)) refused refl refl refl refl refl refl (λ course st L. tt)
 
-    -- of a duplicate, whatever it is of
+    -- the refusal of a request for a duplicate, of any end
     pub duplicate_quits : (act : Action E H) (m : ℕ)
         → ((st : State E H) → (advance st act).plan.items ≡ st.plan.items)
         → IsRefused (Duplicate m (Err fault)) 0 fault now next

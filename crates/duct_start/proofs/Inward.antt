@@ -1,4 +1,4 @@
--- The plan made inwards is the plan looked up outwards, and it keeps the places of its capture pipes.
+-- The plan computed inwards is the plan that is looked up on the paths to the root.
 use Rattle.std.proofs.Common.{◌≡◌, ◌∷◌, length, refl, ap, ◌∙◌}
 use Rattle.duct_system.specs.declared.spec.Stream.TheVariants.{In, Out, Err}
 use Rattle.duct_start.specs.Found.{target_of}
@@ -16,7 +16,7 @@ turned_same (Follows In) up = refl
 turned_same (Follows Out) up = refl
 turned_same (Follows Err) up = refl
 
--- what is found one node further in
+-- what is found one node further inside
 found_more : {E H : Type 0} (crumb : Crumb E H) (up : Path E H)
     → found_on (crumb ∷ up) ≡ found_within (step_of crumb) (place_of crumb) (found_on up)
 found_more crumb up =
@@ -30,7 +30,7 @@ found_more crumb up =
       hooks = (found_on (crumb ∷ up)).hooks;
     }
 
--- the plan made inwards is the plan
+-- the plan computed inwards is the plan
 pub joined : {E H : Type 0} (tree : TreeView E H) (up : Path E H) (plan : Plan E H)
     → planned up tree plan ≡ walked (found_on up) tree plan
 joined (command words) up plan = refl

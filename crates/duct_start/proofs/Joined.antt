@@ -37,7 +37,7 @@ module _ {E : Type 0} (P : E → Type 0) where
   all_back (x ∷ xs) ys all = all_back xs ys (All-tail P x (xs ++ ys) all)
 
 module _ {E : Type 0} where
-  -- the stack inside of a node that opens this at this place
+  -- the stack inside a node that opens this at this place
   abbrev stack_in : Obtains → ℕ → List (Target E) → List (Target E)
   stack_in opens_nothing place stack = stack
   stack_in (opens_input bytes) place stack = ReaderAt place ∷ WriterAt place ∷ stack
@@ -77,7 +77,7 @@ module _ {E H : Type 0} (number_of : E → ℕ) (base bound : ℕ) where
   abbrev at_st : List (Target E) → Plan E H → State E H
   at_st stack p = record { stack = stack; plan = p }
 
-  -- an action that asks nothing of the stack
+  -- an action that pops nothing
   easy : (state : State E H) (x : Action E H) → action.pops x ≡ 0
       → action.Needs number_of base bound state x → length (advance state x).stack ≤ bound
       → IsReady number_of base bound state x
@@ -96,7 +96,7 @@ module _ {E H : Type 0} (number_of : E → ℕ) (base bound : ℕ) where
       Leads number_of base bound state actions (at_st stack (closed [] p))
   unclosed state actions stack p leads = subst (λ (q : Plan E H). Leads number_of base bound state actions (at_st stack q)) (sym (closed_none p)) leads
 
-  -- a file that stands on the stack while what is inside runs
+  -- a file that is on the stack while the inner actions are performed
   held_leads : (get : Action E H) (item : Item E H) (x : Target E) (inside : List (Action E H))
       (stack : List (Target E)) (p q : Plan E H) →
       action.pops get ≡ 0 → action.Needs number_of base bound (at_st stack p) get → advance (at_st stack p) get ≡ at_st (x ∷ stack) (asks item p) → length stack + 1 ≤ bound →
@@ -108,7 +108,7 @@ module _ {E H : Type 0} (number_of : E → ℕ) (base bound : ℕ) where
       (leads_cons number_of base bound _ _ get _ (easy (at_st stack p) get none needs (omega (arith, ap (λ (s : State E H). length s.stack) is, low)))
       (subst (λ (s : State E H). Leads number_of base bound s (inside ++ action.close ∷ []) (at_st stack q)) (sym is) all))
 
-  -- other wires, inside a node that says nothing of folder, variables and hooks
+  -- other wires, inside a node that sets no folder, variables or hooks
   rewired : (state : State E H) (s : Scope E H) (w more : Three (Wire E)) (found inner : Found E H)
       → WiresFit number_of base state s w found →
       inner.folder ≡ found.folder → inner.changes ≡ found.changes → inner.hooks ≡ found.hooks ++ [] →
@@ -124,7 +124,7 @@ module _ {E H : Type 0} (number_of : E → ℕ) (base bound : ℕ) where
     below = fits.below;
   }
 
-  -- what stood on the stack stands there inside of the node
+  -- what was on the stack is still there inside the node
   opens_grow : (opens : Obtains) (stack : List (Target E)) (p : Plan E H)
       → Grows (at_st stack p)
       (at_st (stack_in opens (place_for (opening_of {E = E} {H = H} opens) p) stack) (opened (opening_of opens) p))
@@ -138,7 +138,7 @@ module _ {E H : Type 0} (number_of : E → ℕ) (base bound : ℕ) where
   opens_grow (opens_capture side.Out) stack p = grows_plan stack p _ (keeps_out p)
   opens_grow (opens_capture side.Err) stack p = grows_plan stack p _ (keeps_err p)
 
-  -- a wire leads to what the node opens
+  -- the wire to what a node opens leads there
   opened_fits : (b : Bool) (opens : Obtains) (stack : List (Target E)) (p : Plan E H) (n : ℕ)
       → n ≡ length stack
       → WireIs number_of base
@@ -153,7 +153,7 @@ module _ {E H : Type 0} (number_of : E → ℕ) (base bound : ℕ) where
   opened_fits b (opens_capture side.Out) stack p n is = is_captured b side.Out (unwrap_or p.out (length p.items)) (out_opens p)
   opened_fits b (opens_capture side.Err) stack p n is = is_captured b side.Err (unwrap_or p.err (length p.items)) (err_opens p)
 
-  -- a wire leads where its stream goes inside of the node
+  -- the wire of a stream inside a node leads to where the stream goes there
   wire_fits : (b : Bool) (way : Way E) (state : State E H) (s : Scope E H) (w : Three (Wire E))
       (found : Found E H) (opened : Wire E) (opens : Obtains) (place : ℕ) → IsWay b way
       → All (λ end. number_of end < base) (way_ends way)
@@ -178,7 +178,7 @@ module _ {E H : Type 0} (number_of : E → ℕ) (base bound : ℕ) where
   hooks_below (Some (says_hook hook ends)) below =
       All-cons (λ pair. All (λ end. number_of end < base) pair.1) (hook, ends) [] below (All-nil (λ pair. All (λ end. number_of end < base) pair.1))
 
-  -- these wires fit inside of a node that says this
+  -- these wires fit inside a node that sets this
   scope_fits : (says : Option (Says E H)) (state : State E H) (s : Scope E H)
       (w more : Three (Wire E)) (found : Found E H) (input output error : Target E)
       → WiresFit number_of base state s w found → AreBelow number_of base (said_if says).hooks
@@ -205,7 +205,7 @@ module _ {E H : Type 0} (number_of : E → ℕ) (base bound : ℕ) where
     below = All-append (λ hook. All (λ end. number_of end < base) hook.1) s.hooks (said says).hooks fits.below below;
   }
 
-  -- the actions of a node round those of what stands inside of it
+  -- the actions of a node around those of its inner expression
   wraps : (opens : Obtains) (stack : List (Target E)) (p q : Plan E H) (inside : List (Action E H))
       (n : ℕ) → n ≡ length stack → n + 3 ≤ bound
       → Leads number_of base bound
@@ -283,8 +283,8 @@ module _ {E H : Type 0} (number_of : E → ℕ) (base bound : ℕ) where
       (flat_leads inner (scope_if r.says s) (wires_in r n w) found1 tops p1 (deeper r.opens n) (length_in r.opens place stack n is)
       (all_back Below (modifier_ends modifier) (ends_in inner) older) fit (omega (arith, low, deep r.opens n)))
 
--- the list of a tree leads to its plan up to what is handed on at the end, and leaves nothing on the stack, which never holds more
--- than twice the depth of the tree and three
+-- the actions of a tree lead to its plan without the last requests for capture pipes, and leave
+-- nothing on the stack, which never holds more than twice the depth of the tree plus four ends
 pub tree_leads : {E H : Type 0} (number_of : E → ℕ) (base : ℕ) (tree : TreeView E H)
     → All (λ end. number_of end < base) (ends_in tree)
     → Leads number_of base (2 * depth tree + 4) (with_plan begun) (flat_of tree)

@@ -1,4 +1,4 @@
--- A plan that goes on keeps the places of its capture pipes.
+-- A plan that grows keeps the places of its open capture pipes.
 use Rattle.std.proofs.Common.{◌≡◌, ℕ, List, length, refl, ◌∙◌}
 use Rattle.std.specs.Prelude.{Bool, true, false, Some, None, is_some, if◌then◌else◌, unwrap_or}
 use Rattle.std.specs.declared.option.Option.{Option}
@@ -8,7 +8,7 @@ use Rattle.duct_start.specs.Plan.{Plan, asks, captures_out, captures_err, opened
 use Rattle.duct_start.specs.Step.{Opening, OpensNothing, Opens, CapturesOut, CapturesErr, AskPipe, AskCanonicalize, left_step, right_step, step}
 use Rattle.duct_start.specs.TreeView.{TreeView, command, pipe, around}
 
--- what was open stays where it is
+-- each capture pipe that was open keeps its place
 pub record Keeps {E H : Type 0} (plan next : Plan E H) : Type 0 where
   pub out : (place : ℕ) → plan.out ≡ Some place → next.out ≡ Some place
   pub err : (place : ℕ) → plan.err ≡ Some place → next.err ≡ Some place
@@ -44,7 +44,7 @@ module _ {E H : Type 0} where
   opens f None plan other place is here = here
   opens f (Some p) plan other place is here = is
 
-  -- a capture pipe is open after its node
+  -- a capture pipe is open after a node that captures
   pub out_opens : (plan : Plan E H)
       → (captures_out plan).out ≡ Some (unwrap_or plan.out (length plan.items))
   out_opens plan = opens (λ q. q.out) plan.out plan _ (length plan.items) refl refl
@@ -59,7 +59,7 @@ module _ {E H : Type 0} where
   opening_keeps CapturesOut plan = keeps_out plan
   opening_keeps CapturesErr plan = keeps_err plan
 
-  -- a tree keeps what was open
+  -- a tree keeps the open capture pipes
   pub keeps : (tree : TreeView E H) (found : Found E H) (plan : Plan E H)
       → Keeps plan (walked found tree plan)
   keeps (command words) found plan =

@@ -1,4 +1,4 @@
--- A run of the list of a whole tree is its start.
+-- A run of the actions of a whole tree is its start.
 use Rattle.std.proofs.Common.{◌≡◌, ℕ, ◌+◌, ◌*◌, List, [], ◌++◌, ap, refl, sym, ◌∙◌, arith, subst}
 use Rattle.std.proofs.lemmas.List.{nil_from_length}
 use Rattle.std.specs.declared.option.Option.{Option}
@@ -30,7 +30,7 @@ no_pair : (o : Option (ℕ × ℕ)) → is_some o ≡ false → pair_of o ≡ []
 no_pair None is = refl
 no_pair (Some pair) is = absurd (cc)
 
--- the workers of the capture pipes, where both were open, are asked as the plan says
+-- the drain workers of the open capture pipes are requested as the plan says
 pub drained_items : {E H : Type 0} (plan : Plan E H)
     → (drained plan).items ≡ (drains plan.err (drains plan.out plan)).items
 drained_items plan = by plan.out plan.err
@@ -53,7 +53,7 @@ read_items plan = by plan.out plan.err
     by (Some place) None = refl
     by (Some place) (Some other) = refl
 
--- the plan still says which capture pipes were open
+-- the plan still tells which capture pipes were open
 pub drained_pipes : {E H : Type 0} (plan : Plan E H)
     → (is_some plan.out ≡ is_some (drains plan.err (drains plan.out plan)).out)
     × (is_some plan.err ≡ is_some (drains plan.err (drains plan.out plan)).err)
@@ -80,7 +80,7 @@ module _ {E H : Type 0} (allows : Allows H) (number_of : E → ℕ) (tree : Tree
   abbrev goal : Plan E H
   goal = planned [] tree begun
 
-  -- the list leads to the plan of the tree
+  -- the actions lead to the plan of the tree
   pub list_leads : Leads number_of (ceiling number_of tree) (2 * depth tree + 4) (with_plan begun)
       actions (with_plan (planned [] tree begun))
   list_leads =
@@ -90,14 +90,14 @@ module _ {E H : Type 0} (allows : Allows H) (number_of : E → ℕ) (tree : Tree
   pub some_leads : SomeLeads number_of actions
   some_leads = (ceiling number_of tree, 2 * depth tree + 4, planned [] tree begun, list_leads)
 
-  -- where it ran, this holds
+  -- what holds if the actions and the ending ran
   pub stands_launched : (ending : Ending E H) (old now : JournalView) (held : Holdings)
       (runs : Runs allows number_of ending actions old now held)
       → Stands allows number_of (course_of old (ceiling number_of tree) (2 * depth tree + 4) runs.0)
       (with_plan (ending (planned [] tree begun))) now held
   stands_launched ending old now held runs = runs.1 (ceiling number_of tree) (2 * depth tree + 4) goal list_leads
 
-  -- where it was refused, this holds
+  -- what holds if they failed
   pub refused_launched : (ending : Ending E H) (refuses : Refuses H) (old now : JournalView)
       (held : Holdings) (e : Error)
       (refused : RunRefused allows refuses number_of ending actions old now held e)
@@ -106,7 +106,7 @@ module _ {E H : Type 0} (allows : Allows H) (number_of : E → ℕ) (tree : Tree
       (ending (planned [] tree begun)).items now held e
   refused_launched ending refuses old now held e refused = refused.1 (ceiling number_of tree) (2 * depth tree + 4) goal list_leads
 
-  -- where no capture pipe is left open, no end is held
+  -- if no capture pipe is left open, no end is held
   nothing_left : (ending : Ending E H) → (ending goal).out ≡ None → (ending goal).err ≡ None
       → (old now : JournalView) (held : Holdings)
       → Runs allows number_of ending actions old now held → ends held ≡ []
@@ -126,7 +126,7 @@ module _ {E H : Type 0} (allows : Allows H) (number_of : E → ℕ) (tree : Tree
       succeeded allows number_of tree (plan_of tree) course (with_plan (drained goal)) old now held (stands_launched drained old now held runs) refl refl refl
       (drained_items goal) (nothing_left drained refl refl old now held runs)
 
--- so does a reader's, whose list opens stdout's capture pipe
+-- so does a reader's start, whose actions open stdout's capture pipe
 module _ {E H : Type 0} (allows : Allows H) (number_of : E → ℕ) (tree : TreeView E H) (actions : List (Action E H)) (same : actions ≡ flat_of (around stdout_capture tree)) where
   pub read_launched : (old now : JournalView) (held : Holdings)
       → Runs allows number_of drained_and_read actions old now held
@@ -144,7 +144,7 @@ module _ {E H : Type 0} (allows : Allows H) (number_of : E → ℕ) (tree : Tree
       let is : plan ≡ planned [] captured begun = ap (λ (s : State E H). s.plan) (sym leads.is ∙ (list_leads allows number_of captured actions same).is) in
       ap (λ (p : Plan E H). is_some p.out) is ∙ list_captures side.Out captured
 
--- no memory before anything was asked
+-- an allocation failed before any request was made
 pub unasked_launch : {E H : Type 0} (allows : Allows H) (refuses : Refuses H) (number_of : E → ℕ)
     (tree : TreeView E H) (plan : Plan E H) (old : JournalView)
     → StartRefused allows refuses number_of tree plan old old Memory

@@ -1,4 +1,4 @@
--- What a start leaves of a pool: sweeps one after the other, and then the children that it started.
+-- How a start changes a pool: sweeps one after the other, and then the children that it started.
 use Rattle.std.proofs.Common.{◌≡◌, ℕ, ◌+◌, ◌^◌, ◌<◌, ◌≤◌, List, [], ◌∷◌, ◌++◌, length, refl, ap, sym, ◌∙◌, arith, subst, inl, inr}
 use Rattle.std.proofs.lemmas.Simd.{map-map}
 use Rattle.std.proofs.lemmas.List.{append-nil, map-append, length-map}
@@ -37,12 +37,12 @@ module _ (may : ℕ → Answer → Type 0) where
     orders_are = ap (λ (c : ChildView). c.orders) polls.after_is;
   }
 
-  -- children that nobody asked
+  -- children that were not polled
   stays_all : (children : List ChildView) → Sieves MayChild StaysInPool children children 0 0
   stays_all [] = (refl, refl, refl)
   stays_all (child ∷ children) = inl (child, children, stays_same child, refl, stays_all children)
 
-  -- a child that was kept once, and then asked with those that were kept behind it
+  -- a child that was kept once, and then polled with the children that were kept after it
   kept_once : (child kept : ChildView) (children rest left : List ChildView) (r l r' l' : ℕ)
       → StaysInPool child kept →
       ((left : List ChildView) (r' l' : ℕ) → Sieves MayChild StaysInPool rest left r' l' → Sieves MayChild StaysInPool children left (r + r') (l + l')) →
@@ -54,7 +54,7 @@ module _ (may : ℕ → Answer → Type 0) where
   kept_once child kept children rest left r l r' l' stays behind (inr (inr s)) =
       inr (inr (s.0, l + s.1, subst (λ (n : ℕ). may n (Err s.0)) stays.number_is s.2, omega (arith, s.3), behind left r' s.1 s.4))
 
-  -- children that were asked twice
+  -- children that were polled twice
   sieves_twice : (children mid left : List ChildView) (r l r' l' : ℕ)
       → Sieves MayChild StaysInPool children mid r l → Sieves MayChild StaysInPool mid left r' l' →
       Sieves MayChild StaysInPool children left (r + r') (l + l')
@@ -69,7 +69,7 @@ module _ (may : ℕ → Answer → Type 0) where
   sieves_twice (child ∷ children) mid left r l r' l' (inr (inr s)) second =
       inr (inr (s.0, s.1 + l', s.2, omega (arith, s.3), sieves_twice children mid left r s.1 r' l' s.4 second))
 
-  -- nothing was done
+  -- the pool is unchanged
   pub leaves_same : (pool : PoolView ChildView) → Leaves may [] pool pool
   leaves_same pool = record {
     old = pool.children;
@@ -86,7 +86,7 @@ module _ (may : ℕ → Answer → Type 0) where
     lost_is = refl;
   }
 
-  -- where nothing was given there are no more children than before
+  -- if no child was given, there are no more children than before
   pub leaves_fewer : (before after : PoolView ChildView) → Leaves may [] before after
       → length after.children ≤ length before.children
   leaves_fewer before after leaves =
@@ -94,7 +94,7 @@ module _ (may : ℕ → Answer → Type 0) where
       let left : after.children ≡ leaves.old = leaves.children_are ∙ ap (λ (l : List ChildView). leaves.old ++ l) none.0 ∙ append-nil leaves.old in
       omega (arith, ap (λ (l : List ChildView). length l) left, sieves_fewer MayChild StaysInPool before.children leaves.old leaves.reaped leaves.lost leaves.old_are)
 
-  -- first nothing was given, and then these children
+  -- first no child was given, and then these children
   pub leaves_on : (given : List ChildView) (before mid after : PoolView ChildView)
       → Leaves may [] before mid → Leaves may given mid after → Leaves may given before after
   leaves_on given before mid after first second =
@@ -132,7 +132,7 @@ module _ (may : ℕ → Answer → Type 0) where
     asked_seen keeps by (child ∷ children) left r l (inr (inl s)) = inr (inl (s.0, s.1, s.2, s.3, asked_seen keeps by children left s.1 l s.4))
     asked_seen keeps by (child ∷ children) left r l (inr (inr s)) = inr (inr (s.0, s.1, s.2, s.3, asked_seen keeps by children left r s.1 s.4))
 
-    -- each child of the pool was asked
+    -- each child of the pool was polled
     pub leaves_swept : (before after : PoolView C) → IsSwept may view before after
         → Leaves may [] (pool_view view before) (pool_view view after)
     leaves_swept before after swept =
@@ -175,7 +175,7 @@ module _ (may : ℕ → Answer → Type 0) where
           lost_is = takes.lost_is ∙ ap (λ (n : ℕ). counted before.lost n) lost;
         }
 
-    -- nothing was asked
+    -- no request was made
     pub leaves_unasked : (entries : List EntryView) (pool : PoolView C)
         → LeavesStarted may view (segment entries entries) pool pool
     leaves_unasked entries pool =
@@ -188,7 +188,7 @@ module _ (may : ℕ → Answer → Type 0) where
     unasked_seen (child ∷ children) all =
         All-cons IsUnasked (view child) (map view children) (All-head (λ c. IsUnasked (view c)) child children all) (unasked_seen children (All-tail (λ c. IsUnasked (view c)) child children all))
 
-    -- over some sweeps the pool stayed, and then it was given each child that was started
+    -- the pool was swept any number of times, and then it was given each child that was started
     pub leaves_started : (children : List C) (added : List EntryView)
         (before mid after : PoolView C)
         → Leaves may [] (pool_view view before) (pool_view view mid)
@@ -202,13 +202,13 @@ module _ (may : ℕ → Answer → Type 0) where
       leaves_on (map view children) (pool_view view before) (pool_view view mid) (pool_view view after) swept (leaves_taken children mid after takes),
     )
 
-    -- where nothing was given the pool keeps no more children than before
+    -- if no child was given, the pool keeps no more children than before
     pub keeps_fewer : (before mid : PoolView C)
         → Leaves may [] (pool_view view before) (pool_view view mid)
         → length mid.children ≤ length before.children
     keeps_fewer before mid swept = omega (arith, leaves_fewer (pool_view view before) (pool_view view mid) swept, length-map before.children view, length-map mid.children view)
 
-    -- the same, where the children fit beside those that the pool keeps
+    -- the same, if the pool has room for the children besides those that it keeps
     pub leaves_refused : (children : List C) (added : List EntryView)
         (before mid after : PoolView C)
         → Leaves may [] (pool_view view before) (pool_view view mid)

@@ -1,4 +1,4 @@
--- The origin of a number and the end at a place stay, whatever comes later.
+-- The origin of a number and the end at a place stay the same, whatever entries come later.
 use Rattle.std.proofs.Common.{◌≡◌, ℕ, ◌+◌, ◌<◌, List, [], ◌∷◌, ◌++◌, length, refl, ap, sym, ◌∙◌, arith, append_assoc}
 use Rattle.std.proofs.lemmas.Grind.{flat_map-append}
 use Rattle.std.proofs.lemmas.List.{reverse-append, append-nil}
@@ -38,7 +38,7 @@ count_got-reverse n (x ∷ xs) =
     let split : count_of n (got (reverse (x ∷ xs))) ≡ count_of n (got (reverse xs ++ x ∷ [])) = ap (λ (l : List EntryView). count_of n (got l)) (reverse-append (x ∷ []) xs) in
     omega (arith, split, count_got-append n (reverse xs) (x ∷ []), count_got-append n (x ∷ []) xs, count_got-reverse n xs)
 
--- a number that no entry of these got comes from where it came before them
+-- a number that none of these entries got has the origin that it had before them
 skip : (n : ℕ) (entries before : List EntryView) → count_of n (got entries) ≡ 0
     → origin_before (entries ++ before) n ≡ origin_before before n
 skip n [] before none = refl
@@ -65,7 +65,7 @@ skip n (Duplicate lent (Ok end) ∷ entries) before none =
     rw r (skip n entries before rest)
 skip n (entry ∷ entries) before none = skip n entries before none
 
--- a number that none of these got is somebody else's
+-- a number that none of these entries got is that of a caller's end
 pub lent_before : (n : ℕ) (entries : List EntryView) → count_of n (got entries) ≡ 0
     → origin_before entries n ≡ Lent n
 lent_before n entries none = ap (λ (l : List EntryView). origin_before l n) (sym (append-nil entries)) ∙ skip n entries [] none
@@ -76,7 +76,7 @@ pub origin_stays : (n : ℕ) (xs more : List EntryView) → count_of n (got more
 origin_stays n xs more none =
     ap (λ (l : List EntryView). origin_before l n) (reverse-append xs more) ∙ skip n (reverse more) (reverse xs) (count_got-reverse n more ∙ none)
 
--- a number that nobody got is somebody else's
+-- a number that no entry got is that of a caller's end
 pub origin_lent : (n : ℕ) (xs : List EntryView) → count_of n (got xs) ≡ 0 → origin xs n ≡ Lent n
 origin_lent n xs none = origin_stays n [] xs none
 
@@ -90,7 +90,7 @@ slice_get_seam : (front : List EntryView) (entry : EntryView) (rest : List Entry
 slice_get_seam [] entry rest = refl
 slice_get_seam (x ∷ front) entry rest = slice_get_seam front entry rest
 
--- the ends at the place of an entry that the trace gained
+-- the ends at the place of an entry that was added to the trace
 pub end_at_seam : (xs : List EntryView) (entry : EntryView) (more : List EntryView)
     (which : ℕ) → is_traced entry ≡ true
     → end_at (trace ((xs ++ entry ∷ []) ++ more)) (length (trace xs)) which
@@ -103,7 +103,7 @@ end_at_seam xs entry more which traced =
     ∙ ap (λ o. slice_index (flat_map got_by (option_to_list o)) which) (slice_get_seam (trace xs) entry (trace more))
     ∙ ap (λ (l : List ℕ). slice_index l which) (append-nil (got_by entry))
 
--- what comes after an entry that got fresh numbers comes later than the one before it
+-- an entry that got fresh numbers, together with later entries, is later than what came before it
 pub later_more : (course : Course) (next then : ℕ) (entry : EntryView) (more : List EntryView)
     → AreFresh next then (got_by entry) → IsLater course then more
     → IsLater course next (entry ∷ more)

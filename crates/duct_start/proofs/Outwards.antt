@@ -1,4 +1,4 @@
--- In the list of a tree each scope stands behind the one outside of it.
+-- In the list of a tree, each scope comes after its outer scope.
 use Rattle.std.proofs.Common.{◌≡◌, ℕ, zero, suc, ◌+◌, ◌≤◌, List, [], ◌∷◌, ◌++◌, length, refl, ap, arith}
 use Rattle.std.specs.Prelude.{None, Some, slice_get}
 use Rattle.std.specs.declared.option.Option.{Option}
@@ -9,7 +9,7 @@ use Rattle.duct_start.specs.Row.{Says, row}
 use Rattle.duct_start.specs.TreeView.{TreeView, command, pipe, around}
 
 module _ {E H : Type 0} where
-  -- the same of scopes that stand behind so many others
+  -- the same for scopes that come after `base` others
   abbrev AreOutwardsFrom : ℕ → List (ListedScope E H) → Type 0
   AreOutwardsFrom base [] = Unit {0}
   AreOutwardsFrom base (scope ∷ scopes) = (scope.1 ≤ base) × AreOutwardsFrom (base + 1) scopes
@@ -31,7 +31,7 @@ module _ {E H : Type 0} where
   outwards-append base next (scope ∷ some) more is first second =
       (first.0, outwards-append (base + 1) next some more (omega arith) first.1 second)
 
-  -- so does the scope of a node, with what stands inside of it
+  -- so do the scope of a node and the scopes inside it
   outwards_row : (says : Option (Says E H)) (base i next : ℕ) (w : Three (Wire E))
       (inner : TreeView E H) (n : ℕ) → i ≤ base → next ≡ base + 1
       → ((base i : ℕ) (w : Three (Wire E)) (n next : ℕ) → i ≤ base → next ≡ base + 1
@@ -41,7 +41,8 @@ module _ {E H : Type 0} where
   outwards_row (Some said) base i next w inner n low is inside =
       (low, inside (base + 1) next w n (next + 1) (omega (arith, is)) (omega (arith, is)))
 
-  -- so many scopes stand in the list before those of a tree, and the scope that it is inside of is one of them, or the root's
+  -- there are `base` scopes in the list before those of a tree, and the outer scope of the tree is
+  -- one of them or the root's
   outwards : (tree : TreeView E H) (base i : ℕ) (w : Three (Wire E)) (n next : ℕ) → i ≤ base
       → next ≡ base + 1 → AreOutwardsFrom base (listed i w tree n next).scopes
   outwards (command words) base i w n next low is = tt
@@ -57,7 +58,7 @@ module _ {E H : Type 0} where
       outwards_row r.says base i next (wires_in r n w) inner (deeper r.opens n) low is
       (outwards inner)
 
--- the list of a whole tree
+-- each scope of a whole tree comes after its outer scope
 pub listed_outwards : {E H : Type 0} (tree : TreeView E H) → AreOutwards (listed_of tree).scopes
 listed_outwards tree i scope is =
     let scopes = (listed_of tree).scopes in

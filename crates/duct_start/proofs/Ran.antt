@@ -25,7 +25,7 @@ use Rattle.duct_start.proofs.Running.{items_grow, stands_begun, stopped_begun}
 use Rattle.duct_start.proofs.Spawning.{plain_refused, stopped_front}
 use Rattle.duct_start.proofs.Stacks.{get_front}
 
--- the items of a plan go on in another
+-- the second plan has the items of the first, and perhaps more after them
 abbrev pub GoesOn : {E H : Type 0} → Plan E H → Plan E H → Type 0
 GoesOn {E} {H} p q = (more : List (Item E H)) × (q.items ≡ p.items ++ more)
 
@@ -33,12 +33,12 @@ drains_more : {E H : Type 0} (capture : Option ℕ) (p : Plan E H) → GoesOn p 
 drains_more None p = ([], sym (append-nil p.items))
 drains_more (Some place) p = (AskDrain place ∷ [], refl)
 
--- a plan goes on where a capture pipe is done with by its worker
+-- finishing a capture pipe with its drain worker only adds items to a plan
 pub finished_more : {E H : Type 0} (which : Side) (p : Plan E H) → GoesOn p (finished which p)
 finished_more side.Out p = drains_more p.out p
 finished_more side.Err p = drains_more p.err p
 
--- and where it is by a reader
+-- finishing a capture pipe with a reader only adds items to a plan
 pub read_more : {E H : Type 0} (p : Plan E H) → GoesOn p (read p)
 read_more p = by p.out
   where
@@ -47,7 +47,7 @@ read_more p = by p.out
     by (Some place) = (AskReader place ∷ [], refl)
 
 module _ {E H : Type 0} (allows : Allows H) (number_of : E → ℕ) (actions : List (Action E H)) (old : JournalView) where
-  -- where the environment was answered
+  -- the run once the environment was returned
   pub stood_begun : (course : Course) (plan : Plan E H) (one : JournalView) (held : Holdings)
       → held ≡ empty → course.front ≡ []
       → Leads number_of course.base course.bound (with_plan begun) actions (with_plan plan)
@@ -62,11 +62,11 @@ module _ {E H : Type 0} (allows : Allows H) (number_of : E → ℕ) (actions : L
       })
 
   module _ (ending : Ending E H) (now : JournalView) (held : Holdings) (runs : Runs allows number_of ending actions old now held) where
-    -- there is room to give back what it holds
+    -- there is room to give back all ends that the run holds
     pub run_room : SomeLeads number_of actions → length (ends held) ≤ now.room
     run_room leads = let stands = runs.1 leads.0 leads.1 leads.2 leads.3 in omega (arith, stands.books.room_is)
 
-    -- a capture pipe is done with
+    -- a capture pipe is finished
     pub run_goes : (which : Side) (next : JournalView) (kept : Holdings)
         → Goes allows number_of (action.finish which) now next held kept
         → Runs allows number_of (λ plan. finished which (ending plan)) actions old next kept
@@ -76,7 +76,7 @@ module _ {E H : Type 0} (allows : Allows H) (number_of : E → ℕ) (actions : L
           (record { full = omega arith; needs = tt; low = omega arith }) (runs.1 base bound plan leads),
     )
 
-    -- its worker is refused
+    -- finishing a capture pipe fails
     pub run_quits : (refuses : Refuses H) (which : Side) (next : JournalView) (kept : Holdings)
         (e : Error) → (IsHooks e → ⊥)
         → Quits allows number_of (action.finish which) now next held kept e
@@ -88,7 +88,7 @@ module _ {E H : Type 0} (allows : Allows H) (number_of : E → ℕ) (actions : L
           (quits (course_of old base bound runs.0) (with_plan (ending plan)) (record { full = omega arith; needs = tt; low = omega arith }) (runs.1 base bound plan leads)),
     )
 
-  -- the pipes of the plan are held
+  -- the run holds the capture pipes of its plan
   pub run_pipes : (now : JournalView) (held : Holdings)
       → Runs allows number_of nothing_more actions old now held
       → HavePipes number_of actions (is_some held.out) (is_some held.err)
@@ -96,7 +96,7 @@ module _ {E H : Type 0} (allows : Allows H) (number_of : E → ℕ) (actions : L
       let stands = runs.1 base bound plan leads in (stands.shaped.out, stands.shaped.err)
 
   module _ (refuses : Refuses H) where
-    -- more that would have been asked
+    -- a failed run, with more items that were not reached
     refused_more : (course : Course) (items more : List (Item E H)) (now : JournalView)
         (held : Holdings) (e : Error) → Refused allows refuses number_of course items now held e →
         Refused allows refuses number_of course (items ++ more) now held e
@@ -116,7 +116,7 @@ module _ {E H : Type 0} (allows : Allows H) (number_of : E → ℕ) (actions : L
         further entries place None other same stopped = absurd stopped
         further entries place (Some item) other same stopped = subst (λ (o : Option (Item E H)). StoppedBy allows refuses number_of entries place o e) (sym (same item refl)) stopped
 
-    -- a refusal before more would have been asked
+    -- a run that failed before further requests were made
     pub refused_before : (ending : Ending E H) (further : (plan : Plan E H) → Plan E H)
         → ((plan : Plan E H) → GoesOn plan (further plan)) → (now : JournalView) (held : Holdings)
         (e : Error) → RunRefused allows refuses number_of ending actions old now held e
@@ -129,7 +129,7 @@ module _ {E H : Type 0} (allows : Allows H) (number_of : E → ℕ) (actions : L
           (refused_more (course_of old base bound refused.0) (ending plan).items m.0 now held e (refused.1 base bound plan leads)),
     )
 
-    -- the environment was refused
+    -- the request for the environment was refused
     pub environment_refused : (now : JournalView) (held : Holdings) (fault : Fault) → held ≡ empty
         → IsRefused (Environment (Err fault)) 0 fault old now
         → RunRefused allows refuses number_of nothing_more actions old now held (System fault)

@@ -1,4 +1,5 @@
--- The end of a reader's start: the write end of stdout's capture pipe is closed, and a reader made of its read end.
+-- The end of a reader's start: the write end of stdout's capture pipe is closed, and a reader is
+-- made of its read end.
 use Rattle.std.proofs.Common.{◌≡◌, ℕ, ◌≤◌, List, [], ◌∷◌, ◌++◌, length, refl, ap, sym, ◌∙◌, arith, subst, append_assoc}
 use Rattle.std.proofs.lemmas.List.{append-nil}
 use Rattle.std.specs.Prelude.{None, Some, is_some, unwrap_or}
@@ -45,7 +46,7 @@ module _ {E H : Type 0} (allows : Allows H) (number_of : E → ℕ) (r w : ℕ) 
         (without_out [] held)
     run_reads = (runs.0, λ base bound plan leads. reads_on (course_of old base bound runs.0) (with_plan (ending plan)) (omega arith) (runs.1 base bound plan leads))
 
-    -- the reader is the last that was asked for
+    -- the request for the reader is the last one
     pub reader_last : {R : Type 0} (may : ℕ → R → Type 0) (reader : R) → may r reader
         → SomeLeads number_of actions → MadeReader may (segment old.entries next.entries) reader
     reader_last may reader told leads =

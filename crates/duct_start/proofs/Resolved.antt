@@ -1,4 +1,4 @@
--- The list of a tree, with the scopes that its commands name, is its flat plan.
+-- The list of a tree, with the scopes themselves in place of their indices, is its flat plan.
 use Rattle.std.proofs.Common.{◌≡◌, ℕ, ◌+◌, List, [], ◌∷◌, ◌++◌, length, refl, ap, sym, ◌∙◌, arith, length-append}
 use Rattle.std.specs.Prelude.{None, Some, slice_get, unwrap_or}
 use Rattle.std.specs.declared.option.Option.{Option}
@@ -83,7 +83,7 @@ module _ {E H : Type 0} where
       (omega (arith, is, length-append known (scope_within node (scope_at known i) ∷ [])))
       (ap (slice_get more) is ∙ get_seam known (scope_within node (scope_at known i)) ∙ ap (λ x. Some (scope_within node x)) found)
 
-  -- whatever scopes come later
+  -- the list of a tree is its flat plan, whatever scopes come later
   resolves : (tree : TreeView E H) (known : List (Scope E H)) (i : ℕ) (w : Three (Wire E))
       (n next : ℕ) (s : Scope E H) (later : List (ListedScope E H)) → next ≡ length known →
       slice_get known i ≡ Some s →

@@ -53,7 +53,7 @@ module _ (course : Course) (now : JournalView) where
       })
 
   module _ {E H : Type 0} (allows : Allows H) (number_of : E → ℕ) where
-    -- where the environment was asked
+    -- if the environment was returned
     pub stands_begun : course.front ≡ [] → Asks (Environment (Ok course.pairs)) course.old now
         → Stands allows number_of course (with_plan begun) now empty
     stands_begun none asks = record {
@@ -69,7 +69,7 @@ module _ (course : Course) (now : JournalView) where
       clean = (refl, tt);
     }
 
-    -- where nothing was asked
+    -- if no request was made
     pub stopped_unasked : (items : List (Item E H)) (error : Error) → AddsNothing course.old now
         → IsWantOfMemory error → Stopped allows number_of course items now empty error
     stopped_unasked items error nothing un = record {
@@ -93,7 +93,7 @@ module _ (course : Course) (now : JournalView) where
       ended = unasked tt un;
     }
 
-    -- where it was refused
+    -- if the request for the environment was refused
     pub stopped_begun : (items : List (Item E H)) (fault : Fault)
         → IsRefused (Environment (Err fault)) 0 fault course.old now
         → Stopped allows number_of course (AskEnvironment ∷ items) now empty (System fault)
@@ -153,7 +153,7 @@ module _ {E H : Type 0} (allows : Allows H) (number_of : E → ℕ) (course : Co
   can st held (action.tap side.Err) shaped needs = shaped.err ∙ needs
   can st held act shaped needs = tt
 
-  -- what a ready action needs is held
+  -- a run holds what a ready action needs
   pub can_do : (st : State E H) (now : JournalView) (held : Holdings) (act : Action E H)
       → Stands allows number_of course st now held
       → IsReady number_of course.base course.bound st act

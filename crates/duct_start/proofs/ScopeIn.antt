@@ -1,4 +1,4 @@
--- The scope of an index in a list: that of its own node inside the scope outside of it.
+-- The scope of an index in a list: what its own node sets, inside its outer scope.
 use Rattle.std.specs.Prelude.{Some, slice_get, unwrap_or}
 use Rattle.std.proofs.Common.{◌≡◌, ℕ, zero, suc, ◌+◌, ◌<◌, List, [], ◌∷◌, ◌++◌, length, ap, sym, ◌∙◌, arith, inl, inr, length-append}
 use Rattle.std.proofs.lemmas.Option.{slice_get_cases}
@@ -9,7 +9,7 @@ use Rattle.duct_start.specs.Step.{said}
 use Rattle.duct_start.proofs.Stacks.{get_front, get_seam}
 
 module _ {E H : Type 0} where
-  -- what is known stays where it is
+  -- the known scopes keep their indices
   pub known_stays : (known : List (Scope E H)) (scopes : List (ListedScope E H)) (i : ℕ)
       (s : Scope E H) → slice_get known i ≡ Some s → slice_get (scopes_from known scopes) i ≡ Some s
   known_stays known [] i s is = is
@@ -22,7 +22,7 @@ module _ {E H : Type 0} where
     | inr past ↦ absurd (omega (arith, past.0))
   ]
 
-  -- the scope of each node stands behind those that are known and those before it
+  -- the scope of each node comes after the known ones and after those of the nodes before it
   stands_behind : (known : List (Scope E H)) (scopes : List (ListedScope E H)) (k n : ℕ)
       (scope : ListedScope E H) →
       slice_get scopes k ≡ Some scope → n ≡ length known + k → scope.1 < n →
@@ -40,11 +40,11 @@ module _ {E H : Type 0} where
       stands_behind (with_scope known x) scopes k n scope here
       (omega (arith, length-append known (scope_within (said x.0) (scope_at known x.1) ∷ []))) outwards
 
-  -- nothing stands round the root
+  -- the scope of index 0 is the root's
   pub scope_in_root : (scopes : List (ListedScope E H)) → scope_in scopes 0 ≡ rooted
   scope_in_root scopes = sym (scope_stays (rooted ∷ []) scopes 0 (omega arith))
 
-  -- a scope is that of its node inside the one outside of it
+  -- a scope is what its node sets, inside its outer scope
   pub scope_in_next : (scopes : List (ListedScope E H)) (k : ℕ) (scope : ListedScope E H)
       → AreOutwards scopes → slice_get scopes k ≡ Some scope
       → scope_in scopes (k + 1) ≡ scope_within (said scope.0) (scope_in scopes scope.1)

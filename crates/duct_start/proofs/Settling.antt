@@ -1,4 +1,4 @@
--- The streams of a command stand among the ends on a stack, and each may be turned to another end.
+-- The streams of a command are among the ends on a stack, and each may be changed to another end.
 use Rattle.std.proofs.Common.{◌≡◌, ℕ, suc, zero, ◌<◌, ◌≤◌, List, [], ◌∷◌, ◌++◌, length, refl, ap, sym, ◌∙◌, arith, subst, length-append, get_or}
 use Rattle.std.proofs.lemmas.List.Elements.{All-head, All-tail}
 use Rattle.std.proofs.lemmas.Bool.Decides.{nat_tests}
@@ -26,7 +26,7 @@ use Rattle.duct_start.proofs.Counts.{count-append}
 use Rattle.duct_start.proofs.Going.{close_goes, duplicate_quits, lend_goes}
 use Rattle.duct_start.proofs.Sources.{pair_swapped}
 
--- two lists that are put together of parts of the same lengths
+-- two equal lists whose parts have the same lengths have the same parts
 pub split_first : {A : Type 0} (xs us ys vs : List A) → length xs ≡ length us → xs ++ ys ≡ us ++ vs
     → xs ≡ us
 split_first [] [] ys vs same is = refl
@@ -49,7 +49,7 @@ split_second (x ∷ xs) (u ∷ us) ys vs same is =
     split_second xs us ys vs rest tail
 
 module _ {E H : Type 0} (allows : Allows H) (number_of : E → ℕ) where
-  -- ends that stand one behind the other change their places
+  -- two groups of ends on the stack, one after the other, are swapped
   pub swapped : (course : Course) (state : State E H) (now : JournalView) (held : Holdings)
       (a b c : List ℕ) (x y z : List (Target E)) → length a ≡ length x → length b ≡ length y
       → Stands allows number_of course (with_stack (x ++ (y ++ z)) state) now
@@ -109,7 +109,7 @@ module _ {E H : Type 0} (allows : Allows H) (number_of : E → ℕ) where
   lower_at base (x ∷ ends) zero end all is = let same : x ≡ end = cc in subst (λ e. number_of e < base) same (All-head (λ e. number_of e < base) x ends all)
   lower_at base (x ∷ ends) (suc place) end all is = lower_at base ends place end (All-tail (λ e. number_of e < base) x ends all) is
 
-  -- a stream that goes to an end beside the hook, by a duplicate of it
+  -- a stream is changed to one of the hook's ends, by a duplicate of it
   pub settles_place : (ends : List E) (place n : ℕ) (end : E) (old : Stdio ℕ)
       (now mid then : JournalView) → slice_get ends place ≡ Some end
       → GetsEnd (Duplicate (number_of end) (Ok n)) n now mid
@@ -129,7 +129,7 @@ module _ {E H : Type 0} (allows : Allows H) (number_of : E → ℕ) where
             (swapped course state then held (n ∷ []) over under (Lends end ∷ []) above below refl same left),
       )
 
-  -- the duplicate was refused
+  -- the request for the duplicate was refused
   pub unsettled : (ends : List E) (place : ℕ) (end : E) (fault : Fault) (now then : JournalView)
       → slice_get ends place ≡ Some end
       → IsRefused (Duplicate (number_of end) (Err fault)) 0 fault now then
@@ -140,7 +140,7 @@ module _ {E H : Type 0} (allows : Allows H) (number_of : E → ℕ) where
         (record { full = omega arith; needs = lower_at course.base ends place end lower at; low = omega (arith, low) }) stands,
   )
 
--- an end at a place that is there
+-- the end at a place that a hook has
 pub end_there : {E : Type 0} (ends : List E) (place : ℕ) (end other : E)
     → missing_at (length ends) (port.Place place) ≡ None → end ≡ get_or ends place other
     → slice_get ends place ≡ Some end
@@ -148,7 +148,7 @@ end_there ends place end other there is =
     let within : place < length ends = grind (arith, nat_tests) in
     slice_get-get_or ends place other within ∙ ap (λ e. Some e) (sym is)
 
--- the port, written otherwise
+-- the same for an equal port
 pub settles_at : {E H : Type 0} (allows : Allows H) (number_of : E → ℕ) (ends : List E) (p q : Port)
     (now then : JournalView) (old new : Stdio ℕ) → p ≡ q
     → Settles {E = E} {H = H} allows number_of ends p now then old new

@@ -1,4 +1,4 @@
--- Numbers that come, pair by pair, from where their targets say.
+-- Numbers of ends that come from their targets, pair by pair.
 use Rattle.std.proofs.Common.{◌≡◌, ℕ, ◌+◌, zero, suc, List, [], ◌∷◌, ◌++◌, length, ◌∙◌, arith, subst, sym, refl, inl, inr}
 use Rattle.std.proofs.lemmas.List.{append-nil, reverse-append}
 use Rattle.std.specs.declared.option.Option.{Option}
@@ -38,7 +38,7 @@ module _ {A B : Type 0} (R : A → B → Type 0) where
   pair_second (x ∷ xs) ys [] vs same pairs = absurd (omega (arith, same))
   pair_second (x ∷ xs) ys (u ∷ us) vs same pairs = let rest : length xs ≡ length us = omega (arith, same) in pair_second xs ys us vs rest pairs.1
 
-  -- the same parts in another order on both sides
+  -- the same parts are swapped on both sides
   pub pair_swapped : (a b c : List A) (x y z : List B) → length a ≡ length x → length b ≡ length y
       → Pairwise R (a ++ (b ++ c)) (x ++ (y ++ z)) → Pairwise R (b ++ (a ++ c)) (y ++ (x ++ z))
   pair_swapped a b c x y z one other pairs =
@@ -68,16 +68,16 @@ module _ {A B : Type 0} (R : A → B → Type 0) where
   pair_get (y ∷ xs) (u ∷ us) zero x other pairs is = let same : y ≡ x = cc in subst (λ (k : A). R k u) same pairs.0
   pair_get (y ∷ xs) (u ∷ us) (suc n) x other pairs is = pair_get xs us n x other pairs.1 is
 
-  -- what stands at a depth
+  -- the elements at a depth are related
   pub pair_level : (xs : List A) (us : List B) (depth : ℕ) (x : A) (other : B) → Pairwise R xs us
       → level xs depth ≡ Some x → R x (unwrap_or (level us depth) other)
   pair_level xs us depth x other pairs is = pair_get (reverse xs) (reverse us) depth x other (pair_reversed xs us pairs) is
 
--- what holds in any case holds under a premise too
+-- what holds in any case also holds under a premise
 pub surely : {A : Type 0} (early : Type 0) → A → A × (early → A)
 surely early holds = (holds, λ e. holds)
 
--- an end that comes from somewhere comes from there
+-- an end that has an origin comes from it
 pub known : (early : Type 0) (L : List EntryView) (n : ℕ) (o : Option Origin)
     → HasOrigin early L n o
     → ComesFrom L n (unwrap_or o (Opened 0)) × (early → origin L n ≡ unwrap_or o (Opened 0))
@@ -94,13 +94,13 @@ later_duplicates : (late entries : List EntryView) (lent number : ℕ)
 later_duplicates [] entries lent number is = is
 later_duplicates (entry ∷ late) entries lent number is = later_duplicate entry (late ++ entries) lent number (later_duplicates late entries lent number is)
 
--- what is a duplicate stays one, whatever comes later
+-- a duplicate stays one, whatever entries come later
 duplicate_stays : (xs more : List EntryView) (lent number : ℕ) → IsDuplicate xs lent number
     → IsDuplicate (xs ++ more) lent number
 duplicate_stays xs more lent number is =
     subst (λ (l : List EntryView). IsDuplicateBefore l lent number) (sym (reverse-append xs more)) (later_duplicates (reverse more) (reverse xs) lent number is)
 
--- the duplicate that was asked last
+-- the duplicate that was requested last
 duplicate_now : (xs more : List EntryView) (other lent number : ℕ)
     → (other ≡ lent) ⊎ IsDuplicate xs lent other
     → IsDuplicate ((xs ++ Duplicate other (Ok number) ∷ []) ++ more) lent number
@@ -112,7 +112,7 @@ pub duplicate_first : (xs more : List EntryView) (lent number : ℕ)
     → IsDuplicate ((xs ++ Duplicate lent (Ok number) ∷ []) ++ more) lent number
 duplicate_first xs more lent number = duplicate_now xs more lent lent number (inl refl)
 
--- a duplicate of an end comes from where that comes from
+-- a duplicate of an end comes from where that end comes from
 pub duplicated : {E : Type 0} (early : Type 0) (number_of : E → ℕ) (added more : List EntryView)
     (m n : ℕ) (t : Target E) → let L = (added ++ Duplicate m (Ok n) ∷ []) ++ more in
     origin L n ≡ origin L m → IsFrom early number_of (added ++ []) m t → IsFrom early number_of L m t → IsFrom early number_of L n t
@@ -134,7 +134,7 @@ module _ {E H : Type 0} (one other : Gives) (allows : Allows H) (number_of : E �
   answer_as place (AskSpawn found words) (Spawn spec io answer) is = (is.0, is.1, is.2, is.3, is.4, follows io _ is.5)
   answer_as place item entry is = is
 
-  -- what holds of the streams may be weakened
+  -- the relation that holds for the streams may be weakened
   pub answers_as : (place : ℕ) (items : List (Item E H)) (entries : List EntryView)
       → AnswersFromBy one allows number_of L place items entries
       → AnswersFromBy other allows number_of L place items entries
@@ -143,14 +143,14 @@ module _ {E H : Type 0} (one other : Gives) (allows : Allows H) (number_of : E �
   answers_as place (item ∷ items) (entry ∷ entries) all = (answer_as place item entry all.0, answers_as (place + 1) items entries all.1)
 
 module _ {E H : Type 0} (course : Course) (allows : Allows H) (number_of : E → ℕ) (L : List EntryView) (items : List (Item E H)) (entries : List EntryView) where
-  -- what answers some items asks them
+  -- entries that match some items make their requests
   pub plan_asked : AnswersUnder course allows number_of L 0 items entries
       → AnswersFromBy (λ io wanted. Pairwise (IsGivenFrom L) io wanted) allows number_of L 0 items
       entries
   plan_asked all =
       answers_as (GivesUnder (IsEarly course) L) (λ io wanted. Pairwise (IsGivenFrom L) io wanted) allows number_of L (λ io wanted is. is.0) 0 items entries all
 
-  -- and where the caller's ends came before, its streams come from exactly there
+  -- if the caller's ends came from before the run, the streams have exactly these origins
   pub exactly_answered : IsEarly course → AnswersUnder course allows number_of L 0 items entries
       → AnswersFrom allows number_of L 0 items entries
   exactly_answered early all =

@@ -1,4 +1,4 @@
--- The spawn of a command, after its canonical name and its hooks.
+-- The spawn of a command, after its canonical path and its hooks.
 use Rattle.std.proofs.Common.{◌≡◌, ℕ, zero, suc, inl, inr, ◌+◌, ◌-◌, ◌<◌, ◌≤◌, List, [], ◌∷◌, ◌++◌, length, refl, ap, sym, ◌∙◌, arith, subst, append_assoc, length-append}
 use Rattle.std.proofs.lemmas.List.{append-nil, nil_from_length}
 use Rattle.std.specs.declared.option.Option.{Option}
@@ -43,14 +43,14 @@ use Rattle.duct_start.proofs.Stacks.{get_seam}
 use Rattle.duct_start.proofs.Standing.{Changes, as_many, answers_front, few_of, sources_now, stands_more, stops_more, stops_unasked}
 use Rattle.duct_start.proofs.Wires.{origin_of, streams_taken}
 
--- a front of a list stays where it is
+-- the elements of a prefix keep their indices
 get_within : {A : Type 0} (xs ys : List A) (n : ℕ) → n < length xs
     → slice_get (xs ++ ys) n ≡ slice_get xs n
 get_within [] ys n low = absurd (omega (arith, low))
 get_within (x ∷ xs) ys zero low = refl
 get_within (x ∷ xs) ys (suc n) low = get_within xs ys n (omega (arith, low))
 
--- a run with other entries at its front
+-- a run in which these entries were added first
 abbrev pub onwards : Course → List EntryView → Course
 onwards course front = record course { front = front }
 
@@ -123,7 +123,7 @@ module _ {E : Type 0} (early : Type 0) (number_of : E → ℕ) where
   some_any L other n (FileAt place) is = refl
   some_any L other n (Lends end) is = refl
 
-  -- what comes from somewhere by one trace has an origin by any
+  -- ends that have an origin by one trace have an origin by any trace
   origins_any : (L other : List EntryView) (numbers : List ℕ) (stack : List (Target E))
       → Pairwise (IsFrom early number_of L) numbers stack →
       map (λ o. Some o) (map (origin_of other number_of) stack) ≡ map (origin_to other number_of) stack
@@ -147,7 +147,7 @@ module _ {E : Type 0} (early : Type 0) (number_of : E → ℕ) where
   alike_origin L (End n) Null alike is = absurd alike
   alike_origin L (End n) (End t) alike is = let there = known early L n (origin_to (trace L) number_of t) is.0 in (there.0, λ e. ap End (there.1 e))
 
-  -- three streams and what is below them
+  -- three streams, and the ends below them, come from where they should
   pub alike_origins : (L : List EntryView) (s : Three (Stdio ℕ)) (t : Three (Stdio (Target E)))
       (numbers : List ℕ) (targets : List (Target E)) → AreAlike s t
       → Pairwise (IsFrom early number_of L) (handed s numbers) (handed t targets)
@@ -163,7 +163,7 @@ module _ {E : Type 0} (early : Type 0) (number_of : E → ℕ) where
       let i = alike_origin L s.input t.input alike.input (pair_first R (end_of s.input) numbers (end_of t.input) targets (alike_long s.input t.input alike.input) two) in
       (((i.0, (o.0, (e.0, tt))), λ early. λ j. i.1 early j ∷ o.1 early j ∷ e.1 early j ∷ []), pair_second R (end_of s.input) numbers (end_of t.input) targets (alike_long s.input t.input alike.input) two)
 
--- what the entry of a spawn changes
+-- what the entry of a spawn changes in what is held
 spawn_changes : (spec : SpecView) (s : Three (Stdio ℕ)) (answer : Result ℕ Fault) (count : ℕ)
     (now next : JournalView) (low : Holdings) (children : List ℕ) →
     let entry = Spawn spec (s.input ∷ s.output ∷ s.error ∷ []) answer in
@@ -185,7 +185,8 @@ spawn_changes spec s answer count now next low children gives many started =
       drains_are = sym (append-nil low.drains);
     }
 
--- the program is that at the place of the spawn
+-- the program that is read at the place of the spawn is the one that is read at the end of the
+-- trace before it
 program_there : (b : Bool) (entries rest : List EntryView) (words : List (List ℕ)) (place : ℕ)
     → length entries ≡ place → (b ≡ true → 0 < place) →
     (if b then text_in (slice_get (entries ++ rest) (place - 1)) else program_of words) ≡ program_in b entries words
@@ -199,7 +200,7 @@ named_positive : {E H : Type 0} (b : Bool) (p : Plan E H) (item : Item E H) → 
 named_positive false p item is = absurd (cc)
 named_positive true p item is = omega (arith, length-append p.items (item ∷ []))
 
--- three streams without an end
+-- three streams without an end add nothing to a stack
 none_handed : {A : Type 0} (s : Three (Stdio A)) (rest : List A)
     → length (ends_of (s.input ∷ s.output ∷ s.error ∷ [])) ≡ 0 → handed s rest ≡ rest
 none_handed s rest none =
@@ -214,7 +215,7 @@ none_handed s rest none =
     let ne : e ≡ [] = nil_from_length e (omega (arith, none, long, more, last)) in
     λ j. ne j ++ (no j ++ (ni j ++ rest))
 
--- more that would have been asked
+-- a stopped run, with more items that were not reached
 unfoldable pub stopped_front : {E H : Type 0} (allows : Allows H) (number_of : E → ℕ)
     (course : Course) (items more : List (Item E H)) (now : JournalView) (held : Holdings)
     (e : Error) → Stopped allows number_of course items now held e
@@ -227,14 +228,14 @@ stopped_front allows number_of course items more now held e stopped = record {
   ended = stopped.ended;
 }
 
--- a refusal that is not a hook's
+-- a run that stopped with an error that is not a hook's
 pub plain_refused : {E H : Type 0} (allows : Allows H) (refuses : Refuses H) (number_of : E → ℕ)
     (course : Course) (items : List (Item E H)) (now : JournalView) (held : Holdings) (e : Error)
     → (IsHooks e → ⊥) → Stopped allows number_of course items now held e
     → Refused allows refuses number_of course items now held e
 plain_refused allows refuses number_of course items now held e plain stopped = record { stopped = stopped; cause = λ is. absurd (plain is) }
 
--- what stops a chain is a hook's error
+-- the error that stops a chain is a hook's
 chain_hooks : {H O : Type 0} (allows : Allows H) (refuses : Refuses H) (hooks : List (H × List O))
     (before : WiredTo O) (e : Error) → ChainStops allows refuses hooks before e → IsHooks e
 chain_hooks allows refuses [] before e stops = absurd stops
@@ -256,7 +257,7 @@ module _ {E H : Type 0} (allows : Allows H) (number_of : E → ℕ) (course : Co
       let t = taken_by ports state.stack in
       record { spec = asked; input = t.input; output = t.output; error = t.error }
 
-  -- the state and what is held below the ends of the command
+  -- the state, and what is held, below the ends of the command
   abbrev pub below : State E H
   below = with_stack (left_by ports state.stack) (named scope words state)
 
@@ -355,7 +356,7 @@ module _ {E H : Type 0} (allows : Allows H) (number_of : E → ℕ) (course : Co
         (λ more later. (given_there (Ok number) kept ch more later, tt))
         (λ more later. let z = sourced (Ok number) kept ch more later in record { stack = (origins (Ok number) kept ch more later).1; out = z.out; err = z.err })
 
-    -- the system refused the child
+    -- the system refused the spawn
     pub spawn_quits : (fault : Fault) (count : ℕ)
         → IsRefused (entry (Err fault)) count fault now next
         → count ≡ length (spent_by (entry (Err fault)))
@@ -370,7 +371,7 @@ module _ {E H : Type 0} (allows : Allows H) (number_of : E → ℕ) (course : Co
         subst (λ (l : List ℕ). Stopped allows number_of (onwards course front) ends_with.plan.items next (holding l low) (System fault)) same
         (stops_unasked allows number_of (onwards course front) begins_with ends_with.plan.items (AskSpawn found words ∷ []) now next handed_now (System fault) staged.stands refl nothing.1 nothing.2)
 
-  -- a hook or a request among the hooks stopped it
+  -- a hook stopped the command, or a request failed while its hooks ran
   pub halts_refused : (refuses : Refuses H)
       (from : (later : List EntryView) × (front ≡ course.front ++ later))
       (now : JournalView) (s : Three (Stdio ℕ)) (e : Error)

@@ -15,14 +15,14 @@ get_front [] ys n x is = cc
 get_front (y ∷ xs) ys zero x is = is
 get_front (y ∷ xs) ys (suc n) x is = get_front xs ys n x is
 
--- what was pushed stands at the depth of the stack that it was pushed onto
+-- the depth of a pushed element is the length of the stack that it was pushed onto
 pub level_top : {A : Type 0} (stack : List A) (x : A) (n : ℕ) → n ≡ length stack
     → level (x ∷ stack) n ≡ Some x
 level_top stack x n is =
     ap (λ l. slice_get l n) (reverse-append (x ∷ []) stack)
     ∙ ap (λ k. slice_get (reverse stack ++ x ∷ []) k) (is ∙ sym (length-reverse stack)) ∙ get_seam (reverse stack) x
 
--- and what stands below it stays
+-- an element below it keeps its depth
 pub level_under : {A : Type 0} (stack : List A) (x y : A) (n : ℕ) → level stack n ≡ Some y
     → level (x ∷ stack) n ≡ Some y
 level_under stack x y n is = ap (λ l. slice_get l n) (reverse-append (x ∷ []) stack) ∙ get_front (reverse stack) (x ∷ []) n y is

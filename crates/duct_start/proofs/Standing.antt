@@ -1,4 +1,4 @@
--- A run stands one entry further, or stops there.
+-- A run goes on by one entry, or stops there.
 use Rattle.std.proofs.Common.{◌≡◌, ℕ, zero, suc, take, refl, inl, inr, ◌+◌, ◌<◌, ◌≤◌, List, [], ◌∷◌, ◌++◌, length, ap, sym, ◌∙◌, arith, subst, append_assoc, length-append}
 use Rattle.std.proofs.lemmas.List.{append-nil, length-map, map-append}
 use Rattle.std.proofs.lemmas.Bool.{cases_lt}
@@ -32,7 +32,7 @@ as_many {E} {H} {allows} {number_of} {course} {state} {now} {held} stands =
     sym (length-map (trace stands.added) entry_kind) ∙ ap (λ (l : List Kind). length l) stands.kinds ∙ length-map state.plan.items item_kind
 
 module _ {E H : Type 0} (gives : Gives) (allows : Allows H) (number_of : E → ℕ) where
-  -- the entries that some items are answered by, one after the other
+  -- entries that match some items, followed by entries that match more items, match all these items
   answers-append : (L : List EntryView) (place : ℕ) (items more : List (Item E H))
       (entries rest : List EntryView) → length entries ≡ length items →
       AnswersFromBy gives allows number_of L place items entries → AnswersFromBy gives allows number_of L (place + length items) more rest → AnswersFromBy gives allows number_of L place (items ++ more) (entries ++ rest)
@@ -43,7 +43,7 @@ module _ {E H : Type 0} (gives : Gives) (allows : Allows H) (number_of : E → �
       let less : length entries ≡ length items = omega (arith, same) in
       (first.0, answers-append L (place + 1) items more entries rest less first.1 (subst (λ (k : ℕ). AnswersFromBy gives allows number_of L k more rest) (omega arith) second))
 
-  -- a front of what was asked
+  -- entries that match some items match them with more items at the end, too
   pub answers_front : (L : List EntryView) (place : ℕ) (items more : List (Item E H))
       (entries : List EntryView) → AnswersFromBy gives allows number_of L place items entries
       → AnswersFromBy gives allows number_of L place (items ++ more) entries
@@ -56,7 +56,7 @@ clean_more : (xs : List EntryView) (entry : EntryView) → IsClean xs → fault_
 clean_more [] entry clean one = (one, tt)
 clean_more (x ∷ xs) entry clean one = (clean.0, clean_more xs entry clean.1 one)
 
--- what one entry changes in what is held, where so many ends were got and given
+-- what one entry changes in what is held, by the ends that it got and spent
 pub record Changes (entry : EntryView) (now then : JournalView)
     (held kept : Holdings) : Type 0 where
   pub adds : Adds entry (length (got_by entry)) (length (spent_by entry)) now then
@@ -103,7 +103,7 @@ take_whole [] (suc count) low = refl
 take_whole (x ∷ xs) zero low = absurd (omega (arith, low))
 take_whole (x ∷ xs) (suc count) low = ap (λ l. x ∷ l) (take_whole xs count (omega (arith, low)))
 
--- what is held after one entry more
+-- the bound on the ends that are held, after one more entry
 few_more : (bound : ℕ) (old then : JournalView) (added : List EntryView) (entry : EntryView)
     (kept : Holdings) → HeldFew bound added → Books old then (added ++ entry ∷ []) kept →
     length (ends kept) ≤ bound + 8 → HeldFew bound (added ++ entry ∷ [])
@@ -115,7 +115,7 @@ few_more bound old then added entry kept few books low = λ count. elim (cases_l
   | inr le ↦ let same = ap (λ l. held l) (take_front added (entry ∷ []) count le) in omega (arith, few count, same)
 ]
 
--- the ends that are held now
+-- the bound on the ends that are held now
 pub few_now : {E H : Type 0} (allows : Allows H) (number_of : E → ℕ) (course : Course)
     (state : State E H) (now : JournalView) (held : Holdings)
     → Stands allows number_of course state now held → length (ends held) ≤ course.bound + 8
@@ -128,7 +128,7 @@ pair_few : (o : Option (ℕ × ℕ)) → length (pair_of o) ≤ 2
 pair_few None = omega arith
 pair_few (Some pair) = omega arith
 
--- at most four ends stand beside the stack
+-- at most four ends are held besides those on the stack
 pub few_of : (bound : ℕ) (held : Holdings) → length held.stack ≤ bound + 4
     → length (ends held) ≤ bound + 8
 few_of bound held low =
@@ -139,7 +139,7 @@ module _ {E H : Type 0} (allows : Allows H) (number_of : E → ℕ) (course : Co
   abbrev pub then_added : List EntryView
   then_added = stands.added ++ entry ∷ []
 
-  -- what the sources are, where this comes later
+  -- where the held ends come from, whatever entries come after this one
   pub sources_now : (more : List EntryView) → IsLater course then.next more
       → Sourced (IsEarly course) number_of (then_added ++ more) state held
   sources_now more later =
@@ -157,7 +157,7 @@ module _ {E H : Type 0} (allows : Allows H) (number_of : E → ℕ) (course : Co
       (answers-append (GivesUnder (IsEarly course) (then_added ++ more)) allows number_of (then_added ++ more) 0 state.plan.items asked (trace stands.added) (trace (entry ∷ [])) (as_many stands) before
       (subst (λ (k : ℕ). AnswersUnder course allows number_of (then_added ++ more) k asked (trace (entry ∷ []))) (omega arith) (matches more later))))
 
-  -- one entry that went well
+  -- one more entry, without a fault
   pub stands_more : length (ends kept) ≤ course.bound + 8 → IsShaped then_state kept
       → fault_of entry ≡ None
       → map entry_kind (trace (entry ∷ [])) ≡ map item_kind asked
@@ -181,7 +181,7 @@ module _ {E H : Type 0} (allows : Allows H) (number_of : E → ℕ) (course : Co
     clean = clean_more stands.added entry stands.clean clean;
   }
 
-  -- one entry that was refused
+  -- one more entry, with a fault
   pub stops_more : length (ends kept) ≤ course.bound + 8 → (fault : Fault)
       → fault_of entry ≡ Some fault
       → ((more : List EntryView) → IsLater course then.next more
@@ -196,12 +196,12 @@ module _ {E H : Type 0} (allows : Allows H) (number_of : E → ℕ) (course : Co
     ended = refused stands.added entry fault stands.clean refuses;
   }
 
--- what comes later than a number comes later than a smaller one
+-- entries that are later than a number are later than a smaller one
 later_still : (course : Course) (next then : ℕ) (more : List EntryView) → next ≤ then
     → IsLater course then more → IsLater course next more
 later_still course next then more le later = record { fresh = λ n lt. let lt' : n < then = omega (arith, le) in later.fresh n lt' }
 
--- nothing was asked, for want of memory
+-- no request was made, since an allocation failed
 pub stops_unasked : {E H : Type 0} (allows : Allows H) (number_of : E → ℕ) (course : Course)
     (state : State E H) (items more_items : List (Item E H))
     (now then : JournalView) (held : Holdings) (error : Error) →

@@ -1,4 +1,4 @@
--- A run that came to its end is a start that succeeds.
+-- A run that reached its end is a start that succeeds.
 use Rattle.std.proofs.Common.{◌≡◌, ℕ, ◌+◌, ◌*◌, ◌≤◌, List, [], ◌∷◌, ◌++◌, length, map, refl, ap, sym, ◌∙◌, arith, subst}
 use Rattle.std.proofs.lemmas.List.{append-nil}
 use Rattle.duct_system.specs.EntryView.{EntryView}
@@ -24,7 +24,7 @@ pub segment-added : (old added : List EntryView) → segment old (old ++ added) 
 segment-added [] added = refl
 segment-added (entry ∷ old) added = segment-added old added
 
--- what was added is the segment
+-- the segment is what was added
 pub segment_is : (old new added : List EntryView) → new ≡ old ++ added → segment old new ≡ added
 segment_is old new added is = ap (λ (l : List EntryView). segment old l) is ∙ segment-added old added
 
@@ -40,7 +40,7 @@ grows_by_added old new added entries_are counted next room =
       room_grows = room;
     }
 
--- nothing comes later
+-- no entry comes later
 pub nothing_later : (course : Course) (next : ℕ) → IsLater course next []
 nothing_later course next = record { fresh = λ number lt. refl }
 
@@ -85,6 +85,6 @@ module _ {E H : Type 0} (allows : Allows H) (number_of : E → ℕ) (tree : Tree
         few = subst (λ (l : List EntryView). HoldsFew tree l) same (λ count. omega (arith, bound_is, stands.few count));
       }
 
-  -- a run that stands at the whole plan and holds no end is a start that succeeds
+  -- a run that has made all requests of the plan and holds no end is a start that succeeds
   pub succeeded : StartSucceeds allows number_of tree plan old now
   succeeded = subst (λ (o : JournalView). StartSucceeds allows number_of tree plan o now) old_is succeeds

@@ -1,4 +1,4 @@
--- Streams by where they come from, as origins of a trace.
+-- Streams given by their targets, turned into streams given by the origins of a trace.
 use Rattle.std.proofs.Common.{◌≡◌, ℕ, ◌+◌, ◌≤◌, List, [], ◌∷◌, ◌++◌, length, refl, ap, ◌∙◌, arith}
 use Rattle.std.specs.Prelude.{Some, map, unwrap_or}
 use Rattle.duct_system.specs.EntryView.{EntryView}
@@ -15,7 +15,7 @@ use Rattle.duct_start.specs.Commands.{AreAlike, IsAlike, handed, taken, taken_by
 use Rattle.duct_start.specs.Found.{Target, target_of, Parents, Nothing, ReaderAt, WriterAt, FileAt, Lends}
 use Rattle.duct_start.specs.Standing.{origin_to}
 
--- what a port takes and what it leaves is the stack
+-- what a port takes of a stack, put back on what it leaves, is the stack
 taken_less : {A : Type 0} (p : Port) (stack : List A) → many p ≤ length stack
     → end_of (taken p stack) ++ less p stack ≡ stack
 taken_less port.Inherit stack full = refl
@@ -41,7 +41,7 @@ module _ {A : Type 0} (ports : Three Port) (stack : List A) (full : many ports.i
       let le : many ports.error ≤ length stack = omega (arith, full) in
       omega (arith, full, less_long ports.error stack le, less_long ports.output (less ports.error stack) full_output)
 
-  -- what three ports take and what they leave is the stack
+  -- what three ports take of a stack, put back on what they leave, is the stack
   pub handed_taken : handed (taken_by ports stack) (left_by ports stack) ≡ stack
   handed_taken =
       let le : many ports.error ≤ length stack = omega (arith, full) in
@@ -81,11 +81,11 @@ alike_by ports numbers targets same =
     }
 
 module _ {E : Type 0} (entries : List EntryView) (number_of : E → ℕ) where
-  -- where an end comes from, by the numbers of a trace
+  -- the origin of a target, by the numbers of a trace
   abbrev pub origin_of : Target E → Origin
   origin_of target = unwrap_or (origin_to entries number_of target) (Opened 0)
 
-  -- a stream that is given the top goes where the top comes from
+  -- a stream that is given the top of the stack goes where the top comes from
   given_top : (s : Stream) (t : Target E) (o : Origin) → port.Given ≡ port_to s t
       → Some o ≡ origin_to entries number_of t → End (origin_of t) ≡ stream_to entries number_of s t
   given_top In (Parents In) o is from = absurd (cc)
@@ -147,7 +147,7 @@ module _ {E : Type 0} (entries : List EntryView) (number_of : E → ℕ) where
   not_place Out place (Lends e) is = cc
   not_place Err place (Lends e) is = cc
 
-  -- a stream by its port goes where it is found to go
+  -- a stream that is taken by its port goes to its target
   stream_taken : (s : Stream) (p : Port) (numbers : List Origin) (stack : List (Target E))
       → many p ≤ length stack → map (λ o. Some o) numbers ≡ map
       (origin_to entries number_of) stack →
@@ -159,7 +159,7 @@ module _ {E : Type 0} (entries : List EntryView) (number_of : E → ℕ) where
   stream_taken s port.Given [] (t ∷ stack) full from is = absurd (cc)
   stream_taken s port.Given (o ∷ numbers) (t ∷ stack) full from is = let top : Some o ≡ origin_to entries number_of t = cc in given_top s t o is top
 
-  -- each of three streams goes where it is found to go
+  -- each of three streams that are taken by their ports goes to its target
   pub streams_taken : {H : Type 0} (scope : Scope E H) (ports : Three Port)
       (stack : List (Target E))
       → many ports.input + (many ports.output + many ports.error) ≤ length stack

@@ -1,4 +1,4 @@
--- In the list of a tree each command's scope is the root's or one of those that stand there.
+-- In the list of a tree, each command's scope is the root's or one of the listed scopes.
 use Rattle.std.proofs.Common.{ℕ, ◌+◌, ◌≤◌, List, [], ◌∷◌, ◌++◌, length, arith, length-append}
 use Rattle.std.proofs.lemmas.List.Elements.{All-append, All-cons, All-nil}
 use Rattle.std.specs.List.{All}
@@ -40,7 +40,7 @@ module _ {E : Type 0} (count : ℕ) where
   fetched (parents Err) Out = cons (action.parent side.Err) [] tt nil
   fetched (parents Err) Err = nil
 
-  -- one action before others, and a close behind them
+  -- one action before others, and a close after them
   closed : (act : ActionOf E ℕ) (acts : List (ActionOf E ℕ)) → P act → All P acts
       → All P (act ∷ (acts ++ action.close ∷ []))
   closed act acts first inside = cons act (acts ++ action.close ∷ []) first (join acts (action.close ∷ []) inside (cons action.close [] tt nil))
@@ -82,7 +82,7 @@ module _ {E H : Type 0} (count : ℕ) where
       wrapped_within count r.opens _
       (within_row r.says i next (wires_in r n w) inner (deeper r.opens n) low few (within inner))
 
--- in the list of a whole tree
+-- the same for the list of a whole tree
 pub listed_within : {E H : Type 0} (tree : TreeView E H)
     → All (λ act. IsWithin (length (listed_of tree).scopes) act) (listed_of tree).actions
 listed_within {E} {H} tree = within (length (listed_of tree).scopes) tree 0 outside 0 1 (omega arith) (omega arith)

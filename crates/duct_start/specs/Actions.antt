@@ -1,4 +1,6 @@
--- The actions of a start, in a list: what each gets is pushed onto a stack of ends, what it gives is popped. No system is asked here.
+-- The actions of a start, as a flat list over a stack of ends: an action pushes the ends that it
+-- gets and pops those that it gives. Capture pipes are kept apart from the stack. No request to a
+-- system is made here.
 use Rattle.std.specs.Prelude.{ℕ, ◌+◌, ◌<◌, ◌≤◌, ◌≡◌, ◌||◌, Bool, true, false, List, [], ◌∷◌, ◌++◌, length, drop, reverse, slice_get, unwrap_or, None, IsSome, All}
 use Rattle.std.specs.declared.option.Option.{Option}
 use Rattle.duct_system.specs.declared.spec.Port.{Port}
@@ -12,22 +14,23 @@ use Rattle.duct_start.specs.Found.{Found, Target, Parents, Nothing, ReaderAt, Wr
 use Rattle.duct_start.specs.Plan.{Plan, asks, captures_out, captures_err, commanded, drains}
 use Rattle.duct_start.specs.Step.{Item, AskPipe, AskOpenRead, AskCreate, AskFeed}
 
--- something for each of the three streams
+-- one value for each of the three streams
 pub record Three (X : Type 0) : Type 0 where
   pub input : X
   pub output : X
   pub error : X
 
--- what stands round a command beside its streams: the folder, the changes of variables with the nearest first, and the hooks with
--- the outermost first
+-- the scope of a command: the folder, the changes of variables with the nearest first, and the
+-- hooks with the outermost first, each with its ends
 pub record Scope (E H : Type 0) : Type 0 where
   pub folder : Option (List ℕ)
   pub changes : List Change
   pub hooks : List (H × List E)
 
--- one action, with something for what stands round a command. A pipe leaves its write end on top, an input its read end. A depth is
--- counted from the bottom of the stack; `tap` duplicates the write end of a capture pipe, `finish` closes it and starts the worker
--- of its read end. A spawn begins with the canonical name of its program, where that is asked
+-- one action, where a spawn names its scope by a value of type `K`. A pipe leaves its write end on
+-- top, an input its read end. A depth is counted from the bottom of the stack; `tap` duplicates the
+-- write end of a capture pipe, `finish` closes it and starts the drain worker of its read end. A
+-- spawn first requests the canonical path of its program, where one is needed
 pub data ActionOf (E K : Type 0) : Type 0 where
   open_read : List ℕ → ActionOf E K
   create : List ℕ → ActionOf E K
@@ -43,32 +46,34 @@ pub data ActionOf (E K : Type 0) : Type 0 where
   feed : List ℕ → ActionOf E K
   finish : Side → ActionOf E K
 
--- an action in which stands what stands round its command
+-- an action that holds the scope of its command itself
 abbrev pub Action : Type 0 → Type 0 → Type 0
 Action E H = ActionOf E (Scope E H)
 
--- the stack by where its ends come from, its top first, and the plan so far with the places of the capture pipes that are open
+-- the stack, its top first, with each end by where it comes from; and the plan so far, with the
+-- places of the open capture pipes
 pub record State (E H : Type 0) : Type 0 where
   pub stack : List (Target E)
   pub plan : Plan E H
 
--- what stands at a depth of a stack
+-- the element at a depth of a stack
 abbrev pub level : {A : Type 0} → List A → ℕ → Option A
 level stack depth = slice_get (reverse stack) depth
 
--- the place of the pipe of which an end stands on top
+-- the place of the pipe whose end is on top of the stack, or 0 if no end of a pipe is on top
 abbrev pub place_of : {E : Type 0} → List (Target E) → ℕ
 place_of (ReaderAt place ∷ stack) = place
 place_of (WriterAt place ∷ stack) = place
 place_of stack = 0
 
--- where a stream goes by its port, with what stands on top
+-- where a stream goes by its port: to the end on top of the stack, to nothing, or else to the
+-- parent's stream
 abbrev pub given : {E : Type 0} → Stream → Port → List (Target E) → Target E
 given stream port.Given (top ∷ stack) = top
 given stream port.Null stack = Nothing
 given stream p stack = Parents stream
 
--- what a port leaves of a stack
+-- the stack after a port has taken its end, if it takes one
 abbrev pub less : {A : Type 0} → Port → List A → List A
 less port.Given stack = drop 1 stack
 less p stack = stack
@@ -78,11 +83,11 @@ abbrev pub many : Port → ℕ
 many port.Given = 1
 many p = 0
 
--- what three ports leave of a stack; stderr's end is on top
+-- the stack after three ports have taken their ends; stderr's end is on top
 abbrev pub left_by : {A : Type 0} → Three Port → List A → List A
 left_by ports stack = less ports.input (less ports.output (less ports.error stack))
 
--- what a command finds by what stands round it and by what its ports are given
+-- what a command finds, by its scope and by what its ports take from the stack
 abbrev pub found_by : {E H : Type 0} → Scope E H → Three Port → List (Target E) → Found E H
 found_by scope ports stack = record {
   folder = scope.folder;
@@ -93,36 +98,37 @@ found_by scope ports stack = record {
   hooks = scope.hooks;
 }
 
--- a plan in which a capture pipe is open
+-- the plan with the capture pipe of this side open
 abbrev pub captures : {E H : Type 0} → Side → Plan E H → Plan E H
 captures side.Out plan = captures_out plan
 captures side.Err plan = captures_err plan
 
--- the place of a capture pipe
+-- the place of the capture pipe of this side, if it is open
 abbrev pub capture_at : {E H : Type 0} → Side → Plan E H → Option ℕ
 capture_at side.Out plan = plan.out
 capture_at side.Err plan = plan.err
 
--- a plan in which a capture pipe is done with
+-- the plan after the capture pipe of this side is finished: its drain worker is requested, if the
+-- pipe was open
 abbrev pub finished : {E H : Type 0} → Side → Plan E H → Plan E H
 finished side.Out plan =
     record { items = (drains plan.out plan).items; out = None; err = plan.err }
 finished side.Err plan =
     record { items = (drains plan.err plan).items; out = plan.out; err = None }
 
--- nothing on the stack, and this asked
+-- the state with an empty stack and this plan
 abbrev pub with_plan : {E H : Type 0} → Plan E H → State E H
 with_plan plan = record { stack = []; plan = plan }
 
--- with these on the stack, and one item more
+-- the state with these ends pushed onto the stack, and one more item
 abbrev pub gets : {E H : Type 0} → List (Target E) → Item E H → State E H → State E H
 gets tops item state = record { stack = tops ++ state.stack; plan = asks item state.plan }
 
--- with one end more on the stack
+-- the state with one more end on the stack
 abbrev pub pushes : {E H : Type 0} → Target E → State E H → State E H
 pushes top state = record { stack = top ∷ state.stack; plan = state.plan }
 
--- after an action
+-- the state after an action
 abbrev pub advance : {E H : Type 0} → State E H → Action E H → State E H
 advance state (open_read path) =
     gets (FileAt (length state.plan.items) ∷ []) (AskOpenRead path) state
@@ -148,7 +154,7 @@ advance state (feed bytes) = record {
 }
 advance state (finish which) = record { stack = state.stack; plan = finished which state.plan }
 
--- after a list of actions
+-- the state after a list of actions
 abbrev pub after : {E H : Type 0} → State E H → List (Action E H) → State E H
 after state [] = state
 after state (action ∷ actions) = after (advance state action) actions
@@ -159,18 +165,18 @@ is_capture side.Out (capture side.Out) = true
 is_capture side.Err (capture side.Err) = true
 is_capture which _ = false
 
--- whether some action of a list does
+-- whether an action of a list opens the capture pipe of this side
 abbrev pub captures_in : {E K : Type 0} → Side → List (ActionOf E K) → Bool
 captures_in which [] = false
 captures_in which (action ∷ actions) = is_capture which action || captures_in which actions
 
--- no action of a list is done with a capture pipe
+-- no action of a list finishes a capture pipe
 abbrev pub NoneFinishes : {E K : Type 0} → List (ActionOf E K) → Type 0
 NoneFinishes [] = Unit {0}
 NoneFinishes (finish which ∷ actions) = ⊥
 NoneFinishes (_ ∷ actions) = NoneFinishes actions
 
--- on top stands the write end of a pipe
+-- the top of the stack is the write end of a pipe
 abbrev pub IsWriter : {E : Type 0} → List (Target E) → Type 0
 IsWriter (WriterAt place ∷ stack) = Unit {0}
 IsWriter stack = ⊥
@@ -181,12 +187,12 @@ port_in ports In = ports.input
 port_in ports Out = ports.output
 port_in ports Err = ports.error
 
--- the ends beside these hooks have numbers below this one
+-- the ends of these hooks have numbers below this one
 abbrev pub AreBelow : {E H : Type 0} → (E → ℕ) → ℕ → List (H × List E) → Type 0
 AreBelow number_of base hooks = All (λ hook. All (λ end. number_of end < base) hook.1) hooks
 
--- what a spawn needs: each stream has the port of where it goes, the ends beside its hooks are lent ones, and there are places for
--- three streams and one end more
+-- what a spawn needs: each stream has the port of where it goes, the ends of its hooks have numbers
+-- below `base`, and the stack has room for three streams and one more end
 pub record CanSpawn {E H : Type 0} (number_of : E → ℕ) (base bound : ℕ) (stack : List (Target E))
     (scope : Scope E H) (ports : Three Port) : Type 0 where
   pub ports_are : (stream : Stream)
@@ -201,7 +207,7 @@ pops (feed bytes) = 1
 pops (spawn scope words ports) = many ports.input + (many ports.output + many ports.error)
 pops action = 0
 
--- what an action needs beside what it pops; a lent end has a number below this one
+-- what an action needs besides the ends that it pops; a caller's end has a number below this one
 abbrev pub Needs : {E H : Type 0} → (E → ℕ) → ℕ → ℕ → State E H → Action E H → Type 0
 Needs number_of base bound state (duplicate depth) = depth < length state.stack
 Needs number_of base bound state (tap which) = IsSome (capture_at which state.plan)
@@ -211,21 +217,21 @@ Needs number_of base bound state (spawn scope words ports) =
     CanSpawn number_of base bound state.stack scope ports
 Needs number_of base bound state action = Unit {0}
 
--- an action finds what it names, and leaves no more than so many ends on the stack
+-- an action has all that it needs, and leaves at most `bound` ends on the stack
 pub record IsReady {E H : Type 0} (number_of : E → ℕ) (base bound : ℕ) (state : State E H)
     (action : Action E H) : Type 0 where
   pub full : pops action ≤ length state.stack
   pub needs : Needs number_of base bound state action
   pub low : length (advance state action).stack ≤ bound
 
--- each action of a list does, when its turn comes
+-- each action of a list is ready in the state that it is performed in
 abbrev pub AreReady : {E H : Type 0} → (E → ℕ) → ℕ → ℕ → State E H → List (Action E H) → Type 0
 AreReady number_of base bound state [] = Unit {0}
 AreReady number_of base bound state (action ∷ actions) =
     IsReady number_of base bound state action
     × AreReady number_of base bound (advance state action) actions
 
--- actions lead from one state to another
+-- the actions are ready, one after the other, and lead from one state to another
 pub record Leads {E H : Type 0} (number_of : E → ℕ) (base bound : ℕ) (state : State E H)
     (actions : List (Action E H)) (next : State E H) : Type 0 where
   pub ready : AreReady number_of base bound state actions

@@ -1,4 +1,4 @@
--- The spec and the streams that a tree asks for a command, before its hooks.
+-- The spec and the streams that a tree gives a command, before its hooks.
 use Rattle.std.specs.Prelude.{ℕ, List, [], ◌∷◌, ◌≡◌, slice_index, slice_get, flat_map}
 use Rattle.std.specs.Option.{option_to_list}
 use Rattle.duct_system.specs.Ledger.{got_by}
@@ -14,7 +14,8 @@ use Rattle.duct_system.specs.declared.system.Stdio.{Stdio}
 use Rattle.duct_system.specs.declared.system.Stdio.TheVariants.{Inherit, Null, End}
 use Rattle.duct_start.specs.Found.{Found, Target, Parents, Nothing, ReaderAt, WriterAt, FileAt, Lends, target_of, variable}
 
--- the port of a stream that goes there: the parent's own stream at its own place is inherited
+-- the port of a stream that goes there: it inherits the parent's own stream where that is the same
+-- stream
 abbrev pub port_to : {E : Type 0} → Stream → Target E → Port
 port_to In (Parents In) = port.Inherit
 port_to Out (Parents Out) = port.Inherit
@@ -22,13 +23,13 @@ port_to Err (Parents Err) = port.Inherit
 port_to stream Nothing = port.Null
 port_to stream target = port.Given
 
--- the words with this program in place of their first
+-- the words with this program in place of the first word
 abbrev pub with_program : List ℕ → List (List ℕ) → List (List ℕ)
 with_program program [] = []
 with_program program (word ∷ words) = program ∷ words
 
--- the spec has these words with this program, the folder and the variables that are found outwards, each name once and in
--- order, and for each stream the port of where it goes
+-- the spec has these words with this program, the folder and the variables that the command finds,
+-- each name once and in order, and for each stream the port of where it goes
 pub record IsAsked {E H : Type 0} (pairs : Vars) (program : List ℕ) (found : Found E H)
     (words : List (List ℕ)) (spec : SpecView) : Type 0 where
   pub words_are : spec.words ≡ with_program program words
@@ -37,12 +38,14 @@ pub record IsAsked {E H : Type 0} (pairs : Vars) (program : List ℕ) (found : F
   pub vars_ordered : AreOrdered spec.vars
   pub ports_are : (stream : Stream) → port_of stream spec ≡ port_to stream (target_of found stream)
 
--- the number of an end that the entry at a place of the trace got: of a pipe the read end is the first, the write end the second
+-- the number of an end that the entry at a place of the trace got; for a pipe, end 0 is the read
+-- end and end 1 the write end
 abbrev pub end_at : List EntryView → ℕ → ℕ → ℕ
 end_at entries place which =
     slice_index (flat_map got_by (option_to_list (slice_get entries place))) which
 
--- where a stream that goes there comes from, by the trace and the numbers of the caller's ends
+-- the stream that goes there, by the origin of its end, from the trace and the numbers of the
+-- caller's ends
 abbrev pub stream_to : {E : Type 0} → List EntryView → (E → ℕ) → Stream → Target E → Stdio Origin
 stream_to entries number_of In (Parents In) = Inherit
 stream_to entries number_of Out (Parents Out) = Inherit

@@ -1,4 +1,4 @@
--- Why a start may be refused.
+-- Why a start may fail.
 use Rattle.std.specs.Prelude.{ℕ, ◌-◌, List, ◌≡◌, ◌⊎◌, length, filter, not, slice_get, Some}
 use Rattle.std.specs.declared.option.Option.{Option}
 use Rattle.std.specs.Option.{option_and_then}
@@ -13,11 +13,11 @@ use Rattle.duct_start.specs.Follows.{IsAskedAt}
 use Rattle.duct_start.specs.Plan.{Plan}
 use Rattle.duct_start.specs.Step.{Item, AskSpawn}
 
--- the entries that are no closes
+-- the entries that are not closes
 abbrev pub asked_in : List EntryView → List EntryView
 asked_in added = filter (λ entry. not (is_close entry)) added
 
--- the fault of the last entry that is no close, if it was refused
+-- the fault of the last entry that is not a close, if it has one
 abbrev pub last_fault : List EntryView → Option Fault
 last_fault added =
     option_and_then fault_of (slice_get (asked_in added) (length (asked_in added) - 1))
@@ -37,8 +37,8 @@ StoppedNext allows refuses number_of plan added error =
     let place = length (trace added) in
     StoppedBy allows refuses number_of (trace added) place (slice_get plan.items place) error
 
--- a start may answer this error: a system's fault but want of memory is that of the last entry which is no close; a hook's fault, a
--- place of a hook that isn't there, or want of memory
+-- a start may fail with this error: an allocation failure, the fault of the last entry that is not
+-- a close, a hook's fault, or a place at which a hook has no end
 abbrev pub MayAnswer : List EntryView → Error → Type 0
 MayAnswer added (System fault) = (fault.kind ≡ OutOfMemory) ⊎ (last_fault added ≡ Some fault)
 MayAnswer added (Checked text) = ⊥
@@ -48,8 +48,9 @@ MayAnswer added (HookEnd place) = Unit {0}
 MayAnswer added Deadline = ⊥
 MayAnswer added Memory = Unit {0}
 
--- the error has a cause: a system's fault but want of memory is that of the last entry which is no close; a hook's is that of the
--- next command; a start answers no other but want of memory
+-- the error has a cause: a system's fault is an allocation failure or that of the last entry that
+-- is not a close; a hook's error comes from the next command; the only other error is an allocation
+-- failure
 abbrev pub HasCause : {E H : Type 0} → Allows H → Refuses H → (E → ℕ) → Plan E H → List EntryView
     → Error → Type 0
 HasCause allows refuses number_of plan added (System fault) = MayAnswer added (System fault)
@@ -60,7 +61,7 @@ HasCause allows refuses number_of plan added (HookEnd place) =
 HasCause allows refuses number_of plan added Memory = Unit {0}
 HasCause allows refuses number_of plan added other = ⊥
 
--- a fault of the last entry that is no close is the answer, and no other
+-- if the last entry that is not a close has a fault, the error is that fault and no other
 abbrev pub AnswersLastFault : List EntryView → Error → Type 0
 AnswersLastFault added error =
     (fault : Fault) → last_fault added ≡ Some fault → error ≡ System fault

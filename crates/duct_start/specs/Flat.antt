@@ -1,4 +1,4 @@
--- The flat plan of a tree: a list of actions over a stack of this depth, which they leave as it was.
+-- The flat plan of a tree: a list of actions over a stack, which they leave as it was.
 use Rattle.std.specs.Prelude.{ℕ, ◌+◌, ◌<◌, ◌≡◌, Bool, true, false, List, [], ◌∷◌, ◌++◌, None, Some}
 use Rattle.std.specs.Option.{option_or}
 use Rattle.std.specs.declared.option.Option.{Option}
@@ -15,8 +15,8 @@ use Rattle.duct_start.specs.Row.{Obtains, Row, Says, Way, opens_nothing, opens_i
 use Rattle.duct_start.specs.Step.{Step, said}
 use Rattle.duct_start.specs.TreeView.{TreeView, command, pipe, around}
 
--- how a stream gets where it goes: by the parent's stream, by nothing, by the end at a depth of the stack, by a capture pipe, or
--- by an end of the caller
+-- what a stream is wired to: a stream of the parent, nothing, the end at a depth of the stack, a
+-- capture pipe, or a caller's end
 pub data Wire (E : Type 0) : Type 0 where
   parents : Stream → Wire E
   nothing : Wire E
@@ -24,7 +24,7 @@ pub data Wire (E : Type 0) : Type 0 where
   captured : Side → Wire E
   lent : E → Wire E
 
--- the actions by which a command gets what a stream of it is wired to
+-- the actions that fetch the end that a stream is wired to; none where it needs no end
 abbrev pub fetches : {E K : Type 0} → Wire E → Stream → List (ActionOf E K)
 fetches nothing stream = []
 fetches (slot depth) stream = action.duplicate depth ∷ []
@@ -36,7 +36,7 @@ fetches (parents Err) Err = []
 fetches (parents Out) stream = action.parent side.Out ∷ []
 fetches (parents Err) stream = action.parent side.Err ∷ []
 
--- the port of a stream that is wired there
+-- the port of a stream with this wire
 abbrev pub port_at : {E : Type 0} → Wire E → Stream → Port
 port_at nothing stream = port.Null
 port_at (slot depth) stream = port.Given
@@ -62,7 +62,7 @@ commands scope wires words =
     fetches wires.input In ++ (fetches wires.output Out ++ (fetches wires.error Err
     ++ action.spawn scope words (ports_at wires) ∷ []))
 
--- what stands round a command inside a node
+-- the scope inside a node, by the scope around it
 abbrev pub scope_within : {E H : Type 0} → Step E H → Scope E H → Scope E H
 scope_within node scope = record {
   folder = option_or node.folder scope.folder;
@@ -70,19 +70,19 @@ scope_within node scope = record {
   hooks = scope.hooks ++ node.hooks;
 }
 
--- with another wire of stdin
+-- three values, with this one for stdin
 abbrev pub inputs : {X : Type 0} → X → Three X → Three X
 inputs x three = record three { input = x }
 
--- with another wire of stdout
+-- three values, with this one for stdout
 abbrev pub outputs : {X : Type 0} → X → Three X → Three X
 outputs x three = record three { output = x }
 
--- with another wire of stderr
+-- three values, with this one for stderr
 abbrev pub errors : {X : Type 0} → X → Three X → Three X
 errors x three = record three { error = x }
 
--- how many ends stand on the stack inside of a node
+-- the depth of the stack inside a node that opens this
 abbrev pub deeper : Obtains → ℕ → ℕ
 deeper opens_nothing n = n
 deeper (opens_input bytes) n = n + 2
@@ -90,7 +90,7 @@ deeper (opens_read path) n = n + 1
 deeper (opens_create path) n = n + 1
 deeper (opens_capture which) n = n
 
--- how a stream gets what a node opens over a stack of this depth
+-- the wire to what a node opens over a stack of this depth
 abbrev pub opened_wire : {E : Type 0} → Obtains → ℕ → Wire E
 opened_wire opens_nothing n = nothing
 opened_wire (opens_input bytes) n = slot (n + 1)
@@ -98,7 +98,8 @@ opened_wire (opens_read path) n = slot n
 opened_wire (opens_create path) n = slot n
 opened_wire (opens_capture which) n = captured which
 
--- how a stream gets where it goes inside of a node, by what the node opens and by the wires outside of it
+-- the wire of a stream inside a node, by the wire to what the node opens and by the wires around
+-- the node
 abbrev pub wired : {E : Type 0} → Way E → Wire E → Three (Wire E) → Wire E
 wired (as_outside In) opened w = w.input
 wired (as_outside Out) opened w = w.output
@@ -107,7 +108,7 @@ wired to_nothing opened w = nothing
 wired (to_lent end) opened w = lent end
 wired to_opened opened w = opened
 
--- the wires inside of a node of this row
+-- the wires inside a node of this row
 abbrev pub wires_in : {E H : Type 0} → Row E H → ℕ → Three (Wire E) → Three (Wire E)
 wires_in row n w =
     let opened = opened_wire row.opens n in
@@ -117,7 +118,7 @@ wires_in row n w =
       error = wired row.error opened w;
     }
 
--- some actions with those for what a node opens round them
+-- the inner actions of a node, with the actions for what the node opens around them
 abbrev pub wrapped : {E K : Type 0} → Obtains → List (ActionOf E K) → List (ActionOf E K)
 wrapped opens_nothing inside = inside
 wrapped (opens_input bytes) inside =
@@ -126,12 +127,12 @@ wrapped (opens_read path) inside = action.open_read path ∷ (inside ++ action.c
 wrapped (opens_create path) inside = action.create path ∷ (inside ++ action.close ∷ [])
 wrapped (opens_capture which) inside = action.capture which ∷ inside
 
--- the scope inside of a node that says this
+-- the scope inside a node that sets this, if it sets something
 abbrev pub scope_if : {E H : Type 0} → Option (Says E H) → Scope E H → Scope E H
 scope_if None scope = scope
 scope_if (Some says) scope = scope_within (said says) scope
 
--- the actions of a tree inside this scope and these wires, over a stack of this depth
+-- the actions of a tree in this scope and with these wires, over a stack of this depth
 abbrev pub flat : {E H : Type 0} → Scope E H → Three (Wire E) → TreeView E H → ℕ → List (Action E H)
 flat s w (command words) n = commands s w words
 flat s w (pipe left right) n =
@@ -141,11 +142,11 @@ flat s w (around modifier inner) n =
     let r = row modifier in
     wrapped r.opens (flat (scope_if r.says s) (wires_in r n w) inner (deeper r.opens n))
 
--- nothing stands round the root
+-- the scope of the root, which is empty
 abbrev pub rooted : {E H : Type 0} → Scope E H
 rooted = record { folder = None; changes = []; hooks = [] }
 
--- the root's streams are the parent's
+-- the wires of the root, whose streams are the parent's
 abbrev pub outside : {E : Type 0} → Three (Wire E)
 outside = record { input = parents In; output = parents Out; error = parents Err }
 
@@ -153,7 +154,7 @@ outside = record { input = parents In; output = parents Out; error = parents Err
 abbrev pub flat_of : {E H : Type 0} → TreeView E H → List (Action E H)
 flat_of tree = flat rooted outside tree 0
 
--- an end that a request of the plan got
+-- the target is an end that a request of the plan got
 abbrev pub IsGot : {E : Type 0} → Target E → Type 0
 IsGot (Parents stream) = ⊥
 IsGot Nothing = ⊥
@@ -168,7 +169,7 @@ is_stdin In = true
 is_stdin Out = false
 is_stdin Err = false
 
--- a wire of stdin, or of another stream, leads where a stream goes
+-- a wire leads to a target; the boolean tells whether it is a wire of stdin
 pub data WireIs {E H : Type 0} (number_of : E → ℕ) (base : ℕ) (state : State E H)
     : Bool → Wire E → Target E → Type 0 where
   is_in : WireIs number_of base state true (parents In) (Parents In)
@@ -182,7 +183,8 @@ pub data WireIs {E H : Type 0} (number_of : E → ℕ) (base : ℕ) (state : Sta
   is_lent : (b : Bool) (end : E) → number_of end < base
       → WireIs number_of base state b (lent end) (Lends end)
 
--- the wires lead where what is found outwards says, and this is the scope of it; the ends beside its hooks are lent ones
+-- scope and wires fit what is found: the folder, the changes and the hooks are the same, each wire
+-- leads to the target of its stream, and the ends of the hooks have numbers below `base`
 pub record WiresFit {E H : Type 0} (number_of : E → ℕ) (base : ℕ) (state : State E H)
     (scope : Scope E H) (wires : Three (Wire E)) (found : Found E H) : Type 0 where
   pub folder : found.folder ≡ scope.folder

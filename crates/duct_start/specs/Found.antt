@@ -1,4 +1,4 @@
--- What a command finds on its way outwards.
+-- What a command finds on its path to the root.
 use Rattle.std.specs.Prelude.{ℕ, List, Some, None, if◌then◌else◌, [], ◌∷◌}
 use Rattle.std.specs.declared.option.Option.{Option}
 use Rattle.std.specs.Option.{option_map}
@@ -7,8 +7,8 @@ use Rattle.duct_system.specs.SpecView.{Vars, variable_in, said_of, spelled}
 use Rattle.duct_system.specs.declared.spec.Stream.{Stream}
 use Rattle.duct_system.specs.declared.spec.Stream.TheVariants.{In, Out, Err}
 
--- where a stream goes: to the parent's own stream, to nothing, to an end of the pipe or the file that the item at this
--- place of the plan got, or to an end of the caller
+-- where a stream goes: to the parent's own stream, to nothing, to an end of the pipe or to the file
+-- that the item at this place of the plan opened, or to a caller's end
 pub data Target (E : Type 0) : Type 0 where
   Parents : Stream → Target E
   Nothing : Target E
@@ -17,14 +17,15 @@ pub data Target (E : Type 0) : Type 0 where
   FileAt : ℕ → Target E
   Lends : E → Target E
 
--- what a node asks of the variables: a value for a name, that a name be gone, or these variables alone
+-- how a node changes the variables: it sets a name to a value, removes a name, or replaces all
+-- variables by these
 pub data Change : Type 0 where
   Sets : List ℕ → List ℕ → Change
   Removes : List ℕ → Change
   Replaces : Vars → Change
 
--- the folder of the nearest node that sets one; the changes of variables, the nearest first; where the three streams go; and the
--- hooks with the ends beside them, the outermost first
+-- the folder of the nearest node that sets one; the changes of variables, the nearest first; where
+-- the three streams go; and the hooks, the outermost first, each with its ends
 pub record Found (E H : Type 0) : Type 0 where
   pub folder : Option (List ℕ)
   pub changes : List Change
@@ -39,9 +40,10 @@ target_of found In = found.input
 target_of found Out = found.output
 target_of found Err = found.error
 
--- the spelling and the value of a variable. The nearest change that names it or replaces all decides its value; what is
--- found behind that change keeps its spelling, and where nothing is found there the change's own spelling stands. Without a
--- change it is what the system said
+-- the spelling and the value of a variable. The nearest change that names it or replaces all
+-- variables decides its value. A change that sets it keeps the spelling that is found further out,
+-- and uses its own spelling if none is found there. Without a change, the variable is as the system
+-- returned it
 abbrev pub variable : Vars → List Change → List ℕ → Option (List ℕ × List ℕ)
 variable pairs [] name = said_of name pairs
 variable pairs (Sets other value ∷ changes) name =
@@ -55,7 +57,7 @@ variable pairs (Replaces vars ∷ changes) name = variable_in name vars
 abbrev pub value_found : Vars → List Change → List ℕ → Option (List ℕ)
 value_found pairs changes name = option_map (λ pair. pair.1) (variable pairs changes name)
 
--- what a command finds with nothing round it
+-- what a command finds with no node around it
 abbrev pub plain : {E H : Type 0} → Found E H
 plain =
     record {

@@ -2,7 +2,8 @@
 use Rattle.std.specs.Prelude.{ℕ, List, [], ◌∷◌, ◌++◌, Some, None}
 use Rattle.std.specs.declared.option.Option.{Option}
 
--- the stack, its top first; the ends of the two capture pipes, the one to read from first; and the children and workers, in order
+-- the stack, its top first; the ends of the two capture pipes, the read end first; and the children
+-- and workers, in order
 pub record Holdings : Type 0 where
   pub stack : List ℕ
   pub out : Option (ℕ × ℕ)
@@ -20,6 +21,6 @@ pair_of (Some pair) = pair.0 ∷ pair.1 ∷ []
 abbrev pub ends : Holdings → List ℕ
 ends held = held.stack ++ (pair_of held.out ++ pair_of held.err)
 
--- nothing
+-- nothing is held
 abbrev pub empty : Holdings
 empty = record { stack = []; out = None; err = None; children = []; feeds = []; drains = [] }

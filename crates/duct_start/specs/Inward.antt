@@ -1,4 +1,4 @@
--- The plan made inwards: what is found outwards goes along from the root to each command.
+-- The plan computed inwards: what a command finds is passed down from the root to each command.
 use Rattle.std.specs.Prelude.{ℕ, ◌++◌, length}
 use Rattle.std.specs.Option.{option_or}
 use Rattle.duct_system.specs.declared.spec.Stream.TheVariants.{In, Out, Err}
@@ -8,7 +8,7 @@ use Rattle.duct_start.specs.Plan.{Plan, asks, opened, place_for, closed, command
 use Rattle.duct_start.specs.Step.{Step, AskPipe, left_step, right_step, step}
 use Rattle.duct_start.specs.TreeView.{TreeView, command, pipe, around}
 
--- what is found inside a node at this place, by what is found round it
+-- what is found inside a node at this place, by what is found around it
 abbrev pub found_within : {E H : Type 0} → Step E H → ℕ → Found E H → Found E H
 found_within node place found = record {
   folder = option_or node.folder found.folder;
@@ -19,7 +19,7 @@ found_within node place found = record {
   hooks = found.hooks ++ node.hooks;
 }
 
--- the plan after a tree round which this is found
+-- the plan after a tree that has this found around it
 abbrev pub walked : {E H : Type 0} → Found E H → TreeView E H → Plan E H → Plan E H
 walked found (command words) plan = commanded found words plan
 walked found (pipe left right) plan =

@@ -1,18 +1,19 @@
--- What a start leaves of the pool that it was lent.
+-- How a start changes the pool that it borrows.
 use Rattle.std.specs.Prelude.{ℕ, ◌+◌, ◌≡◌, List, ◌++◌, All, length, map, Ok, None}
 use Rattle.duct_system.specs.Child.{Answer, ChildView, PollsChild, IsUnasked}
 use Rattle.duct_system.specs.EntryView.{EntryView}
 use Rattle.duct_base.specs.Pool.{PoolView, Sieves, counted}
 use Rattle.duct_system.specs.Started.{children_in}
 
--- a child that a pool keeps over some sweeps: its number, its process and its orders are as before
+-- a child that a pool keeps over some sweeps: its number, its process and its orders are unchanged
 pub record StaysInPool (before after : ChildView) : Type 0 where
   pub number_is : after.number ≡ before.number
   pub process_is : after.process ≡ before.process
   pub orders_are : after.orders ≡ before.orders
 
--- of the pool's old children some are left, in order, and behind them those of these children that said Running as they were given
--- to it, polled once; each other one was counted as reaped or lost, by an answer that it may give
+-- the pool keeps some of its old children, in order, and after them those of the given children
+-- that were still running when they were polled once; each other child was counted as reaped or
+-- lost, by a result that its poll may return
 pub record Leaves (may : ℕ → Answer → Type 0) (given : List ChildView)
     (before after : PoolView ChildView) : Type 0 where
   pub old : List ChildView
@@ -29,7 +30,7 @@ pub record Leaves (may : ℕ → Answer → Type 0) (given : List ChildView)
   pub reaped_is : after.reaped ≡ counted before.reaped (reaped + reaped_new)
   pub lost_is : after.lost ≡ counted before.lost (lost + lost_new)
 
--- a pool with its children by their views
+-- a pool with the views of its children
 abbrev pub pool_view : {C : Type 0} → (C → ChildView) → PoolView C → PoolView ChildView
 pool_view view pool =
     record {
@@ -39,7 +40,8 @@ pool_view view pool =
       lost = pool.lost;
     }
 
--- the pool after a refused start: it was given each child that the start had started, which nobody had asked before
+-- the pool after a failed start: it was given each child that the start had started, none of which
+-- was polled or given an order before
 abbrev pub LeavesStarted : {C : Type 0} → (ℕ → Answer → Type 0) → (C → ChildView) → List EntryView
     → PoolView C → PoolView C → Type 0
 LeavesStarted may view added before after =

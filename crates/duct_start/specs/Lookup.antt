@@ -1,4 +1,4 @@
--- What a command finds on its way outwards, node by node.
+-- What a command finds on its path to the root, node by node.
 use Rattle.std.specs.Prelude.{ℕ, List, [], ◌∷◌, ◌++◌, None}
 use Rattle.std.specs.Option.{option_or}
 use Rattle.std.specs.declared.option.Option.{Option}
@@ -8,12 +8,13 @@ use Rattle.duct_start.specs.Found.{Found, Target, Parents, Change}
 use Rattle.duct_start.specs.Path.{Path, place_of, step_of}
 use Rattle.duct_start.specs.Step.{Turn, Decides, Follows}
 
--- where a stream goes by a node's turn and what is found further out
+-- where a stream goes, by the turn of a node and by what is found further out
 abbrev pub turned : {E : Type 0} → Turn E → (Stream → Target E) → Target E
 turned (Decides target) outer = target
 turned (Follows stream) outer = outer stream
 
--- the first node outwards that decides a stream says where it goes; one that turns it only changes which stream is followed
+-- where a stream goes: the nearest node that decides the stream says where; a node that lets it
+-- follow another stream only changes which stream is looked up further out
 abbrev pub goes : {E H : Type 0} → Path E H → Stream → Target E
 goes [] stream = Parents stream
 goes (crumb ∷ up) stream =
@@ -29,12 +30,12 @@ abbrev pub changes : {E H : Type 0} → Path E H → List Change
 changes [] = []
 changes (crumb ∷ up) = (step_of crumb).changes ++ changes up
 
--- the hooks with the ends beside them, the outermost first
+-- the hooks, the outermost first, each with its ends
 abbrev pub hooks : {E H : Type 0} → Path E H → List (H × List E)
 hooks [] = []
 hooks (crumb ∷ up) = hooks up ++ (step_of crumb).hooks
 
--- all that is found
+-- all that a command finds on this path
 abbrev pub found_on : {E H : Type 0} → Path E H → Found E H
 found_on up = record {
   folder = folder up;

@@ -1,15 +1,16 @@
--- The way from a command outwards to the root of its tree.
+-- The path from a command to the root of its tree.
 use Rattle.std.specs.Prelude.{ℕ, List}
 use Rattle.duct_start.specs.Step.{Step, left_step, right_step, step}
 use Rattle.duct_start.specs.TreeView.{ModifierView}
 
--- one node round a command: a pipe, met from its left or its right side, or a modifier; each with its place in the plan
+-- one node around a command: a pipe, entered from its left or its right side, or a modifier; each
+-- with its place in the plan
 pub data Crumb (E H : Type 0) : Type 0 where
   left_of : ℕ → Crumb E H
   right_of : ℕ → Crumb E H
   within : ℕ → ModifierView E H → Crumb E H
 
--- the nodes round a command, the nearest first
+-- the nodes around a command, the nearest first
 abbrev pub Path : Type 0 → Type 0 → Type 0
 Path E H = List (Crumb E H)
 

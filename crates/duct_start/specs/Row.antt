@@ -1,4 +1,4 @@
--- What a node does, in one row for each kind. All else that is said of a kind of node is read off its row.
+-- What a node does, as one row for each kind. All else about a kind of node is read off its row.
 use Rattle.std.specs.Prelude.{ℕ, List, Some, None}
 use Rattle.std.specs.declared.option.Option.{Option}
 use Rattle.duct_system.specs.declared.spec.Stream.{Stream}
@@ -8,8 +8,8 @@ use Rattle.duct_system.specs.declared.system.Side.TheVariants as side
 use Rattle.duct_start.specs.Found.{Change, Sets, Removes, Replaces}
 use Rattle.duct_start.specs.TreeView.{ModifierView, stdin_bytes, stdin_path, stdin_file, stdin_null, stdout_path, stdout_file, stdout_null, stdout_capture, stdout_to_stderr, stderr_path, stderr_file, stderr_null, stderr_capture, stderr_to_stdout, stdout_stderr_swap, dir, env, env_remove, full_env, unchecked, before_spawn}
 
--- what a node opens before what it wraps: nothing, a pipe that is read and that these bytes are fed to afterwards, a file that is
--- read, a file that is made, or the one capture pipe of a stream
+-- what a node opens before its inner expression: nothing, a pipe to read from that is fed these
+-- bytes afterwards, a file to read, a file to create, or the one capture pipe of a stream
 pub data Obtains : Type 0 where
   opens_nothing : Obtains
   opens_input : List ℕ → Obtains
@@ -17,15 +17,15 @@ pub data Obtains : Type 0 where
   opens_create : List ℕ → Obtains
   opens_capture : Side → Obtains
 
--- where a stream goes inside of a node: where this stream goes outside of it, to nothing, to an end of the caller, or to what the
--- node opens
+-- where a stream goes inside a node: where this stream goes outside it, to nothing, to a caller's
+-- end, or to what the node opens
 pub data Way (E : Type 0) : Type 0 where
   as_outside : Stream → Way E
   to_nothing : Way E
   to_lent : E → Way E
   to_opened : Way E
 
--- what a node says of folder, variables or hooks
+-- what a node sets: the folder, a change of variables, or a hook with its ends
 pub data Says (E H : Type 0) : Type 0 where
   says_folder : List ℕ → Says E H
   says_change : Change → Says E H
@@ -57,7 +57,7 @@ idle_row = record {
   mark = is_plain;
 }
 
--- each kind of node round one expression
+-- the row of each kind of modifier
 abbrev pub row : {E H : Type 0} → ModifierView E H → Row E H
 row (stdin_bytes bytes) =
     record idle_row { opens = opens_input bytes; input = to_opened; mark = is_input }
@@ -82,7 +82,7 @@ row (full_env vars) = record idle_row { says = Some (says_change (Replaces vars)
 row unchecked = record idle_row { mark = is_unchecked }
 row (before_spawn hook ends) = record idle_row { says = Some (says_hook hook ends) }
 
--- where a stream goes inside of a node of this row
+-- where a stream goes inside a node of this row
 abbrev pub way_of : {E H : Type 0} → Row E H → Stream → Way E
 way_of row In = row.input
 way_of row Out = row.output

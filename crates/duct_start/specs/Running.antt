@@ -1,4 +1,4 @@
--- What contracts see of a start that runs, and what it holds of the journal's children and workers.
+-- What contracts see of a running start, and which children and workers of the journal it holds.
 use Rattle.std.specs.Prelude.{Bool, List, ◌++◌, ◌≡◌, map, is_some, All}
 use Rattle.std.specs.Option.{option_to_list}
 use Rattle.std.specs.declared.option.Option.{Option}
@@ -11,7 +11,8 @@ use Rattle.duct_status.specs.declared.status.Shape.{Shape}
 use Rattle.duct_start.specs.ShapeOfTree.{shape_of_tree}
 use Rattle.duct_start.specs.TreeView.{TreeView}
 
--- its shape, its children from left to right, its input workers in tree order, and the capture workers of stdout and of stderr
+-- its shape, its children from left to right, its feed workers in tree order, and the drain workers
+-- of stdout and of stderr
 pub record RunningView (C F D : Type 0) : Type 0 where
   pub shape : Shape
   pub children : List C
@@ -19,8 +20,9 @@ pub record RunningView (C F D : Type 0) : Type 0 where
   pub output : Option D
   pub error : Option D
 
--- the shape of this tree, with the children and the workers that were added to the journal, each by its number in its place and
--- nobody asked yet; these truth values say whether stdout and stderr have a capture worker
+-- it has the shape of this tree, and the children and workers that were added to the journal, by
+-- their numbers and in order, none polled or given an order yet; `output` and `error` tell whether
+-- stdout and stderr have a drain worker
 pub record IsRunning {E H C F D V W : Type 0} (child : C → ChildView) (feed : F → JobView V)
     (drain : D → JobView W)
     (tree : TreeView E H) (output error : Bool) (added : List EntryView)

@@ -1,16 +1,17 @@
--- What of a tree counts for the answer of a start: its commands with their words, pipes, input and unchecked.
+-- The shape of a tree, which is what counts for the outcome of a start: its commands with their
+-- words, its pipes, its inputs and what is unchecked.
 use Rattle.duct_status.specs.ShapeView as shape
 use Rattle.duct_status.specs.ShapeView.{ShapeView}
 use Rattle.duct_start.specs.Row.{Mark, is_plain, is_input, is_unchecked, row}
 use Rattle.duct_start.specs.TreeView.{ModifierView, TreeView, command, pipe, around}
 
--- what a mark makes of the shape of what it stands round
+-- the shape of a node with this mark, by the shape inside it
 abbrev pub marked : Mark → ShapeView → ShapeView
 marked is_plain inner = inner
 marked is_input inner = shape.input inner
 marked is_unchecked inner = shape.unchecked inner
 
--- what a modifier does
+-- the shape of a modifier, by the shape inside it
 abbrev pub shape_around : {E H : Type 0} → ModifierView E H → ShapeView → ShapeView
 shape_around modifier inner = marked (row modifier).mark inner
 

@@ -1,4 +1,5 @@
--- What holds between the requests of a run of actions: of the journal, of the ledger and of what is held.
+-- What holds between the requests of a run of actions: for the journal, for the ledger and for what
+-- the run holds.
 use Rattle.std.specs.Prelude.{ℕ, ◌+◌, ◌<◌, ◌≤◌, List, [], ◌∷◌, ◌++◌, ◌≡◌, length, map, take, Some, None, IsSome, is_some}
 use Rattle.std.specs.declared.option.Option.{Option}
 use Rattle.duct_system.specs.EntryView.{EntryView}
@@ -25,7 +26,7 @@ use Rattle.duct_start.specs.Kinds.{entry_kind, item_kind}
 use Rattle.duct_start.specs.Sources.{ComesFrom, IsGivenFrom, Pairwise}
 use Rattle.duct_start.specs.Step.{Item}
 
--- where an end comes from that stands for this target, by the numbers of a trace
+-- the origin of an end with this target, by the numbers of a trace
 abbrev pub origin_to : {E : Type 0} → List EntryView → (E → ℕ) → Target E → Option Origin
 origin_to entries number_of (Parents In) = None
 origin_to entries number_of (Parents Out) = Some (ParentOf side.Out)
@@ -36,15 +37,16 @@ origin_to entries number_of (WriterAt place) = Some (Opened (end_at entries plac
 origin_to entries number_of (FileAt place) = Some (Opened (end_at entries place 0))
 origin_to entries number_of (Lends end) = Some (Lent (number_of end))
 
--- numbers that were given in between, each once
+-- the numbers were given in between: each is at least `next` and below `then`, and occurs once
 pub record AreFresh (next then : ℕ) (numbers : List ℕ) : Type 0 where
   pub newer : next ≤ then
   pub once : (n : ℕ) → count_of n numbers ≤ 1
   pub above : (n : ℕ) → n < next → count_of n numbers ≡ 0
   pub below : (n : ℕ) → then ≤ n → count_of n numbers ≡ 0
 
--- what stays as it is while a run lasts: the journal before it, a number below which the caller's ends are to be, how many ends may
--- stand on the stack, the variables that the system answered, and entries that were added first
+-- what stays the same during a run: the journal before it, a number that the caller's ends should
+-- be below, how many ends may be on the stack, the variables that the system returned, and entries
+-- that were added first
 pub record Course : Type 0 where
   pub old : JournalView
   pub base : ℕ
@@ -52,7 +54,7 @@ pub record Course : Type 0 where
   pub pairs : Vars
   pub front : List EntryView
 
--- the caller's ends came before the run
+-- the caller's ends came from before the run
 abbrev pub IsEarly : Course → Type 0
 IsEarly course = course.base ≤ course.old.next
 
@@ -60,7 +62,7 @@ IsEarly course = course.base ≤ course.old.next
 pub record IsLater (course : Course) (next : ℕ) (more : List EntryView) : Type 0 where
   pub fresh : (number : ℕ) → number < next → count_of number (got more) ≡ 0
 
--- the ends of a capture pipe are those of the request at its place
+-- the ends of a capture pipe, if it is open, are those that the request at its place got
 abbrev pub IsPair : List EntryView → Option ℕ → Option (ℕ × ℕ) → Type 0
 IsPair added None None = Unit {0}
 IsPair added (Some place) (Some pair) =
@@ -68,37 +70,41 @@ IsPair added (Some place) (Some pair) =
     × (origin added pair.1 ≡ Opened (end_at (trace added) place 1))
 IsPair added place pair = ⊥
 
--- the end of a number comes from there, and exactly from there under this premise
+-- the end of a number comes from this origin, and its origin is exactly this one under the premise
+-- `early`
 abbrev pub HasOrigin : Type 0 → List EntryView → ℕ → Option Origin → Type 0
 HasOrigin early added number None = ⊥
 HasOrigin early added number (Some source) =
     ComesFrom added number source × (early → origin added number ≡ source)
 
--- it comes from where a target says
+-- the end of a number comes from this target, in the same sense
 abbrev pub IsFrom : {E : Type 0} → Type 0 → (E → ℕ) → List EntryView → ℕ → Target E → Type 0
 IsFrom early number_of added number target =
     HasOrigin early added number (origin_to (trace added) number_of target)
 
--- the streams come from there, and exactly from there under this premise
+-- the streams come from these origins, and have exactly these origins under the premise `early`
 abbrev pub GivesUnder : Type 0 → List EntryView → Gives
 GivesUnder early added io wanted =
     Pairwise (IsGivenFrom added) io wanted × (early → GivesExactly added io wanted)
 
--- the entries from a place on answer the items from there on, with streams that come from where they should
+-- the entries from a place on match the items from there on, with streams that come from where they
+-- should
 abbrev pub AnswersUnder : {E H : Type 0} → Course → Allows H → (E → ℕ) → List EntryView → ℕ
     → List (Item E H) → List EntryView → Type 0
 AnswersUnder course allows number_of added place items entries =
     AnswersFromBy (GivesUnder (IsEarly course) added) allows number_of added place items entries
 
--- each end that is held comes from where its target says
+-- each end that is held comes from its target
 pub record Sourced {E H : Type 0} (early : Type 0) (number_of : E → ℕ) (added : List EntryView)
     (state : State E H) (held : Holdings) : Type 0 where
   pub stack : Pairwise (IsFrom early number_of added) held.stack state.stack
   pub out : IsPair added state.plan.out held.out
   pub err : IsPair added state.plan.err held.err
 
--- the ledger is even with what is held; each number was got once, not below the first and below the next; room is left to give
--- back what is held; and what was started is held
+-- the books of a run: each end that was got was spent or is held; each number was got at most once,
+-- and is neither below the next number of the old journal nor at or above that of the new one;
+-- there is room to give back all ends that are held; and the children and workers that were started
+-- are held
 pub record Books (old now : JournalView) (added : List EntryView) (held : Holdings) : Type 0 where
   pub entries_are : now.entries ≡ old.entries ++ added
   pub counted : now.added ≡ old.added + length added
@@ -113,18 +119,20 @@ pub record Books (old now : JournalView) (added : List EntryView) (held : Holdin
   pub feeds_are : held.feeds ≡ feeds_in added
   pub drains_are : held.drains ≡ drains_in added
 
--- after every entry at most so many ends and eight were held
+-- after every entry, at most `bound` + 8 ends were held
 abbrev pub HeldFew : ℕ → List EntryView → Type 0
 HeldFew bound added = (count : ℕ) → held (take count added) ≤ bound + 8
 
--- as many ends are held as stand in the state
+-- what is held fits the state: the two stacks have the same length, and the same capture pipes are
+-- open
 pub record IsShaped {E H : Type 0} (state : State E H) (held : Holdings) : Type 0 where
   pub stack : length held.stack ≡ length state.stack
   pub out : is_some held.out ≡ is_some state.plan.out
   pub err : is_some held.err ≡ is_some state.plan.err
 
--- so far all went well: the trace begins with the variables and answers what was asked, and each end that is held comes from where
--- it should, whatever comes later
+-- the run has succeeded so far: no entry has a fault, the trace begins with the variables and
+-- matches the items of the plan, and each end that is held comes from where it should, whatever
+-- entries come later
 pub record Stands {E H : Type 0} (allows : Allows H) (number_of : E → ℕ) (course : Course)
     (state : State E H) (now : JournalView) (held : Holdings) : Type 0 where
   pub added : List EntryView
@@ -140,19 +148,20 @@ pub record Stands {E H : Type 0} (allows : Allows H) (number_of : E → ℕ) (co
       → Sourced (IsEarly course) number_of (added ++ more) state held
   pub clean : IsClean added
 
--- an error that comes with no entry: want of memory
+-- an error that comes without an entry: an allocation failure
 abbrev pub IsWantOfMemory : Error → Type 0
 IsWantOfMemory (System fault) = fault.kind ≡ OutOfMemory
 IsWantOfMemory Memory = Unit {0}
 IsWantOfMemory error = ⊥
 
--- an error that comes with no entry: that of a hook
+-- an error that comes without an entry: that of a hook
 abbrev pub IsHooks : Error → Type 0
 IsHooks (Hook fault) = Unit {0}
 IsHooks (HookEnd place) = Unit {0}
 IsHooks error = ⊥
 
--- nothing was refused but memory, or by a hook, or the error is the fault of the last entry
+-- how a run ended: no entry has a fault, and the error is an allocation failure or a hook's, or the
+-- error is the fault of the last entry
 pub data Ended : List EntryView → Error → Type 0 where
   unasked : {added : List EntryView} {error : Error} → IsClean added → IsWantOfMemory error
       → Ended added error
@@ -161,7 +170,8 @@ pub data Ended : List EntryView → Error → Type 0 where
   refused : (front : List EntryView) (entry : EntryView) (fault : Fault) → IsClean front
       → fault_of entry ≡ Some fault → Ended (front ++ entry ∷ []) (System fault)
 
--- a request was refused: the trace answers a front of what was asked, and the ledger is even with what is held
+-- a run stopped with an error: the trace matches a prefix of the items, and the books of the run
+-- agree with what is held
 pub record Stopped {E H : Type 0} (allows : Allows H) (number_of : E → ℕ) (course : Course)
     (items : List (Item E H)) (now : JournalView) (held : Holdings) (error : Error) : Type 0 where
   pub added : List EntryView
@@ -171,7 +181,7 @@ pub record Stopped {E H : Type 0} (allows : Allows H) (number_of : E → ℕ) (c
       → AnswersUnder course allows number_of (added ++ more) 0 items (trace added)
   pub ended : Ended added error
 
--- an action goes on from wherever a run stands
+-- an action succeeds, from any state of a run in which it is ready
 abbrev pub Goes : {E H : Type 0} → Allows H → (E → ℕ) → Action E H → JournalView → JournalView
     → Holdings → Holdings → Type 0
 Goes {E} {H} allows number_of action now then held kept =
@@ -180,7 +190,7 @@ Goes {E} {H} allows number_of action now then held kept =
     → Stands allows number_of course state now held
     → Stands allows number_of course (advance state action) then kept
 
--- an action stops with an error wherever a run stands
+-- an action fails with this error, from any state of a run in which it is ready
 abbrev pub Quits : {E H : Type 0} → Allows H → (E → ℕ) → Action E H → JournalView → JournalView
     → Holdings → Holdings → Error → Type 0
 Quits {E} {H} allows number_of action now then held kept error =
@@ -189,14 +199,14 @@ Quits {E} {H} allows number_of action now then held kept error =
     → Stands allows number_of course state now held
     → Stopped allows number_of course (advance state action).plan.items then kept error
 
--- what an action needs beside what it pops
+-- what an action needs of what is held, besides the ends that it pops
 abbrev pub CanDo : {E H : Type 0} → Action E H → Holdings → Type 0
 CanDo (action.duplicate depth) held = depth < length held.stack
 CanDo (action.tap side.Out) held = IsSome held.out
 CanDo (action.tap side.Err) held = IsSome held.err
 CanDo act held = Unit {0}
 
--- a run stands before these actions, which lead to its goal
+-- a run that has succeeded so far is about to perform these actions, which lead to its goal
 pub record Stood {E H : Type 0} (allows : Allows H) (number_of : E → ℕ) (course : Course)
     (goal : State E H) (actions : List (Action E H)) (now : JournalView) (held : Holdings)
     : Type 0 where

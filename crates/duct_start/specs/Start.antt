@@ -1,4 +1,4 @@
--- What a start promises of the journal.
+-- What a start guarantees about the journal.
 use Rattle.std.specs.Prelude.{ℕ, ◌+◌, ◌*◌, ◌<◌, ◌≤◌, max, List, [], ◌∷◌, ◌++◌, ◌≡◌, length, map, take, All, Some}
 use Rattle.std.specs.declared.option.Option.{Option}
 use Rattle.duct_system.specs.Journal.{JournalView}
@@ -14,32 +14,33 @@ use Rattle.duct_start.specs.Plan.{Plan}
 use Rattle.duct_start.specs.Row.{Obtains, Row, Says, Way, opens_nothing, opens_input, opens_read, opens_create, opens_capture, to_lent, says_hook, row}
 use Rattle.duct_start.specs.TreeView.{ModifierView, TreeView, command, pipe, around}
 
--- the ends of the caller that a way leads to
+-- the caller's ends that a way leads to
 abbrev pub way_ends : {E : Type 0} → Way E → List E
 way_ends (to_lent end) = end ∷ []
 way_ends _ = []
 
--- and those that stand beside a hook
+-- the caller's ends that a node's hook has
 abbrev pub said_ends : {E H : Type 0} → Option (Says E H) → List E
 said_ends (Some (says_hook hook ends)) = ends
 said_ends _ = []
 
--- the ends of the caller that a node of this row holds
+-- the caller's ends that a node of this row holds
 abbrev pub row_ends : {E H : Type 0} → Row E H → List E
 row_ends row =
     way_ends row.input ++ (way_ends row.output ++ (way_ends row.error ++ said_ends row.says))
 
--- the ends of the caller that a node holds
+-- the caller's ends that a node holds
 abbrev pub modifier_ends : {E H : Type 0} → ModifierView E H → List E
 modifier_ends modifier = row_ends (row modifier)
 
--- the ends of the caller that a tree holds
+-- the caller's ends that a tree holds
 abbrev pub ends_in : {E H : Type 0} → TreeView E H → List E
 ends_in (command words) = []
 ends_in (pipe left right) = ends_in left ++ ends_in right
 ends_in (around modifier inner) = modifier_ends modifier ++ ends_in inner
 
--- the caller's ends came from this system before the start: their numbers are below the one that is given next
+-- the caller's ends came from this system before the start: their numbers are below the next one
+-- that it gives
 abbrev pub AreEarlier : {E H : Type 0} → (E → ℕ) → JournalView → TreeView E H → Type 0
 AreEarlier number_of old tree = All (λ end. number_of end < old.next) (ends_in tree)
 
@@ -48,11 +49,11 @@ abbrev pub least_above : {E : Type 0} → (E → ℕ) → List E → ℕ
 least_above number_of [] = 0
 least_above number_of (end ∷ ends) = max (number_of end + 1) (least_above number_of ends)
 
--- the least number above the numbers of all ends of the caller that a tree holds
+-- the least number above the numbers of all caller's ends that a tree holds
 abbrev pub ceiling : {E H : Type 0} → (E → ℕ) → TreeView E H → ℕ
 ceiling number_of tree = least_above number_of (ends_in tree)
 
--- how many ends stay open for what is opened
+-- what a node adds to the depth of a tree by what it opens: 1 for an input or a path
 abbrev pub opens_depth : Obtains → ℕ
 opens_depth opens_nothing = 0
 opens_depth (opens_input bytes) = 1
@@ -60,40 +61,42 @@ opens_depth (opens_read path) = 1
 opens_depth (opens_create path) = 1
 opens_depth (opens_capture which) = 0
 
--- how many ends a way lends
+-- what a way adds to the depth of a tree: 1 for a caller's end
 abbrev pub way_depth : {E : Type 0} → Way E → ℕ
 way_depth (to_lent end) = 1
 way_depth _ = 0
 
--- how many ends a node adds to those that may be open while a command inside of it starts
+-- what a node adds to the depth of a tree
 abbrev pub modifier_depth : {E H : Type 0} → ModifierView E H → ℕ
 modifier_depth modifier =
     let r = row modifier in
     opens_depth r.opens + (way_depth r.input + (way_depth r.output + way_depth r.error))
 
--- the most pipes, inputs, paths and files on one command's way
+-- the greatest number of pipes, inputs, paths and files around one command
 abbrev pub depth : {E H : Type 0} → TreeView E H → ℕ
 depth (command words) = 0
 depth (pipe left right) = max (depth left) (depth right) + 1
 depth (around modifier inner) = modifier_depth modifier + depth inner
 
--- after every entry at most twice that and 12 ends are held
+-- after every entry, at most twice the depth of the tree plus 12 ends are held
 abbrev pub HoldsFew : {E H : Type 0} → TreeView E H → List EntryView → Type 0
 HoldsFew tree added = (count : ℕ) → held (take count added) ≤ 2 * depth tree + 12
 
--- the old journal is the front of the new one, nothing was cleared away in between, and neither numbers nor room have fallen
+-- the old journal is a prefix of the new one, no entry was cleared in between, and neither the next
+-- number nor the room has decreased
 pub record Grows (old new : JournalView) : Type 0 where
   pub front : new.entries ≡ old.entries ++ segment old.entries new.entries
   pub counted : new.added ≡ old.added + length (segment old.entries new.entries)
   pub next_grows : old.next ≤ new.next
   pub room_grows : old.room ≤ new.room
 
--- each number that these entries got was given after all that came before this journal's next one
+-- no number that these entries got is below the next number of the old journal
 abbrev pub GotNew : JournalView → List EntryView → Type 0
 GotNew old added = (number : ℕ) → number < old.next → count_of number (got added) ≡ 0
 
--- a start that succeeds: the journal has grown, by entries none of which was refused, as many of each kind as the plan asks and in its
--- order, which follow the whole plan; each end got was spent
+-- a start that succeeds: the journal has grown by entries without a fault, which make all requests
+-- of the plan in order, and which follow the whole plan if the caller's ends came before the start;
+-- each end that was got was spent
 pub record StartSucceeds {E H : Type 0} (allows : Allows H) (number_of : E → ℕ)
     (tree : TreeView E H) (plan : Plan E H) (old new : JournalView) : Type 0 where
   pub grows : Grows old new
@@ -107,8 +110,9 @@ pub record StartSucceeds {E H : Type 0} (allows : Allows H) (number_of : E → �
   pub got_new : GotNew old (segment old.entries new.entries)
   pub few : HoldsFew tree (segment old.entries new.entries)
 
--- a start that is refused: the journal has grown, by what follows the plan up to the refusal, where the error has its cause, and after a
--- fault by closes alone; each end got was spent
+-- a start that fails: the journal has grown by entries that make the requests of a prefix of the
+-- plan, and that follow the plan if the caller's ends came before the start; after a fault there
+-- are only closes, the error has a cause, and each end that was got was spent
 pub record StartRefused {E H : Type 0} (allows : Allows H) (refuses : Refuses H) (number_of : E → ℕ)
     (tree : TreeView E H) (plan : Plan E H)
     (old new : JournalView) (error : Error) : Type 0 where

@@ -1,4 +1,5 @@
--- What one node of a tree does: what it asks, how it turns streams, and what it says of folder, variables and hooks.
+-- What one node of a tree does: the requests that it makes, how it redirects streams, and what it
+-- sets of folder, variables and hooks.
 use Rattle.std.specs.Prelude.{ℕ, List, [], ◌∷◌, Some, None}
 use Rattle.std.specs.declared.option.Option.{Option}
 use Rattle.duct_system.specs.declared.spec.Stream.{Stream}
@@ -8,8 +9,9 @@ use Rattle.duct_start.specs.Found.{Found, Target, Nothing, ReaderAt, WriterAt, F
 use Rattle.duct_start.specs.Row.{Obtains, Row, Says, Way, opens_nothing, opens_input, opens_read, opens_create, opens_capture, as_outside, to_nothing, to_lent, to_opened, says_folder, says_change, says_hook, row, way_of}
 use Rattle.duct_start.specs.TreeView.{ModifierView}
 
--- one request: a canonical name is asked for a program, a spawn for what its command finds outwards and its words; a worker and
--- the reader get an end of the pipe that the item at this place got
+-- one request of a plan. The request for a canonical path holds the program; a spawn holds what its
+-- command finds, and the command's words. A worker and the reader get an end of the pipe that the
+-- item at this place opened
 pub data Item (E H : Type 0) : Type 0 where
   AskEnvironment : Item E H
   AskPipe : Item E H
@@ -21,19 +23,22 @@ pub data Item (E H : Type 0) : Type 0 where
   AskDrain : ℕ → Item E H
   AskReader : ℕ → Item E H
 
--- what a node asks before what it wraps: nothing, an item of its own, or the one capture pipe of stdout or of stderr
+-- what a node requests before its inner expression: nothing, an item of its own, or the one capture
+-- pipe of stdout or of stderr
 pub data Opening (E H : Type 0) : Type 0 where
   OpensNothing : Opening E H
   Opens : Item E H → Opening E H
   CapturesOut : Opening E H
   CapturesErr : Opening E H
 
--- what a node says of a stream: where it goes, or which stream is to be looked for further out
+-- what a node does to a stream: it decides where the stream goes, or tells which stream to look up
+-- further out
 pub data Turn (E : Type 0) : Type 0 where
   Decides : Target E → Turn E
   Follows : Stream → Turn E
 
--- what a node does; its place is that of the item that it asks or, of a capture, of its stream's one pipe
+-- what a node does; its place is that of the item that it adds or, for a capture, that of its
+-- stream's one capture pipe
 pub record Step (E H : Type 0) : Type 0 where
   pub opening : Opening E H
   pub closing : ℕ → List (Item E H)
@@ -42,13 +47,13 @@ pub record Step (E H : Type 0) : Type 0 where
   pub changes : List Change
   pub hooks : List (H × List E)
 
--- a node that decides or turns stdin, and leaves the others
+-- the turns of a node that redirects stdin and leaves the other streams as they are
 abbrev pub at_stdin : {E : Type 0} → Turn E → Stream → Turn E
 at_stdin turn In = turn
 at_stdin turn Out = Follows Out
 at_stdin turn Err = Follows Err
 
--- that of stdout alone
+-- the same for stdout
 abbrev pub at_stdout : {E : Type 0} → Turn E → Stream → Turn E
 at_stdout turn In = Follows In
 at_stdout turn Out = turn
@@ -65,14 +70,14 @@ idle = record {
   hooks = [];
 }
 
--- a pipe, met from its left side and from its right side
+-- what a pipe does to its left side, and to its right side
 abbrev pub left_step : {E H : Type 0} → Step E H
 left_step = record idle { turn = λ place. at_stdout (Decides (WriterAt place)) }
 
 abbrev pub right_step : {E H : Type 0} → Step E H
 right_step = record idle { turn = λ place. at_stdin (Decides (ReaderAt place)) }
 
--- what it asks for what it opens
+-- the request that a node makes for what it opens
 abbrev pub opening_of : {E H : Type 0} → Obtains → Opening E H
 opening_of opens_nothing = OpensNothing
 opening_of (opens_input bytes) = Opens AskPipe
@@ -81,12 +86,12 @@ opening_of (opens_create path) = Opens (AskCreate path)
 opening_of (opens_capture side.Out) = CapturesOut
 opening_of (opens_capture side.Err) = CapturesErr
 
--- and afterwards
+-- the requests that it makes for that after its inner expression
 abbrev pub closing_of : {E H : Type 0} → Obtains → ℕ → List (Item E H)
 closing_of (opens_input bytes) place = AskFeed place bytes ∷ []
 closing_of _ place = []
 
--- the end that what it opens at this place gives
+-- the target that a node has by what it opens at this place
 abbrev pub end_of : {E : Type 0} → Obtains → ℕ → Target E
 end_of opens_nothing place = Nothing
 end_of (opens_input bytes) place = ReaderAt place
@@ -94,14 +99,14 @@ end_of (opens_read path) place = FileAt place
 end_of (opens_create path) place = FileAt place
 end_of (opens_capture which) place = WriterAt place
 
--- what it says of a stream that goes this way
+-- what a node does to a stream that goes this way
 abbrev pub turn_of : {E : Type 0} → Obtains → ℕ → Way E → Turn E
 turn_of opens place (as_outside stream) = Follows stream
 turn_of opens place to_nothing = Decides Nothing
 turn_of opens place (to_lent end) = Decides (Lends end)
 turn_of opens place to_opened = Decides (end_of opens place)
 
--- what it says of folder, variables and hooks
+-- what a node does that sets only this
 abbrev pub said : {E H : Type 0} → Says E H → Step E H
 said (says_folder path) = record idle { folder = Some path }
 said (says_change change) = record idle { changes = change ∷ [] }
@@ -119,6 +124,6 @@ step_of_row row = record (said_if row.says) {
   turn = λ place stream. turn_of row.opens place (way_of row stream);
 }
 
--- each kind of node round one expression
+-- what each kind of modifier does
 abbrev pub step : {E H : Type 0} → ModifierView E H → Step E H
 step modifier = step_of_row (row modifier)

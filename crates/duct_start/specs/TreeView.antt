@@ -1,8 +1,9 @@
--- An expression as contracts see it: a tree without pointers, with one constructor for each kind of node.
+-- An expression as contracts see it: a tree without pointers, with one constructor for each kind of
+-- node.
 use Rattle.std.specs.Prelude.{ℕ, List}
 use Rattle.duct_system.specs.SpecView.{Vars}
 
--- what a node asks of the one expression that it stands round; texts as their bytes
+-- a modifier, which is what a node changes for its one inner expression; texts are lists of bytes
 pub data ModifierView (E H : Type 0) : Type 0 where
   stdin_bytes : List ℕ → ModifierView E H
   stdin_path : List ℕ → ModifierView E H
@@ -26,7 +27,8 @@ pub data ModifierView (E H : Type 0) : Type 0 where
   unchecked : ModifierView E H
   before_spawn : H → List E → ModifierView E H
 
--- a command with its words, a pipe from the left to the right, or a modifier round an expression; ends are of type E, hooks of H
+-- a command with its words, a pipe from the left to the right, or a modifier around an expression;
+-- ends are of type E, hooks of H
 pub data TreeView (E H : Type 0) : Type 0 where
   command : List (List ℕ) → TreeView E H
   pipe : TreeView E H → TreeView E H → TreeView E H

@@ -1,2 +1,3 @@
-//! What a start asks of the system, holds and leaves: the definitions that the contracts of a start cite.
+//! The definitions that the contracts of a start cite: the requests that a start makes, what it
+//! holds, and what it leaves.
 #![tactic(auto)]

@@ -1,4 +1,4 @@
--- Lists of one word repeated: joined, and as the latest words before anything was told.
+-- Lists that repeat one report: joined, and as the latest reports before the first event.
 use Rattle.std.proofs.Common.{◌≡◌, ℕ, zero, suc, ◌+◌, List, [], ◌∷◌, ◌++◌, map, replicate, refl, ap, ◌∙◌, arith, zero-add, append_assoc, cond, Some, None}
 use Rattle.std.specs.List.{range_with_len}
 use Rattle.std.specs.declared.option.Option.{Option}
@@ -20,13 +20,13 @@ pub more : {T : Type 0} (xs ys zs : List T) (a b : ℕ) (x : T) → ys ≡ xs ++
     → zs ≡ ys ++ replicate b x → zs ≡ xs ++ replicate (a + b) x
 more xs ys zs a b x e f = rw (f, e, replicate_more a b x) (append_assoc xs (replicate a x) (replicate b x))
 
--- the same word at each number
+-- the same report at each number
 pub replicate_map : {T : Type 0} (a n : ℕ) (x : T)
     → replicate n x ≡ map (λ k. x) (range_with_len a n)
 replicate_map a zero x = refl
 replicate_map a (suc n) x = ap (λ xs. x ∷ xs) (replicate_map (a + 1) n x)
 
--- the latest words before anything was told
+-- the latest reports before the first event
 pub first_words : (t : ShapeView) (drains : Drains) (commands : List Word)
     (inputs : List (Said (Unit {0}))) (output error : Option (Said (List ℕ)))
     → commands ≡ [] ++ replicate (command_count t) word.Running

@@ -1,4 +1,4 @@
--- A list with its k-th item changed: by a write at that index, and past the end.
+-- A list with its k-th item changed: a write at that index, or no change if k is past the end.
 use Rattle.std.proofs.Common.{◌≡◌, ℕ, zero, suc, ◌<◌, ◌≤◌, List, [], ◌∷◌, length, get_or, set, refl, ap, ◌∙◌, arith}
 use Rattle.duct_status.specs.Latest.{change_at}
 

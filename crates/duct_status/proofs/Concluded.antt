@@ -1,4 +1,5 @@
--- What fits the words is their outcome, and an answer fits where it was made of the outcome's bytes for the chosen command.
+-- A reply that fits the reports is that of their outcome: a reply for the chosen command is one for
+-- the winning command.
 use Rattle.std.proofs.Common.{◌≡◌, true, refl, sym, subst}
 use Rattle.duct_status.specs.declared.status.Reply.{Reply}
 use Rattle.duct_status.specs.declared.status.Reply.TheVariants as reply
@@ -11,14 +12,14 @@ use Rattle.duct_status.specs.ReplyView.{ReplyView, reply_view, no_memory}
 use Rattle.duct_status.specs.Latest.{Latest}
 use Rattle.duct_status.proofs.Order.{chosen_wins}
 
--- with a finished outcome the reply for the chosen command is one for the winner
+-- if all have ended, a reply for the chosen command is one for the winning command
 for_outcome : (v : OutcomeView) (t : Endings) (r : ReplyView) → is_finished v ≡ true
     → AnswersFor t (chosen t) (output_of v) (error_of v) r → AnswersOutcome v t r
 for_outcome (finished output error) t r over h = (chosen t, chosen_wins t, h)
 for_outcome waits t r over h = absurd (cc)
 for_outcome (faults fault) t r over h = absurd (cc)
 
--- what fits the words is their outcome
+-- a reply that fits the reports is that of their outcome
 pub fits_concludes : (shape : ShapeView) (words : Latest) (made : Reply) → Fits shape words made
     → Concludes shape words (reply_view made)
 fits_concludes shape words reply.Pending fits = let P : OutcomeView → Type 0 = λ v. AnswersOutcome v (endings_of shape 0 words.commands) (reply_view reply.Pending) in subst P (sym fits) refl

@@ -1,4 +1,5 @@
--- The latest words after one more event, read off the longer list, are the words before changed by that event.
+-- The latest reports of a list with one more event are the latest reports before, changed by that
+-- event.
 use Rattle.std.proofs.Common.{◌≡◌, ℕ, zero, suc, ◌+◌, ◌<◌, ◌==◌, Bool, true, false, cond, List, [], ◌∷◌, ◌++◌, map, refl, ap, sym, ◌∙◌, arith, Some, None}
 use Rattle.std.proofs.lemmas.Bool.Decides.{nat_tests}
 use Rattle.std.proofs.lemmas.List.{append-nil}
@@ -49,7 +50,7 @@ of_drain_append stream (conclude ∷ es) fs = of_drain_append stream es fs
 abbrev latest_by : Word → List Word → Word
 latest_by none words = ended_or (first_ending words) (last_or none words)
 
--- one more word of a command
+-- one more report of a command
 word_push : (none : Word) (words : List Word) (x : Word) → word_after none x ≡ x
     → latest_by none (words ++ x ∷ []) ≡ word_after (latest_by none words) x
 word_push none [] (word.Ended status) free = sym free
@@ -59,7 +60,7 @@ word_push none (word.Ended status ∷ words) x free = refl
 word_push none (word.Running ∷ words) x free = word_push word.Running words x refl
 word_push none (word.Fault fault ∷ words) x free = word_push (word.Fault fault) words x refl
 
--- one more word of a worker
+-- one more report of a worker
 result_push : {T : Type 0} (words : List (Said T)) (x : Said T)
     → first_result (words ++ x ∷ []) ≡ kept_after (first_result words) x
 result_push [] said.Running = refl
@@ -69,7 +70,7 @@ result_push (said.Running ∷ words) x = result_push words x
 result_push (said.Done value ∷ words) x = refl
 result_push (said.Fault fault ∷ words) x = refl
 
--- an event that tells nothing of it leaves the list of words as it was
+-- an event about something else leaves the list of reports as it was
 none_pushed : {T : Type 0} (xs ys zs : List T) → zs ≡ xs ++ ys → ys ≡ [] → zs ≡ xs
 none_pushed xs ys zs e f = e ∙ ap (λ l. xs ++ l) f ∙ append-nil xs
 
@@ -166,7 +167,7 @@ drain_changed : (there : Bool) (stream : Side) (es : List EventView) (e : EventV
     ≡ cond there (Some (latest_of_drain stream (es ++ e ∷ []))) None
 drain_changed there stream es e x one = when_told there (λ old. kept_after old x) (latest_of_drain stream es) (latest_of_drain stream (es ++ e ∷ [])) (drain_told stream es e x one)
 
--- the latest words after one more event
+-- the latest reports after one more event
 pub words_more : (t : ShapeView) (drains : Drains) (es : List EventView) (e : EventView)
     → latest_after (latest_told t drains es) e ≡ latest_told t drains (es ++ e ∷ [])
 words_more t drains es (from_command j x) =

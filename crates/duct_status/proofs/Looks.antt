@@ -1,4 +1,4 @@
--- The first fault, and whether something runs, of two lists of words one after the other, and at an index.
+-- The first fault in two lists of reports, one after the other, and whether something runs.
 use Rattle.std.proofs.Common.{◌≡◌, ◌||◌, List, [], ◌∷◌, ◌++◌, refl}
 use Rattle.std.specs.Option.{option_or}
 use Rattle.duct_system.specs.declared.system.Said.{Said}

@@ -1,4 +1,4 @@
--- What the standard forms print of a failure is its message.
+-- What std's forms print of a failure is its message.
 use Rattle.std.specs.Prelude.{◌≡◌, ℕ, List, ◌++◌, codes, IfSome, Option, Some}
 use Rattle.std.specs.Fmt.{◌++?◌}
 use Rattle.std.proofs.Common.{subst, sym, ◌∙◌, append_assoc}

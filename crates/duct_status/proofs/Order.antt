@@ -1,4 +1,5 @@
--- Beats is a strict total order, and the choice made pipe by pipe finds the one that beats each other one.
+-- `Beats` is a strict total order, and the choice made pipe by pipe finds the command that beats
+-- every other one.
 use Rattle.std.proofs.Common.{◌≡◌, ℕ, ◌<◌, ◌≤◌, ◌⊎◌, min, Bool, true, false, not, ◌&&◌, ◌||◌, cond, refl, inl, inr, arith, ap, subst, sym}
 use Rattle.duct_system.specs.Status.{is_success}
 use Rattle.duct_status.specs.Endings.{Endings, ending, pipe, unchecked, Way, is_checked}
@@ -6,7 +7,7 @@ use Rattle.duct_status.specs.Winner.{level, LeftBeats, RightBeats, Beats, IsWinn
 use Rattle.duct_status.specs.Choice.{is_failure, takes_right, chosen}
 use Rattle.duct_status.specs.Laws.{IsStrictTotalOrder, ExactlyOneWins, FailsWhereSomeFails, UncheckedKeeps}
 
--- the level of the one that beats is never the lower
+-- the level of the command that beats is never the lower one
 beats_level : (t : Endings) (v w : Way t) → Beats t v w → level t w ≤ level t v
 beats_level (ending texts status) v w b = absurd b
 beats_level (pipe l r) (inl v) (inl w) b = beats_level l v w b
@@ -134,7 +135,7 @@ wins_at_pipe l r hl hr true is (inl w) =
 wins_at_pipe l r hl hr false is (inr w) =
     inr (left_over (level r w) (level r (chosen r)) (level l (chosen l)) (not_higher r (chosen r) w (hr w)) (left_beats l r (chosen l) (chosen r) is))
 
--- the command that is chosen beats each other one
+-- the chosen command beats every other one
 pub chosen_wins : (t : Endings) → IsWinner t (chosen t)
 chosen_wins (ending texts status) w = inl refl
 chosen_wins (unchecked t) w = chosen_wins t w

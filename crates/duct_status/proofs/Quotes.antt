@@ -1,4 +1,4 @@
--- What the standard forms print of texts that are printable, and of lists of them.
+-- What std's debug forms print of printable texts, and of lists of them.
 use Rattle.std.specs.Prelude.{ℕ, List, [], ◌∷◌, ◌++◌, map, codes, Bool, true, ◌&&◌, nat_le, Some}
 use Rattle.std.specs.declared.option.Option.{Option}
 use Rattle.std.specs.List.{list_all, flat_map}
@@ -65,7 +65,7 @@ escapes-printable (c ∷ text) is =
     let rest = escapes-printable text both.1 in
     rw (here, rest) refl
 
--- a printable text prints in quotes
+-- a printable text is printed in quotes
 pub debug_str-printable : (text : List ℕ) → is_printable text ≡ true
     → debug_str text ≡ Some (quoted text)
 debug_str-printable text is =
@@ -89,7 +89,7 @@ items-after f g p at (x ∷ xs) is =
     let both = and_parts (p x) (list_all p xs) is in
     rw (at x both.0, items-after f g p at xs both.1) refl
 
--- elements that each print a text print as a list of these texts
+-- a list whose elements each print a text is printed as a list of these texts
 pub debug_list-listed : {X : Type 0} (f : X → Option (List ℕ)) (g : X → List ℕ) (p : X → Bool)
     → ((x : X) → p x ≡ true → f x ≡ Some (g x)) → (xs : List X) → list_all p xs ≡ true
     → debug_list f xs ≡ Some (codes "[" ++ listed (map g xs) ++ codes "]")
@@ -98,7 +98,7 @@ debug_list-listed f g p at (x ∷ xs) is =
     let both = and_parts (p x) (list_all p xs) is in
     rw (at x both.0, items-after f g p at xs both.1, listed-after (g x) (map g xs)) refl
 
--- printable texts print as a list of texts in quotes
+-- a list of printable texts is printed as a list of texts in quotes
 pub debug_list-printable : (texts : List (List ℕ)) → list_all is_printable texts ≡ true
     → debug_list debug_str texts ≡ Some (quoted_list texts)
 debug_list-printable texts is = debug_list-listed debug_str quoted is_printable debug_str-printable texts is

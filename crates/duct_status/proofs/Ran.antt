@@ -14,12 +14,12 @@ use Rattle.duct_status.specs.Standing.{standing_after, Again, Repeats, RepeatedB
 use Rattle.duct_status.specs.Latest.{Latest, latest_told, latest_after, is_known}
 use Rattle.duct_status.proofs.Latest.{words_more}
 
--- each answer among the replies is the one that stands
+-- each answer and each failure among the replies is the final reply
 abbrev pub AllStand : Option ReplyView → List ReplyView → Type 0
 AllStand standing [] = Unit {0}
 AllStand standing (reply ∷ replies) = ((standing_after None reply ≡ None) ⊎ (standing_after None reply ≡ standing)) × AllStand standing replies
 
--- what stands is an answer or a failure
+-- the final reply is an answer or a failure
 abbrev pub IsStanding : Option ReplyView → Type 0
 IsStanding standing = IfSome standing (λ answer. standing_after None answer ≡ Some answer)
 
@@ -88,7 +88,7 @@ repeated_push standing (d ∷ es) [] e r same stand all one = absurd (omega arit
 repeated_push standing (d ∷ es) (p ∷ rs) e r same stand all one =
     (by_push p es rs e r (omega arith) all.0 (one_repeats standing p e r stand.0 one), repeated_push standing es rs e r (omega arith) stand.1 all.1 one)
 
--- an answer that stands goes on to stand
+-- a reply that was final stays final after one more reply
 stands_on : (standing : Option ReplyView) (q r : ReplyView)
     → (standing_after None q ≡ None) ⊎ (standing_after None q ≡ standing)
     → (standing_after None q ≡ None) ⊎ (standing_after None q ≡ standing_after standing r)

@@ -1,4 +1,5 @@
--- Once all have ended, no further event changes a word, and so what fits the words goes on to fit them.
+-- Once all have ended, no further event changes a report, and so what fits the reports still fits
+-- them.
 use Rattle.std.proofs.Common.{◌≡◌, ℕ, zero, suc, ◌+◌, ◌<◌, ◌≤◌, ◌⊎◌, inl, inr, Bool, true, false, List, [], ◌∷◌, ◌++◌, length, refl, ap, sym, ◌∙◌, subst, arith, Some, None}
 use Rattle.std.specs.declared.option.Option.{Option}
 use Rattle.std.specs.declared.alloc.Global.{Global}
@@ -23,7 +24,7 @@ use Rattle.duct_status.specs.Outcome.{OutcomeView, command_said, input_said, in_
 use Rattle.duct_status.specs.Latest.{Latest, word_after, change_at, latest_after}
 use Rattle.duct_status.proofs.Changes.{changed_past}
 
--- no fault among the words, and none that runs
+-- no report is a fault, and none is Running
 abbrev AllDone : List (Said (Unit {0})) → Type 0
 AllDone words = (first_fault words ≡ None) × (some_runs words ≡ false)
 
@@ -50,7 +51,7 @@ input_done None done = absurd (let h = done.1 in cc)
 below_or_not : (a b : ℕ) → (a < b) ⊎ (b ≤ a)
 below_or_not a b = grind arith
 
--- a command of the tree has ended
+-- each command of the tree has ended
 commands_done : (t : ShapeView) (c i : ℕ) (words : List Word) (inputs : List (Said (Unit {0})))
     → AllDone (in_tree_order t c i words inputs) → (k : ℕ) → c ≤ k → k < c + command_count t
     → (status : ExitStatus) × (slice_get words k ≡ Some (word.Ended status))
@@ -68,7 +69,7 @@ commands_done (input t) c i words inputs done k low high =
     commands_done t c i words inputs (done_parts (in_tree_order t c i words inputs) (input_said (slice_get inputs (i + input_count t)) ∷ []) done).0 k low high
 commands_done (unchecked t) c i words inputs done k low high = commands_done t c i words inputs done k low high
 
--- an input worker of the tree is done
+-- each input worker of the tree is done
 inputs_done : (t : ShapeView) (c i : ℕ) (words : List Word) (inputs : List (Said (Unit {0})))
     → AllDone (in_tree_order t c i words inputs) → (k : ℕ) → i ≤ k → k < i + input_count t
     → slice_get inputs k ≡ Some (said.Done tt)
@@ -119,7 +120,7 @@ finished_next (Some said.Running) next over = absurd (cc)
 finished_next (Some (said.Fault fault)) next over = absurd (cc)
 finished_next (Some (said.Done bytes)) next over = (bytes, over)
 
--- a core's lists have a word for each command and each input worker
+-- a core's lists have a report for each command and each input worker
 pub record Fit (t : ShapeView) (words : Latest) : Type 0 where
   pub commands : length words.commands ≡ command_count t
   pub inputs : length words.inputs ≡ input_count t
@@ -146,7 +147,7 @@ inputs_same t words k heard fit done =
       | inr more ↦ changed_past (λ old. kept_after old heard) k words.inputs more
     ]
 
--- once all have ended, no further event changes a word
+-- once all have ended, no further event changes a report
 pub settled : (t : ShapeView) (words : Latest) (event : EventView) → Fit t words
     → is_finished (outcome t words) ≡ true → latest_after words event ≡ words
 settled t words conclude fit over = refl
@@ -168,7 +169,7 @@ settled t words (from_drain side.Err heard) fit over =
     let next = finished_next words.output (λ out. with_bytes (captured words.error) (λ err. finished out err)) all.2 in
     ap (λ (x : Option (Said (List ℕ))). record words { error = x }) (drain_same words.error heard (λ err. finished next.0 err) next.1)
 
--- an answer that fits goes on to fit
+-- an answer that fits still fits after an event
 pub answer_stays : (t : ShapeView) (words now : Latest) (event : EventView)
     (answer : Option (Arc Output Global)) → now ≡ latest_after words event → Fit t words
     → ForSome answer (λ a. FitsAnswer t words (arc_value a))
@@ -178,7 +179,7 @@ answer_stays t words now event answer e fit fits a is =
     let old = fits a is in
     subst P (sym (settled t words event fit old.ended) ∙ sym e) old
 
--- a message that fits goes on to fit
+-- a message that fits still fits after an event
 pub message_stays : (t : ShapeView) (words now : Latest) (event : EventView)
     (text : Option (Arc (String Global) Global)) → now ≡ latest_after words event → Fit t words
     → ForSome text (λ a. FitsMessage t words (arc_value a))

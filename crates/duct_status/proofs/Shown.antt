@@ -1,4 +1,4 @@
--- The debug form of a list whose items are shown by what they stand for.
+-- The debug form of a list whose items are printed as what they are mapped to.
 use Rattle.std.specs.Prelude.{ℕ, List, [], ◌∷◌, map, Option, Some}
 use Rattle.std.specs.Fmt.{debug_items, debug_list, comma_space, ◌++?◌}
 use Rattle.std.proofs.Common.{◌≡◌, ap, refl}

@@ -1,4 +1,4 @@
--- What a core keeps goes on to fit its words after an event.
+-- The final reply that a core stores still fits its reports after an event.
 use Rattle.std.proofs.Common.{◌≡◌, arith}
 use Rattle.std.specs.Arc.{arc_value}
 use Rattle.std.specs.Option.{ForSome}

@@ -1,4 +1,4 @@
--- What a shape and a core hold says the same to every thread, so that what has them may go to another, and be shared with it.
+-- A field of type `Shape` is Send and Sync, and a field of type `Core` is Send.
 use denote.Param.Send.{IsSend, IsSync, sendable}
 use Rattle.std.proofs.Crossing.{crosses, Box-send, Box-sync}
 use Rattle.duct_status.specs.contracts.status.Shape

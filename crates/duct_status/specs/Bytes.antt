@@ -7,7 +7,7 @@ use Rattle.duct_status.specs.declared.status.outcome.Outcome.{Outcome as Found}
 use Rattle.duct_status.specs.declared.status.outcome.Outcome.TheVariants as found
 use Rattle.duct_status.specs.Outcome.{OutcomeView, waits, faults, finished}
 
--- what a worker said, with the bytes that it lent
+-- what a worker reported, with the borrowed bytes themselves
 abbrev pub lent_bytes : Said (Bor (List ℕ)) → Said (List ℕ)
 lent_bytes said.Running = said.Running
 lent_bytes (said.Done bytes) = said.Done bytes.now

@@ -1,4 +1,4 @@
--- What contracts see of a core: its shape, the latest words, and the answer that stands.
+-- What contracts see of a core: its shape, the latest reports, and the final reply.
 use Rattle.std.specs.declared.option.Option.{Option}
 use Rattle.duct_status.specs.declared.status.Core.{Core}
 use Rattle.duct_status.specs.Fits.{latest_of, standing_of}
@@ -6,14 +6,14 @@ use Rattle.duct_status.specs.ShapeView.{ShapeView, shape_view}
 use Rattle.duct_status.specs.ReplyView.{ReplyView}
 use Rattle.duct_status.specs.Latest.{Latest}
 
--- the shape
+-- the shape of a core
 abbrev pub shape_in : Core → ShapeView
 shape_in core = shape_view core.shape
 
--- the latest words
+-- the latest reports in a core
 abbrev pub latest_in : Core → Latest
 latest_in core = latest_of core.commands.items core.inputs.items core.output core.error
 
--- the answer or the failure that stands, once there is one
+-- the final reply of a core, once there is one: an answer or a failure
 abbrev pub standing_in : Core → Option ReplyView
 standing_in core = standing_of core.answer core.failure

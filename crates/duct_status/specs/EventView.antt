@@ -1,4 +1,5 @@
--- An event as contracts see it: what a command or a worker said, captured bytes as a list, or the question how it ended.
+-- An event as contracts see it: a report of a command or a worker, with captured bytes as a list,
+-- or the question how the expression has ended.
 use Rattle.std.specs.Prelude.{ℕ, List}
 use Rattle.std.specs.declared.alloc.Global.{Global}
 use Rattle.std.specs.declared.sync.Arc.{Arc}
@@ -11,14 +12,15 @@ use Rattle.duct_status.specs.declared.status.Word.{Word}
 use Rattle.duct_status.specs.declared.status.Event.{Event}
 use Rattle.duct_status.specs.declared.status.Event.TheVariants as event
 
--- a word of a command or an input worker by its number, of a capture worker by its stream, or the question
+-- a report of a command or an input worker, by its number, of a capture worker, by its stream, or
+-- the question
 pub data EventView : Type 0 where
   from_command : ℕ → Word → EventView
   from_input : ℕ → Said (Unit {0}) → EventView
   from_drain : Side → Said (List ℕ) → EventView
   conclude : EventView
 
--- what a capture worker said, with the bytes themselves
+-- what a capture worker reported, with the bytes themselves
 abbrev pub bytes_said : Said (Arc (Vec ℕ Global) Global) → Said (List ℕ)
 bytes_said said.Running = said.Running
 bytes_said (said.Done bytes) = said.Done (arc_value bytes).items

@@ -1,4 +1,4 @@
--- What the core keeps: its words, and an answer or a message that fits them.
+-- What the core stores: its reports, and an answer or a message that fits them.
 use Rattle.std.specs.Prelude.{◌≡◌, ℕ, Bool, true, false, List, [], Some, None, string_bytes}
 use Rattle.std.specs.Option.{option_map}
 use Rattle.std.specs.Arc.{arc_value}
@@ -21,7 +21,7 @@ use Rattle.duct_status.specs.ReplyView.{ReplyView, reply_view}
 use Rattle.duct_status.specs.Outcome.{OutcomeView, waits, faults, finished, outcome}
 use Rattle.duct_status.specs.Latest.{Latest}
 
--- the words of these fields
+-- the latest reports in these fields
 abbrev pub latest_of : List Word → List (Said (Unit {0}))
     → Option (Said (Arc (Vec ℕ Global) Global)) → Option (Said (Arc (Vec ℕ Global) Global)) → Latest
 latest_of commands inputs output error = record {
@@ -31,25 +31,26 @@ latest_of commands inputs output error = record {
   error = option_map bytes_said error;
 }
 
--- whether all have ended
+-- whether the outcome says that all have ended
 abbrev pub is_finished : OutcomeView → Bool
 is_finished (finished output error) = true
 is_finished waits = false
 is_finished (faults fault) = false
 
--- stdout's bytes of an outcome
+-- the bytes of stdout in an outcome
 abbrev pub output_of : OutcomeView → List ℕ
 output_of (finished output error) = output
 output_of waits = []
 output_of (faults fault) = []
 
--- stderr's bytes of an outcome
+-- the bytes of stderr in an outcome
 abbrev pub error_of : OutcomeView → List ℕ
 error_of (finished output error) = error
 error_of waits = []
 error_of (faults fault) = []
 
--- all have ended, the command that is chosen is no checked failure, and the output has its status and the captured bytes
+-- all have ended, the chosen command is no checked failure, and the output has its exit status and
+-- the captured bytes
 pub record FitsAnswer (shape : ShapeView) (words : Latest) (output : Output) : Type 0 where
   pub ended : is_finished (outcome shape words) ≡ true
   pub stdout : output.stdout.items ≡ output_of (outcome shape words)
@@ -59,7 +60,7 @@ pub record FitsAnswer (shape : ShapeView) (words : Latest) (output : Output) : T
   pub status : output.status
       ≡ status_at (endings_of shape 0 words.commands) (chosen (endings_of shape 0 words.commands))
 
--- all have ended, the command that is chosen is a checked failure, and the text is its message
+-- all have ended, the chosen command is a checked failure, and the text is its message
 pub record FitsMessage (shape : ShapeView) (words : Latest) (said : String Global) : Type 0 where
   pub ended : is_finished (outcome shape words) ≡ true
   pub checked : is_checked_failure (endings_of shape 0 words.commands)
@@ -69,7 +70,8 @@ pub record FitsMessage (shape : ShapeView) (words : Latest) (said : String Globa
       (status_at (endings_of shape 0 words.commands) (chosen (endings_of shape 0 words.commands)))
       (string_bytes said)
 
--- the reply was made for these words: the outcome's, and for a finished one the answer, the message, or want of memory
+-- the reply was made for these reports: it is that of their outcome, and once all have ended the
+-- answer, the message, or `Memory`
 abbrev pub Fits : ShapeView → Latest → Reply → Type 0
 Fits shape words reply.Pending = outcome shape words ≡ waits
 Fits shape words (reply.Fault fault) = outcome shape words ≡ faults fault
@@ -79,7 +81,7 @@ Fits shape words reply.Memory = is_finished (outcome shape words) ≡ true
 Fits shape words reply.Noted = ⊥
 Fits shape words reply.Unknown = ⊥
 
--- the answer that stands
+-- the final reply in these fields
 abbrev pub standing_of : Option (Arc Output Global) → Option (Arc (String Global) Global)
     → Option ReplyView
 standing_of (Some output) failure = Some (reply_view (reply.Answer output))

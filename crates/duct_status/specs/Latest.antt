@@ -1,4 +1,5 @@
--- The latest words of all commands and workers of a shape: read off the whole list of what was told, and told on by one more.
+-- The latest reports of all commands and workers of a shape: taken from the whole list of events,
+-- and updated by one more event.
 use Rattle.std.specs.Prelude.{ℕ, Bool, true, false, ◌==◌, if◌then◌else◌, List, [], ◌∷◌, Some, None, zero, suc, nat_lt, is_some, map, slice_get}
 use Rattle.std.specs.declared.option.Option.{Option}
 use Rattle.duct_system.specs.declared.system.ExitStatus.{ExitStatus}
@@ -16,7 +17,7 @@ use Rattle.duct_status.specs.declared.status.Drains.{Drains}
 use Rattle.duct_status.specs.ShapeView.{ShapeView, command_count, input_count}
 use Rattle.duct_system.specs.Job.{kept_after}
 
--- the words that were told of command k, the oldest first
+-- the reports of command k, oldest first
 abbrev pub words_of_command : ℕ → List EventView → List Word
 words_of_command k [] = []
 words_of_command k (from_command j word ∷ told) =
@@ -25,7 +26,7 @@ words_of_command k (from_input i heard ∷ told) = words_of_command k told
 words_of_command k (from_drain side heard ∷ told) = words_of_command k told
 words_of_command k (conclude ∷ told) = words_of_command k told
 
--- the words that were told of input worker k, the oldest first
+-- the reports of input worker k, oldest first
 abbrev pub words_of_input : ℕ → List EventView → List (Said (Unit {0}))
 words_of_input k [] = []
 words_of_input k (from_command j word ∷ told) = words_of_input k told
@@ -41,7 +42,7 @@ is_same_side side.Err side.Err = true
 is_same_side side.Out side.Err = false
 is_same_side side.Err side.Out = false
 
--- the words that were told of the capture worker of a stream, the oldest first
+-- the reports of the capture worker of a stream, oldest first
 abbrev pub words_of_drain : Side → List EventView → List (Said (List ℕ))
 words_of_drain stream [] = []
 words_of_drain stream (from_command j word ∷ told) = words_of_drain stream told
@@ -51,52 +52,53 @@ words_of_drain stream (from_drain other heard ∷ told) =
     else words_of_drain stream told
 words_of_drain stream (conclude ∷ told) = words_of_drain stream told
 
--- the first ending among the words
+-- the first exit status among these reports
 abbrev pub first_ending : List Word → Option ExitStatus
 first_ending [] = None
 first_ending (word.Ended status ∷ words) = Some status
 first_ending (word.Running ∷ words) = first_ending words
 first_ending (word.Fault fault ∷ words) = first_ending words
 
--- the last of the words, and this one where there is none
+-- the last of these reports, or this one if there is none
 abbrev pub last_or : Word → List Word → Word
 last_or none [] = none
 last_or none (word ∷ words) = last_or word words
 
--- an ending, and else this word
+-- an exit status, or this report if there is none
 abbrev pub ended_or : Option ExitStatus → Word → Word
 ended_or (Some status) other = word.Ended status
 ended_or None other = other
 
--- the latest word of command k: its first ending, else its last word, else Running
+-- the latest report of command k: its first exit status, else its last report, else Running
 abbrev pub latest_of_command : ℕ → List EventView → Word
 latest_of_command k told =
     let words = words_of_command k told
     in ended_or (first_ending words) (last_or word.Running words)
 
--- the first Done or Fault, and Running where there is none
+-- the first Done or Fault, or Running if there is none
 abbrev pub first_result : {T : Type 0} → List (Said T) → Said T
 first_result [] = said.Running
 first_result (said.Running ∷ words) = first_result words
 first_result (said.Done value ∷ words) = said.Done value
 first_result (said.Fault fault ∷ words) = said.Fault fault
 
--- the latest word of input worker k: its first result, else Running
+-- the latest report of input worker k: its first Done or Fault, else Running
 abbrev pub latest_of_input : ℕ → List EventView → Said (Unit {0})
 latest_of_input k told = first_result (words_of_input k told)
 
--- the latest word of the capture worker of a stream: its first result, else Running
+-- the latest report of the capture worker of a stream: its first Done or Fault, else Running
 abbrev pub latest_of_drain : Side → List EventView → Said (List ℕ)
 latest_of_drain stream told = first_result (words_of_drain stream told)
 
--- of each command and each input worker by its number, and of stdout's and stderr's capture worker, if there is one
+-- the latest report of each command and each input worker, by its number, and of stdout's and
+-- stderr's capture worker, if there is one
 pub record Latest : Type 0 where
   pub commands : List Word
   pub inputs : List (Said (Unit {0}))
   pub output : Option (Said (List ℕ))
   pub error : Option (Said (List ℕ))
 
--- the latest words once this was told
+-- the latest reports after these events
 abbrev pub latest_told : ShapeView → Drains → List EventView → Latest
 latest_told shape drains told = record {
   commands = map (λ k. latest_of_command k told) (range_with_len 0 (command_count shape));
@@ -105,7 +107,7 @@ latest_told shape drains told = record {
   error = if drains.err then Some (latest_of_drain Err told) else None;
 }
 
--- the word of a command after one more: an ended command keeps its ending
+-- the report that a command has after one more: a command that has ended keeps its exit status
 abbrev pub word_after : Word → Word → Word
 word_after (word.Ended status) heard = word.Ended status
 word_after word.Running heard = heard
@@ -117,7 +119,8 @@ change_at change k [] = []
 change_at change zero (x ∷ xs) = change x ∷ xs
 change_at change (suc k) (x ∷ xs) = x ∷ change_at change k xs
 
--- the words after one more event: what names nothing, and the question, change nothing
+-- the latest reports after one more event: a report that names nothing that is there, and the
+-- question, change nothing
 abbrev pub latest_after : Latest → EventView → Latest
 latest_after words (from_command k heard) =
     record words { commands = change_at (λ old. word_after old heard) k words.commands }
@@ -137,24 +140,24 @@ is_known shape words (from_drain Out heard) = is_some words.output
 is_known shape words (from_drain Err heard) = is_some words.error
 is_known shape words conclude = true
 
--- whether a word, if there is one, is none of a command that has ended
+-- whether there is a report, and not that of a command that has ended
 abbrev pub is_word_due : Option Word → Bool
 is_word_due None = false
 is_word_due (Some (word.Ended status)) = false
 is_word_due (Some word.Running) = true
 is_word_due (Some (word.Fault fault)) = true
 
--- whether command k is there and has not ended
+-- whether there is a command k that has not ended
 abbrev pub is_due : Latest → ℕ → Bool
 is_due words k = is_word_due (slice_get words.commands k)
 
--- whether a worker is there and has not finished, by its word
+-- whether there is a worker that has not finished, by its report
 abbrev pub is_said_due : Option (Said (Unit {0})) → Bool
 is_said_due None = false
 is_said_due (Some said.Running) = true
 is_said_due (Some (said.Done value)) = false
 is_said_due (Some (said.Fault fault)) = false
 
--- whether input worker k is there and has not finished
+-- whether there is an input worker k that has not finished
 abbrev pub is_input_due : Latest → ℕ → Bool
 is_input_due latest k = is_said_due (slice_get latest.inputs k)

@@ -16,11 +16,11 @@ abbrev pub message : List (List ℕ) → ExitStatus → List ℕ
 message texts status =
     codes "command " ++ quoted_list texts ++ codes " exited with code " ++ status_text status
 
--- the text is that message, where the words are printable ASCII
+-- the text is that message, if the words are printable ASCII
 abbrev pub IsMessage : List (List ℕ) → ExitStatus → List ℕ → Type 0
 IsMessage texts status text = list_all is_printable texts ≡ true → text ≡ message texts status
 
--- the same as the standard forms print it, which say nothing of a word that is not ASCII
+-- the message as std's forms print it; these are unspecified for a word that is not ASCII
 abbrev pub printed_message : List (List ℕ) → ExitStatus → Option (List ℕ)
 printed_message texts status =
     Some (codes "command ")

@@ -1,4 +1,5 @@
--- How an expression ended: what the latest words come to, and what the core replies to the question and to each event.
+-- How an expression ended: the outcome of the latest reports, and the core's replies to the
+-- question and to each event.
 use Rattle.std.specs.Prelude.{ℕ, ◌+◌, Bool, true, false, List, [], ◌∷◌, ◌++◌, Some, None, slice_get, ◌≡◌, MatchBool}
 use Rattle.std.specs.declared.option.Option.{Option}
 use Rattle.duct_system.specs.declared.system.Fault.{Fault}
@@ -18,20 +19,21 @@ use Rattle.duct_status.specs.EventView.{EventView, from_command, from_input, fro
 use Rattle.duct_status.specs.ReplyView.{ReplyView, noted, unknown, pending, faulted, answered, failed, no_memory}
 use Rattle.duct_status.specs.Winner.{IsWinner}
 
--- the word of a command as that of a worker, an ending as Done; without a word it runs
+-- the report of a command in the form of a worker's, an exit status as Done; without a report it
+-- runs
 abbrev pub command_said : Option Word → Said (Unit {0})
 command_said (Some (word.Ended status)) = said.Done tt
 command_said (Some word.Running) = said.Running
 command_said (Some (word.Fault fault)) = said.Fault fault
 command_said None = said.Running
 
--- the word of an input worker; without a word it runs
+-- the report of an input worker; without a report it runs
 abbrev pub input_said : Option (Said (Unit {0})) → Said (Unit {0})
 input_said (Some heard) = heard
 input_said None = said.Running
 
--- the words of the commands, numbered from c, and of the input workers, numbered from i, in tree order: left before
--- right, an inner expression before the worker round it
+-- the reports of the commands, numbered from c, and of the input workers, numbered from i, in tree
+-- order: left before right, and inner before outer
 abbrev pub in_tree_order : ShapeView → ℕ → ℕ → List Word → List (Said (Unit {0}))
     → List (Said (Unit {0}))
 in_tree_order (command texts) c i commands inputs = command_said (slice_get commands c) ∷ []
@@ -56,18 +58,19 @@ some_runs (said.Running ∷ words) = true
 some_runs (said.Fault fault ∷ words) = some_runs words
 some_runs (said.Done value ∷ words) = some_runs words
 
--- what the words come to; finished has the bytes of stdout, then of stderr
+-- the outcome of the reports; finished has the bytes of stdout, then of stderr
 pub data OutcomeView : Type 0 where
   waits : OutcomeView
   faults : Fault → OutcomeView
   finished : List ℕ → List ℕ → OutcomeView
 
--- the word of a capture worker; without one no bytes are captured
+-- the report of a capture worker; if there is none, no bytes are captured
 abbrev pub captured : Option (Said (List ℕ)) → Said (List ℕ)
 captured None = said.Done []
 captured (Some heard) = heard
 
--- the stream whose capture worker decides and has not finished; none where a command or an input worker decides
+-- the stream whose capture worker decides and has not finished; none if a command or an input
+-- worker decides
 abbrev pub awaited_by : Option Fault → Bool → Said (List ℕ) → Said (List ℕ) → Option Side
 awaited_by (Some fault) runs output error = None
 awaited_by None true output error = None
@@ -77,25 +80,27 @@ awaited_by None false (said.Done bytes) said.Running = Some Err
 awaited_by None false (said.Done bytes) (said.Fault fault) = None
 awaited_by None false (said.Done bytes) (said.Done others) = None
 
--- the stream whose capture worker is still to be asked, by the latest words
+-- the stream whose capture worker is still to be polled, by the latest reports
 abbrev pub awaited : ShapeView → Latest → Option Side
 awaited shape latest =
     let said = in_tree_order shape 0 0 latest.commands latest.inputs in
     awaited_by (first_fault said) (some_runs said) (captured latest.output) (captured latest.error)
 
--- what a capture worker's word comes to: while it runs all wait, its fault is the fault, and with its bytes this
+-- the outcome by a capture worker's report: waits while it runs, its fault if it has one, else this
+-- outcome of its bytes
 abbrev pub with_bytes : Said (List ℕ) → (List ℕ → OutcomeView) → OutcomeView
 with_bytes said.Running next = waits
 with_bytes (said.Fault fault) next = faults fault
 with_bytes (said.Done bytes) next = next bytes
 
--- a fault, and else whether something runs, and else this
+-- the fault if there is one, else waits if something runs, else this outcome
 abbrev pub ended : Option Fault → Bool → OutcomeView → OutcomeView
 ended (Some fault) runs next = faults fault
 ended None true next = waits
 ended None false next = next
 
--- the first fault in tree order; else waits where something runs; else stdout's capture worker decides, then stderr's
+-- the first fault in tree order; else waits if something runs; else stdout's capture worker
+-- decides, then stderr's
 abbrev pub outcome : ShapeView → Latest → OutcomeView
 outcome shape words =
     let said = in_tree_order shape 0 0 words.commands words.inputs in
@@ -103,8 +108,9 @@ outcome shape words =
     (with_bytes (captured words.output)
     (λ output. with_bytes (captured words.error) (λ error. finished output error)))
 
--- the reply for the command there: its message where it failed and no unchecked stands round it, and else its status
--- with the captured bytes; or no memory, where the making or one more owner of it was refused
+-- the reply for this command: its message if it failed and no unchecked wraps it, else its exit
+-- status with the captured bytes; or no_memory, if the reply or one more owner of it couldn't be
+-- made
 abbrev pub AnswersFor : (t : Endings) → Way t → List ℕ → List ℕ → ReplyView → Type 0
 AnswersFor t way output error (answered status out err) =
     (is_checked_failure t way ≡ false) × (status ≡ status_at t way) × (out ≡ output) × (err ≡ error)
@@ -116,7 +122,7 @@ AnswersFor t way output error unknown = ⊥
 AnswersFor t way output error pending = ⊥
 AnswersFor t way output error (faulted fault) = ⊥
 
--- the reply for the winner
+-- the reply for the winning command
 abbrev pub AnswersWinner : Endings → List ℕ → List ℕ → ReplyView → Type 0
 AnswersWinner t output error reply =
     (winner : Way t) × IsWinner t winner × AnswersFor t winner output error reply
@@ -127,12 +133,12 @@ AnswersOutcome waits t reply = reply ≡ pending
 AnswersOutcome (faults fault) t reply = reply ≡ faulted fault
 AnswersOutcome (finished output error) t reply = AnswersWinner t output error reply
 
--- the reply is the outcome of these latest words
+-- the reply is that of the outcome of these latest reports
 abbrev pub Concludes : ShapeView → Latest → ReplyView → Type 0
 Concludes shape words reply =
     AnswersOutcome (outcome shape words) (endings_of shape 0 words.commands) reply
 
--- the reply to one event, by the latest words before it
+-- the reply to one event, by the latest reports before it
 abbrev pub Responds : ShapeView → Latest → EventView → ReplyView → Type 0
 Responds shape words conclude reply = Concludes shape words reply
 Responds shape words (from_command k heard) reply =
@@ -142,7 +148,7 @@ Responds shape words (from_input k heard) reply =
 Responds shape words (from_drain side heard) reply =
     MatchBool (is_known shape words (from_drain side heard)) (reply ≡ noted) (reply ≡ unknown)
 
--- one reply for each event, each by the words that were told before it
+-- one reply for each event, each by the reports before it
 abbrev pub RespondsToAll : ShapeView → Drains → List EventView → List EventView → List ReplyView
     → Type 0
 RespondsToAll shape drains before [] replies = replies ≡ []

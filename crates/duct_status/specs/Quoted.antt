@@ -6,7 +6,7 @@ use Rattle.std.specs.List.{list_all, flat_map}
 abbrev pub is_printable : List ℕ → Bool
 is_printable text = list_all (λ c. nat_le 32 c && nat_le c 126) text
 
--- a character between the quotes: a quote and a backslash come after a backslash
+-- a character between the quotes: a quote or a backslash gets a backslash before it
 abbrev pub escaped : ℕ → List ℕ
 escaped c = if c == 34 || c == 92 then 92 ∷ c ∷ [] else c ∷ []
 

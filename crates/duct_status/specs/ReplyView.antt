@@ -1,4 +1,5 @@
--- A reply as contracts see it: an answer as its status and its bytes, a failure as the bytes of its message.
+-- A reply as contracts see it: an answer as its status and its bytes, a failure as the bytes of its
+-- message.
 use Rattle.std.specs.Prelude.{ℕ, List, string_bytes}
 use Rattle.std.specs.Arc.{arc_value}
 use Rattle.duct_system.specs.declared.system.ExitStatus.{ExitStatus}
@@ -6,7 +7,7 @@ use Rattle.duct_system.specs.declared.system.Fault.{Fault}
 use Rattle.duct_status.specs.declared.status.Reply.{Reply}
 use Rattle.duct_status.specs.declared.status.Reply.TheVariants as reply
 
--- an answer has the status, then stdout, then stderr
+-- an answer has the exit status, then stdout, then stderr
 pub data ReplyView : Type 0 where
   noted : ReplyView
   unknown : ReplyView

@@ -1,9 +1,10 @@
--- A shape as contracts see it: the tree of an expression's commands, with no pointers and each word as a list of bytes.
+-- A shape as contracts see it: the tree of an expression's commands, with no pointers and each word
+-- as a list of bytes.
 use Rattle.std.specs.Prelude.{ℕ, ◌+◌, List, map, string_bytes}
 use Rattle.std.specs.Arc.{arc_value}
 use Rattle.duct_status.specs.declared.status.Shape.{Shape, Command, Pipe', Input', Unchecked'}
 
--- commands with their words, pipes, and what gets input or is unchecked
+-- a command with its words, a pipe, what has an input worker, or what is unchecked
 pub data ShapeView : Type 0 where
   command : List (List ℕ) → ShapeView
   pipe : ShapeView → ShapeView → ShapeView

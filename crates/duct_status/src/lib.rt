@@ -1,4 +1,4 @@
-//! How an expression ended, by what its commands and workers said.
+//! How an expression ended, from the reports of its commands and workers.
 #![tactic(auto)]
 
 pub mod status;

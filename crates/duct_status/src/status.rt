@@ -1,4 +1,4 @@
-//! How an expression ended, by what its commands and its workers said, over lists of events.
+//! How an expression ended, from a list of events: the reports of its commands and its workers.
 ghost use Rattle.std.specs.Prelude.{◌≡◌, vec_len};
 ghost use Rattle.std.specs.Arc.{arc_value};
 ghost use Rattle.std.specs.Option.{ForSome};
@@ -28,25 +28,31 @@ use duct_system::system::{ExitStatus, Fault, Output, Said, Side};
 use std::alloc::Global;
 use std::sync::Arc;
 
-/// The tree of an expression's commands, each with its words as the expression has them. Commands are numbered from 0,
-/// left to right. Each input has a worker; these are numbered from 0, left before right and an inner one before the
-/// one round it.
+/// The shape of an expression: the tree of its commands, each with its words as the expression has
+/// them. Commands are numbered from 0, left to right. Each `Input` has an input worker. These are
+/// numbered from 0, left before right and inner before outer.
 #[derive(Debug, Drop)]
 pub enum Shape {
+    /// A command with its words.
     Command(Arc<Vec<String>>),
+    /// A pipe, with its left and its right side.
     Pipe(Box<Shape>, Box<Shape>),
+    /// An expression with an input worker.
     Input(Box<Shape>),
+    /// An expression whose failure is no error.
     Unchecked(Box<Shape>),
 }
 
-/// Which of the two output streams a worker captures.
+/// Which of the two output streams have a capture worker.
 #[derive(Clone, Copy, Debug, PartialEq, Eq)]
 pub struct Drains {
+    /// Stdout has one.
     pub out: bool,
+    /// Stderr has one.
     pub err: bool,
 }
 
-/// What a command says.
+/// A report of a command.
 #[derive(Clone, Copy, Debug, PartialEq, Eq)]
 pub enum Word {
     Running,
@@ -54,41 +60,43 @@ pub enum Word {
     Fault(Fault),
 }
 
-/// What the core is told, or asked.
+/// What the core is given: a report, or the question how the expression has ended.
 #[derive(Debug, PartialEq, Eq, Drop)]
 pub enum Event {
-    /// The command of this number said this.
+    /// The command with this number reported this.
     Command(usize, Word),
-    /// The input worker of this number said this.
+    /// The input worker with this number reported this.
     Input(usize, Said<()>),
-    /// The capture worker of this stream said this.
+    /// The capture worker of this stream reported this.
     Drain(Side, Said<Arc<Vec<u8>>>),
     /// How has the expression ended?
     Conclude,
 }
 
-/// What the core replies.
+/// The core's reply to an event.
 #[derive(Debug, PartialEq, Eq, Drop)]
 pub enum Reply {
-    /// The word is kept.
+    /// The report was noted.
     Noted,
-    /// The event names no command and no worker that is there. It has changed nothing.
+    /// The report names no command and no worker that is there. Nothing has changed.
     Unknown,
-    /// Something still runs.
+    /// A command or a worker still runs.
     Pending,
-    /// A command or a worker said this fault.
+    /// A command or a worker reported this fault.
     Fault(Fault),
     /// All have ended. The status is that of the winning command.
     Answer(Arc<Output>),
-    /// All have ended, and the winning command failed and is not unchecked. The text is the message.
+    /// All have ended, and the winning command failed and is not unchecked. The text is the
+    /// message.
     Failed(Arc<String>),
-    /// There was no memory for the answer, or for one more owner of it.
+    /// An allocation for the answer failed, or one more owner of it couldn't be made.
     Memory,
 }
 
-/// What an expression's commands and workers said so far, and the answer once there is one. Each command and each worker
-/// counts as running before its first word. An ended command keeps its first ending, a worker its first `Done` or
-/// `Fault`; a command's fault lasts until its next word.
+/// The latest reports of an expression's commands and workers, and the final reply once there is
+/// one. Each command and each worker counts as running before its first report. A command keeps its
+/// first exit status, and a worker its first `Done` or `Fault`. A command's fault lasts until its
+/// next report.
 #[derive(Drop)]
 pub struct Core {
     alloc: Global,
@@ -120,7 +128,7 @@ impl Core {
     ghost use Rattle.duct_status.specs.CoreView.{shape_in, latest_in, standing_in};
     ghost use Rattle.duct_status.specs.Latest.{is_due, is_input_due, latest_after};
 
-    /// Keeps what a command said.
+    /// Stores a report of a command.
     fn tell(&mut self, at: usize, word: Word) -> Reply
         ensures shape { shape_in self.new ≡ shape_in self.old }
         ensures words { latest_in self.new
@@ -136,7 +144,7 @@ impl Core {
         }
     }
 
-    /// Keeps what an input worker said.
+    /// Stores a report of an input worker.
     fn hear(&mut self, at: usize, said: Said<()>) -> Reply
         ensures shape { shape_in self.new ≡ shape_in self.old }
         ensures words { latest_in self.new
@@ -152,7 +160,7 @@ impl Core {
         }
     }
 
-    /// Keeps what stdout's capture worker said.
+    /// Stores a report of stdout's capture worker.
     fn hear_output(&mut self, said: Said<Arc<Vec<u8>>>) -> Reply
         ensures shape { shape_in self.new ≡ shape_in self.old }
         ensures words { latest_in self.new
@@ -168,7 +176,7 @@ impl Core {
         }
     }
 
-    /// Keeps what stderr's capture worker said.
+    /// Stores a report of stderr's capture worker.
     fn hear_error(&mut self, said: Said<Arc<Vec<u8>>>) -> Reply
         ensures shape { shape_in self.new ≡ shape_in self.old }
         ensures words { latest_in self.new
@@ -184,7 +192,8 @@ impl Core {
         }
     }
 
-    /// The answer or the message of the command that wins, with these captured bytes.
+    /// Returns the reply for the winning command: its message, or the answer with these captured
+    /// bytes.
     fn answer_with(&self, output: &[u8], error: &[u8]) -> Reply
         requires { outcome (shape_in self.now) (latest_in self.now)
             ≡ finished output.now error.now }
@@ -204,7 +213,7 @@ impl Core {
         }
     }
 
-    /// What is found in the latest words of the commands and the input workers.
+    /// Returns what is found in the latest reports of the commands and the input workers.
     fn found(&self) -> Found
         ensures fault { result.fault
             ≡ first_fault (in_tree_order (shape_in self.now) 0 0 (latest_in self.now).commands
@@ -222,7 +231,7 @@ impl Core {
         )
     }
 
-    /// What the latest words come to.
+    /// Returns the reply for the latest reports.
     fn outcome(&self) -> Reply
         ensures { Fits (shape_in self.now) (latest_in self.now) result }
     {
@@ -233,7 +242,8 @@ impl Core {
         }
     }
 
-    /// One more owner of the answer that stands.
+    /// Returns the final reply, with one more owner of it, or `Memory` if that owner can't be made.
+    /// Returns `None` if there is no final reply yet.
     fn again(&self) -> Option<Reply>
         ensures none { IfNone result (standing_in self.now ≡ None) }
         ensures fits { IfSome result
@@ -257,7 +267,8 @@ impl Core {
         None
     }
 
-    /// Lets an answer stand from now on, where it is one.
+    /// Stores the reply as the final one, if it is an answer or a failure, and returns it. Returns
+    /// `Memory` and stores nothing if one more owner of it can't be made.
     fn stand(&mut self, reply: Reply) -> Reply
         requires fits { Fits (shape_in self.old) (latest_in self.old) reply }
         requires first { standing_in self.old ≡ None }
@@ -285,7 +296,7 @@ impl Core {
         }
     }
 
-    /// The answer that stands, and else what the latest words come to.
+    /// Returns the final reply if there is one, else the reply for the latest reports.
     fn conclude(&mut self) -> Reply
         ensures shape { shape_in self.new ≡ shape_in self.old }
         ensures words { latest_in self.new ≡ latest_in self.old }
@@ -301,10 +312,15 @@ impl Core {
         self.stand(reply)
     }
 
-    /// Keeps what was told and replies `Noted`, or `Unknown` where the event names nothing that is there. `Conclude` gives
-    /// the outcome of what was told so far: the first fault in tree order, else `Pending` while something runs, else what
-    /// stdout's capture worker and then stderr's says, else the answer. The answer stands from then on. `Memory` comes
-    /// only in its place; nothing is lost by it, and the next `Conclude` tries again.
+    /// Takes an event and returns the reply. A report is stored and gets `Noted`. It gets `Unknown`
+    /// if it names no command and no worker that is there.
+    ///
+    /// `Conclude` gets the outcome of the reports so far: the first fault in tree order; else
+    /// `Pending` while a command or an input worker runs; else the fault of stdout's capture
+    /// worker, or `Pending` while it runs; else the same of stderr's; else `Answer` or `Failed`,
+    /// for the winning command. The first `Answer` or `Failed` is final: each later `Conclude` gets
+    /// it again. `Memory` comes only in place of these two. Nothing is then lost, and the next
+    /// `Conclude` tries again.
     pub fn step(&mut self, event: Event) -> Reply
         ensures shape { shape_in self.new ≡ shape_in self.old }
         ensures words { latest_in self.new ≡ latest_after (latest_in self.old) (event_view event) }
@@ -323,7 +339,7 @@ impl Core {
         }
     }
 
-    /// Whether this command is there and has not ended.
+    /// Returns whether there is a command with this number that has not ended.
     pub fn is_due(&self, i: usize) -> bool
         ensures { result ≡ is_due (latest_in self.now) i }
     {
@@ -333,21 +349,22 @@ impl Core {
         }
     }
 
-    /// Whether this input worker is there and has not finished.
+    /// Returns whether there is an input worker with this number that has not finished.
     pub fn is_input_due(&self, i: usize) -> bool
         ensures { result ≡ is_input_due (latest_in self.now) i }
     {
         matches!(self.inputs.get(i), Some(Said::Running))
     }
 
-    /// The stream whose capture worker the outcome waits for: all commands and input workers have ended without a fault.
+    /// Returns the stream whose capture worker the outcome waits for. There is none unless all
+    /// commands and input workers have ended without a fault.
     pub fn awaited(&self) -> Option<Side>
         ensures { result ≡ awaited (shape_in self.now) (latest_in self.now) }
     {
         awaited(self.found(), &self.output, &self.error)
     }
 
-    /// The shape whose commands and workers it is told of.
+    /// Returns the shape of the expression whose reports it stores.
     pub fn shape(&self) -> &Shape
         ensures { shape_view result.now ≡ shape_in self.now }
     {
@@ -366,7 +383,7 @@ impl Core {
     ghost use Rattle.duct_status.specs.CoreView.{shape_in, latest_in, standing_in};
     ghost use Rattle.duct_status.specs.Latest.{latest_told};
 
-    /// A core that was told nothing, or `Memory`.
+    /// Returns a core without reports. Fails only with `Error::Memory`, at an allocation failure.
     pub fn new(alloc: Global, shape: Shape, drains: Drains) -> Result<Core, Error>
         ensures shape { IfOk result (λ core. shape_in core ≡ shape_view shape) }
         ensures words { IfOk result
@@ -389,8 +406,9 @@ impl Core {
         })
     }
 
-    /// The replies to the events, one for each, by a core that was told nothing before; or `Memory`, where there is none for
-    /// the core or the replies, or std refuses one more owner of captured bytes.
+    /// Returns the replies of a new core to these events, one for each. Fails only with
+    /// `Error::Memory`: at an allocation failure for the core or the replies, or if one more owner
+    /// of captured bytes can't be made.
     pub fn run(
         alloc: Global,
         shape: Shape,

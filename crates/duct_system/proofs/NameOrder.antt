@@ -1,4 +1,4 @@
--- The order of two texts once the shorter one was gone through.
+-- The order of two texts at the end of the shorter one.
 use Rattle.std.specs.Prelude.{ℕ, suc, List, [], ◌∷◌, ◌<◌, length, map, min, drop}
 use Rattle.std.specs.Char.{to_ascii_lowercase}
 use Rattle.std.specs.Cmp.{nat_cmp_is}
@@ -9,11 +9,11 @@ use Rattle.std.specs.declared.cmp.Ordering.TheVariants.{Less, Equal, Greater}
 use Rattle.std.proofs.Common.{◌≡◌, refl, subst, sym, ap, arith}
 use native.Mathlib.Numerals.{unary_clauses}
 
--- the order of what is left of two texts from a place on
+-- the order of what is left of two texts from this place on
 abbrev left_cmp : ℕ → List ℕ → List ℕ → Ordering
 left_cmp n xs ys = slice_cmp nat_cmp (map to_ascii_lowercase (drop n xs)) (map to_ascii_lowercase (drop n ys))
 
--- the order says how two lengths stand
+-- this order is that of the two lengths
 abbrev ByLength : Ordering → ℕ → ℕ → Type 0
 ByLength order n m = MatchOrdering order (n < m) (n ≡ m) (m < n)
 
@@ -29,7 +29,7 @@ at_min [] (y ∷ ys) = simp unary_clauses (omega arith)
 at_min (x ∷ xs) [] = simp unary_clauses (omega arith)
 at_min (x ∷ xs) (y ∷ ys) = simp unary_clauses (more (left_cmp (min (length xs) (length ys)) xs ys) (length xs) (length ys) (at_min xs ys))
 
--- the lengths decide
+-- at the end of the shorter text the lengths decide
 pub finished : (xs ys : List ℕ) (n : ℕ) → n ≡ min (length xs) (length ys)
     → nat_cmp (length xs) (length ys) ≡ left_cmp n xs ys
 finished xs ys n is =

@@ -1,4 +1,4 @@
--- What a closure holds may go to another thread, or be shared with it, where that is so of each of its references.
+-- A closure that holds references is Send, or Sync, if each of its references is.
 use mathlib.Core.List.{List, [], ◌∷◌}
 use mir.Syntax.{Lifetime, Sym}
 use base.Fml.{Lft}
@@ -17,14 +17,14 @@ closure_sync : (ν : Sym) (Ts : List RattleType) → AllSync (shape (type_at ν 
 closure_sync ν Ts held = recorded_sync _ _ _ (type_at ν Ts).to_one (struct_sync (shape (type_at ν Ts)) held)
 
 module _ (ν : Sym) (ℓ ℓ' ℓ'' : Lifetime) (κ κ' κ'' : Lft) (R S T : RattleType) where
-  -- of a closure that holds two references
+  -- a closure that holds two references
   pub two_refs_send : IsSync R → IsSync S → IsSend (TupleAt ν (ShrRef ℓ κ R ∷ ShrRef ℓ' κ' S ∷ []))
   two_refs_send one other =
       let Ts : List RattleType = ShrRef ℓ κ R ∷ ShrRef ℓ' κ' S ∷ [] in
       let held : AllSend Ts = (shr_send ℓ κ R one, (shr_send ℓ' κ' S other, tt)) in
       closure_send ν Ts held
 
-  -- of one that holds three
+  -- a closure that holds three references
   pub three_refs_send : IsSync R → IsSync S → IsSync T
       → IsSend (TupleAt ν (ShrRef ℓ κ R ∷ ShrRef ℓ' κ' S ∷ ShrRef ℓ'' κ'' T ∷ []))
   three_refs_send one other third =

@@ -1,4 +1,4 @@
--- Look-ups of variables that are put in and taken out.
+-- Lookups of variables that were set and removed.
 use Rattle.std.specs.Prelude.{ℕ, Bool, true, false, cond, not, List, [], ◌∷◌, ◌++◌, Some, None}
 use Rattle.std.specs.declared.option.Option.{Option}
 use Rattle.std.specs.BTreeMap.{is_at}
@@ -17,7 +17,7 @@ use Rattle.std.proofs.lemmas.Map.Keys.{sorted_tail}
 use Rattle.duct_system.specs.Name.{name_form, is_same_name, name_cmp}
 use Rattle.duct_system.specs.SpecView.{Vars, AreOrdered, variable_in, with_var, without_var, spelled, last_value, said_of}
 
--- the names are those of a lawful key: one equality, and an order that says equal of equal names alone
+-- names are lawful keys: an equivalence, and an order in which only equal names are Equal
 pub name_equiv : IsEquivalence is_same_name
 name_equiv = on_equiv name_form nat_list_eq_equiv
 
@@ -27,13 +27,13 @@ name_total = on_total name_form nat_list_cmp_total
 pub name_ties : (one other : List ℕ) → is_same_name one other ≡ is_eq (name_cmp one other)
 name_ties one other = texts_ties (name_form one) (name_form other)
 
--- what is done with a name is done with each spelling of it
+-- two spellings of a name are equal to the same names
 pub same_at : (name other third : List ℕ) → is_same_name name other ≡ true
     → is_same_name name third ≡ is_same_name other third
 same_at name other third same = name_equiv.congr name other third same
 
 module _ (name : List ℕ) where
-  -- a name that no key is, in any spelling, is not found
+  -- a name that is no key, in any spelling, is not found
   pub none_there : (k : List ℕ) → is_same_name name k ≡ true → (vars : Vars)
       → NonePasses (is_at (name_cmp k)) vars → variable_in name vars ≡ None
   none_there k same [] none = refl
@@ -62,7 +62,7 @@ module _ (name : List ℕ) where
   greater_case false true e k v rest apart = refl
   greater_case false false e k v rest apart = refl
 
-  -- a name that is as k cannot be as a name that k is not
+  -- a name that equals k doesn't equal a name that k doesn't equal
   apart : (k other : List ℕ) (o : Ordering) → name_cmp k other ≡ o → is_eq o ≡ false
       → is_same_name name k ≡ true → is_same_name name other ≡ true → ⊥
   apart k other o is differ one two = let same = sym (same_at name k other one) ∙ two in let tie = name_ties k other ∙ ap is_eq is ∙ differ in cc
@@ -80,7 +80,8 @@ module _ (name : List ℕ) where
       ap (λ r. cond (is_same_name name e.0) (Some e) r) rest
       ∙ greater_case (is_same_name name k) (is_same_name name e.0) e k v (variable_in name es) (apart k e.0 Greater is refl)
 
-  -- a variable that is put in keeps the spelling that stands there, and each other name finds what it found
+  -- setting a variable keeps a spelling that is already there, and changes no lookup of another
+  -- name
   pub variable_in-with : (vars : Vars) (k v : List ℕ) → AreOrdered vars
       → variable_in name (with_var k v vars)
       ≡ cond (is_same_name name k) (Some (spelled k (variable_in name vars), v))
@@ -105,7 +106,7 @@ module _ (name : List ℕ) where
   none_twice true = refl
   none_twice false = refl
 
-  -- a name that was taken out is not found in any spelling, and each other name finds what it found
+  -- a removed name is not found in any spelling, and no lookup of another name changes
   pub variable_in-without : (vars : Vars) (k : List ℕ)
       → variable_in name (without_var k vars)
       ≡ cond (is_same_name name k) None (variable_in name vars)
@@ -136,7 +137,8 @@ module _ (name : List ℕ) where
   said_case false true e last k v rest = refl
   said_case false false e last k v rest = refl
 
-  -- one more that is said changes the value of its name, and leaves the spelling that was said first
+  -- one more variable at the end changes the value of its name, and keeps the spelling that was
+  -- first
   pub said_of-more : (vars : Vars) (k v : List ℕ)
       → said_of name (vars ++ (k, v) ∷ [])
       ≡ cond (is_same_name name k) (Some (spelled k (said_of name vars), v)) (said_of name vars)
@@ -145,7 +147,7 @@ module _ (name : List ℕ) where
       (λ i. cond (is_same_name name e.0) (Some (e.0, last_value-more es e.1 k v i)) (said_of-more es k v i))
       ∙ said_case (is_same_name name k) (is_same_name name e.0) e (last_value name e.1 es) k v (said_of name es)
 
--- a name that is below some names is below them with one more
+-- a name that is below k and below all names of some variables is below all of them once k is set
 with_above : (x k v : List ℕ) (es : Vars) → name_cmp x k ≡ Less
     → AllByRecursion (λ y. name_cmp x y ≡ Less) (keys_of es) →
     AllByRecursion (λ y. name_cmp x y ≡ Less) (keys_of (with_var k v es))
@@ -154,14 +156,14 @@ with_above x k v (e ∷ es) less all =
     elim (name_cmp k e.0) as (λ o. AllByRecursion (λ y. name_cmp x y ≡ Less) (keys_of (match_ordering o ((k, v) ∷ e ∷ es) ((e.0, v) ∷ es) (e ∷ with_var k v es))))
     [ Less ↦ (less, all) | Equal ↦ all | Greater ↦ (all.0, with_above x k v es less all.1) ]
 
--- what is below a name is below those above it
+-- a name that is below another one is below all names above that one
 above_all : (x y : List ℕ) (names : List (List ℕ)) → name_cmp x y ≡ Less
     → AllByRecursion (λ z. name_cmp y z ≡ Less) names
     → AllByRecursion (λ z. name_cmp x z ≡ Less) names
 above_all x y [] less all = tt
 above_all x y (z ∷ names) less all = (name_total.trans x y z less all.0, above_all x y names less all.1)
 
--- variables stay in order where one is put in
+-- variables stay in order when one is set
 pub with_ordered : (es : Vars) (k v : List ℕ) → AreOrdered es → AreOrdered (with_var k v es)
 unfolding IsStrictlySortedBy
 with_ordered [] k v ordered = (tt, tt)

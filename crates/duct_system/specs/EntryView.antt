@@ -1,5 +1,5 @@
--- An entry of the journal as contracts see it: texts as lists of bytes, ends and children by their numbers, a spec as
--- the record of its parts.
+-- An entry of the journal as contracts see it: texts as lists of bytes, ends and children by their
+-- numbers, a spec as the record of its parts.
 use Rattle.std.specs.Prelude.{ℕ, List, map, string_bytes, Ok, Err}
 use Rattle.std.specs.declared.result.Result.{Result}
 use Rattle.duct_system.specs.SpecView.{SpecView, Vars, pair_text}
@@ -10,7 +10,7 @@ use Rattle.std.specs.Arc.{arc_value}
 use Rattle.duct_system.specs.declared.system.Entry.{Entry}
 use Rattle.duct_system.specs.declared.system.Entry.TheVariants as entry
 
--- one entry: the request, then its answer; Reader and Close cannot fail
+-- one entry: the request, then its result; Reader and Close can't fail
 pub data EntryView : Type 0 where
   Environment : Result Vars Fault → EntryView
   Pipe : Result (ℕ × ℕ) Fault → EntryView

@@ -4,7 +4,7 @@ use Rattle.std.specs.declared.io.ErrorKind.TheVariants as error
 use Rattle.duct_system.specs.declared.system.Kind.{Kind}
 use Rattle.duct_system.specs.declared.system.Kind.TheVariants.{NotFound, PermissionDenied, BrokenPipe, WriteZero, InvalidInput, Unsupported, OutOfMemory, Other}
 
--- the kind of the same name, and Other where there is none
+-- the kind with the same name, or Other if there is none
 abbrev pub kind_of : ErrorKind → Kind
 kind_of error.NotFound = NotFound
 kind_of error.PermissionDenied = PermissionDenied

@@ -1,9 +1,9 @@
--- The numbers that the entries of a journal got and spent.
+-- The numbers of the ends that the entries of a journal got and spent.
 use Rattle.std.specs.Prelude.{ℕ, ◌-◌, ◌≤◌, List, [], ◌∷◌, ◌≡◌, ◌==◌, length, flat_map, count_by, Ok}
 use Rattle.duct_system.specs.EntryView.{EntryView, Pipe, OpenRead, Create, Duplicate, Parent, Spawn, Feed, Drain, Reader, Close}
 use Rattle.duct_system.specs.Streams.{ends_of}
 
--- the numbers of the ends that an entry answered
+-- the numbers of the ends that an entry's request returned
 abbrev pub got_by : EntryView → List ℕ
 got_by (Pipe (Ok (reader, writer))) = reader ∷ writer ∷ []
 got_by (OpenRead path (Ok number)) = number ∷ []
@@ -12,7 +12,7 @@ got_by (Duplicate lent (Ok number)) = number ∷ []
 got_by (Parent side (Ok number)) = number ∷ []
 got_by _ = []
 
--- the numbers of the ends that an entry's request was given, whatever it answered
+-- the numbers of the ends that an entry's request took, whatever its result is
 abbrev pub spent_by : EntryView → List ℕ
 spent_by (Spawn spec io answer) = ends_of io
 spent_by (Feed number bytes answer) = number ∷ []
@@ -29,7 +29,7 @@ got entries = flat_map got_by entries
 abbrev pub spent : List EntryView → List ℕ
 spent entries = flat_map spent_by entries
 
--- how often a number stands in a list
+-- how often a number occurs in a list
 abbrev pub count_of : ℕ → List ℕ → ℕ
 count_of number numbers = count_by (λ other. other == number) numbers
 
@@ -40,6 +40,6 @@ IsBalanced entries =
     → (count_of number (spent entries) ≡ count_of number (got entries))
     × (count_of number (got entries) ≤ 1)
 
--- how many ends were got and are not spent yet
+-- how many ends were got and are not yet spent
 abbrev pub held : List EntryView → ℕ
 held entries = length (got entries) - length (spent entries)

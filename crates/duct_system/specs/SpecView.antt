@@ -1,4 +1,4 @@
--- What a contract sees of a command's spec.
+-- What contracts see of a command's spec.
 use Rattle.std.specs.Prelude.{ℕ, List, [], ◌∷◌, ◌≡◌, Some, None, if◌then◌else◌, not, map, filter, string_bytes}
 use Rattle.std.specs.Borrow.{Bor}
 use Rattle.std.specs.declared.option.Option.{Option}
@@ -17,7 +17,7 @@ use Rattle.duct_system.specs.declared.spec.Stream.TheVariants.{In, Out, Err}
 abbrev pub Vars : Type 0
 Vars = List (List ℕ × List ℕ)
 
--- each name stands once, in any spelling, and the names ascend
+-- each name occurs once, in any spelling, and the names ascend
 abbrev pub AreOrdered : Vars → Type 0
 AreOrdered vars = IsStrictlySortedBy name_cmp (keys_of vars)
 
@@ -30,15 +30,15 @@ pub record SpecView : Type 0 where
   pub output : Port
   pub error : Port
 
--- what there is of a name: its spelling and its value
+-- the variable with this name, if there is one: its spelling and its value
 abbrev pub variable_in : List ℕ → Vars → Option (List ℕ × List ℕ)
 variable_in name vars = lookup_entry (is_same_name name) vars
 
--- the value of a name
+-- the value of the variable with this name, if there is one
 abbrev pub value_of : List ℕ → Vars → Option (List ℕ)
 value_of name vars = option_map (λ pair. pair.1) (variable_in name vars)
 
--- the variables with this value of a name: the spelling that stands there is kept
+-- the variables after this name was set to this value: a spelling that is already there is kept
 abbrev pub with_var : List ℕ → List ℕ → Vars → Vars
 with_var name value vars = insert_entry name_cmp vars name value
 
@@ -46,18 +46,19 @@ with_var name value vars = insert_entry name_cmp vars name value
 abbrev pub without_var : List ℕ → Vars → Vars
 without_var name vars = filter (λ pair. not (is_same_name name pair.0)) vars
 
--- the spelling of a name: the one that stands there, or else this
+-- the spelling of a name: the one that is already there, or else this one
 abbrev pub spelled : List ℕ → Option (List ℕ × List ℕ) → List ℕ
 spelled name None = name
 spelled name (Some pair) = pair.0
 
--- the last value that some variables give a name, or else this
+-- the last value that some variables have for a name, or else this one
 abbrev pub last_value : List ℕ → List ℕ → Vars → List ℕ
 last_value name value [] = value
 last_value name value (pair ∷ vars) =
     last_value name (if is_same_name name pair.0 then pair.1 else value) vars
 
--- what variables say of a name when they are given one after the other: its first spelling and its last value
+-- the variable with this name after these were set one by one: its first spelling and its last
+-- value
 abbrev pub said_of : List ℕ → Vars → Option (List ℕ × List ℕ)
 said_of name [] = None
 said_of name (pair ∷ vars) =
@@ -68,7 +69,7 @@ said_of name (pair ∷ vars) =
 abbrev pub var_view : {Z : Type 0} → List ℕ × String Z → List ℕ × List ℕ
 var_view p = (p.0, string_bytes p.1)
 
--- the text of a name and of its value
+-- the texts of a name and of its value
 abbrev pub pair_text : {Z : Type 0} → String Z × String Z → List ℕ × List ℕ
 pair_text p = (string_bytes p.0, string_bytes p.1)
 
@@ -82,13 +83,13 @@ port_of Err spec = spec.error
 abbrev pub texts_of : List (Bor (List ℕ)) → List (List ℕ)
 texts_of words = map (λ word. word.now) words
 
--- the spec with this stream given an end
+-- the spec with this stream set to Given
 abbrev pub gives : Stream → SpecView → SpecView
 gives In spec = record spec { input = Given }
 gives Out spec = record spec { output = Given }
 gives Err spec = record spec { error = Given }
 
--- no stream is given an end afterwards that was not before
+-- no stream is Given afterwards that was not Given before
 abbrev pub GivesNothing : SpecView → SpecView → Type 0
 GivesNothing before after =
     (stream : Stream) → port_of stream after ≡ Given → port_of stream before ≡ Given

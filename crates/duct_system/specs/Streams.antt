@@ -1,4 +1,4 @@
--- The three streams of a child: their ends by number, and that they fit in memory.
+-- The three streams of a child: their ends, and that they fit in memory.
 use Rattle.std.specs.Prelude.{◌*◌, ◌<◌, ◌^◌, List, [], ◌∷◌, flat_map}
 use Rattle.std.specs.Borrow.{RattleType}
 use prog.Memory.{size}
@@ -11,7 +11,7 @@ use Rattle.duct_system.specs.declared.system.Stdio.TheVariants.{Inherit, Null, E
 abbrev pub StreamsFit : RattleType → Type 0
 StreamsFit E = 3 * size (layout (the_row E)) < 2 ^ 63
 
--- a stream with another thing in place of its end
+-- a stream with this function applied to its end
 abbrev pub stream_of : {E F : Type 0} → (E → F) → Stdio E → Stdio F
 stream_of f Inherit = Inherit
 stream_of f Null = Null

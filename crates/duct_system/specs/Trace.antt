@@ -1,21 +1,21 @@
--- What a call added to the journal, and what of it a plan speaks of.
+-- What a call added to the journal, and which of these entries a plan covers.
 use Rattle.std.specs.Prelude.{Bool, true, false, List, [], ◌∷◌, ◌≡◌, length, drop, filter, Err, Some, None, IfSome}
 use Rattle.std.specs.declared.option.Option.{Option}
 use Rattle.duct_system.specs.EntryView.{EntryView, Environment, Pipe, OpenRead, Create, Duplicate, Parent, Canonicalize, Spawn, Feed, Drain, Close}
 use Rattle.duct_system.specs.declared.system.Fault.{Fault}
 
--- what the new journal holds past the old one
+-- the entries of the new journal after those of the old one
 abbrev pub segment : List EntryView → List EntryView → List EntryView
 segment old new = drop (length old) new
 
--- whether a plan speaks of such an entry: of each but duplicates, ends of the parent's streams, and closes
+-- whether a plan covers such an entry: all but duplicates, ends of the parent's streams, and closes
 abbrev pub is_traced : EntryView → Bool
 is_traced (Duplicate lent answer) = false
 is_traced (Parent side answer) = false
 is_traced (Close number) = false
 is_traced _ = true
 
--- the entries of which a plan speaks, in order
+-- the entries that a plan covers, in order
 abbrev pub trace : List EntryView → List EntryView
 trace entries = filter is_traced entries
 
@@ -24,7 +24,7 @@ abbrev pub is_close : EntryView → Bool
 is_close (Close number) = true
 is_close _ = false
 
--- the fault that an entry answered, if it was refused
+-- the fault of an entry, if the system refused its request
 abbrev pub fault_of : EntryView → Option Fault
 fault_of (Environment (Err fault)) = Some fault
 fault_of (Pipe (Err fault)) = Some fault

@@ -7,10 +7,10 @@ use std::alloc::{AllocError, AllocFailed};
 use std::sync::Arc;
 use thiserror::Error;
 
-/// Why a call was refused.
+/// Why a call failed.
 #[derive(Debug, PartialEq, Eq, Drop, Error)]
 pub enum Error {
-    /// The system, a child, a worker or the reader answered this fault.
+    /// The system, a child, a worker or the reader returned this fault.
     #[error("system: {:?}", .0.kind)]
     System(Fault),
     /// The winning command failed, and is not unchecked. The text names its words and how it ended.
@@ -19,16 +19,16 @@ pub enum Error {
     /// The bytes that were read are not UTF-8.
     #[error("text is not UTF-8")]
     NotUtf8,
-    /// A hook refused with this fault.
+    /// A hook refused the spec with this fault.
     #[error("hook: {:?}", .0.kind)]
     Hook(Fault),
-    /// A hook named the end at this place, and has none there.
+    /// A hook named the end at this place, and there is none.
     #[error("hook end {0} is not there")]
     HookEnd(usize),
-    /// The sum of the clock's moment and the timeout is no `Duration`.
+    /// The sum of the clock's time and the timeout is too great for a `Duration`.
     #[error("deadline out of range")]
     Deadline,
-    /// There was no memory.
+    /// An allocation failed.
     #[error("out of memory")]
     Memory,
 }

@@ -1,9 +1,9 @@
-//! From an error of std to a fault.
+//! The conversion of an error of std into a fault.
 use crate::system::{Fault, Kind};
 use std::io;
 use std::io::ErrorKind;
 
-/// The kind of the error where a fault has one of that name, and `Other` for each other one.
+/// The fault has the kind with the same name as the error's kind, or `Other` if there is none.
 impl From<io::Error> for Fault {
     ghost use Rattle.std.specs.Prelude.{◌≡◌};
     ghost use Rattle.std.specs.IoError.{error_kind};

@@ -1,4 +1,4 @@
-//! The journal that a system keeps: its entries, the room for more of them, and the count of numbers.
+//! The journal of a system: its entries, the room for more entries, and the count of numbers.
 ghost use Rattle.std.specs.Prelude.{◌≡◌, ◌+◌, ◌-◌, ◌^◌, ◌<◌, ◌≤◌, [], ◌∷◌, ◌++◌, map, IfSome, IfNone, OnSome, OnOk, OnErr, IfErr};
 ghost use Rattle.duct_system.specs.EntryView.{entry_view};
 ghost use Rattle.duct_system.specs.declared.system.Kind.TheVariants.{OutOfMemory};
@@ -7,8 +7,9 @@ use crate::system::{Entry, Fault, Kind};
 use std::alloc::Global;
 use std::marker::Model;
 
-/// The entries of a system, in the order in which they were added. Room is made before the machine is asked, so that an
-/// entry is never lost: `prepare` makes it, `add` uses it, and `give_back` says that some of it isn't wanted.
+/// The entries of a system, in the order in which they were added. Room is reserved before a
+/// request is made, so that no entry is lost: `prepare` reserves it, `add` uses it, and `give_back`
+/// releases what isn't needed.
 #[derive(Drop)]
 pub struct Journal {
     entries: Vec<Entry>,
@@ -36,7 +37,7 @@ impl Model for Journal {
 }
 
 impl Journal {
-    /// An empty journal with no room, whose first number is 1.
+    /// Returns an empty journal with no room, whose first number is 1.
     pub fn new(alloc: Global) -> Journal
         ensures { result ≡ record { entries = []; added = 0; next = 1; room = 0 } }
     {
@@ -48,27 +49,27 @@ impl Journal {
         }
     }
 
-    /// The allocator of the entries.
+    /// Returns the allocator of the entries.
     pub fn allocator(&self) -> Global {
         *self.entries.allocator()
     }
 
-    /// How many entries were ever added, also those that were cleared away.
+    /// Returns how many entries were ever added, also those that were cleared.
     pub fn added(&self) -> u64
         ensures { result ≡ self.now.added }
     {
         self.added
     }
 
-    /// How many more entries go in without memory.
+    /// Returns how many more entries can be added without an allocation.
     pub fn room(&self) -> usize
         ensures { result ≡ self.now.room }
     {
         self.room
     }
 
-    /// Makes room for one entry and for this many after it. Where there is no memory the answer is `OutOfMemory` and the
-    /// journal is as it was.
+    /// Reserves room for one entry and for this many more. Fails with `OutOfMemory` if the
+    /// allocation fails, or if that many entries can't be counted. The journal is then as it was.
     pub fn prepare(&mut self, ends: usize) -> Result<(), Fault>
         ensures ok { OnOk result (self.new ≡ record self.old { room = self.old.room + ends + 1 }) }
         ensures err { IfErr result (λ fault. fault.kind ≡ OutOfMemory) }
@@ -83,7 +84,8 @@ impl Journal {
         }
     }
 
-    // The room with that of one entry more and of this many ends, where so many entries can still be counted.
+    // Returns the room plus one entry and this many ends, or `None` if that many entries can't be
+    // counted.
     fn room_with(&self, ends: usize) -> Option<usize>
         ensures { IfSome result
             (λ room. (room ≡ self.now.room + ends + 1) × (self.now.added + room < 2 ^ 64)) }
@@ -93,7 +95,7 @@ impl Journal {
         Some(room)
     }
 
-    /// Adds an entry in the room that was made for it.
+    /// Adds an entry, in the room that was reserved for it.
     pub fn add(&mut self, entry: Entry)
         requires { 0 < self.old.room }
         ensures { self.new ≡ record self.old {
@@ -107,7 +109,7 @@ impl Journal {
         self.entries.push_reserved(entry);
     }
 
-    /// Says that room for this many entries is not wanted after all.
+    /// Releases the room for this many entries.
     pub fn give_back(&mut self, ends: usize)
         requires { ends ≤ self.old.room }
         ensures { self.new ≡ record self.old { room = self.old.room - ends } }
@@ -115,14 +117,15 @@ impl Journal {
         self.room -= ends;
     }
 
-    /// The number that is given next.
+    /// Returns the number that is given next.
     pub fn next(&self) -> u64
         ensures { result ≡ self.now.next }
     {
         self.next
     }
 
-    /// Takes this many numbers in a row and answers the first of them, or none where so many are not left.
+    /// Takes this many consecutive numbers and returns the first of them. If fewer are left, it
+    /// returns `None` and takes none.
     pub fn take_numbers(&mut self, count: u64) -> Option<u64>
         ensures some { IfSome result (λ first.
             (first ≡ self.old.next)
@@ -135,14 +138,14 @@ impl Journal {
         Some(first)
     }
 
-    /// The entries so far, the oldest first.
+    /// Returns the entries so far, oldest first.
     pub fn entries(&self) -> &[Entry]
         ensures { map entry_view result.now ≡ self.now.entries }
     {
         self.entries.as_slice()
     }
 
-    /// Takes all entries away. The room and the numbers stay.
+    /// Removes all entries. The room and the counts stay.
     pub fn clear(&mut self)
         ensures { self.new ≡ record self.old { entries = [] } }
     {

@@ -1,4 +1,4 @@
-//! The names of variables.
+//! The names of environment variables.
 ghost use Rattle.std.specs.Prelude.{◌≡◌, ◌↔◌, IsTrue, Some, map, refl, string_bytes};
 ghost use Rattle.std.specs.Char.{to_ascii_lowercase};
 ghost use Rattle.std.specs.Fmt.{debug_str};
@@ -17,8 +17,9 @@ use std::fmt;
 use std::hash::{Hash, Hasher};
 use std::marker::Model;
 
-/// The name of a variable. Two are equal, and have one hash, where they have the same text with A to Z taken as a to z, and
-/// they are ordered by the bytes of that text. The spelling is kept.
+/// The name of an environment variable. Two names are equal, and have the same hash, if their texts
+/// are the same with A to Z taken as a to z. They are ordered by the bytes of that form. The
+/// spelling is kept.
 #[derive(Drop)]
 pub struct EnvNameString {
     text: String,
@@ -33,7 +34,7 @@ impl Model for EnvNameString {
 }
 
 impl EnvNameString {
-    /// Whether a text is this name, in any spelling.
+    /// Returns whether a text is this name, in any spelling.
     pub fn is(&self, text: &str) -> bool
         ensures { result ≡ is_same_name text.now self.now }
     {
@@ -130,7 +131,7 @@ impl Hash for EnvNameString {
     }
 }
 
-// The order of two texts by their bytes, with A to Z taken as a to z.
+// Compares two texts by their bytes, with A to Z taken as a to z.
 fn order(one: &[u8], other: &[u8]) -> Ordering
     ensures { result
         ≡ slice_cmp nat_cmp (map to_ascii_lowercase one.now) (map to_ascii_lowercase other.now) }

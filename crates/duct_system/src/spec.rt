@@ -1,4 +1,4 @@
-//! The spec of a command: the words, the folder, the variables and the streams that its child is started with.
+//! The spec of a command: the words, folder, variables and streams that its child is started with.
 ghost use Rattle.std.specs.Prelude.{◌≡◌, ◌≢◌, [], ◌∷◌, ◌++◌, map, string_bytes, Some, IfOk, IfErr, IsOkUnless, OnOk, OnErr};
 ghost use Rattle.std.specs.Option.{option_copied, option_map};
 ghost use Rattle.duct_system.specs.SpecView.{SpecView, AreOrdered, value_of, with_var, without_var, var_view, texts_of, port_of, gives, GivesNothing};
@@ -12,16 +12,17 @@ use std::collections::BTreeMap;
 use std::convert::AsStr;
 use std::marker::Model;
 
-/// Where one of the three streams of a child goes.
+/// What one of the three streams of a child is connected to.
 #[derive(Clone, Copy, Debug, PartialEq, Eq)]
 pub enum Port {
-    /// To the parent's own stream.
+    /// The parent's own stream.
     Inherit,
-    /// To nothing.
+    /// Nothing.
     Null,
-    /// To an end that the start found for it.
+    /// An end that the start found for it.
     Given,
-    /// To the end at this place of those that stand beside the hook which says so, from 0.
+    /// The end at this place, counted from 0, among the ends that were passed with the hook that
+    /// names it.
     Place(usize),
 }
 
@@ -33,7 +34,8 @@ pub enum Stream {
     Err,
 }
 
-/// What a child is to be started with. A start makes it, its hooks may change it, and `System::spawn` is given it.
+/// What a child is started with. A start makes it, the hooks may change it, and `System::spawn`
+/// takes it.
 #[derive(Debug, Drop)]
 pub struct CommandSpec {
     words: Vec<String>,
@@ -61,8 +63,8 @@ impl Model for CommandSpec {
     } };
 }
 
-/// The spec of these parts: the program and its arguments, the folder if one is set, the whole environment of the
-/// child, and its streams. For a start alone.
+/// Returns the spec with these parts: the program and its arguments, the folder if one is set, the
+/// whole environment of the child, and its streams. It is meant for a start only.
 pub fn spec_of(
     words: Vec<String>,
     folder: Option<String>,
@@ -91,14 +93,14 @@ pub fn spec_of(
 }
 
 impl CommandSpec {
-    /// The program and its arguments.
+    /// Returns the program and its arguments.
     pub fn words(&self) -> &[String]
         ensures { map string_bytes result.now ≡ self.now.words }
     {
         self.words.as_slice()
     }
 
-    /// The folder that the child starts in, if it is not the parent's.
+    /// Returns the folder that the child starts in, or `None` if it is the parent's.
     pub fn folder(&self) -> Option<&str>
         ensures { option_copied result ≡ self.now.folder }
     {
@@ -108,7 +110,8 @@ impl CommandSpec {
         }
     }
 
-    /// The value of a variable of the child, if it has one of that name, in any spelling.
+    /// Returns the value of the child's variable with this name, in any spelling, or `None` if
+    /// there is none.
     pub fn var(&self, name: &str) -> Option<&str>
         ensures { option_copied result ≡ value_of name.now self.now.vars }
     {
@@ -120,7 +123,8 @@ impl CommandSpec {
         None
     }
 
-    /// All variables of the child, each in its spelling, in order of name. Refused, by `Error::Memory`, only for want of memory.
+    /// Returns all variables of the child, each in its spelling, in order of name. Fails only with
+    /// `Error::Memory`, at an allocation failure.
     pub fn vars(&self) -> Result<Vec<(&str, &str)>, Error>
         ensures vars { IfOk result
             (λ pairs. map (λ p. (p.0.now, p.1.now)) pairs.items ≡ self.now.vars) }
@@ -134,7 +138,7 @@ impl CommandSpec {
         Ok(pairs)
     }
 
-    /// Where a stream of the child goes.
+    /// Returns what a stream of the child is connected to.
     pub fn port(&self, stream: Stream) -> Port
         ensures { result ≡ port_of stream self.now }
     {
@@ -147,7 +151,8 @@ impl CommandSpec {
 }
 
 impl CommandSpec {
-    /// Adds an argument at the end. Refused, by `Error::Memory`, only for want of memory; the spec is then as it was.
+    /// Adds an argument at the end. Fails only with `Error::Memory`, at an allocation failure, and
+    /// leaves the spec as it was.
     pub fn arg(&mut self, arg: &str) -> Result<(), Error>
         ensures ok { OnOk result
             (self.new ≡ record self.old { words = self.old.words ++ arg.now ∷ [] }) }
@@ -159,7 +164,8 @@ impl CommandSpec {
         Ok(())
     }
 
-    /// Adds arguments at the end. Refused, by `Error::Memory`, only for want of memory; the spec is then as it was.
+    /// Adds arguments at the end. Fails only with `Error::Memory`, at an allocation failure, and
+    /// leaves the spec as it was.
     pub fn args(&mut self, args: &[&str]) -> Result<(), Error>
         ensures ok { OnOk result
             (self.new ≡ record self.old { words = self.old.words ++ texts_of args.now }) }
@@ -171,8 +177,9 @@ impl CommandSpec {
         Ok(())
     }
 
-    /// Gives a variable a value, in place of the one that it had in any spelling: the spelling that is there is kept. Refused,
-    /// by `Error::Memory`, only for want of memory; the spec is then as it was.
+    /// Sets a variable. If there is one with this name, in any spelling, its value is replaced and
+    /// its spelling is kept. Fails only with `Error::Memory`, at an allocation failure, and leaves
+    /// the spec as it was.
     pub fn env(&mut self, name: &str, value: &str) -> Result<(), Error>
         ensures ok { OnOk result
             (self.new ≡ record self.old { vars = with_var name.now value.now self.old.vars }) }
@@ -186,22 +193,22 @@ impl CommandSpec {
         Ok(())
     }
 
-    /// Takes a variable away, if the child has one of that name, in any spelling.
+    /// Removes the variable with this name, in any spelling, if the child has one.
     pub fn env_remove(&mut self, name: &str)
         ensures { self.new ≡ record self.old { vars = without_var name.now self.old.vars } }
     {
         self.vars.retain(|other, _| !other.is(name));
     }
 
-    /// Takes all variables away.
+    /// Removes all variables.
     pub fn env_clear(&mut self)
         ensures { self.new ≡ record self.old { vars = [] } }
     {
         self.vars.clear();
     }
 
-    /// Sets the folder that the child starts in. Refused, by `Error::Memory`, only for want of memory; the spec is then as
-    /// it was.
+    /// Sets the folder that the child starts in. Fails only with `Error::Memory`, at an allocation
+    /// failure, and leaves the spec as it was.
     pub fn current_dir(&mut self, folder: &str) -> Result<(), Error>
         ensures ok { OnOk result (self.new ≡ record self.old { folder = Some folder.now }) }
         ensures err { OnErr result (self.new ≡ self.old) }
@@ -211,7 +218,8 @@ impl CommandSpec {
         Ok(())
     }
 
-    /// Sets where the child's stdin comes from: the parent's, nothing, or an end that stands beside the hook.
+    /// Connects the child's stdin to the parent's stdin, to nothing, or to an end that was passed
+    /// with the hook.
     pub fn stdin(&mut self, port: Port)
         requires { port ≢ Port.Given }
         ensures { self.new ≡ record self.old { input = port } }
@@ -219,7 +227,8 @@ impl CommandSpec {
         self.stdin = port;
     }
 
-    /// Sets where the child's stdout goes: to the parent's, to nothing, or to an end that stands beside the hook.
+    /// Connects the child's stdout to the parent's stdout, to nothing, or to an end that was passed
+    /// with the hook.
     pub fn stdout(&mut self, port: Port)
         requires { port ≢ Port.Given }
         ensures { self.new ≡ record self.old { output = port } }
@@ -227,7 +236,8 @@ impl CommandSpec {
         self.stdout = port;
     }
 
-    /// Sets where the child's stderr goes: to the parent's, to nothing, or to an end that stands beside the hook.
+    /// Connects the child's stderr to the parent's stderr, to nothing, or to an end that was passed
+    /// with the hook.
     pub fn stderr(&mut self, port: Port)
         requires { port ≢ Port.Given }
         ensures { self.new ≡ record self.old { error = port } }
@@ -236,7 +246,7 @@ impl CommandSpec {
     }
 }
 
-// The texts as words.
+// Returns copies of the texts.
 fn texts(alloc: Global, texts: &[&str]) -> Result<Vec<String>, Error>
     ensures words { IfOk result (λ words. map string_bytes words.items ≡ texts_of texts.now) }
     ensures memory { IsOkUnless result Error.Memory }
@@ -248,7 +258,8 @@ fn texts(alloc: Global, texts: &[&str]) -> Result<Vec<String>, Error>
     Ok(words)
 }
 
-/// Makes a stream one that is given an end. For a start alone: a hook that calls this breaks its promise.
+/// Sets a stream to `Given`. It is meant for a start only: a hook that calls it breaks its
+/// contract.
 pub fn give(spec: &mut CommandSpec, stream: Stream)
     ensures { spec.new ≡ gives stream spec.old }
 {
@@ -259,22 +270,23 @@ pub fn give(spec: &mut CommandSpec, stream: Stream)
     }
 }
 
-/// What changes the spec of a command before its child is started.
+/// A hook: it changes the spec of a command before its child is started.
 pub trait Hook: Drop {
-    /// The specs that it may make of a spec.
+    /// The specs into which it may change a spec.
     ghost allows: { Self → SpecView → SpecView → Type 0 };
 
-    /// The faults by which it may refuse a spec.
+    /// The faults with which it may refuse a spec.
     ghost refuses: { Self → SpecView → Fault → Type 0 };
 
-    /// Changes the spec, or refuses it: the child is then not started. It makes no stream `Given` that was not.
+    /// Changes the spec, or refuses it with a fault: the child is then not started. It makes no
+    /// stream `Given` that was not `Given` before.
     fn change(&self, spec: &mut CommandSpec) -> Result<(), Fault>
         ensures ok { OnOk result (allows self.now spec.old spec.new) }
         ensures err { IfErr result (refuses self.now spec.old) }
         ensures given { OnOk result (GivesNothing spec.old spec.new) };
 }
 
-/// A hook of any type, as an expression keeps it.
+/// A hook of any type, as an expression stores it.
 pub type HookBox = Box<dyn Hook + Send + Sync>;
 
 impl Hook for HookBox {

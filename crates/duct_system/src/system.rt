@@ -1,4 +1,4 @@
-//! The interface to the operating system: what may be asked of it, what it answers, and the journal it keeps.
+//! The interface to the operating system: its requests, their results, and the journal it keeps.
 ghost use Rattle.std.specs.Prelude.{◌≡◌, ℕ, Bool, ◌<◌, ◌≤◌, min, length, map, Some, None, Ok, Err, IfOk, IfErr, string_bytes};
 ghost use Rattle.std.specs.declared.option.Option.{Option};
 ghost use Rattle.std.specs.declared.result.Result.{Result};
@@ -21,7 +21,8 @@ use std::io::Read;
 use std::sync::Arc;
 use std::time::Duration;
 
-/// Why the system refused a request: io's kinds of these names, and `Other` for each other one.
+/// Why the system refused a request: the kinds of `io::ErrorKind` with these names, and `Other` for
+/// all others.
 #[derive(Clone, Copy, Debug, PartialEq, Eq)]
 pub enum Kind {
     NotFound,
@@ -34,14 +35,14 @@ pub enum Kind {
     Other,
 }
 
-/// A request that the system refused.
+/// The error of a request that the system refused.
 #[derive(Clone, Copy, Debug, PartialEq, Eq)]
 pub struct Fault {
     pub kind: Kind,
 }
 
 impl Fault {
-    /// The fault of a kind.
+    /// Returns the fault of this kind.
     pub fn new(kind: Kind) -> Fault
         ensures { result.kind ≡ kind }
     {
@@ -56,11 +57,14 @@ pub enum Side {
     Err,
 }
 
-/// What a child gets as one of its three streams: the parent's own, none, or an end that is handed over.
+/// What a child gets as one of its three streams.
 #[derive(Clone, Copy, Debug, PartialEq, Eq, Drop)]
 pub enum Stdio<T> {
+    /// The parent's own stream.
     Inherit,
+    /// Nothing, as `/dev/null`.
     Null,
+    /// This end, which is passed on to the child.
     End(T),
 }
 
@@ -69,12 +73,12 @@ pub enum Stdio<T> {
 pub enum ExitStatus {
     /// It exited with this code.
     Code(i32),
-    /// A signal of this number ended it.
+    /// A signal with this number ended it.
     Signal(i32),
 }
 
 impl ExitStatus {
-    /// Whether it exited with code 0.
+    /// Returns whether it exited with code 0.
     pub fn success(self) -> bool
         ensures { result ≡ is_success self }
     {
@@ -84,7 +88,7 @@ impl ExitStatus {
         }
     }
 
-    /// The code it exited with, if no signal ended it.
+    /// Returns the exit code, or `None` if a signal ended it.
     pub fn code(self) -> Option<i32>
         ensures { result ≡ code_of self }
     {
@@ -94,7 +98,7 @@ impl ExitStatus {
         }
     }
 
-    /// The signal that ended it, if it did not exit.
+    /// Returns the signal that ended it, or `None` if it exited.
     pub fn signal(self) -> Option<i32>
         ensures { result ≡ signal_of self }
     {
@@ -105,7 +109,8 @@ impl ExitStatus {
     }
 }
 
-/// How an expression ended, with the bytes that it wrote to what it captured.
+/// How an expression ended: its exit status, and the bytes that were captured from stdout and
+/// stderr.
 #[derive(Debug, PartialEq, Eq, Drop)]
 pub struct Output {
     pub status: ExitStatus,
@@ -113,34 +118,42 @@ pub struct Output {
     pub stderr: Vec<u8>,
 }
 
-/// What stands in the journal: a request with its answer. An end and a child stand there by their numbers, and an end
-/// that a request was given is spent, whatever was answered.
+/// An entry of the journal: a request with its result. Ends and children are recorded by their
+/// numbers. An end that a request takes by value is spent, whatever the result is.
 #[derive(Debug, Drop)]
 pub enum Entry {
-    /// The variables of the parent's environment, in the order answered.
+    /// The variables of the parent's environment, in the order in which the system returned them.
     Environment(Result<Vec<(String, String)>, Fault>),
-    /// The read end and the write end.
+    /// The read end, then the write end.
     Pipe(Result<(u64, u64), Fault>),
+    /// The path, and the end.
     OpenRead(String, Result<u64, Fault>),
+    /// The path, and the end.
     Create(String, Result<u64, Fault>),
-    /// The end that was lent, and the new one.
+    /// The end that was borrowed, and the new one.
     Duplicate(u64, Result<u64, Fault>),
+    /// The stream, and the new end of it.
     Parent(Side, Result<u64, Fault>),
+    /// The path, and its canonical path.
     Canonicalize(String, Result<String, Fault>),
     /// The spec, the three streams in the order stdin, stdout, stderr, and the child.
     Spawn(CommandSpec, [Stdio<u64>; 3], Result<u64, Fault>),
+    /// The end that the worker writes to, and the bytes.
     Feed(u64, Arc<Vec<u8>>, Result<(), Fault>),
+    /// The end that the worker reads.
     Drain(u64, Result<(), Fault>),
+    /// The end that the reader reads.
     Reader(u64),
+    /// The end that was closed.
     Close(u64),
 }
 
-/// What has a number that the system gave it. No other end or child has that of an end or a child; a job has that of the end
-/// that it was given.
+/// A value with a number from the system. No two ends or children of a system have the same number.
+/// A job has the number of the end that it was given.
 pub trait Numbered: Drop {
     ghost number_of: { Self → ℕ };
 
-    /// Its number, which never changes.
+    /// Returns its number, which never changes.
     fn number(&self) -> u64
         ensures { result ≡ number_of self.now };
 }
@@ -154,39 +167,44 @@ pub enum Order {
 
 /// A child process. Its number and its `id` never change.
 pub trait Child: Numbered {
-    /// What a child of this number may answer to a poll.
+    /// What a poll of the child with this number may return.
     ghost may_answer: { ℕ → Answer → Type 0 };
 
-    /// What a child of this number may answer to an order that was noted, and to one that wasn't.
+    /// What an order to the child with this number may return, for an order that was noted (`true`)
+    /// and for one that wasn't.
     ghost may_obey: { ℕ → Order → Bool → Obeyed → Type 0 };
 
-    /// Its number and `id`, and what it keeps of the polls and the orders so far.
+    /// Its number and its `id`, and what it stores of the polls and the orders so far.
     ghost child_view: { Self → ChildView };
 
-    /// Asks whether the child has ended, without waiting and without memory. Once it has, each poll answers that ending.
+    /// Polls the child: returns its exit status if it has ended, and `None` while it runs. Once a
+    /// poll has returned an exit status, each later poll returns it again. Fails if the system
+    /// refuses the request. It doesn't block and doesn't allocate.
     fn poll(&mut self) -> Result<Option<ExitStatus>, Fault>
         ensures { PollsChild may_answer (child_view self.old) result (child_view self.new) };
 
-    /// Ends the child, without waiting for it. Where there is no memory to note the order, nobody is asked and the answer
-    /// is `OutOfMemory`.
+    /// Kills the child, and doesn't wait until it has ended. Fails if the system refuses the
+    /// request. If the allocation that notes the order fails, no request is made and it fails with
+    /// `OutOfMemory`.
     fn kill(&mut self) -> Result<(), Fault>
         ensures { OrdersChild may_obey Order.Kill (child_view self.old) result
             (child_view self.new) };
 
-    /// Sends the child a signal. This may wait for a program that the system asks. Refused for want of memory as `kill` is.
+    /// Sends the child the signal with this number. It may block until a program has ended that the
+    /// system runs for this. Fails as `kill` does.
     fn signal(&mut self, signal: i32) -> Result<(), Fault>
         ensures { OrdersChild may_obey (Order.Signal signal) (child_view self.old) result
             (child_view self.new) };
 
-    /// The number by which the machine knows the process.
+    /// Returns the process id, by which the machine knows the child.
     fn id(&self) -> u32
         ensures { result ≡ (child_view self.now).process };
 
-    /// The number in the view is the child's own.
+    /// The number in the view is the child's number.
     ghost has_number: { (child : Self) → (child_view child).number ≡ Self.number_of child };
 }
 
-/// What a job says when it is asked.
+/// What a poll of a job returns.
 #[derive(Clone, Copy, Debug, PartialEq, Eq, Drop)]
 pub enum Said<T> {
     Running,
@@ -194,49 +212,57 @@ pub enum Said<T> {
     Fault(Fault),
 }
 
-/// A worker that reads or writes beside the caller. Its number is that of the end that it was given, and never changes.
+/// A worker that reads or writes while the caller goes on. Its number is that of the end that it
+/// was given, and never changes.
 pub trait Job: Numbered {
-    /// What it gives once it is done.
+    /// The result of a job that is done.
     type Result: Drop;
 
-    /// The result, said by one more owner.
+    /// The second result is the first one, held by one more owner.
     ghost same: { Self.Result → Self.Result → Type 0 };
 
-    /// That one more owner of the result may be refused.
+    /// Making one more owner of the result may fail.
     ghost refusable: { Type 0 };
 
-    /// What a job of this number may say.
+    /// What a poll of the job with this number may return.
     ghost may_say: { ℕ → Said Self.Result → Type 0 };
 
-    /// Its number, and what it keeps of the polls so far.
+    /// Its number, and what it stores of the polls so far.
     ghost job_view: { Self → JobView Self.Result };
 
-    /// Asks the job, without waiting. A result is said again at each poll, or `Running` where one more owner of it is
-    /// refused; a fault is said again.
+    /// Polls the job. It doesn't block. Once a poll has returned `Done`, each later poll returns
+    /// the same result, or `Running` if one more owner of the result can't be made. Once a poll has
+    /// returned a fault, each later poll returns it again.
     fn poll(&mut self) -> Said<Self::Result>
         ensures { PollsJob may_say same refusable (job_view self.old) result (job_view self.new) };
 
-    /// The number in the view is the job's own.
+    /// The number in the view is the job's number.
     ghost has_number: { (job : Self) → (job_view job).number ≡ Self.number_of job };
 }
 
-/// A clock, whose moments count from a zero of its own.
+/// A clock. It counts time from a zero of its own.
 pub trait Clock {
     /// What the clock may show.
     ghost may_show: { Self → Duration → Type 0 };
 
-    /// How long after the clock's zero it is.
+    /// Returns the time since the clock's zero.
     fn now(&self) -> Duration
         ensures { may_show self.now result };
 }
 
-/// The operating system. Each call from `environment` to `close` adds one entry to the journal, its request and its
-/// answer. A call that is given no end, and finds no memory for its entry or for the room of the ends that it would
-/// get, asks nothing, adds no entry and answers `OutOfMemory`. An end that a call is given is spent, whatever is
-/// answered, and such a call always adds its entry, in the room that was made as the end was got. Ends and children get
-/// their numbers from one count that only grows, also where the journal is emptied.
+/// The operating system. Each call from `environment` to `close` adds one entry to the journal: the
+/// request with its result. A call fails with a fault if the system refuses its request.
+///
+/// A call that takes no end by value fails with `OutOfMemory` if there is no memory for its entry,
+/// or for the room of the ends that it would return. It then makes no request and adds no entry. A
+/// call that takes an end by value spends it, whatever the result is. It always adds its entry, in
+/// the room that was reserved when the end was returned.
+///
+/// Ends and children get their numbers from one count that only grows, also when the journal is
+/// cleared.
 pub trait System {
-    /// One side of a pipe, a file or a stream of the parent's, held open until it is given back.
+    /// An open file descriptor: one side of a pipe, a file, or a stream of the parent. It stays
+    /// open until it is spent.
     type End: Numbered;
 
     /// A child process that was started.
@@ -245,19 +271,19 @@ pub trait System {
     /// A worker that writes bytes to an end.
     type Feed: Job<Result = ()>;
 
-    /// A worker that reads an end to its end, and gives the bytes.
+    /// A worker that reads an end to EOF, and returns the bytes.
     type Drain: Job<Result = Arc<Vec<u8>>>;
 
-    /// What reads an end for the caller.
+    /// A reader of an end, for the caller.
     type Reader: Read + Drop;
 
     /// The journal, with the count of numbers and the room for more entries.
     ghost journal_view: { Self → JournalView };
 
-    /// What the reader of the end of this number may be, before anything is read.
+    /// What the reader of the end with this number may be, before anything is read.
     ghost may_read: { ℕ → Self.Reader → Type 0 };
 
-    /// The parent's variables. A name may be answered twice.
+    /// Returns the parent's environment variables. A name may occur twice.
     fn environment(&mut self) -> Result<Vec<(String, String)>, Fault>
         ensures ok { IfOk result (λ pairs.
             Asks (Environment (Ok (map pair_text pairs.items))) (journal_view self.old)
@@ -266,7 +292,7 @@ pub trait System {
             IsRefused (Environment (Err fault)) 0 fault (journal_view self.old)
             (journal_view self.new)) };
 
-    /// A pipe: its read end, then its write end.
+    /// Opens a pipe. Returns its read end, then its write end.
     fn pipe(&mut self) -> Result<(Self::End, Self::End), Fault>
         ensures ok { IfOk result (λ ends.
             let read = Self.End.number_of ends.0 in
@@ -276,7 +302,7 @@ pub trait System {
         ensures err { IfErr result (λ fault.
             IsRefused (Pipe (Err fault)) 0 fault (journal_view self.old) (journal_view self.new)) };
 
-    /// A file, opened to be read.
+    /// Opens a file for reading.
     fn open_read(&mut self, path: &str) -> Result<Self::End, Fault>
         ensures ok { IfOk result (λ end.
             let number = Self.End.number_of end in
@@ -286,7 +312,7 @@ pub trait System {
             IsRefused (OpenRead path.now (Err fault)) 0 fault (journal_view self.old)
             (journal_view self.new)) };
 
-    /// A file, made or emptied, to be written.
+    /// Opens a file for writing. The file is created, or truncated if it exists.
     fn create(&mut self, path: &str) -> Result<Self::End, Fault>
         ensures ok { IfOk result (λ end.
             let number = Self.End.number_of end in
@@ -296,7 +322,7 @@ pub trait System {
             IsRefused (Create path.now (Err fault)) 0 fault (journal_view self.old)
             (journal_view self.new)) };
 
-    /// One more end of what the lent end reads or writes.
+    /// Returns one more end of what the borrowed end reads or writes.
     fn duplicate(&mut self, end: &Self::End) -> Result<Self::End, Fault>
         ensures ok { IfOk result (λ made.
             let lent = Self.End.number_of end.now in
@@ -308,7 +334,7 @@ pub trait System {
             IsRefused (Duplicate lent (Err fault)) 0 fault (journal_view self.old)
             (journal_view self.new)) };
 
-    /// One more end of the parent's own stdout or stderr.
+    /// Returns one more end of the parent's own stdout or stderr.
     fn parent(&mut self, side: Side) -> Result<Self::End, Fault>
         ensures ok { IfOk result (λ made.
             let number = Self.End.number_of made in
@@ -318,7 +344,7 @@ pub trait System {
             IsRefused (Parent side (Err fault)) 0 fault (journal_view self.old)
             (journal_view self.new)) };
 
-    /// The canonical name of a path.
+    /// Returns the canonical path of a path.
     fn canonicalize(&mut self, path: &str) -> Result<String, Fault>
         ensures ok { IfOk result (λ text.
             Asks (Canonicalize path.now (Ok (string_bytes text))) (journal_view self.old)
@@ -327,8 +353,8 @@ pub trait System {
             IsRefused (Canonicalize path.now (Err fault)) 0 fault (journal_view self.old)
             (journal_view self.new)) };
 
-    /// Starts a child with these streams, in the order stdin, stdout, stderr. Where no stream is an end, there may be no
-    /// memory for the entry.
+    /// Starts a child with these streams, in the order stdin, stdout, stderr. If none of them is an
+    /// end, there may be no memory for the entry.
     fn spawn(&mut self, spec: CommandSpec, io: [Stdio<Self::End>; 3]) -> Result<Self::Child, Fault>
         requires { min 1 (length (ends_of io)) ≤ (journal_view self.old).room }
         ensures ok { IfOk result (λ child.
@@ -342,7 +368,7 @@ pub trait System {
             IsRefused entry (length (ends_of io)) fault (journal_view self.old)
             (journal_view self.new)) };
 
-    /// Starts a worker that writes the bytes to the end, closes it and ends.
+    /// Starts a worker that writes the bytes to the end and then closes it.
     fn start_feed(&mut self, end: Self::End, bytes: Arc<Vec<u8>>) -> Result<Self::Feed, Fault>
         requires { 0 < (journal_view self.old).room }
         ensures ok { IfOk result (λ job.
@@ -354,7 +380,7 @@ pub trait System {
             let entry = Feed (Self.End.number_of end) (arc_value bytes).items (Err fault) in
             GivesEnds entry 1 (journal_view self.old) (journal_view self.new)) };
 
-    /// Starts a worker that reads the end to its end, closes it and gives the bytes.
+    /// Starts a worker that reads the end to EOF, closes it and returns the bytes.
     fn start_drain(&mut self, end: Self::End) -> Result<Self::Drain, Fault>
         requires { 0 < (journal_view self.old).room }
         ensures ok { IfOk result (λ job.
@@ -366,33 +392,33 @@ pub trait System {
             GivesEnds (Drain (Self.End.number_of end) (Err fault)) 1 (journal_view self.old)
             (journal_view self.new)) };
 
-    /// A reader of the end. It cannot fail and takes no memory.
+    /// Returns a reader of the end. It can't fail and doesn't allocate.
     fn reader(&mut self, end: Self::End) -> Self::Reader
         requires { 0 < (journal_view self.old).room }
         ensures added { GivesEnds (Reader (Self.End.number_of end)) 1 (journal_view self.old)
             (journal_view self.new) }
         ensures told { may_read (Self.End.number_of end) result };
 
-    /// Closes the end. It cannot fail and takes no memory.
+    /// Closes the end. It can't fail and doesn't allocate.
     fn close(&mut self, end: Self::End)
         requires { 0 < (journal_view self.old).room }
         ensures { GivesEnds (Close (Self.End.number_of end)) 1 (journal_view self.old)
             (journal_view self.new) };
 
-    /// The entries so far, the oldest first.
+    /// Returns the entries so far, oldest first.
     fn journal(&self) -> &[Entry]
         ensures { map entry_view result.now ≡ (journal_view self.now).entries };
 
-    /// Empties the journal. The numbers go on from where they were.
+    /// Clears the journal. The count of numbers isn't reset.
     fn clear_journal(&mut self)
         ensures { IsCleared (journal_view self.old) (journal_view self.new) };
 
     /// Three streams fit in memory.
     ghost streams_fit: { StreamsFit Self.End.row };
 
-    /// What a drain says again are the same bytes.
+    /// A drain that returns its result again returns the same bytes.
     ghost same_bytes: { MeansSameBytes Self.Drain.same };
 
-    /// What a feed says has no owner that could be refused.
+    /// One more owner of a feed's result can always be made.
     ghost feeds_say_again: { ¬ Self.Feed.refusable };
 }

@@ -1,20 +1,20 @@
-//! A small generator of numbers for random tests, the same ones in every run.
+//! A small random number generator for tests. A seed gives the same numbers in every run.
 
-/// The state of a linear congruential generator, with Knuth's factor.
+/// The state of a linear congruential generator with Knuth's multiplier.
 #[derive(Clone, Copy)]
 pub struct Dice {
     state: u64,
 }
 
 impl Dice {
-    /// The numbers of this seed.
+    /// Creates the generator of this seed.
     pub fn new(seed: u64) -> Dice {
         let mut dice = Dice { state: seed };
         let _ = dice.roll(1);
         dice
     }
 
-    /// A number below `sides`, or 0 where there is no side.
+    /// Returns a number below `sides`, or 0 if `sides` is 0.
     pub fn roll(&mut self, sides: u64) -> u64 {
         self.state = self
             .state

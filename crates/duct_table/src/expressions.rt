@@ -1,12 +1,19 @@
-//! Expressions that are written as texts: `a stdin_null b pipe` is `a.stdin_null().pipe(&b)`.
-//! The arguments of a call stand behind a `=` and are parted by commas: `a env=A,2 dir=/in`, and pairs by colons:
-//! `full_env=A:1,B:2`. A word that is no call is a command: `echo,hi` has two words. What stands between two backticks is one word, also
-//! with spaces and `=` in it, and is a command where it stands alone: `` `sh,-c,A=1; echo $A` dir=`/a b` ``.
-//! A program may be given as an owned text, `string=x`, as a path, `path=x`, or as an owned path, `path_buf=x`; `string_ref` and
-//! `path_buf_ref` are references to owned ones.
-//! `stdin_many=9,42` is an input of nine bytes 42. `before_spawn=x,7,8` is a hook that adds the word `x`, with the ends of the numbers 7 and 8
-//! beside it; what else a hook may do stands in `hooks`. `unchecked=9` is nine nodes of that call. `again` is the last expression
-//! once more: `a again pipe` is `a.pipe(&a)`. `pipes=9` is nine pipes of which the last expression is the right side, each the left side of the next.
+//! Expressions written as texts: `a stdin_null b pipe` is `a.stdin_null().pipe(&b)`.
+//!
+//! - The arguments of a call follow a `=` and are separated by commas: `a env=A,2 dir=/in`. A pair
+//!   has a colon: `full_env=A:1,B:2`.
+//! - A word that is not a call is a command: `echo,hi` is a command of two words.
+//! - The text between two backticks is one word, even with spaces and `=` in it. It is a command if
+//!   it is a step of its own: `` `sh,-c,A=1; echo $A` dir=`/a b` ``.
+//! - A program can be given as a `String`, `string=x`, as a `Path`, `path=x`, or as a `PathBuf`,
+//!   `path_buf=x`. `string_ref=x` and `path_buf_ref=x` are references to owned ones.
+//! - `stdin_many=9,42` is an input of nine bytes of value 42.
+//! - `before_spawn=x,7,8` is a hook that adds the word `x`, with the ends 7 and 8. `hooks`
+//!   describes what else a hook can do.
+//! - `unchecked=9` is nine nodes of that call.
+//! - `again` is the last expression once more: `a again pipe` is `a.pipe(&a)`.
+//! - `pipes=9` is nine pipes with the last expression as their right side. Each one is the left
+//!   side of the next: `a b pipes=2` is `a.pipe(&b).pipe(&b)`.
 use crate::hooks::hook;
 use crate::stop::Stop;
 use crate::words::{pairs, pieces};
@@ -18,23 +25,25 @@ use std::alloc::{AllocError, Global};
 use std::path::{Path, PathBuf};
 use std::sync::Arc;
 
-/// An expression of a row, whose hooks are those of the scripted system.
+/// An expression of a row, with hooks of the scripted system.
 pub type Tree<E> = Expression<E, ScriptHook>;
 
-/// A log in which the hooks of an expression note their calls, if there is one.
+/// The log in which the hooks of an expression note their calls, if there is one.
 pub type Log<'c> = Option<&'c Arc<CallLog>>;
 
-/// Who lends the ends that an expression names by their numbers.
+/// Lends the ends that an expression names by their numbers.
 pub trait Lender {
+    /// The ends that it lends.
     type End: Numbered;
 
-    /// The end of this number. Fails where it can't be lent.
+    /// Returns the end with this number. Fails if it can't be lent.
     fn lend(&mut self, number: u64) -> Result<Self::End, Stop>;
 }
 
-/// Lends ends of other scripted systems, of any number.
+/// Lends ends of other scripted systems, with any number from 1 to `u64::MAX - 1`.
 #[derive(Clone, Copy)]
 pub struct Strangers {
+    /// The allocator of those systems.
     pub alloc: Global,
 }
 
@@ -51,12 +60,14 @@ fn adopted(sys: &mut Script, number: u64) -> Result<ScriptEnd, Fault> {
     sys.adopt()
 }
 
-/// The expression of a text over the scripted system.
+/// Builds the expression of a text over the scripted system, with ends from `Strangers`. Fails as
+/// `written_with` does.
 pub fn written(alloc: Global, calls: Log, text: &str) -> Result<Tree<ScriptEnd>, Stop> {
     written_with(alloc, &mut Strangers { alloc }, calls, text)
 }
 
-/// The expression of a text, with the ends of this lender.
+/// Builds the expression of a text, with ends from this lender. Fails if a step is malformed, if an
+/// end can't be lent, if the steps don't leave exactly one expression, or on an allocation failure.
 pub fn written_with<L: Lender>(
     alloc: Global,
     lender: &mut L,
@@ -66,7 +77,8 @@ pub fn written_with<L: Lender>(
     only(written_all(alloc, lender, calls, text)?)
 }
 
-/// All expressions that the steps of a text leave, in order.
+/// Builds all expressions that the steps of a text leave, in order. Fails if a step is malformed,
+/// if an end can't be lent, or on an allocation failure.
 pub fn written_all<L: Lender>(
     alloc: Global,
     lender: &mut L,
@@ -86,7 +98,8 @@ pub fn written_all<L: Lender>(
     Ok(writing.built)
 }
 
-/// The steps of a text, which spaces part, but not between two backticks. Where two spaces follow one another an empty step stands.
+/// Splits a text into steps at whitespace, but not between two backticks. Between two spaces in a
+/// row there is an empty step.
 fn steps(alloc: Global, text: &str) -> Result<Vec<String>, AllocError> {
     let mut steps = Vec::new(alloc);
     steps.push(String::new(alloc))?;
@@ -104,7 +117,7 @@ fn steps(alloc: Global, text: &str) -> Result<Vec<String>, AllocError> {
     Ok(steps)
 }
 
-/// A text without the two backticks round it, if they are there.
+/// Removes the two backticks around a text, if it has them.
 fn unquoted(text: &str) -> &str {
     match text.strip_prefix('`') {
         Some(rest) => rest.strip_suffix('`').unwrap_or(rest),
@@ -112,7 +125,7 @@ fn unquoted(text: &str) -> &str {
     }
 }
 
-/// The one expression that is there.
+/// Returns the only expression. Fails if there is none, or more than one.
 fn only<E: Drop>(mut built: Vec<Tree<E>>) -> Result<Tree<E>, Stop> {
     let made = last(&mut built)?;
     if built.is_empty() {
@@ -122,7 +135,7 @@ fn only<E: Drop>(mut built: Vec<Tree<E>>) -> Result<Tree<E>, Stop> {
     }
 }
 
-/// Takes the last expression.
+/// Removes and returns the last expression.
 fn last<E>(built: &mut Vec<Tree<E>>) -> Result<Tree<E>, Stop> {
     match built.pop() {
         Some(tree) => Ok(tree),
@@ -130,13 +143,13 @@ fn last<E>(built: &mut Vec<Tree<E>>) -> Result<Tree<E>, Stop> {
     }
 }
 
-/// Whether a step is a call with its arguments, of which the name stands before the `=`.
+/// Whether a step is a call with arguments, by its text before the `=`.
 fn is_call(name: &str) -> bool {
     name.bytes()
         .all(|byte| byte == b'_' || byte.is_ascii_lowercase())
 }
 
-/// The expressions that were made of the steps so far.
+/// The expressions that the steps so far made.
 #[derive(Drop)]
 struct Writing<'l, 'c, L: Lender> {
     alloc: Global,
@@ -146,7 +159,8 @@ struct Writing<'l, 'c, L: Lender> {
 }
 
 impl<L: Lender> Writing<'_, '_, L> {
-    /// Makes a step: a call with its arguments, or one without; where it is quoted, a command.
+    /// Makes a step: a call with arguments, a call without arguments, or a command. A quoted step
+    /// is a command.
     fn step(&mut self, step: &str) -> Result<(), Stop> {
         match step.split_once('=') {
             Some((call, values)) if is_call(call) => self.with_values(call, unquoted(values)),
@@ -160,7 +174,7 @@ impl<L: Lender> Writing<'_, '_, L> {
         Ok(self.built.push(made)?)
     }
 
-    /// A call without arguments, a pipe of the last two, or a command.
+    /// Makes a call without arguments, a pipe of the last two expressions, or a command.
     fn bare(&mut self, step: &str) -> Result<(), Stop> {
         match step {
             "pipe" => self.pipe(),
@@ -183,7 +197,7 @@ impl<L: Lender> Writing<'_, '_, L> {
         self.push(piped)
     }
 
-    /// The last expression, which stays there.
+    /// Adds the last expression once more.
     fn again(&mut self) -> Result<(), Stop> {
         let made = match self.built.last() {
             Some(tree) => tree.clone()?,
@@ -192,7 +206,7 @@ impl<L: Lender> Writing<'_, '_, L> {
         self.push(made)
     }
 
-    /// A command of the words that commas part.
+    /// Adds a command whose words are separated by commas.
     fn command(&mut self, words: &str) -> Result<(), Stop> {
         let words = pieces(self.alloc, words)?;
         match words.split_first() {
@@ -204,7 +218,7 @@ impl<L: Lender> Writing<'_, '_, L> {
         }
     }
 
-    /// A command of one word in this form, or a call with arguments.
+    /// Adds a command of one word in this form, or makes a call with arguments.
     fn with_values(&mut self, call: &str, values: &str) -> Result<(), Stop> {
         if let Some(command) = program(self.alloc, call, values)? {
             return self.push(command);
@@ -221,7 +235,7 @@ impl<L: Lender> Writing<'_, '_, L> {
         self.push(made)
     }
 
-    /// This hook, with the ends of these numbers.
+    /// Adds the hook of a text to an expression, with the ends whose numbers follow the text.
     fn hooked(&mut self, inner: &Tree<L::End>, values: &str) -> Result<Tree<L::End>, Stop> {
         let (text, numbers) = values.split_once(',').unwrap_or((values, ""));
         let hook = hook(self.alloc, self.calls, text)?;
@@ -235,7 +249,7 @@ impl<L: Lender> Writing<'_, '_, L> {
     }
 }
 
-/// The command of a program that is given in this form, if there is such a form.
+/// The command whose program is given in this form, or `None` if there is no such form.
 fn program<E: Drop>(alloc: Global, form: &str, text: &str) -> Result<Option<Tree<E>>, Error> {
     let made = match form {
         "string" => duct::cmd(alloc, String::from_str(alloc, text)?, &[]),
@@ -248,7 +262,8 @@ fn program<E: Drop>(alloc: Global, form: &str, text: &str) -> Result<Option<Tree
     Ok(Some(made?))
 }
 
-/// A call on a stream that has no arguments.
+/// Makes a call on a stream that takes no arguments. Fails if there is no such call, or on an
+/// allocation failure.
 pub fn redirected<E: Drop>(inner: &Tree<E>, call: &str) -> Result<Tree<E>, Stop> {
     let made = match call {
         "stdin_null" => inner.stdin_null(),
@@ -264,7 +279,8 @@ pub fn redirected<E: Drop>(inner: &Tree<E>, call: &str) -> Result<Tree<E>, Stop>
     Ok(made?)
 }
 
-/// A call with an end.
+/// Makes a call with an end: `stdin_file`, `stdout_file`, or `stderr_file` for any other name.
+/// Fails as that call does.
 pub fn with_end<E: Drop>(inner: &Tree<E>, call: &str, end: E) -> Result<Tree<E>, Error> {
     match call {
         "stdin_file" => inner.stdin_file(end),
@@ -273,7 +289,8 @@ pub fn with_end<E: Drop>(inner: &Tree<E>, call: &str, end: E) -> Result<Tree<E>,
     }
 }
 
-/// A call with texts.
+/// Makes a call with texts as arguments. Fails if there is no such call, if an argument is
+/// malformed, or on an allocation failure.
 pub fn with_texts<E: Drop>(
     alloc: Global,
     inner: &Tree<E>,
@@ -299,13 +316,13 @@ pub fn with_texts<E: Drop>(
     Ok(made?)
 }
 
-/// So many bytes of this value: `9,42`.
+/// A number of bytes of one value: `9,42` is nine bytes of value 42.
 fn many(alloc: Global, values: &str) -> Result<Vec<u8>, Stop> {
     let (count, byte) = values.split_once(',').unwrap_or((values, "0"));
     Ok(vec![in alloc; byte.parse()?; count.parse()?]?)
 }
 
-/// This many pipes of the same right side.
+/// This many pipes with the same right side, each one the left side of the next.
 fn pipes<E: Drop>(left: Tree<E>, right: &Tree<E>, count: &str) -> Result<Tree<E>, Stop> {
     let mut made = left;
     for _ in 0..count.parse::<u64>()? {
@@ -314,7 +331,7 @@ fn pipes<E: Drop>(left: Tree<E>, right: &Tree<E>, count: &str) -> Result<Tree<E>
     Ok(made)
 }
 
-/// This many nodes of that call.
+/// This many `unchecked` nodes, at least one.
 fn unchecked<E: Drop>(inner: &Tree<E>, count: &str) -> Result<Tree<E>, Stop> {
     let mut made = inner.unchecked()?;
     for _ in 1..count.parse::<u64>()? {

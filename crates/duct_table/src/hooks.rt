@@ -1,7 +1,14 @@
-//! Hooks that are written as texts. `x` adds the word `x`; `out>0` lets stdout go to the end at the place 0 of those beside the
-//! hook, `out>inherit` to the parent's stream and `out>null` nowhere; `set:A:1` gives the variable `A` the value `1`, `unset:A`
-//! takes it away, and `unset:` takes all of them; `dir:/in` sets the folder; `refuse:Other` refuses each spec by `Other`, and
-//! `refuse_word:b:Other` each that has the word `b`; `label:1` is what a log knows it by. Several are parted by `+`: `err>1+x`.
+//! Hooks written as texts. The parts of a text are separated by `+`: `err>1+x`.
+//!
+//! - `x` adds the word `x`.
+//! - `out>0` sends stdout to the end at index 0 of the hook's ends, `out>inherit` to the parent's
+//!   stream, and `out>null` to nowhere.
+//! - `set:A:1` sets the variable `A` to `1`, `unset:A` removes it, and `unset:` removes all
+//!   variables.
+//! - `dir:/in` sets the folder.
+//! - `refuse:Other` refuses each spec with the fault `Other`, and `refuse_word:b:Other` refuses
+//!   each spec that has the word `b` before the hook changes it.
+//! - `label:1` sets the label under which a log notes the hook.
 use crate::expressions::Log;
 use crate::stop::Stop;
 use crate::words::{fault, stream};
@@ -9,7 +16,8 @@ use duct_script::hook::{Change, HookAnswer, ScriptHook, Target};
 use std::alloc::{AllocError, Global};
 use std::sync::Arc;
 
-/// The hook of a text.
+/// Builds the hook of a text. The hook notes its calls in the log, if there is one. Fails if a part
+/// is malformed, or on an allocation failure.
 pub fn hook(alloc: Global, calls: Log, text: &str) -> Result<ScriptHook, Stop> {
     let mut hook = ScriptHook::new(alloc);
     if let Some(calls) = calls {
@@ -21,7 +29,7 @@ pub fn hook(alloc: Global, calls: Log, text: &str) -> Result<ScriptHook, Stop> {
     Ok(hook)
 }
 
-/// Lets a hook do one thing more.
+/// Adds one part to a hook.
 fn tell(alloc: Global, hook: &mut ScriptHook, part: &str) -> Result<(), Stop> {
     match part.split_once(':') {
         Some(("refuse", kind)) => hook.answer = HookAnswer::Refuse(fault(kind)?),
@@ -69,7 +77,8 @@ fn target(place: &str) -> Result<Target, Stop> {
     }
 }
 
-/// Adds the words that a hook adds, by which rows know it.
+/// Appends the words that a hook adds. Rows identify a hook by these words. Fails on an allocation
+/// failure.
 pub fn push_words(text: &mut String, hook: &ScriptHook) -> Result<(), AllocError> {
     for change in hook.changes.iter() {
         if let Change::Word(word) = change {

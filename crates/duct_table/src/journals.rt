@@ -1,16 +1,19 @@
-//! Journals that are written as texts. Their entries are parted by `;`, and each is a request with its answer.
+//! Journals written as texts. The entries are separated by `;`, and each one is a request with its
+//! result.
 //!
 //! - `environment A:1,B:2`
 //! - `pipe 1 2`: the read end and the write end.
 //! - `open_read f 3`, `create f 3`, `parent out 3`.
-//! - `duplicate 3 4`: the end that was lent and the new one.
+//! - `duplicate 3 4`: the lent end and the new one.
 //! - `canonicalize ./x /real/x`
-//! - `spawn a b -> inherit 2 null`: the words and the three streams, an end by its number. Behind them may stand `in=/folder`,
-//!   `with=A:1,B:2` and `as=7`, the child's number, without which it is 90.
+//! - `spawn a b -> inherit 2 null`: the words and the three streams, with ends by their numbers.
+//!   These words can follow: `in=/folder`, `with=A:1,B:2` for the variables, and `as=7` for the
+//!   child's number, which is 90 otherwise.
 //! - `feed 2 xyz`, `drain 1`, `reader 1`, `close 1`.
 //!
-//! `refused=Other` stands for the answer of a request for a pipe, a file, another end, a canonical name or a child that was refused
-//! by that kind of fault, and for the bytes of a feed that was.
+//! `refused=Other` is a fault of this kind. It takes the place of the result in `pipe`,
+//! `open_read`, `create`, `parent`, `duplicate` and `canonicalize`, and of the bytes in `feed`. In
+//! `spawn` it is one of the words that can follow.
 use crate::stop::Stop;
 use crate::words::{fault, first_word, owned_pairs, side};
 use duct::{CommandSpec, Entry, Fault, Port, Stdio};
@@ -20,7 +23,7 @@ use std::alloc::{AllocError, Global};
 use std::collections::BTreeMap;
 use std::sync::Arc;
 
-/// The journal of a text.
+/// Builds the journal of a text. Fails if an entry is malformed, or on an allocation failure.
 pub fn journal(alloc: Global, text: &str) -> Result<Vec<Entry>, Stop> {
     let mut entries = Vec::new(alloc);
     for part in text.split(';') {
@@ -45,7 +48,7 @@ fn entry(alloc: Global, text: &str) -> Result<Entry, Stop> {
     }
 }
 
-/// The fault of an answer, if that is one.
+/// The fault of a result, if it is one.
 fn refused(answer: &str) -> Result<Option<Fault>, Stop> {
     match answer.strip_prefix("refused=") {
         Some(kind) => Ok(Some(fault(kind)?)),
@@ -63,7 +66,7 @@ fn pipe(answer: &str) -> Result<Entry, Stop> {
     Ok(Entry::Pipe(Ok((reader, writer))))
 }
 
-/// An answer that is the number of an end.
+/// Reads a result that is the number of an end, or a fault.
 fn number(answer: &str) -> Result<Result<u64, Fault>, Stop> {
     match refused(answer)? {
         Some(fault) => Ok(Err(fault)),
@@ -71,7 +74,7 @@ fn number(answer: &str) -> Result<Result<u64, Fault>, Stop> {
     }
 }
 
-/// The entry of a request that is made with one text or number.
+/// The entry of a request that takes one text or number.
 fn with_argument(alloc: Global, request: &str, rest: &str) -> Result<Entry, Stop> {
     let (argument, answer) = first_word(rest);
     match request {
@@ -83,7 +86,7 @@ fn with_argument(alloc: Global, request: &str, rest: &str) -> Result<Entry, Stop
     }
 }
 
-/// A feed of these bytes, or a refused one of none.
+/// The entry of a feed of these bytes, or of a refused feed of no bytes.
 fn feed(alloc: Global, end: u64, text: &str) -> Result<Entry, Stop> {
     let (bytes, answer) = match refused(text)? {
         Some(fault) => ("", Err(fault)),
@@ -114,7 +117,7 @@ fn file(
     }
 }
 
-/// What a child is given beside its words, and the answer.
+/// What a child gets besides its words, and the result of its spawn.
 #[derive(Clone, Copy)]
 struct Child<'t> {
     streams: [Stdio<u64>; 3],
@@ -149,7 +152,7 @@ fn given(text: &str) -> Result<Child<'_>, Stop> {
     Ok(given)
 }
 
-/// What a child is given, with one thing more.
+/// Adds one word to what a child gets.
 fn with<'t>(given: Child<'t>, word: &'t str) -> Result<Child<'t>, Stop> {
     let (key, value) = word.split_once('=').ok_or("no value")?;
     let mut given = given;

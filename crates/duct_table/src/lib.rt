@@ -1,6 +1,7 @@
-//! Rows of data: files of lines that say what is run over a system, and what has to come of it. This crate has what all tables share: the reader of
-//! the lines, expressions and the answers of a scripted system as texts, and what came of a call in words.
-//! Test support: nothing here is proved but that it is safe and ends.
+//! Tables of test data: files of rows that describe what is run over a system and what its outcome
+//! has to be. This crate has what all tables share: the reader of rows, texts for expressions and
+//! for the results of a scripted system, and texts for the outcomes of calls.
+//! Test support: the only properties proved here are safety and termination.
 #![tactic(auto)]
 
 pub mod dice;

@@ -1,21 +1,22 @@
-//! What comes of a call while requests for memory may be refused.
+//! Outcomes of calls while allocations may fail.
 use crate::stop::Stop;
 use duct_system::error::Error;
 use duct_system::system::Kind;
 
-/// What came of a call.
+/// The outcome of a call.
 #[derive(Clone, Copy, Debug, PartialEq, Eq)]
 pub enum MemoryOutcome {
-    /// As with ample memory.
+    /// The same outcome as without an allocation failure.
     Whole,
-    /// Memory was refused, by its name, and nothing was lost.
+    /// The call failed with an error that names an allocation failure, and nothing was lost.
     Refused,
-    /// Neither.
+    /// Neither of the two.
     Wrong,
 }
 
 impl MemoryOutcome {
-    /// What came of a call, where there was memory for what it needs.
+    /// Returns the outcome itself. For an error, returns `Refused` if it is an allocation failure,
+    /// and `Wrong` otherwise.
     pub fn of(made: Result<MemoryOutcome, Error>) -> MemoryOutcome {
         match made {
             Ok(came) => came,
@@ -23,7 +24,8 @@ impl MemoryOutcome {
         }
     }
 
-    /// What came of lines that ask no system, so that a refusal is the library's own.
+    /// Returns the outcome of lines that make no request to a system, so that an allocation failure
+    /// is the library's own. Any error but `Error::Memory` is `Wrong`.
     pub fn of_lines(tried: Result<MemoryOutcome, Stop>) -> MemoryOutcome {
         match tried {
             Ok(came) => came,
@@ -32,7 +34,7 @@ impl MemoryOutcome {
         }
     }
 
-    /// As with ample memory, if what was found is right.
+    /// Returns `Whole` if what was found is right, and `Wrong` otherwise.
     pub fn whole_if(right: bool) -> MemoryOutcome {
         if right {
             MemoryOutcome::Whole
@@ -41,7 +43,7 @@ impl MemoryOutcome {
         }
     }
 
-    /// A refusal, if what it left is right.
+    /// Returns `Refused` if what the failed call left is right, and `Wrong` otherwise.
     pub fn refused_if(right: bool) -> MemoryOutcome {
         if right {
             MemoryOutcome::Refused
@@ -50,7 +52,8 @@ impl MemoryOutcome {
         }
     }
 
-    /// What came of this call and of one more.
+    /// Returns the outcome of this call followed by one more: `Wrong` if one of them is `Wrong`,
+    /// else `Refused` if one of them is `Refused`, else `Whole`.
     pub fn then(self, next: MemoryOutcome) -> MemoryOutcome {
         match self {
             MemoryOutcome::Whole => next,
@@ -60,7 +63,7 @@ impl MemoryOutcome {
     }
 }
 
-/// Whether an error is want of memory: of the library, of the system, or of a hook.
+/// Whether an error is an allocation failure of the library, of the system or of a hook.
 pub fn is_memory(error: &Error) -> bool {
     match error {
         Error::Memory => true,

@@ -1,5 +1,5 @@
-//! What a row says of the system and of the pool before a start: the parent's variables, canonical names, requests that are
-//! refused, what children answer to polls, and the children that the pool keeps.
+//! What a row sets up before a start: the parent's variables, canonical paths, requests that are
+//! refused, results of the polls and orders of children, and the children that the pool keeps.
 use crate::stop::Stop;
 use crate::words::{fault, first_word, pairs, pieces};
 use duct::{ExitStatus, Fault, Pool};
@@ -15,15 +15,21 @@ use std::sync::Arc;
 /// The lines of a row about the system and the pool, as they are written.
 #[derive(Clone, Copy)]
 pub struct Scene<'t> {
+    /// The parent's variables: `A:1,B:2`.
     pub parent: &'t str,
+    /// Paths with their canonical paths: `./x:/real/x`.
     pub canonical: &'t str,
+    /// The requests that are refused, in the form of `set_refusals`.
     pub refuse: &'t str,
+    /// The results of the children, in the form of `set_children`.
     pub children: &'t str,
+    /// The results of the children that the pool keeps, in the form of `keep_children`.
     pub kept: &'t str,
 }
 
 impl<'t> Scene<'t> {
-    /// A system without variables that refuses nothing, whose children run on, and an empty pool.
+    /// A system with no variables that refuses no request and whose children keep running, and an
+    /// empty pool.
     pub fn plain() -> Scene<'t> {
         Scene {
             parent: "",
@@ -34,7 +40,8 @@ impl<'t> Scene<'t> {
         }
     }
 
-    /// A plain system whose children answer this, and a pool whose children answer what stands behind a `&`.
+    /// A plain system whose children return these results. The results of the children in the pool
+    /// follow a `&`.
     pub fn of(children: &'t str) -> Scene<'t> {
         let (children, kept) = children.split_once('&').unwrap_or((children, ""));
         let mut scene = Scene::plain();
@@ -43,7 +50,7 @@ impl<'t> Scene<'t> {
         scene
     }
 
-    /// The scene after a line about it, if the line of this key is one.
+    /// Returns the scene with this line added, or `None` if the key is not one of a scene.
     pub fn with(self, key: &str, text: &'t str) -> Option<Scene<'t>> {
         let mut scene = self;
         match key {
@@ -58,8 +65,8 @@ impl<'t> Scene<'t> {
     }
 }
 
-/// A system and a pool for a start, and the log of what is called. The numbers below `FIRST` are those of lent ends, and of the
-/// children that the pool keeps.
+/// A system and a pool for a start, and the log of calls. The numbers below `FIRST` are those of
+/// lent ends and of the children that the pool keeps.
 #[derive(Drop)]
 pub struct Bench {
     pub sys: Script,
@@ -67,13 +74,14 @@ pub struct Bench {
     pub calls: Arc<CallLog>,
 }
 
-/// The first number that the system gives.
+/// The first number that the system assigns.
 pub const FIRST: u64 = 100;
 
 /// How many calls the log keeps.
 pub const CALLS: usize = 512;
 
-/// The system and the pool of a scene.
+/// Builds the system and the pool of a scene. Fails if a line of the scene is malformed, or on an
+/// allocation failure.
 pub fn bench_of(alloc: Global, scene: Scene) -> Result<Bench, Stop> {
     let mut bench = Bench {
         sys: Script::new(alloc)?,
@@ -94,7 +102,7 @@ fn set(alloc: Global, bench: &mut Bench, scene: Scene) -> Result<(), Stop> {
     keep_children(alloc, bench, scene.kept)
 }
 
-/// Sets the parent's variables and the canonical names.
+/// Sets the parent's variables and the canonical paths.
 fn set_names(alloc: Global, sys: &mut Script, scene: Scene) -> Result<(), AllocError> {
     for (name, value) in pairs(alloc, scene.parent)? {
         sys.variable(name, value)?;
@@ -105,7 +113,8 @@ fn set_names(alloc: Global, sys: &mut Script, scene: Scene) -> Result<(), AllocE
     Ok(())
 }
 
-/// Sets the requests that are refused: `Spawn 2 NotFound; Close 1 Other`.
+/// Sets the requests that are refused: `Spawn 2 NotFound; Pipe 1 Other`. Fails if the text is
+/// malformed, or on an allocation failure.
 pub fn set_refusals(sys: &mut Script, refusals: &str) -> Result<(), Stop> {
     for refusal in refusals.split(';') {
         let refusal = refusal.trim();
@@ -124,7 +133,7 @@ fn set_refusal(sys: &mut Script, refusal: &str) -> Result<(), Stop> {
     Ok(sys.refuse_sort(sort, number, fault(kind)?)?)
 }
 
-/// The sort of request of this name.
+/// The sort of request with this name.
 fn sort(name: &str) -> Option<Sort> {
     match name {
         "Environment" => Some(Sort::Environment),
@@ -141,8 +150,9 @@ fn sort(name: &str) -> Option<Sort> {
     }
 }
 
-/// Sets what the children answer, in the order of their spawns: `running, code 0; Other`. Behind a slash stands what one answers to
-/// its orders: `running / done, Other`.
+/// Sets the poll results of the children, in the order of their spawns: `running, code 0; Other`.
+/// After a slash, a child has the results of its kills, which are also those of its signals:
+/// `running / done, Other`. Fails if the text is malformed, or on an allocation failure.
 pub fn set_children(alloc: Global, sys: &mut Script, children: &str) -> Result<(), Stop> {
     if !children.is_empty() {
         for child in children.split(';') {
@@ -161,7 +171,8 @@ fn child_script(alloc: Global, child: &str) -> Result<ChildScript, Stop> {
     Ok(script)
 }
 
-/// Lets the pool keep children that answer this, numbered from 1. Each is asked once as it is given.
+/// Gives the pool children with these results, numbered from 1. The pool polls each of them once
+/// when it takes it. Fails if the text is malformed, or on an allocation failure.
 pub fn keep_children(alloc: Global, bench: &mut Bench, children: &str) -> Result<(), Stop> {
     if !children.is_empty() {
         let mut number = 0_u64;
@@ -182,7 +193,7 @@ fn keep_child(alloc: Global, bench: &mut Bench, number: u64, answers: &str) -> R
     Ok(())
 }
 
-/// The answers that commas part.
+/// The poll results in a text, separated by commas.
 fn poll_answers(alloc: Global, answers: &str) -> Result<Vec<PollAnswer>, Stop> {
     let mut made = Vec::new(alloc);
     for answer in answers.split(',') {
@@ -191,7 +202,7 @@ fn poll_answers(alloc: Global, answers: &str) -> Result<Vec<PollAnswer>, Stop> {
     Ok(made)
 }
 
-/// `running`, `code 0`, `signal 9`, or the kind of a fault.
+/// Reads a poll result: `running`, `code 0`, `signal 9`, or the kind of a fault.
 fn poll_answer(answer: &str) -> Result<PollAnswer, Stop> {
     match first_word(answer) {
         ("running", _) => Ok(PollAnswer::Running),
@@ -201,7 +212,8 @@ fn poll_answer(answer: &str) -> Result<PollAnswer, Stop> {
     }
 }
 
-/// The answers to orders that commas part: `done`, or the kind of a fault. There is none in an empty text.
+/// Returns the results of orders in a text, separated by commas: `done`, or the kind of a fault. An
+/// empty text has none. Fails if a result is malformed, or on an allocation failure.
 pub fn order_answers(alloc: Global, answers: &str) -> Result<Vec<Result<(), Fault>>, Stop> {
     let mut made = Vec::new(alloc);
     for answer in pieces(alloc, answers)? {

@@ -1,4 +1,4 @@
-//! Why a line of a table stops.
+//! Why a line of a table stops its row.
 use crate::memory::is_memory;
 use duct_system::error::Error;
 use duct_system::system::Fault;
@@ -6,23 +6,23 @@ use std::alloc::{AllocError, AllocFailed};
 use std::num::ParseIntError;
 use std::{fmt, io};
 
-/// Why a line stops.
+/// Why a line stops its row.
 #[derive(Debug, Drop)]
 pub enum Stop {
-    /// The library's own error.
+    /// An error of the library.
     Error(Error),
-    /// An error of the files and streams of the test itself.
+    /// An error of the test's own files and streams.
     Io(io::ErrorKind),
-    /// A number that is none.
+    /// A text that is not a number.
     Number,
-    /// A word that is not known, or a promise that was not kept.
+    /// An unknown word, or a condition that does not hold.
     Text(&'static str),
-    /// This text was found where another one was wanted.
+    /// This text was found in place of another one.
     Found(String),
 }
 
 impl Stop {
-    /// Whether a request for memory was refused.
+    /// Whether the reason is an allocation failure.
     pub fn is_memory(&self) -> bool {
         match self {
             Stop::Error(error) => is_memory(error),

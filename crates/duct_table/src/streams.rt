@@ -1,9 +1,10 @@
-//! Where ends come from, in words.
+//! Texts that describe where ends come from.
 use duct::Entry;
 use duct_plain::checker::Source;
 use std::alloc::AllocError;
 
-/// Adds where an end comes from, one that was opened by its number.
+/// Appends where an end comes from. An end that was opened is shown by its number. Fails on an
+/// allocation failure.
 pub fn push_source(text: &mut String, source: Source) -> Result<(), AllocError> {
     match source {
         Source::Opened(number) => write!(text, " {number}"),
@@ -12,7 +13,8 @@ pub fn push_source(text: &mut String, source: Source) -> Result<(), AllocError> 
     }
 }
 
-/// Adds where an end comes from, one that was opened by the place of its entry in a trace.
+/// Appends where an end comes from. An end that was opened is shown by the index of its entry in a
+/// trace. Fails on an allocation failure.
 pub fn push_origin(text: &mut String, trace: &[&Entry], source: Source) -> Result<(), AllocError> {
     match source {
         Source::Opened(number) => push_opened(text, trace, number),
@@ -29,7 +31,7 @@ fn push_opened(text: &mut String, trace: &[&Entry], number: u64) -> Result<(), A
     write!(text, " unknown-{number}")
 }
 
-/// What the end of this number is, if an entry got it.
+/// What the end of this number is, if this entry returned it.
 fn end_of(entry: &Entry, number: u64) -> Option<&'static str> {
     match entry {
         Entry::Pipe(Ok((reader, _))) if *reader == number => Some("reader"),

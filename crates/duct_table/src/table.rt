@@ -1,27 +1,34 @@
-//! Files of rows. The first line names the table, as `table: plans`, and says what the keys of the others mean. Empty lines part the rows; a line
-//! has a key, a colon and a text, and one that begins with `#` is a comment. A line says what later lines of its row speak of, or its text is
-//! compared with what was found.
+//! Files of rows. The first line names the table, for example `table: plans`, which determines the
+//! keys of the other lines. Rows are separated by empty lines. A line has a key, a colon and a
+//! text; a line that begins with `#` is a comment. A line either sets up later lines of its row, or
+//! its text is compared with what was found.
 use crate::stop::Stop;
 use std::io::{self, Write};
 
 /// What the keys of a file mean.
 pub trait Table<'t> {
-    /// Reads a line. Returns what its text is to be compared with, or nothing where the line only says what later ones speak of.
+    /// Reads a line. Returns the found text, which is compared with the text of the line, or `None`
+    /// if the line only sets up later lines. Fails with the reason why the row stops.
     fn line(&mut self, key: &'t str, text: &'t str) -> Result<Option<String>, Stop>;
 
-    /// Ends a row: fails where something that has to hold of each row did not, and forgets what its lines said.
+    /// Ends a row, and forgets what its lines set up. Fails if a condition that has to hold for
+    /// every row does not hold.
     fn end(&mut self) -> Result<(), Stop>;
 }
 
-/// Whether there is memory for whatever the rows ask.
+/// Whether allocations can fail.
 #[derive(Clone, Copy, Debug, PartialEq, Eq)]
 pub enum Memory {
+    /// No allocation is expected to fail.
     Ample,
-    /// Requests may be refused. A text that says so in place of what was wanted, and the lines behind it in its row, are then passed over.
+    /// Allocations may fail. If a found text reports an allocation failure in place of what was
+    /// wanted, or if an allocation failure stops a line, the later lines of the row are skipped,
+    /// and there is no difference.
     Refused,
 }
 
-/// How many texts were compared, how many rows differed, and how many stopped since memory was refused.
+/// How many texts were compared, how many differences were found, and how many times an allocation
+/// failure stopped a row.
 #[derive(Clone, Copy, Debug, PartialEq, Eq)]
 pub struct Counts {
     pub compared: u64,
@@ -32,12 +39,16 @@ pub struct Counts {
 /// A file of rows.
 #[derive(Clone, Copy, Debug)]
 pub struct File<'t> {
+    /// The name of the file in the output.
     pub name: &'t str,
+    /// The whole text of the file.
     pub text: &'t str,
+    /// Whether allocations can fail while its rows are tried.
     pub memory: Memory,
 }
 
-/// Writes why no row of a file can be tried.
+/// Writes why no row of a file can be tried, and returns counts with one difference. Fails if the
+/// output can't be written.
 pub fn untried<W: Write>(file: File, stop: &Stop, out: &mut W) -> io::Result<Counts> {
     writeln!(out, "{}:1: {stop}", file.name)?;
     Ok(Counts {
@@ -48,7 +59,7 @@ pub fn untried<W: Write>(file: File, stop: &Stop, out: &mut W) -> io::Result<Cou
 }
 
 impl Counts {
-    /// Writes the counts of a file.
+    /// Writes the counts of a file. Fails if the output can't be written.
     pub fn tell<W: Write>(self, file: File, out: &mut W) -> io::Result<()> {
         let (name, compared, differing) = (file.name, self.compared, self.differing);
         match file.memory {
@@ -62,17 +73,19 @@ impl Counts {
     }
 }
 
-/// A file of rows while it is read, and where what differs is written.
+/// A file of rows while it is read, and the output for differences.
 #[derive(Drop)]
 struct Reading<'t, 'o, W> {
     file: File<'t>,
     out: &'o mut W,
     counts: Counts,
-    /// Whether something differed in the row, so that its other lines are passed over.
+    /// Whether the later lines of the row are skipped, after a difference or an allocation failure.
     is_over: bool,
 }
 
-/// Reads the rows of a file, and writes a line for each one that differs: the file, the number of the line, what was found and what was wanted.
+/// Reads the rows of a file, and writes a line for each difference: the file, the number of the
+/// line, and what was found and wanted, or the reason why the row stopped. After a difference, the
+/// later lines of the row are skipped. Returns the counts. Fails if the output can't be written.
 pub fn compare<'t, T: Table<'t>, W: Write>(
     table: &mut T,
     file: File<'t>,
@@ -101,7 +114,7 @@ fn line_number(before: u64) -> u64 {
     before.saturating_add(1)
 }
 
-/// Whether a text says that memory was refused, and in its other sentences what was wanted.
+/// Whether a text reports an allocation failure, and its other sentences are the wanted ones.
 fn tells_refusal(found: &str, wanted: &str) -> bool {
     let mut wanted = wanted.split(". ");
     let mut is_refused = false;

@@ -1,4 +1,4 @@
-//! What came of a start over the scripted system, in words.
+//! The outcome of a start over the scripted system, as texts.
 use crate::scenes::{Bench, FIRST};
 use crate::streams::push_origin;
 use duct::{CommandSpec, Entry, Error, Pool, Stdio, System};
@@ -7,8 +7,9 @@ use duct_script::calls::Call;
 use duct_script::requests::Sort;
 use std::alloc::{AllocError, Global};
 
-/// The entries of the trace, each with the kind by which it was refused, if it was. An end stands by where it comes from: the
-/// place in the trace where it was opened, the parent's stream, or the number of a lent end.
+/// Returns the entries of the trace as a text. An entry that was refused has the kind of its fault.
+/// An end is shown by where it comes from: the index in the trace of the entry that opened it, the
+/// parent's stream, or the number of a lent end. Fails only on an allocation failure.
 pub fn trace_text(alloc: Global, entries: &[Entry]) -> Result<String, Error> {
     let mut text = String::new(alloc);
     let traced = trace(alloc, entries)?;
@@ -24,7 +25,7 @@ pub fn trace_text(alloc: Global, entries: &[Entry]) -> Result<String, Error> {
     Ok(text)
 }
 
-/// Parts what comes from what stands before it.
+/// Appends a comma and a space, unless the text is empty.
 fn begin(text: &mut String) -> Result<(), AllocError> {
     if text.is_empty() {
         Ok(())
@@ -33,7 +34,7 @@ fn begin(text: &mut String) -> Result<(), AllocError> {
     }
 }
 
-/// The journal and its trace, by which it is known where ends come from.
+/// The journal and its trace, which tell where ends come from.
 #[derive(Clone, Copy)]
 struct Ends<'e> {
     entries: &'e [Entry],
@@ -53,7 +54,7 @@ fn push_entry(text: &mut String, ends: Ends, entry: &Entry) -> Result<(), Error>
     }
 }
 
-/// Adds an entry that is no spawn.
+/// Appends an entry that is not a spawn.
 fn push_other(text: &mut String, ends: Ends, entry: &Entry) -> Result<(), AllocError> {
     match entry {
         Entry::Environment(_) => text.push_str("Environment"),
@@ -124,7 +125,7 @@ fn push_variables(text: &mut String, spec: &CommandSpec) -> Result<(), Error> {
     Ok(())
 }
 
-/// How many children were started.
+/// Returns how many children were started.
 pub fn children_started(entries: &[Entry]) -> u64 {
     let mut count = 0_u64;
     for entry in entries {
@@ -135,18 +136,19 @@ pub fn children_started(entries: &[Entry]) -> u64 {
     count
 }
 
-/// How many children the pool keeps, was given, found ended, and lost.
+/// Returns how many children the pool keeps, was given, has reaped, and has lost.
 pub fn counts<C: Drop>(pool: &Pool<C>) -> (usize, u64, u64, u64) {
     (pool.len(), pool.given(), pool.reaped(), pool.lost())
 }
 
-/// The same in words.
+/// Returns the same counts as a text. Fails on an allocation failure.
 pub fn pool_text<C: Drop>(alloc: Global, pool: &Pool<C>) -> Result<String, AllocError> {
     let (len, given, reaped, lost) = counts(pool);
     format!(in alloc; "len {len}, given {given}, reaped {reaped}, lost {lost}")
 }
 
-/// The numbers of the lent ends that were duplicated, in order.
+/// Returns the numbers of the lent ends for which a duplicate was requested, in order. Fails on an
+/// allocation failure.
 pub fn lent_text(alloc: Global, entries: &[Entry]) -> Result<String, AllocError> {
     let mut text = String::new(alloc);
     for entry in entries {
@@ -160,8 +162,9 @@ pub fn lent_text(alloc: Global, entries: &[Entry]) -> Result<String, AllocError>
     Ok(text)
 }
 
-/// The calls that stand in the log from one place to before another, in order. A child of the start stands by its program, one of the
-/// pool's by its number.
+/// Returns the calls in the log from the first of two indices up to, but not including, the second,
+/// in order and without the requests `Duplicate`, `Parent` and `Close`. A child of the start is
+/// shown by its program, a child of the pool by its number. Fails on an allocation failure.
 pub fn noted_text(alloc: Global, bench: &Bench, places: (u64, u64)) -> Result<String, AllocError> {
     let mut text = String::new(alloc);
     let (from, to) = places;
@@ -202,7 +205,7 @@ fn push_child(
     }
 }
 
-/// The program of the child of this number.
+/// Returns the program of the child with this number, if the journal has its spawn.
 pub fn program(entries: &[Entry], child: u64) -> Option<&str> {
     for entry in entries {
         if let Entry::Spawn(spec, _, Ok(number)) = entry {

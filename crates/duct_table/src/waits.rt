@@ -1,14 +1,15 @@
-//! Waits of tests, each of which ends whether or not it comes to what it waits for.
+//! Waits for tests. Each wait ends, even if what it waits for never happens.
 use crate::stop::Stop;
 use duct_system::system::{Fault, Job, Said};
 use std::rt::Clock;
 use std::thread;
 use std::time::Duration;
 
-/// How often a turn of a wait yields.
+/// How many times a wait yields the thread between two checks.
 const YIELDS: u32 = 10;
 
-/// Looks again and again whether it is so, for a million turns at most, and answers whether it was.
+/// Checks a condition until it holds, at most a million times, and yields the thread between the
+/// checks. Returns whether it held.
 pub fn until<F: Fn() -> bool>(is_so: F) -> bool
     requires { F.IsAlwaysCallable is_so }
 {
@@ -23,7 +24,9 @@ pub fn until<F: Fn() -> bool>(is_so: F) -> bool
     false
 }
 
-/// What a worker comes to, which is polled for half a minute at most.
+/// Polls a worker until it has a result or a fault, which is returned. Blocks the thread: it polls
+/// at most 30000 times, and sleeps one millisecond between two polls. Fails if the worker is still
+/// running after that.
 pub fn heard<J: Job>(rt: &impl Clock, worker: &mut J) -> Result<Result<J::Result, Fault>, Stop> {
     for _ in 0..30_000 {
         match worker.poll() {

@@ -4,12 +4,12 @@ use duct_system::spec::Stream;
 use duct_system::system::{Fault, Kind, Side};
 use std::alloc::{AllocError, Global};
 
-/// The text before the first space, and the text after it.
+/// Splits a text at its first space. Without a space, the second part is empty.
 pub fn first_word(text: &str) -> (&str, &str) {
     text.split_once(' ').unwrap_or((text, ""))
 }
 
-/// The texts that commas part. There is none in an empty text.
+/// Splits a text at its commas. An empty text has no pieces. Fails on an allocation failure.
 pub fn pieces(alloc: Global, text: &str) -> Result<Vec<&str>, AllocError> {
     let mut pieces = Vec::new(alloc);
     if !text.is_empty() {
@@ -20,7 +20,8 @@ pub fn pieces(alloc: Global, text: &str) -> Result<Vec<&str>, AllocError> {
     Ok(pieces)
 }
 
-/// The pairs of names and values of a text: `A:1,B:2`.
+/// Returns the pairs of names and values in a text: `A:1,B:2`. Pieces without a colon are skipped.
+/// Fails on an allocation failure.
 pub fn pairs(alloc: Global, text: &str) -> Result<Vec<(&str, &str)>, AllocError> {
     let mut pairs = Vec::new(alloc);
     for piece in text.split(',') {
@@ -31,7 +32,7 @@ pub fn pairs(alloc: Global, text: &str) -> Result<Vec<(&str, &str)>, AllocError>
     Ok(pairs)
 }
 
-/// The stream of this name: `in`, `out` or `err`.
+/// Returns the stream with this name: `in`, `out` or `err`. Fails for any other name.
 pub fn stream(name: &str) -> Result<Stream, Stop> {
     match name {
         "in" => Ok(Stream::In),
@@ -41,7 +42,7 @@ pub fn stream(name: &str) -> Result<Stream, Stop> {
     }
 }
 
-/// The output stream of the parent of this name: `out` or `err`.
+/// Returns the parent's output stream with this name: `out` or `err`. Fails for any other name.
 pub fn side(name: &str) -> Result<Side, Stop> {
     match name {
         "out" => Ok(Side::Out),
@@ -50,7 +51,7 @@ pub fn side(name: &str) -> Result<Side, Stop> {
     }
 }
 
-/// The fault of the kind of this name.
+/// Returns a fault of the kind with this name. Fails if there is no such kind.
 pub fn fault(kind: &str) -> Result<Fault, Stop> {
     let kind = match kind {
         "NotFound" => Kind::NotFound,
@@ -66,7 +67,7 @@ pub fn fault(kind: &str) -> Result<Fault, Stop> {
     Ok(Fault::new(kind))
 }
 
-/// The pairs of names and values of a text, owned: `A:1,B:2`.
+/// Returns the same pairs as `pairs`, with owned texts. Fails on an allocation failure.
 pub fn owned_pairs(alloc: Global, text: &str) -> Result<Vec<(String, String)>, AllocError> {
     let mut pairs = Vec::new(alloc);
     for piece in text.split(',') {
@@ -82,7 +83,7 @@ fn owned_pair(alloc: Global, name: &str, value: &str) -> Result<(String, String)
     Ok((name, String::from_str(alloc, value)?))
 }
 
-/// The text before the first bar, and the text after it.
+/// Splits a text at its first `|`, and trims both parts. Without a `|`, the second part is empty.
 pub fn part(row: &str) -> (&str, &str) {
     let (part, rest) = row.split_once('|').unwrap_or((row, ""));
     (part.trim(), rest.trim())

@@ -1,4 +1,4 @@
-//! What a row says of the workers and readers of a start.
+//! What a row sets for the workers and readers of a start.
 use crate::stop::Stop;
 use crate::words::{fault, first_word};
 use duct::Said;
@@ -10,7 +10,8 @@ use std::alloc::{AllocError, Global};
 use std::io::ErrorKind;
 use std::sync::Arc;
 
-/// Sets what the input workers say, in the order of their starts: `running, done; Other`.
+/// Sets the poll results of the feeds, in the order in which they are started:
+/// `running, done; Other`. Fails if the text is malformed, or on an allocation failure.
 pub fn set_feeds(alloc: Global, sys: &mut Script, feeds: &str) -> Result<(), Stop> {
     if !feeds.is_empty() {
         for said in feeds.split(';') {
@@ -28,7 +29,8 @@ fn feed(alloc: Global, said: &str) -> Result<FeedScript, Stop> {
     Ok(Answers::of(script))
 }
 
-/// What an input worker says: `running`, `done`, or the kind of a fault.
+/// Reads a poll result of a feed: `running`, `done`, or the kind of a fault. Fails for any other
+/// word.
 pub fn feed_word(word: &str) -> Result<Said<()>, Stop> {
     match word {
         "running" => Ok(Said::Running),
@@ -37,7 +39,8 @@ pub fn feed_word(word: &str) -> Result<Said<()>, Stop> {
     }
 }
 
-/// Sets what the capture workers say, in the order of their starts: `running, done abc; Other`.
+/// Sets the poll results of the drains, in the order in which they are started:
+/// `running, done abc; Other`. Fails if the text is malformed, or on an allocation failure.
 pub fn set_drains(alloc: Global, sys: &mut Script, drains: &str) -> Result<(), Stop> {
     if !drains.is_empty() {
         for said in drains.split(';') {
@@ -55,7 +58,8 @@ fn drain(alloc: Global, said: &str) -> Result<DrainScript, Stop> {
     Ok(script)
 }
 
-/// What a capture worker says: `running`, `done abc`, or the kind of a fault.
+/// Reads a poll result of a drain: `running`, `done abc`, or the kind of a fault. Fails for any
+/// other word, or on an allocation failure.
 pub fn drain_word(alloc: Global, word: &str) -> Result<Said<Arc<Vec<u8>>>, Stop> {
     match first_word(word) {
         ("running", _) => Ok(Said::Running),
@@ -68,8 +72,9 @@ fn shared(alloc: Global, bytes: &str) -> Result<Arc<Vec<u8>>, AllocError> {
     Ok(Arc::new(alloc, Vec::from_slice(alloc, bytes.as_bytes())?)?)
 }
 
-/// Sets what the next reader gives, in pieces and with faults between them: `abc, Interrupted, d`. In a piece `_` stands for a space,
-/// `$` for a newline, `^` for a carriage return, and `?` for a byte that is no text.
+/// Sets what the next reader returns: pieces of bytes, and errors between them, for example
+/// `abc, Interrupted, d`. In a piece, `_` is a space, `$` a newline, `^` a carriage return, and `?`
+/// a byte that is not valid UTF-8. Fails on an allocation failure.
 pub fn set_reader(alloc: Global, sys: &mut Script, pieces: &str) -> Result<(), Stop> {
     let mut script = ReaderScript::empty(alloc);
     if !pieces.is_empty() {
@@ -94,7 +99,7 @@ fn add_piece(script: &mut ReaderScript, piece: &str) -> Result<(), AllocError> {
     Ok(())
 }
 
-// Adds a piece of bytes.
+// Appends a piece of bytes.
 fn add_bytes(script: &mut ReaderScript, bytes: &str) -> Result<(), AllocError> {
     let before = script.bytes.len();
     for byte in bytes.bytes() {

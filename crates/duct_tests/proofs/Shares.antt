@@ -1,4 +1,5 @@
--- What threads of these tests share: a handle and a reader handle of the scripted system, and what their closures hold of them.
+-- What the threads of these tests share: a handle and a reader handle of the scripted system, and
+-- the closures that borrow them.
 use mathlib.Core.List.{List, [], ◌∷◌}
 use mir.Syntax.{Lifetime, Sym}
 use base.Fml.{Lft}
@@ -47,13 +48,13 @@ script_handle_sync = handle_sync Script.the_row ScriptEnd.the_row ScriptChild.th
     child_child.ghosts child_numbered.ghosts feed_job.ghosts feed_numbered.ghosts drain_job.ghosts
     drain_numbered.ghosts reader_read.ghosts child.the_send feed.the_send drain_send
 
--- a closure that holds a runtime and a handle
+-- a closure that borrows a runtime and a handle may be sent to another thread
 pub waits_send : (ν : Sym) (ℓ ℓ' : Lifetime) (κ κ' : Lft) (R : RattleType) → IsSync R
     → IsSend (TupleAt ν (ShrRef ℓ κ R ∷ ShrRef ℓ' κ' script_handle ∷ []))
 waits_send ν ℓ ℓ' κ κ' R runtime =
     two_refs_send ν ℓ ℓ' ℓ κ κ' κ R script_handle R runtime script_handle_sync
 
--- one that threads share
+-- that closure may be shared between threads
 pub waits_sync : (ν : Sym) (ℓ ℓ' : Lifetime) (κ κ' : Lft) (R : RattleType) → IsSync R
     → IsSync (TupleAt ν (ShrRef ℓ κ R ∷ ShrRef ℓ' κ' script_handle ∷ []))
 waits_sync ν ℓ ℓ' κ κ' R runtime =
@@ -62,14 +63,14 @@ waits_sync ν ℓ ℓ' κ κ' R runtime =
     (struct_sync (shape (type_at ν Ts))
     (shr_sync ℓ κ R runtime, (shr_sync ℓ' κ' script_handle script_handle_sync, tt)))
 
--- one that holds a gate, too
+-- a closure that also borrows a gate may be sent to another thread
 pub kills_send : (ν : Sym) (ℓ ℓ' ℓ'' : Lifetime) (κ κ' κ'' : Lft) (R : RattleType) → IsSync R
     → IsSend (TupleAt ν (ShrRef ℓ κ R ∷ ShrRef ℓ' κ' script_handle ∷ ShrRef ℓ'' κ'' Gate.the_row ∷ []))
 kills_send ν ℓ ℓ' ℓ'' κ κ' κ'' R runtime =
     three_refs_send ν ℓ ℓ' ℓ'' κ κ' κ'' R script_handle Gate.the_row runtime script_handle_sync
     gate.the_sync
 
--- a reader handle of the scripted system, which keeps this runtime
+-- a reader handle of the scripted system that keeps a runtime of this type
 abbrev pub script_reader : RattleType → RattleType
 script_reader R = ReaderHandle.the_row Script.the_row R ScriptEnd.the_row ScriptChild.the_row
     ScriptFeed.the_row ScriptDrain.the_row ScriptReader.the_row script_system.ghosts end_numbered.ghosts
@@ -83,7 +84,7 @@ script_reader_sync R runtime = reader_handle_sync Script.the_row R ScriptEnd.the
     drain_numbered.ghosts reader_read.ghosts runtime child.the_send feed.the_send drain_send
     (search (reader.the_send, sendable) depth 20)
 
--- a closure that holds a reader handle
+-- a closure that borrows a reader handle may be sent to another thread
 pub reads_send : (ν : Sym) (ℓ : Lifetime) (κ : Lft) (R : RattleType) → IsSync R
     → IsSend (TupleAt ν (ShrRef ℓ κ (script_reader R) ∷ []))
 reads_send ν ℓ κ R runtime =

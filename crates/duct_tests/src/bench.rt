@@ -1,4 +1,5 @@
-//! What the tests of threads and of refused memory share: a handle of an expression, its waits by their names, and a read of a reader handle.
+//! What the tests of threads and of allocation failures share: a handle of an expression, its waits
+//! by name, and a read of a reader handle.
 ghost use Rattle.std.specs.Prelude.{◌≡◌};
 
 use duct::{Clock, Error, Handle, Output, ReaderHandle, Seen};
@@ -10,13 +11,13 @@ use std::alloc::Global;
 use std::sync::{Arc, Wait};
 use std::time::Duration;
 
-/// A handle of the expression of a text.
+/// Starts the expression of a text, and returns its handle.
 pub fn handle_of(alloc: Global, bench: &mut Bench, text: &str) -> Result<Handle<Script>, Stop> {
     let tree = written(alloc, None, text)?;
     Ok(tree.start(&mut bench.sys, &mut bench.pool)?)
 }
 
-/// A clock on which no moment passes.
+/// A clock that always shows zero.
 #[derive(Drop)]
 pub struct Still;
 
@@ -28,7 +29,7 @@ impl Clock for Still {
     }
 }
 
-/// A wait of a handle.
+/// A way to wait on a handle.
 #[derive(Clone, Copy)]
 pub enum Waiting {
     Try,
@@ -40,7 +41,7 @@ pub enum Waiting {
 /// What a wait returns.
 pub type Waited = Result<Option<Arc<Output>>, Error>;
 
-/// A wait with a token of its own.
+/// Waits in this way, by a call that makes its own token.
 pub fn wait(rt: &impl Wait, handle: &Handle<Script>, waiting: Waiting) -> Waited {
     match waiting {
         Waiting::Try => handle.try_wait(rt),
@@ -50,7 +51,7 @@ pub fn wait(rt: &impl Wait, handle: &Handle<Script>, waiting: Waiting) -> Waited
     }
 }
 
-/// A wait through a token.
+/// Waits in this way, with the caller's token.
 pub fn wait_as(
     rt: &impl Wait,
     handle: &Handle<Script>,
@@ -75,7 +76,7 @@ fn some(waited: Result<Arc<Output>, Error>) -> Waited {
     }
 }
 
-/// A read of a reader handle, by a new token.
+/// Reads once from a reader handle, with a new token.
 pub fn read_once<R: Wait>(
     handle: &ReaderHandle<Script, R>,
     buffer: &mut [u8],

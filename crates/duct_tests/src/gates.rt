@@ -1,4 +1,5 @@
-//! Threads that share a reader handle. Each looks for the other so many times at most, and goes on then all the same.
+//! Tests of threads that share a reader handle. A thread that waits for another one checks a
+//! limited number of times, and then goes on.
 use crate::bench::read_once;
 use duct::ReaderHandle;
 use duct_script::gate::Gate;
@@ -14,10 +15,10 @@ use std::test::Fail;
 use std::thread;
 use std::thread::Threads;
 
-/// How often a thread reads at most.
+/// How many times a thread reads at most.
 const TURNS: u32 = 1_000_000;
 
-/// A reader that gives so many bytes, and has this gate, if there is one.
+/// A reader that returns this many bytes, and has this gate, if there is one.
 fn reader(alloc: Global, count: usize, gate: Option<&Gate>) -> Result<ReaderScript, Stop> {
     let mut script = ReaderScript::empty(alloc);
     script.bytes = vec![in alloc; 7; count]?;
@@ -27,7 +28,7 @@ fn reader(alloc: Global, count: usize, gate: Option<&Gate>) -> Result<ReaderScri
     Ok(script)
 }
 
-/// A reader handle of one command.
+/// Starts one command, and returns its reader handle.
 fn handle_of<'r, R: Wait>(
     rt: &'r R,
     alloc: Global,
@@ -37,8 +38,9 @@ fn handle_of<'r, R: Wait>(
     Ok(tree.reader(rt, &mut bench.sys, &mut bench.pool)?)
 }
 
-/// What is told beside a read: whether it stood at the gate, how many ids there are, whether a poll said that the command runs, and whether
-/// a kill was obeyed. It asks once a thread stands at the gate, and opens it then.
+/// Calls a handle while another thread reads from it. Returns whether that thread waited at the
+/// gate, how many ids there are, whether a poll returned that the command runs, and whether a kill
+/// succeeded. Starts once a thread waits at the gate, and opens the gate at the end.
 fn ask_beside<R: Wait>(handle: &ReaderHandle<Script, R>, gate: &Gate) -> (bool, usize, bool, bool) {
     let stood = until(|| gate.standing() > 0);
     let ids = handle.pids().len();
@@ -49,13 +51,13 @@ fn ask_beside<R: Wait>(handle: &ReaderHandle<Script, R>, gate: &Gate) -> (bool, 
     (stood && stands, ids, runs, killed)
 }
 
-/// How many bytes a read gives.
+/// Returns how many bytes one read returns, or `None` if it fails.
 fn count_once<R: Wait>(handle: &ReaderHandle<Script, R>) -> Option<usize> {
     let mut buffer = [0; 4];
     read_once(handle, &mut buffer).ok()
 }
 
-/// How many bytes a read gives, and what is told beside it.
+/// Reads in one thread, and calls `ask_beside` in another. Returns both results.
 fn count_and_ask<R: Wait + Threads + Sync>(
     rt: &R,
     handle: &ReaderHandle<Script, &R>,
@@ -64,7 +66,7 @@ fn count_and_ask<R: Wait + Threads + Sync>(
     thread::join(rt, || count_once(handle), || ask_beside(handle, gate))
 }
 
-/// The same of a command that runs, whose reader gives three bytes behind the gate.
+/// Does this for a command that runs, whose reader waits at the gate and then returns three bytes.
 fn told_at_gate<R: Wait + Threads + Sync>(
     rt: &R,
     alloc: Global,
@@ -79,7 +81,7 @@ fn told_at_gate<R: Wait + Threads + Sync>(
     Ok(told)
 }
 
-/// While a thread stands in a read, the ids, a poll and a kill answer.
+/// Checks that the ids, a poll and a kill return while another thread is blocked in a read.
 #[test]
 fn a_kill_passes_a_read(rt: HostRuntime) -> Result<(), Fail> {
     let gate = Gate::new(rt.alloc())?;
@@ -89,7 +91,7 @@ fn a_kill_passes_a_read(rt: HostRuntime) -> Result<(), Fail> {
     Ok(())
 }
 
-/// How many bytes a thread reads until there are none.
+/// Reads until a read returns no bytes or fails. Returns how many bytes were read.
 fn count_all<R: Wait>(handle: &ReaderHandle<Script, R>) -> usize {
     let mut buffer = [0; 16];
     let mut total = 0_usize;
@@ -102,13 +104,13 @@ fn count_all<R: Wait>(handle: &ReaderHandle<Script, R>) -> usize {
     total
 }
 
-/// How many bytes two threads read together.
+/// Returns how many bytes two threads read together.
 fn count_together<R: Wait + Threads + Sync>(rt: &R, handle: &ReaderHandle<Script, &R>) -> usize {
     let (one, other) = thread::join(rt, || count_all(handle), || count_all(handle));
     one.saturating_add(other)
 }
 
-/// The same of a command whose reader gives a thousand bytes.
+/// Does this for a command whose reader has a thousand bytes.
 fn count_thousand<R: Wait + Threads + Sync>(
     rt: &R,
     alloc: Global,
@@ -121,7 +123,7 @@ fn count_thousand<R: Wait + Threads + Sync>(
     Ok(total)
 }
 
-/// Two threads that read one handle get all bytes together, and none twice.
+/// Checks that two threads that read from one handle get as many bytes together as its reader has.
 #[test]
 fn two_threads_read(rt: HostRuntime) -> Result<(), Fail> {
     let mut bench = bench_of(rt.alloc(), Scene::of("code 0"))?;

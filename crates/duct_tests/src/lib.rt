@@ -1,4 +1,5 @@
-//! Tests of duct over the scripted system that are no rows of data: threads that share handles and pools, and what refused memory leaves.
+//! Tests of `duct` over the scripted system that no row of data can express: threads that share
+//! handles and pools, and what an allocation failure leaves.
 #![tactic(auto)]
 
 #[cfg(test)]

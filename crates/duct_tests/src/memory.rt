@@ -1,7 +1,11 @@
-//! Refused requests for memory: whatever single request of the process is refused, each test of `memory_` either finds what comes of ample
-//! memory, or that a call was refused for want of memory and nothing was lost. What one text of a row shows is tried by the rows of data; here
-//! stands what takes more than that: that a call needs no memory, that the next call of what was refused goes well, and where a start may
-//! find no memory. Each module has a test `all_memory_is_there`, which does what its others do and passes only where no memory is refused.
+//! Tests of allocation failures. Whichever single allocation of the process fails, each test named
+//! `memory_..` checks that the result is the same as with ample memory, or that a call failed with
+//! an allocation failure and nothing was lost.
+//!
+//! The rows of data test what the text of one row can express. The tests here need more than that:
+//! that a call allocates nothing, that the call after a failed one succeeds, and where a start may
+//! fail to allocate. Each module has a test `all_memory_is_there`, which does what its other tests
+//! do and passes only if no allocation fails.
 mod expressions;
 mod handles;
 mod launches;
@@ -11,7 +15,7 @@ mod starts;
 use duct_table::memory::MemoryOutcome;
 use duct_table::stop::Stop;
 
-/// What came of calls that may ask the system.
+/// The outcome of calls that may make requests to the system.
 fn outcome(tried: Result<MemoryOutcome, Stop>) -> MemoryOutcome {
     match tried {
         Ok(came) => came,

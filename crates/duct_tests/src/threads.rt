@@ -1,4 +1,5 @@
-//! Threads that share a handle or a pool. Each looks for the others so many times at most, and goes on then all the same.
+//! Tests of threads that share a handle or a pool. A thread that waits for another one checks a
+//! limited number of times, and then goes on.
 ghost use Rattle.std.specs.Prelude.{◌≡◌};
 
 use crate::bench::{Still, Waited, Waiting, handle_of, wait, wait_as};
@@ -28,14 +29,15 @@ const RUNS: u32 = 40;
 /// How many calls each of eight threads makes.
 const CALLS: u32 = 20;
 
-/// The waits of a handle that end only with what runs.
+/// The waits of a handle that return only when all that runs has ended.
 const WAITS: [Waiting; 3] = [
     Waiting::End,
     Waiting::Deadline(Duration::MAX),
     Waiting::Timeout(Duration::MAX),
 ];
 
-/// A command that says so often that it runs, and ends then. Who asks for its number passes the gate, if there is one.
+/// A command that says this many times that it runs, and then exits with code 0. A call for its
+/// number passes the gate, if there is one.
 fn child(alloc: Global, runs: usize, gate: Option<&Gate>) -> Result<ChildScript, AllocError> {
     let mut script = ChildScript::running(alloc);
     let mut polls = vec![in alloc; PollAnswer::Running; runs]?;
@@ -47,7 +49,8 @@ fn child(alloc: Global, runs: usize, gate: Option<&Gate>) -> Result<ChildScript,
     Ok(script)
 }
 
-/// A system whose commands, two at most, run so often, and a capture worker that greets.
+/// A system of at most two commands that run for this many polls, and a capture worker that returns
+/// `hi`.
 fn greeting_bench(alloc: Global, runs: usize, gate: Option<&Gate>) -> Result<Bench, Stop> {
     let mut bench = bench_of(alloc, Scene::plain())?;
     set_greeting(alloc, &mut bench.sys, runs, gate)?;
@@ -69,7 +72,7 @@ fn is_greeting(output: &Output) -> bool {
     output.status == ExitStatus::Code(0) && output.stdout.as_slice() == b"hi".as_slice()
 }
 
-/// Whether a wait that ended greets.
+/// Whether a wait returned the greeting: code 0, and `hi` on stdout.
 fn greets(waited: Result<Arc<Output>, Error>) -> bool {
     match waited {
         Ok(output) => is_greeting(&output),
@@ -77,7 +80,7 @@ fn greets(waited: Result<Arc<Output>, Error>) -> bool {
     }
 }
 
-/// Whether a wait ended and greets.
+/// The same for a wait that may return before the end.
 fn gives_greeting(waited: Waited) -> bool {
     match waited {
         Ok(Some(output)) => is_greeting(&output),
@@ -85,12 +88,12 @@ fn gives_greeting(waited: Waited) -> bool {
     }
 }
 
-/// Whether a thread that waits so is greeted.
+/// Waits in this way. Returns whether the wait returned the greeting.
 fn is_greeted(rt: &impl Wait, handle: &Handle<Script>, waiting: Waiting) -> bool {
     gives_greeting(wait(rt, handle, waiting))
 }
 
-/// Whether two threads that wait so are greeted.
+/// Waits in this way in two threads. Returns for each whether its wait returned the greeting.
 fn both_greet<R: Wait + Threads + Sync>(
     rt: &R,
     handle: &Handle<Script>,
@@ -103,7 +106,7 @@ fn both_greet<R: Wait + Threads + Sync>(
     )
 }
 
-/// Whether a third wait and the one that spends the handle greet.
+/// Waits once more, and then spends the handle. Returns for each whether it returned the greeting.
 fn spent(rt: &impl Wait, handle: Handle<Script>, pool: &mut Pool<ScriptChild>) -> (bool, bool) {
     let third = greets(handle.wait(rt));
     match handle.into_output(rt, pool) {
@@ -112,7 +115,8 @@ fn spent(rt: &impl Wait, handle: Handle<Script>, pool: &mut Pool<ScriptChild>) -
     }
 }
 
-/// Whether two threads that wait, a third wait and the one that spends the handle greet.
+/// Waits in two threads, once more, and by spending the handle. Returns for each whether it
+/// returned the greeting.
 fn all_greet<R: Wait + Threads + Sync>(
     rt: &R,
     alloc: Global,
@@ -124,7 +128,8 @@ fn all_greet<R: Wait + Threads + Sync>(
     Ok([one, other, third, own])
 }
 
-/// Two threads wait and get one output, and so do a third wait and the one that spends the handle.
+/// Checks that the waits of two threads, a third wait and `into_output` all return the same
+/// greeting.
 #[test]
 fn two_threads_wait(rt: HostRuntime) -> Result<(), Fail> {
     let mut bench = greeting_bench(rt.alloc(), 100, None)?;
@@ -133,14 +138,14 @@ fn two_threads_wait(rt: HostRuntime) -> Result<(), Fail> {
     Ok(())
 }
 
-/// Opens the gate once a thread stands there, and kills. Returns whether both went well.
+/// Opens the gate once a thread waits there, and kills. Returns whether both succeeded.
 fn kill_a_wait(rt: &impl Wait, handle: &Handle<Script>, gate: &Gate) -> bool {
     let stood = until(|| gate.standing() > 0);
     gate.open();
     stood && handle.kill(rt).is_ok()
 }
 
-/// How many polls stand before the first order, and how many behind it.
+/// Returns how many polls come before the first order in the log, and how many after it.
 fn polls_round_order(log: &CallLog) -> (u32, u32) {
     let (mut before, mut behind, mut ordered) = (0_u32, 0_u32, false);
     for place in 0..log.noted() {
@@ -154,7 +159,8 @@ fn polls_round_order(log: &CallLog) -> (u32, u32) {
     (before, behind)
 }
 
-/// Whether two threads that wait so are greeted, and whether a third one's kill went well.
+/// Waits in this way in two threads, and kills in a third. Returns for each wait whether it
+/// returned the greeting, and whether the kill succeeded.
 fn greet_and_kill<R: Wait + Threads + Sync>(
     rt: &R,
     handle: &Handle<Script>,
@@ -168,7 +174,8 @@ fn greet_and_kill<R: Wait + Threads + Sync>(
     )
 }
 
-/// Whether a kill passes two threads that wait so: they are greeted, the kill goes well, and they poll before it and after it.
+/// Whether a kill goes through while two threads wait in this way: both waits return the greeting,
+/// the kill succeeds, and there are polls before it and after it.
 fn is_passed<R: Wait + Threads + Sync>(
     rt: &R,
     alloc: Global,
@@ -190,7 +197,7 @@ fn passes<R: Wait + Threads + Sync>(rt: &R, alloc: Global, waiting: Waiting) -> 
     is_passed(rt, alloc, &mut bench, &gate, waiting)
 }
 
-/// A kill passes two threads that wait, to the end or with a deadline.
+/// Checks that a kill goes through while two threads wait, with or without a deadline.
 #[test]
 fn a_kill_passes_two_waits(rt: HostRuntime) -> Result<(), Fail> {
     for waiting in WAITS {
@@ -199,7 +206,8 @@ fn a_kill_passes_two_waits(rt: HostRuntime) -> Result<(), Fail> {
     Ok(())
 }
 
-/// How many of the four waits through a token that knows the output greet.
+/// Waits in all four ways with a token that knows the output. Returns how many waits returned the
+/// greeting.
 fn known_greetings(rt: &impl Wait, handle: &Handle<Script>, seen: &mut Seen<Script>) -> usize
     requires { seen.old.cell ≡ handle.now.cell }
 {
@@ -215,15 +223,16 @@ fn known_greetings(rt: &impl Wait, handle: &Handle<Script>, seen: &mut Seen<Scri
         .count()
 }
 
-/// The gate at which a kill stands while it holds the lock, and one that it passes before.
+/// The gate at which a kill waits while it holds the lock, and the gate that it passes before.
 #[derive(Drop)]
 struct Gates {
     holding: Gate,
     before: Gate,
 }
 
-/// Lets the other thread go once a token knows the output, waits through the token while that thread stands at the gate, and opens the
-/// gate. Returns whether it stood there all the while, and how many waits greeted.
+/// Waits until a token knows the output, and then lets the other thread go on. Waits with the token
+/// while that thread is at the gate, and then opens the gate. Returns whether that thread was at
+/// the gate all the time, and how many waits returned the greeting.
 fn wait_beside(rt: &impl Wait, handle: &Handle<Script>, gates: &Gates) -> (bool, usize) {
     let mut seen = handle.seen();
     let known = greets(handle.wait_as(rt, &mut seen));
@@ -240,7 +249,8 @@ fn kill_behind(rt: &impl Wait, handle: &Handle<Script>, gate: &Gate) -> bool {
     gate.pass() && handle.kill(rt).is_ok()
 }
 
-/// Whether a kill went well, and what the thread beside it was told.
+/// Kills in one thread, and calls `wait_beside` in another. Returns whether the kill succeeded, and
+/// the result of the other thread.
 fn kill_and_wait<R: Wait + Threads + Sync>(
     rt: &R,
     handle: &Handle<Script>,
@@ -254,7 +264,7 @@ fn kill_and_wait<R: Wait + Threads + Sync>(
     )
 }
 
-/// What is told while a kill holds the lock of a handle.
+/// Starts a command, and returns these results while the kill holds the lock of its handle.
 fn told_beside_kill<R: Wait + Threads + Sync>(
     rt: &R,
     alloc: Global,
@@ -268,7 +278,7 @@ fn told_beside_kill<R: Wait + Threads + Sync>(
     Ok(told)
 }
 
-/// A token that knows the output gives it while a kill holds the lock.
+/// Checks that waits with a token that knows the output return it while a kill holds the lock.
 #[test]
 fn known_outputs_pass_a_kill(rt: HostRuntime) -> Result<(), Fail> {
     let holding = Gate::new(rt.alloc())?;
@@ -280,7 +290,7 @@ fn known_outputs_pass_a_kill(rt: HostRuntime) -> Result<(), Fail> {
     Ok(())
 }
 
-/// A token that was told the output, and whether it greeted.
+/// Waits with a new token. Returns the token, and whether the wait returned the greeting.
 fn told(rt: &impl Wait, handle: &Handle<Script>) -> (Seen<Script>, bool)
     ensures { result.0.cell ≡ handle.now.cell }
 {
@@ -289,8 +299,8 @@ fn told(rt: &impl Wait, handle: &Handle<Script>) -> (Seen<Script>, bool)
     (seen, greeted)
 }
 
-/// Whether two threads were greeted through tokens of their own, and how many waits then greet through the first of these. The tokens
-/// agree.
+/// Waits in two threads, each with a new token, and compares the tokens. Returns for each thread
+/// whether its wait returned the greeting, and how many waits with the first token then return it.
 fn both_told<R: Wait + Threads + Sync>(rt: &R, handle: &Handle<Script>) -> (bool, bool, usize) {
     let (one, other) = thread::join(rt, || told(rt, handle), || told(rt, handle));
     let (mut seen, first) = one;
@@ -311,7 +321,8 @@ fn told_by_tokens<R: Wait + Threads + Sync>(
     Ok(told)
 }
 
-/// Tokens that two threads were told by agree, and the output stays.
+/// Checks that the tokens of two threads agree, and that waits with the first one still return the
+/// output.
 #[test]
 fn tokens_agree(rt: HostRuntime) -> Result<(), Fail> {
     let mut bench = greeting_bench(rt.alloc(), 100, None)?;
@@ -320,7 +331,7 @@ fn tokens_agree(rt: HostRuntime) -> Result<(), Fail> {
     Ok(())
 }
 
-/// Starts a command with the pool that threads share, and gives it up.
+/// Starts a command with the pool that the threads share, and gives up its handle.
 fn start_one(rt: &impl Wait, alloc: Global, pool: &Mutex<Pool<ScriptChild>>) -> Result<(), Error> {
     let mut sys = Script::new(alloc)?;
     let tree: Tree<ScriptEnd> = cmd!(in alloc; "a")?;
@@ -329,7 +340,7 @@ fn start_one(rt: &impl Wait, alloc: Global, pool: &Mutex<Pool<ScriptChild>>) -> 
     Ok(())
 }
 
-/// How many of ten starts went well.
+/// Starts ten commands, and returns how many starts succeeded.
 fn start_ten(rt: &impl Wait, alloc: Global, pool: &Mutex<Pool<ScriptChild>>) -> u32 {
     let mut well = 0_u32;
     for _ in 0..10 {
@@ -340,7 +351,8 @@ fn start_ten(rt: &impl Wait, alloc: Global, pool: &Mutex<Pool<ScriptChild>>) -> 
     well
 }
 
-/// Two threads start ten commands each with one pool, and give up the handles. The commands run on.
+/// Checks that two threads can start ten commands each with one pool, and give up the handles. The
+/// commands run on.
 #[test]
 fn two_threads_share_a_pool(rt: HostRuntime) {
     let alloc = rt.alloc();
@@ -354,7 +366,7 @@ fn two_threads_share_a_pool(rt: HostRuntime) {
     assert_eq!(rt; (well, counts), ((10, 10), (20, 20, 0, 0)));
 }
 
-/// What one of eight threads asks, and whether what it is told is right.
+/// Makes the call of one of eight threads. Returns whether its result is right.
 fn is_told_well(rt: &impl Wait, handle: &Handle<Script>, thread: usize) -> bool {
     match thread {
         0 | 1 => greets(handle.wait(rt)),
@@ -367,7 +379,7 @@ fn is_told_well(rt: &impl Wait, handle: &Handle<Script>, thread: usize) -> bool 
     }
 }
 
-/// Whether all that one of eight threads is told is right.
+/// Whether all results of one of eight threads are right.
 fn play(rt: &impl Wait, handle: &Handle<Script>, thread: usize) -> bool {
     for _ in 0..CALLS {
         if !is_told_well(rt, handle, thread) {
@@ -377,7 +389,7 @@ fn play(rt: &impl Wait, handle: &Handle<Script>, thread: usize) -> bool {
     true
 }
 
-/// Whether all that eight threads are told is right.
+/// Whether all results of eight threads are right.
 fn play_all<R: Wait + Threads + Sync>(rt: &R, alloc: Global, handle: &Handle<Script>) -> bool {
     match thread::map_indices(rt, alloc, 8, &|thread| play(rt, handle, thread)) {
         Ok(threads) => threads.iter().all(|well| *well),
@@ -385,7 +397,7 @@ fn play_all<R: Wait + Threads + Sync>(rt: &R, alloc: Global, handle: &Handle<Scr
     }
 }
 
-/// Whether both are polls, or orders, and that of the left child comes first.
+/// Whether both calls are polls, or both are orders, and that of the left child comes first.
 fn is_step(one: Call, other: Call) -> bool {
     match (one, other) {
         (Call::Poll(left), Call::Poll(right)) => left < right,
@@ -394,7 +406,8 @@ fn is_step(one: Call, other: Call) -> bool {
     }
 }
 
-/// Whether the calls from this place on are whole steps: of two children that end together, both are polled or both ordered.
+/// Whether the calls from this place on are whole steps: of two children that end together, both
+/// are polled, or both are given an order.
 fn are_steps(log: &CallLog, from: u64) -> bool {
     let mut begun = None;
     for place in from..log.noted() {
@@ -410,7 +423,8 @@ fn are_steps(log: &CallLog, from: u64) -> bool {
     begun.is_none()
 }
 
-/// Whether all that eight threads are told in a run is right, and whether each poll and each order of it is one step.
+/// Runs eight threads on one handle. Returns whether all their results are right, and whether each
+/// poll and each order is one step.
 fn run_of_eight<R: Wait + Threads + Sync>(
     rt: &R,
     alloc: Global,
@@ -424,8 +438,8 @@ fn run_of_eight<R: Wait + Threads + Sync>(
     Ok((well, steps))
 }
 
-/// Eight threads wait, poll, kill, send signals and ask for ids, in many runs. Each poll and each order is one step, into which no other
-/// thread comes.
+/// Checks, in many runs, eight threads that wait, poll, kill, send signals and get ids. Each poll
+/// and each order is one step, which no other thread interrupts.
 #[test]
 fn eight_threads_share_a_handle(rt: HostRuntime) -> Result<(), Fail> {
     for _ in 0..RUNS {

@@ -1,4 +1,4 @@
--- What an expression prints by the standard forms is its text, where that text is promised.
+-- What std's formatting prints for an expression is its text, where that text is promised.
 use Rattle.std.specs.Prelude.{ℕ, List, [], ◌∷◌, Bool, true, false, Some, None, Result, if◌then◌else◌}
 use Rattle.std.specs.declared.option.Option.{Option}
 use Rattle.std.specs.declared.fmt.Error.{Error}
@@ -25,7 +25,7 @@ form_prints (before form next) is =
     let both = and_parts (is_form_printable form) (is_form_printable next) is in
     rw (form_prints form both.0, form_prints next both.1) refl
 
--- what is promised where a test holds, of what is printed then
+-- what is promised where a test holds, from what is printed then
 pub displays_if : {W : Type 0} (took : W → List ℕ → W → Type 0) (f : Formatter W)
     (r : Result (Unit {0}) Error) (g : Formatter W) (b : Bool) (o : Option (List ℕ))
     (bytes : List ℕ) → (b ≡ true → o ≡ Some bytes) → DisplaysOnOk took f r o g

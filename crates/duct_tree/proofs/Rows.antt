@@ -1,4 +1,4 @@
--- A node that is entered and left by its row is a node of the tree.
+-- Entering and leaving a node by its row gives the list of that node.
 use Rattle.std.proofs.Common.{◌≡◌, ℕ, ◌+◌, List, [], ◌∷◌, ◌++◌, length, refl, ap, subst, ◌∙◌, append_assoc, arith, length-append}
 use Rattle.std.specs.Prelude.{Some, None}
 use Rattle.std.specs.declared.option.Option.{Option}
@@ -12,7 +12,7 @@ use Rattle.duct_tree.specs.ListingView.{closings, openings, with_ending, with_sc
 use Rattle.duct_tree.specs.declared.flatten.inside.Inside.{Inside}
 
 module _ {E : Type 0} where
-  -- the actions round those of what stands inside
+  -- the actions around those of the inner expression
   wrapped_over : (opens : Obtains) (old inside : List (ActionOf E ℕ))
       → closings opens (openings opens old ++ inside) ≡ old ++ wrapped opens inside
   wrapped_over opens_nothing old inside = refl
@@ -22,7 +22,7 @@ module _ {E : Type 0} where
   wrapped_over (opens_capture which) old inside = simp append_assoc
 
 module _ {E H : Type 0} where
-  -- the scopes before those of what stands inside
+  -- the scope of a node, before those of its inner expression
   scopes_over : (says : Option (Says E H)) (i : ℕ) (old inside : List (ListedScope E H))
       → with_scope says i old ++ inside ≡ old ++ scoped says i inside
   scopes_over None i old inside = refl
@@ -55,7 +55,7 @@ module _ {E H : Type 0} where
       let back = (λ j. enters.scopes_are j ++ (same j).scopes) ∙ scopes_over r.says inside.scope old.scopes added.scopes in
       λ j. record { actions = front j; scopes = back j }
 
-  -- so was the node of which that is the row
+  -- the node that has this row was entered
   pub entered : (r : Row E H) (modifier : ModifierView E H) (inside within : Inside E)
       (old new : Listed E H) → r ≡ row modifier → Enters r inside within old new
       → (tree : TreeView E H)

@@ -1,8 +1,8 @@
--- What of the actions of a start is counted beforehand.
+-- What is counted of the actions of a start before they run.
 use Rattle.std.specs.Prelude.{ℕ, Bool, true, false, List, count_by}
 use Rattle.duct_start.specs.Actions.{ActionOf, open_read, create, pipe, input, capture, duplicate, tap, lend, parent, close, spawn, feed, finish}
 
--- it starts a command
+-- the action starts a command
 abbrev pub is_spawn : {E K : Type 0} → ActionOf E K → Bool
 is_spawn (open_read path) = false
 is_spawn (create path) = false
@@ -18,7 +18,7 @@ is_spawn (spawn scope words ports) = true
 is_spawn (feed bytes) = false
 is_spawn (finish which) = false
 
--- it starts a worker that writes input
+-- the action starts an input worker
 abbrev pub is_feed : {E K : Type 0} → ActionOf E K → Bool
 is_feed (open_read path) = false
 is_feed (create path) = false
@@ -38,6 +38,6 @@ is_feed (finish which) = false
 abbrev pub spawn_count : {E K : Type 0} → List (ActionOf E K) → ℕ
 spawn_count actions = count_by is_spawn actions
 
--- how many workers that write input they start
+-- how many input workers the actions start
 abbrev pub feed_count : {E K : Type 0} → List (ActionOf E K) → ℕ
 feed_count actions = count_by is_feed actions

@@ -14,7 +14,7 @@ use Rattle.duct_tree.specs.declared.effect.Opening.TheVariants as opening
 use Rattle.duct_tree.specs.declared.effect.Way.{Way}
 use Rattle.duct_tree.specs.declared.effect.Way.TheVariants as way
 
--- what it opens
+-- what a node opens
 abbrev pub opening_view : Opening → row.Obtains
 opening_view opening.Nothing = row.opens_nothing
 opening_view (opening.Input bytes) = row.opens_input (arc_value bytes.now).items
@@ -29,18 +29,18 @@ way_view way.Nothing = row.to_nothing
 way_view (way.Lent end) = row.to_lent end.now
 way_view way.Opened = row.to_opened
 
--- what it says of folder, variables and hooks
+-- what a node sets, if anything: the folder, a change of the variables, or a hook
 abbrev pub says_view : {E H : Type 0} → Option (Setting E H) → Option (Says E H)
 says_view None = None
 says_view (Some setting) = Some (setting_view setting)
 
--- what the shape says of it
+-- what the shape shows of a node
 abbrev pub mark_view : Mark → row.Mark
 mark_view mark.Plain = row.is_plain
 mark_view mark.Input = row.is_input
 mark_view mark.Unchecked = row.is_unchecked
 
--- what it does
+-- the row of a node: what it does
 abbrev pub effect_view : {E H : Type 0} → Effect E H → Row E H
 effect_view effect = record {
   opens = opening_view effect.opening;

@@ -1,4 +1,4 @@
--- The tree of a node and what a modifier asks, as contracts see them.
+-- The tree of a node and its modifiers, as contracts see them.
 use Rattle.std.specs.Prelude.{map, string_bytes}
 use Rattle.duct_system.specs.SpecView.{var_view}
 use Rattle.std.specs.Arc.{arc_value}
@@ -7,7 +7,7 @@ use Rattle.duct_tree.specs.declared.tree.Modifier.TheVariants.{StdinBytes, Stdin
 use Rattle.duct_tree.specs.declared.tree.Node.{Node, Cmd, Io', Pipe'}
 use Rattle.duct_start.specs.TreeView.{ModifierView, TreeView, command, pipe, around, stdin_bytes, stdin_path, stdin_file, stdin_null, stdout_path, stdout_file, stdout_null, stdout_capture, stdout_to_stderr, stderr_path, stderr_file, stderr_null, stderr_capture, stderr_to_stdout, stdout_stderr_swap, dir, env, env_remove, full_env, unchecked, before_spawn}
 
--- what a modifier asks
+-- a modifier, with its texts as lists of bytes
 abbrev pub modifier_view : {E H : Type 0} → Modifier E H → ModifierView E H
 modifier_view (StdinBytes bytes) = stdin_bytes (arc_value bytes).items
 modifier_view (StdinPath path) = stdin_path (string_bytes path)
@@ -31,7 +31,7 @@ modifier_view (FullEnv vars) = full_env (map var_view vars.entries)
 modifier_view Unchecked = unchecked
 modifier_view (BeforeSpawn hook ends) = before_spawn hook ends.items
 
--- the tree of a node and of what it leads to
+-- a node with all nodes inside it
 abbrev pub node_view : {E H : Type 0} → Node E H → TreeView E H
 node_view (Cmd words) = command (map string_bytes (arc_value words).items)
 node_view (Pipe' p left q right) = pipe (node_view left) (node_view right)

@@ -1,4 +1,5 @@
--- The debug text of an expression as it is promised: its form by the kinds of its nodes, and the text of a form.
+-- The debug text of an expression, as the contract promises it: the form of each kind of node, and
+-- the text of a form.
 use Rattle.std.specs.Prelude.{ℕ, List, [], ◌∷◌, ◌++◌, Bool, true, ◌&&◌, map, codes, Some, None, if◌then◌else◌}
 use Rattle.std.specs.Fmt.{◌++?◌, debug_list, debug_str, decimal}
 use Rattle.std.specs.List.{list_all}
@@ -7,7 +8,8 @@ use Rattle.duct_system.specs.SpecView.{Vars}
 use Rattle.duct_status.specs.Quoted.{is_printable, quoted, quoted_list, listed}
 use Rattle.duct_start.specs.TreeView.{ModifierView, TreeView, command, pipe, around, stdin_bytes, stdin_path, stdin_file, stdin_null, stdout_path, stdout_file, stdout_null, stdout_capture, stdout_to_stderr, stderr_path, stderr_file, stderr_null, stderr_capture, stderr_to_stdout, stdout_stderr_swap, dir, env, env_remove, full_env, unchecked, before_spawn}
 
--- what stands as it is, a text in quotes, a list of numbers, a list of texts in quotes, or one form before another
+-- a text as it is, a text in quotes, a list of numbers, a list of texts in quotes, or one form
+-- before another
 pub data Form : Type 0 where
   plain : List ℕ → Form
   quote : List ℕ → Form
@@ -21,11 +23,11 @@ joined [] = plain []
 joined (form ∷ []) = form
 joined (form ∷ next ∷ forms) = before form (joined (next ∷ forms))
 
--- a name with its parenthesis, then a form, then the other parenthesis
+-- a name that ends with its opening parenthesis, then a form, then the closing parenthesis
 abbrev pub named : List ℕ → Form → Form
 named name form = joined (plain name ∷ form ∷ plain (codes ")") ∷ [])
 
--- some variables, the first after the lead and each other one after a comma
+-- some variables, with the lead before the first and a comma before each other one
 abbrev pub vars_form : List ℕ → Vars → Form
 vars_form lead [] = plain []
 vars_form lead (variable ∷ vars) =
@@ -59,7 +61,7 @@ modifier_form (full_env vars) =
 modifier_form unchecked = plain (codes "Unchecked")
 modifier_form (before_spawn hook ends) = plain (codes "BeforeSpawn(<closure>)")
 
--- two forms in parentheses behind a name
+-- two forms in parentheses after a name
 abbrev pub pair_form : List ℕ → Form → Form → Form
 pair_form name one other =
     joined (plain name ∷ one ∷ plain (codes ", ") ∷ other ∷ plain (codes ")") ∷ [])
@@ -87,11 +89,11 @@ is_form_printable (numbers values) = true
 is_form_printable (texts all) = list_all is_printable all
 is_form_printable (before form next) = is_form_printable form && is_form_printable next
 
--- the text of a tree, or no promise
+-- the text of a tree, where all its texts are printable ASCII; else no promise
 abbrev pub shown : {E H : Type 0} → TreeView E H → Option (List ℕ)
 shown tree = if is_form_printable (tree_form tree) then Some (form_text (tree_form tree)) else None
 
--- what the standard forms print of a form, which say nothing of a text that is not ASCII
+-- what std's formatting prints for a form; std promises nothing for a text that is not ASCII
 abbrev pub printed : Form → Option (List ℕ)
 printed (plain bytes) = Some bytes
 printed (quote text) = debug_str text

@@ -1,4 +1,4 @@
-//! What each kind of modifier does, in one row.
+//! What each kind of modifier does, as one row.
 ghost use Rattle.std.specs.Prelude.{◌≡◌};
 ghost use Rattle.duct_start.specs.Row.{row};
 ghost use Rattle.duct_tree.specs.EffectView.{effect_view};
@@ -11,16 +11,16 @@ use duct_run::scope::Setting;
 use std::alloc::AllocError;
 use std::sync::Arc;
 
-/// What a node opens before what stands inside of it.
+/// What a node opens before its inner expression.
 pub(crate) enum Opening<'a> {
     Nothing,
-    /// A pipe: what stands inside reads from it, and these bytes are fed to it.
+    /// A pipe that the inner expression reads from, and to which a worker writes these bytes.
     Input(&'a Arc<Vec<u8>>),
-    /// A file that is read.
+    /// The file at this path, for reading.
     Read(&'a str),
-    /// A file that is made.
+    /// The file at this path, created or emptied, for writing.
     Create(&'a str),
-    /// The capture pipe of a stream.
+    /// The capture pipe of this stream.
     Capture(Side),
 }
 
@@ -32,13 +32,13 @@ impl Clone for Opening<'_> {
 
 impl Copy for Opening<'_> {}
 
-/// Where a stream goes inside of a node.
+/// Where a stream goes inside a node.
 pub(crate) enum Way<'a, E> {
-    /// Where this stream goes outside of it.
+    /// Where this stream goes outside the node.
     Outside(Stream),
     /// To nothing.
     Nothing,
-    /// To an end of the caller.
+    /// To this caller's end.
     Lent(&'a E),
     /// To what the node opens.
     Opened,
@@ -52,7 +52,7 @@ impl<E> Clone for Way<'_, E> {
 
 impl<E> Copy for Way<'_, E> {}
 
-/// What the shape of a start says of a node.
+/// What the shape of a start shows of a node.
 #[derive(Clone, Copy)]
 pub(crate) enum Mark {
     Plain,
@@ -60,8 +60,9 @@ pub(crate) enum Mark {
     Unchecked,
 }
 
-/// What a node does.
+/// A row: what a node does.
 pub(crate) struct Effect<'a, E, H> {
+    /// What it opens.
     pub opening: Opening<'a>,
     /// Where stdin goes.
     pub input: Way<'a, E>,
@@ -69,8 +70,9 @@ pub(crate) struct Effect<'a, E, H> {
     pub output: Way<'a, E>,
     /// Where stderr goes.
     pub error: Way<'a, E>,
-    /// What it says of folder, variables and hooks.
+    /// What it sets, if anything: the folder, a change of the variables, or a hook.
     pub setting: Option<Setting<'a, E, H>>,
+    /// What the shape shows of it.
     pub mark: Mark,
 }
 
@@ -82,7 +84,7 @@ impl<E, H> Clone for Effect<'_, E, H> {
 
 impl<E, H> Copy for Effect<'_, E, H> {}
 
-/// What a modifier does.
+/// Returns the row of a modifier.
 pub(crate) fn effect_of<E, H>(modifier: &Modifier<E, H>) -> Effect<'_, E, H>
     ensures { effect_view result ≡ row (modifier_view modifier.now) }
 {

@@ -1,4 +1,5 @@
-//! The first pass of a start: from a tree to a flat list of actions, and the scopes that they name. It asks nothing of any system.
+//! The first pass of a start: it turns a tree into a flat list of actions and the scopes that they
+//! name. It makes no request to a system.
 ghost use Rattle.std.specs.Prelude.{ℕ, List, ◌≡◌, ◌+◌, ◌++◌, length, map, string_bytes, IfOk, OnOk, IsOkUnless};
 ghost use Rattle.std.specs.Option.{option_map, option_to_list};
 ghost use Rattle.duct_start.specs.Actions.{ActionOf};
@@ -27,7 +28,8 @@ use duct_run::scope::Setting;
 pub use listing::Listing;
 use std::alloc::Global;
 
-/// The list of the tree of a node. Refused, by `Error::Memory`, only for want of memory.
+/// Returns the list of a node's tree. Fails only with `Error::Memory`, on allocation failure or
+/// where a count does not fit in a `usize`.
 pub fn flatten<'a, E, H>(alloc: Global, root: &'a Node<E, H>) -> Result<Listing<'a, E, H>, Error>
     ensures actions { IfOk result (λ list.
         actions_view list.actions.items ≡ (listed_of (node_view root.now)).actions) }
@@ -40,7 +42,8 @@ pub fn flatten<'a, E, H>(alloc: Global, root: &'a Node<E, H>) -> Result<Listing<
     Ok(list)
 }
 
-/// The list of the tree of a node, as if a capture of stdout stood round it. Refused as `flatten` is.
+/// Returns the list of a node's tree, as if there were a capture of stdout around it. Fails as
+/// `flatten` does.
 pub fn flatten_captured<'a, E, H>(
     alloc: Global,
     root: &'a Node<E, H>,
@@ -58,7 +61,7 @@ pub fn flatten_captured<'a, E, H>(
     Ok(list)
 }
 
-// Adds the actions of a tree inside of this.
+// Adds the actions and the scopes of a tree in this context.
 fn walk<'a, E, H>(
     node: &'a Node<E, H>,
     inside: Inside<'a, E>,
@@ -89,7 +92,8 @@ fn walk<'a, E, H>(
     }
 }
 
-// Adds the actions of a modifier that come before what stands inside of it, and answers what that stands inside of.
+// Adds the scope of a modifier, and its actions that come before those of the inner expression.
+// Returns the context of the inner expression.
 fn enter<'a, E, H>(
     modifier: &'a Modifier<E, H>,
     inside: Inside<'a, E>,
@@ -113,14 +117,14 @@ fn enter<'a, E, H>(
     })
 }
 
-// What an opening leaves: how a stream gets what it opened, and how many ends stand on the stack then.
+// What an opening leaves: the wire to what it opened, and how many ends are on the stack then.
 #[derive(Drop)]
 struct Opened<'a, E> {
     wire: Wire<'a, E>,
     depth: usize,
 }
 
-// Adds the actions of an opening over a stack of this depth.
+// Adds the action of an opening, where the stack has this depth.
 fn open<'a, E, H>(
     opening: Opening<'a>,
     depth: usize,
@@ -144,7 +148,7 @@ fn open<'a, E, H>(
     })
 }
 
-// How many ends an opening leaves on the stack.
+// Returns how many ends an opening leaves on the stack.
 fn pushed(opening: Opening<'_>) -> usize
     ensures { (depth : ℕ) → depth + result ≡ deeper (opening_view opening.entry) depth }
 {
@@ -155,7 +159,7 @@ fn pushed(opening: Opening<'_>) -> usize
     }
 }
 
-// The action of an opening.
+// Returns the action of an opening, if it has one.
 fn first<'a, E>(opening: Opening<'a>) -> Option<Action<'a, E>>
     ensures { (actions : List (ActionOf E ℕ)) → actions ++ option_to_list (option_map action_view result)
         ≡ openings (opening_view opening.entry) actions }
@@ -169,7 +173,7 @@ fn first<'a, E>(opening: Opening<'a>) -> Option<Action<'a, E>>
     }
 }
 
-// How a stream gets what was opened, over a stack of this depth with its ends.
+// Returns the wire to what was opened. `deep` is the depth of the stack after the opening.
 fn top<'a, E>(opening: Opening<'a>, deep: usize) -> Wire<'a, E>
     ensures { (depth : ℕ) → deep ≡ deeper (opening_view opening.entry) depth
         → wire_view result ≡ opened_wire (opening_view opening.entry) depth }
@@ -183,7 +187,8 @@ fn top<'a, E>(opening: Opening<'a>, deep: usize) -> Wire<'a, E>
     }
 }
 
-// Adds a scope inside of this, if there is one, and answers the index of the scope that a node leaves.
+// Adds the scope of a setting inside the scope `outer`, if there is a setting. Returns the index of
+// the scope inside the node.
 fn scoped<'a, E, H>(
     setting: Option<Setting<'a, E, H>>,
     outer: usize,
@@ -202,7 +207,7 @@ fn scoped<'a, E, H>(
     }
 }
 
-// How a stream that goes this way gets there.
+// Returns the wire of a stream that goes this way.
 fn wire<'a, E>(way: Way<'a, E>, opened: Wire<'a, E>, inside: Inside<'a, E>) -> Wire<'a, E>
     ensures { wire_view result
         ≡ wired (way_view way.entry) (wire_view opened.entry) (wires_view inside.entry) }
@@ -217,7 +222,7 @@ fn wire<'a, E>(way: Way<'a, E>, opened: Wire<'a, E>, inside: Inside<'a, E>) -> W
     }
 }
 
-// Adds the actions of a modifier that come behind what stands inside of it.
+// Adds the actions of a modifier that come after those of the inner expression.
 fn leave<'a, E, H>(modifier: &'a Modifier<E, H>, list: &mut Listing<'a, E, H>) -> Result<(), Error>
     ensures list { OnOk result (listing_view list.new
         ≡ with_ending (modifier_view modifier.now) (listing_view list.old)) }
@@ -226,7 +231,7 @@ fn leave<'a, E, H>(modifier: &'a Modifier<E, H>, list: &mut Listing<'a, E, H>) -
     close(effect_of(modifier).opening, list)
 }
 
-// Adds the actions that come behind an opening.
+// Adds the actions of an opening that come after those of the inner expression.
 fn close<'a, E, H>(opening: Opening<'a>, list: &mut Listing<'a, E, H>) -> Result<(), Error>
     ensures actions { OnOk result (actions_view list.new.actions.items
         ≡ closings (opening_view opening.entry) (actions_view list.old.actions.items)) }
@@ -243,7 +248,7 @@ fn close<'a, E, H>(opening: Opening<'a>, list: &mut Listing<'a, E, H>) -> Result
     }
 }
 
-// Adds the actions of a command inside of this.
+// Adds the actions of a command in this context.
 fn command<'a, E, H>(
     words: &'a [String],
     inside: Inside<'a, E>,
@@ -268,7 +273,8 @@ fn command<'a, E, H>(
     list.add(Action::Spawn(inside.scope, words, ports))
 }
 
-// Adds the action by which a command gets what this stream of it is wired to, and answers the port of the stream.
+// Adds the action that gets the end of this stream for a command, if one is needed. Returns the
+// port of the stream.
 fn fetch<'a, E, H>(
     stream: Stream,
     wire: Wire<'a, E>,

@@ -1,5 +1,5 @@
-//! The tree of an expression, and what is read off it before a start: its debug text, its shape, and the list of actions that runs
-//! it. Nothing here asks anything of a system.
+//! The tree of an expression, and what is made from it: its debug text, its shape, and the list of
+//! actions that runs it. Nothing here makes a request to a system.
 #![tactic(auto)]
 
 mod effect;

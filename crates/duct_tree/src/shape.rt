@@ -1,4 +1,5 @@
-//! What of a tree counts for the answer of a start: its commands with their words, pipes, input and unchecked.
+//! The shape of a tree: what counts for the result of a start. It has the commands with their
+//! words, the pipes, and the input and unchecked nodes.
 ghost use Rattle.std.specs.Prelude.{◌≡◌, IfOk, IsOkUnless};
 ghost use Rattle.duct_status.specs.ShapeView.{shape_view};
 ghost use Rattle.duct_start.specs.ShapeOfTree.{marked, shape_around, shape_of_tree};
@@ -11,7 +12,8 @@ use duct_base::error::Error;
 use duct_base::status::Shape;
 use std::alloc::Global;
 
-/// The shape of the tree of a node. It shares the words of the commands. Refused, by `Error::Memory`, only for want of memory.
+/// Returns the shape of a node's tree. It shares the words of the commands. Fails only with
+/// `Error::Memory`, on allocation failure or where the words have too many owners.
 pub fn shape_of<E, H>(alloc: Global, node: &Node<E, H>) -> Result<Shape, Error>
     ensures shape { IfOk result (λ shape. shape_view shape ≡ shape_of_tree (node_view node.now)) }
     ensures memory { IsOkUnless result Error.Memory }
@@ -30,7 +32,7 @@ pub fn shape_of<E, H>(alloc: Global, node: &Node<E, H>) -> Result<Shape, Error>
     }
 }
 
-// The shape of a modifier round what has this shape.
+// Returns the shape of a modifier around an expression of shape `inner`.
 fn around<E, H>(alloc: Global, modifier: &Modifier<E, H>, inner: Shape) -> Result<Shape, Error>
     ensures shape { IfOk result
         (λ shape. shape_view shape ≡ shape_around (modifier_view modifier.now) (shape_view inner)) }
@@ -39,7 +41,7 @@ fn around<E, H>(alloc: Global, modifier: &Modifier<E, H>, inner: Shape) -> Resul
     marking(alloc, effect_of(modifier).mark, inner)
 }
 
-// The shape of a node of this mark round what has this shape.
+// Returns the shape of a node with this mark around an expression of shape `inner`.
 fn marking(alloc: Global, mark: Mark, inner: Shape) -> Result<Shape, Error>
     ensures shape { IfOk result (λ shape. shape_view shape ≡ marked (mark_view mark) (shape_view inner)) }
     ensures memory { IsOkUnless result Error.Memory }

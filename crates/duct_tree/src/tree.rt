@@ -1,4 +1,4 @@
-//! The nodes of a tree, which share what stands inside of them.
+//! The nodes of a tree, which share their inner nodes.
 
 mod debug;
 
@@ -6,7 +6,8 @@ use duct_base::names::EnvNameString;
 use std::collections::BTreeMap;
 use std::sync::Arc;
 
-/// What a node asks of the one expression that it stands round. `Expression` has a call of the same name for each.
+/// What a node changes for the one expression inside it. `Expression` has a method for each, of the
+/// same name in snake case.
 #[derive(Drop)]
 pub enum Modifier<E, H> {
     StdinBytes(Arc<Vec<u8>>),
@@ -32,15 +33,17 @@ pub enum Modifier<E, H> {
     BeforeSpawn(H, Vec<E>),
 }
 
-/// A node of a tree: a command with its words, the program first; a pipe from its left side to its right side; or a modifier
-/// round one expression. The words of a command are shared with the shape that a start answers.
+/// A node of a tree: a command with its words, the program first; a pipe from its left side to its
+/// right side; or a modifier around one expression. The words of a command are shared with the
+/// shape that a start returns.
 pub enum Node<E, H> {
     Cmd(Arc<Vec<String>>),
     Pipe(Arc<Node<E, H>>, Arc<Node<E, H>>),
     Io(Modifier<E, H>, Arc<Node<E, H>>),
 }
 
-// A loop, so that many nodes round one another take no stack. Only the right sides of pipes stand within one another.
+// A loop, so that a drop of deeply nested nodes takes no stack. Only the right sides of pipes are
+// dropped by recursion.
 impl<E: Drop, H: Drop> Drop for Node<E, H> {
     fn drop(mut self) {
         loop {

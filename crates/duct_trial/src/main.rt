@@ -1,8 +1,10 @@
-//! The program `duct_trial`: reads an expression from each line of standard input, starts them over the real machine one after the other,
-//! all in one process, and prints what each came to. The last line says what they left: how many descriptors and how many children
-//! there are more than before the first. `bin/test-program` runs it at the machine's limits, and `bin/soak` with random lines.
+//! The program `duct_trial` reads an expression from each line of standard input, runs them on the
+//! real machine one after the other, all in one process, and prints the result of each. The last
+//! line says what they left: how many more file descriptors and children there are than before the
+//! first. `bin/test-program` runs it at the machine's limits, and `bin/soak` with random lines.
 //!
-//! A line has the arguments of the program `host`, with blanks between them, and is read. `= 4` runs one of the trees of `trees`.
+//! A line has the arguments of the program `host`, separated by blanks, and its expression is run
+//! by `read`. The line `= 4` runs tree 4 of `trees`.
 #![tactic(auto)]
 
 mod trees;
@@ -22,10 +24,11 @@ use std::sync::Wait;
 use std::time::Duration;
 use std::{io, thread};
 
-/// How often the program looks at most whether all that was started has ended, once a millisecond.
+/// How many times the program checks at most whether all that was started has ended, once a
+/// millisecond.
 const LOOKS: u32 = 2000;
 
-/// What a line of arguments reads.
+/// Reads the expression of a line of arguments. Returns its text or its error as text.
 fn line_text<S: System>(
     rt: &impl Wait,
     alloc: Global,
@@ -47,7 +50,7 @@ fn line_text<S: System>(
     }
 }
 
-/// What a tree comes to that is run.
+/// Runs a tree. Returns its output or its error as text.
 fn run_text<S: System>(
     rt: &impl Wait,
     alloc: Global,
@@ -64,7 +67,7 @@ fn run_text<S: System>(
     }
 }
 
-/// Two ends that read and write nothing.
+/// Opens `/dev/null` twice, and returns both ends.
 fn two_ends<R: Files<File = File>>(
     rt: &R,
     host: &mut Host<&R>,
@@ -93,7 +96,8 @@ fn tree_of<R: Files<File = File>>(
     tree(alloc, number, ends)
 }
 
-/// Waits until as little is left as there was, or so long as it looks, and says how much more is left.
+/// Waits until what is left is what there was before, for at most `LOOKS` checks. Returns how much
+/// more is left.
 fn rest<R: Files + AllocGlobal + Clone + Wait + Clock, C: duct::Child>(
     rt: &R,
     pool: &mut Pool<C>,

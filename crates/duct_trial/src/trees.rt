@@ -1,8 +1,9 @@
-//! Trees of commands that end by themselves and print little. Among them they have a node of each kind but `stderr_file`.
+//! Trees of commands that end by themselves and print little. Together they have a node of each
+//! kind but `stderr_file`.
 use duct::{CommandSpec, Error, Expression, Fault, Hook, Port, cmd};
 use std::alloc::Global;
 
-/// A hook that lets stdin and stdout go to the two ends beside it.
+/// A hook that connects stdin and stdout to the two ends that it is given.
 #[derive(Drop)]
 pub struct Wires;
 
@@ -79,7 +80,7 @@ fn lent<E: Drop>(alloc: Global, mut ends: Vec<E>) -> Result<Tree<E>, Error> {
     left.pipe(&right)?.env("A", "1")
 }
 
-// Each command writes to the stream that the other one is named after.
+// The output of each command goes to the other stream than the one it writes to.
 fn streams<E: Drop>(alloc: Global) -> Result<Tree<E>, Error> {
     let left = shell(alloc, "echo left")?.stdout_to_stderr()?;
     let right = shell(alloc, "echo right >&2")?.stderr_to_stdout()?;
@@ -91,7 +92,7 @@ fn inherited<E: Drop>(alloc: Global) -> Result<Tree<E>, Error> {
     shell(alloc, "echo hi; echo b >&2")
 }
 
-// Variables set, removed and whole, and a stderr that nobody reads.
+// A command with variables that are set, removed and replaced, and whose stderr is discarded.
 fn surrounded<E: Drop>(alloc: Global) -> Result<Tree<E>, Error> {
     let script = "echo $A $B $C; echo lost >&2";
     let shows: Tree<E> = cmd!(in alloc; "/bin/sh", "-c", script)?;
@@ -103,7 +104,7 @@ fn surrounded<E: Drop>(alloc: Global) -> Result<Tree<E>, Error> {
 /// The trees that take two ends.
 pub const TREES_WITH_ENDS: [u32; 2] = [9, 10];
 
-/// The tree of a number from 1 to 13; of any other number a command that does nothing.
+/// Returns the tree of a number from 1 to 13, or for any other number a command that does nothing.
 pub fn tree<E: Drop>(alloc: Global, number: u32, ends: Vec<E>) -> Result<Tree<E>, Error> {
     match number {
         1 => cat(alloc),

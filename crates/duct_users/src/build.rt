@@ -3,8 +3,9 @@ use duct::{Clock, Error, Expression, Output, Pool, System};
 use std::sync::Wait;
 use std::time::Duration;
 
-/// Runs a step for at most this long. Returns its output, or `None` where it took longer. Where a step that was started gives no
-/// output, those of its commands that may still run are killed, and their children are left to the pool.
+/// Runs a step for at most this long. Returns its output, or `None` if it took longer. If a step
+/// that was started returns no output, those of its commands that may still run are killed, and its
+/// children are given to the pool.
 pub fn build<S: System, C: Clock>(
     rt: &impl Wait,
     system: &mut S,

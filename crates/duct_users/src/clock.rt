@@ -3,7 +3,7 @@ use duct::Clock;
 use std::rt;
 use std::time::Duration;
 
-/// The clock of a runtime. Where the machine doesn't tell the time it stands at zero.
+/// The clock of a runtime. It always shows zero if the machine doesn't tell the time.
 #[derive(Drop)]
 pub struct MachineClock<R> {
     pub rt: R,

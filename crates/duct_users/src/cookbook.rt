@@ -4,21 +4,21 @@ use duct::{Error, ExitStatus, Expression, Output, Pool, ReaderHandle, System, cm
 use std::alloc::Global;
 use std::sync::Wait;
 
-/// What a command prints whose arguments stand in a list.
+/// Returns what a command prints whose arguments come from a list.
 pub fn listed<S: System>(rt: &impl Wait, alloc: Global, system: &mut S) -> Result<String, Error> {
     let mut pool = Pool::new(alloc);
     let echo: Expression<S::End> = cmd(alloc, "echo", &["foo", "bar", "baz"])?;
     echo.read(rt, system, &mut pool) // foo bar baz
 }
 
-/// What a command prints to both streams.
+/// Returns what a command prints to both streams.
 pub fn merged<S: System>(rt: &impl Wait, alloc: Global, system: &mut S) -> Result<String, Error> {
     let mut pool = Pool::new(alloc);
     let both: Expression<S::End> = cmd!(in alloc; "sh", "-c", "echo out; echo err >&2")?;
     both.stderr_to_stdout()?.read(rt, system, &mut pool) // out, a newline, err
 }
 
-/// What a command makes of bytes that it is given.
+/// Returns what a command prints that gets bytes on stdin.
 pub fn fed<S: System>(rt: &impl Wait, alloc: Global, system: &mut S) -> Result<String, Error> {
     let mut pool = Pool::new(alloc);
     let cat: Expression<S::End> = cmd!(in alloc; "cat")?;
@@ -26,7 +26,7 @@ pub fn fed<S: System>(rt: &impl Wait, alloc: Global, system: &mut S) -> Result<S
     cat.stdin_bytes(bytes)?.read(rt, system, &mut pool) // foo
 }
 
-/// What a command prints in another folder, with other variables.
+/// Returns what a command prints in another folder, with other variables.
 pub fn placed<S: System>(rt: &impl Wait, alloc: Global, system: &mut S) -> Result<String, Error> {
     let mut pool = Pool::new(alloc);
     let sh: Expression<S::End> = cmd!(in alloc; "sh", "-c", "pwd; echo $FOO${HOME}bar")?;
@@ -34,7 +34,7 @@ pub fn placed<S: System>(rt: &impl Wait, alloc: Global, system: &mut S) -> Resul
     placed.read(rt, system, &mut pool) // a slash, a newline, foobar
 }
 
-/// How a command ended that fails, where that is no error.
+/// Returns the status of a command that fails, where that is no error.
 pub fn unchecked<S: System>(
     rt: &impl Wait,
     alloc: Global,
@@ -46,7 +46,7 @@ pub fn unchecked<S: System>(
     Ok(output.status) // ExitStatus::Code(3)
 }
 
-/// Both streams of a command, exchanged and captured.
+/// Swaps both streams of a command, and captures them.
 pub fn swapped<S: System>(rt: &impl Wait, alloc: Global, system: &mut S) -> Result<Output, Error> {
     let mut pool = Pool::new(alloc);
     let both: Expression<S::End> = cmd!(in alloc; "sh", "-c", "echo foo; echo bar >&2")?;
@@ -54,7 +54,7 @@ pub fn swapped<S: System>(rt: &impl Wait, alloc: Global, system: &mut S) -> Resu
     swapped.stderr_capture()?.run(rt, system, &mut pool) // its stdout: bar, its stderr: foo
 }
 
-/// How many bytes a command prints, read in pieces while it runs.
+/// Returns how many bytes a command prints, read in pieces while it runs.
 pub fn counted<S: System>(rt: &impl Wait, alloc: Global, system: &mut S) -> Result<usize, Error> {
     let mut pool = Pool::new(alloc);
     let seq: Expression<S::End> = cmd!(in alloc; "seq", "1000")?;
@@ -64,7 +64,7 @@ pub fn counted<S: System>(rt: &impl Wait, alloc: Global, system: &mut S) -> Resu
     counted
 }
 
-// How many bytes are read up to the end.
+// Reads to EOF, and returns how many bytes were read.
 fn count<S: System, R: Wait>(handle: &ReaderHandle<S, R>) -> Result<usize, Error> {
     let mut count = 0_usize;
     for _ in 0..u64::MAX {
@@ -79,7 +79,7 @@ fn count<S: System, R: Wait>(handle: &ReaderHandle<S, R>) -> Result<usize, Error
     Ok(count)
 }
 
-/// How a service ends that is told to end by a signal.
+/// Ends a service by a signal, and returns its output.
 pub fn stopped<S: System>(rt: &impl Wait, alloc: Global, system: &mut S) -> Result<Output, Error> {
     let mut pool = Pool::new(alloc);
     let sleep: Expression<S::End> = cmd!(in alloc; "sleep", "20")?;

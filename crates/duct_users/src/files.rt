@@ -1,4 +1,4 @@
-//! A file that is open already, as a stream of a command of the real machine.
+//! A file that is already open, as a stream of a command on the real machine.
 use duct::{Error, Expression, Fault, cmd};
 use duct_host::end::End;
 use duct_host::host::Host;
@@ -6,7 +6,7 @@ use std::alloc::Global;
 use std::fs::File;
 use std::rt::Files;
 
-/// A command that writes into a new file, by an end of that file.
+/// Returns a command that writes to a new file, through an end of that file.
 pub fn writer<R: Files<File = File>>(
     rt: &R,
     host: &mut Host<&R>,

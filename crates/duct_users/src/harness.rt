@@ -1,8 +1,8 @@
-//! A harness: which commands a system was asked for.
+//! A test harness: which commands a system has started.
 use duct::{Entry, System};
 use std::alloc::{AllocError, Global};
 
-/// The words of each command that was started, a line each.
+/// Returns the words of each command that was started, one command a line.
 pub fn started<S: System>(alloc: Global, system: &S) -> Result<String, AllocError> {
     let mut text = String::new(alloc);
     for entry in system.journal() {
@@ -13,7 +13,7 @@ pub fn started<S: System>(alloc: Global, system: &S) -> Result<String, AllocErro
     Ok(text)
 }
 
-// The words, with a space behind each, and a newline.
+// Adds the words, with a space after each, and a newline.
 fn push_words(text: &mut String, words: &[String]) -> Result<(), AllocError> {
     for word in words {
         text.push_str(word.as_str())?;

@@ -1,4 +1,4 @@
-//! Expressions of every kind, built by public calls alone.
+//! Expressions of every kind, built by public calls only.
 use duct::{
     CommandSpec, Error, Expression, Fault, Hook, HookBox, IntoExecutablePath, Pool, Port, System,
     cmd,
@@ -25,7 +25,7 @@ impl Hook for OneMore {
     }
 }
 
-/// A command of a program that is named by a text or by a path.
+/// Returns a command whose program is named by a string or by a path.
 pub fn named<E: Drop, P: IntoExecutablePath>(
     alloc: Global,
     program: P,
@@ -33,25 +33,26 @@ pub fn named<E: Drop, P: IntoExecutablePath>(
     cmd!(in alloc; program)
 }
 
-/// Two commands, one with arguments and named by a path, one by a text, and both in a pipe.
+/// Returns two commands in a pipe: the left one has arguments and is named by a path, the right one
+/// by a string.
 pub fn piped<E: Drop>(alloc: Global) -> Result<Expression<E>, Error> {
     let left = cmd!(in alloc; Path::new("tools/a"), "-v", "in")?;
     let right = cmd!(in alloc; "b",)?;
     left.pipe(&right)
 }
 
-/// A command of a path of one's own, with numbers as its ends.
+/// Returns a command that is named by an owned path. The ends of the expression are numbers.
 pub fn owned(alloc: Global) -> Result<Expression<u64>, Error> {
     let path = PathBuf::from_str(alloc, "tools/a")?;
     duct::cmd(alloc, &path, &["-v"])
 }
 
-/// One more owner of an expression.
+/// Returns one more owner of an expression.
 pub fn copied(e: &Expression<u64>) -> Result<Expression<u64>, AllocError> {
     e.clone()
 }
 
-/// Each modifier of stdin round an expression.
+/// Puts each modifier of stdin around an expression.
 pub fn with_stdin<E: Drop>(
     alloc: Global,
     e: &Expression<E>,
@@ -64,7 +65,7 @@ pub fn with_stdin<E: Drop>(
         .stdin_null()
 }
 
-/// Each modifier of stdout round an expression.
+/// Puts each modifier of stdout around an expression.
 pub fn with_stdout<E: Drop>(e: &Expression<E>, end: E) -> Result<Expression<E>, Error> {
     e.stdout_path("out")?
         .stdout_file(end)?
@@ -74,7 +75,7 @@ pub fn with_stdout<E: Drop>(e: &Expression<E>, end: E) -> Result<Expression<E>, 
         .stdout_stderr_swap()
 }
 
-/// Each modifier of stderr round an expression.
+/// Puts each modifier of stderr around an expression.
 pub fn with_stderr<E: Drop>(e: &Expression<E>, end: E) -> Result<Expression<E>, Error> {
     e.stderr_path("err")?
         .stderr_file(end)?
@@ -83,7 +84,7 @@ pub fn with_stderr<E: Drop>(e: &Expression<E>, end: E) -> Result<Expression<E>, 
         .stderr_to_stdout()
 }
 
-/// The folder, the variables and unchecked round an expression.
+/// Puts a folder, variables and `unchecked` around an expression.
 pub fn with_surroundings<E: Drop>(e: &Expression<E>) -> Result<Expression<E>, Error> {
     e.dir("/in")?
         .env("A", "1")?
@@ -92,7 +93,7 @@ pub fn with_surroundings<E: Drop>(e: &Expression<E>) -> Result<Expression<E>, Er
         .unchecked()
 }
 
-/// A hook round an expression, with ends beside it.
+/// Puts a hook around an expression, with the ends that the hook may use.
 pub fn with_hook<E: Drop>(
     e: &Expression<E>,
     hook: HookBox,
@@ -101,7 +102,7 @@ pub fn with_hook<E: Drop>(
     e.before_spawn(hook, ends)
 }
 
-/// The debug text of a command inside a boxed hook.
+/// Returns the debug text of a command inside a boxed hook.
 pub fn shown(alloc: Global) -> Result<String, Error> {
     let hook: HookBox = Box::new(alloc, OneMore)?;
     let e: Expression<u64> = cmd!(in alloc; "a")?;
@@ -109,7 +110,7 @@ pub fn shown(alloc: Global) -> Result<String, Error> {
     Ok(format!(in alloc; "{hooked:?}")?)
 }
 
-/// What `echo foo` prints inside of a boxed hook.
+/// Returns what `echo foo` prints inside a boxed hook.
 pub fn echoed<S: System>(rt: &impl Wait, alloc: Global, system: &mut S) -> Result<String, Error> {
     let hook: HookBox = Box::new(alloc, OneMore)?;
     let echo: Expression<S::End> = cmd!(in alloc; "echo", "foo")?;
@@ -118,7 +119,7 @@ pub fn echoed<S: System>(rt: &impl Wait, alloc: Global, system: &mut S) -> Resul
     hooked.read(rt, system, &mut pool)
 }
 
-/// Two commands in a pipe, with stderr thrown away on the left, on the right, and on both sides.
+/// Puts two commands in a pipe, and discards stderr of the left one, of the right one, and of both.
 pub fn silenced<E: Drop>(
     foo: &Expression<E>,
     bar: &Expression<E>,
@@ -129,7 +130,8 @@ pub fn silenced<E: Drop>(
     Ok((left, right, both))
 }
 
-/// Two commands in a pipe, of which a failure doesn't count on the left, on the right, and on both sides.
+/// Puts two commands in a pipe, where a failure of the left one, of the right one, and of either is
+/// no error.
 pub fn excused<E: Drop>(
     foo: &Expression<E>,
     bar: &Expression<E>,

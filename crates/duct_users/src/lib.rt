@@ -1,5 +1,6 @@
-//! Users of duct, as anybody would write them: the examples of README and of docs/COOKBOOK.md, a caller that builds each kind of
-//! expression, and over any system a script runner, a build step with a time limit, a supervisor that restarts, and a harness.
+//! Programs that use `duct` as any user would: the examples of README and of docs/COOKBOOK.md, a
+//! caller that builds each kind of expression, and, over any system, a script runner, a build step
+//! with a time limit, a supervisor that restarts a service, and a test harness.
 #![tactic(auto)]
 
 #[cfg(test)]

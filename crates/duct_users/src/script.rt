@@ -3,7 +3,8 @@ use duct::{Error, Expression, Pool, System, cmd};
 use std::alloc::Global;
 use std::sync::Wait;
 
-/// Reads the command of each line, in order, up to the first that fails. Answers what they printed, a line each.
+/// Runs the command of each line, in order, up to the first that fails. Returns what they printed,
+/// with a newline after the text of each line.
 pub fn run_script<S: System>(
     rt: &impl Wait,
     alloc: Global,
@@ -19,7 +20,7 @@ pub fn run_script<S: System>(
     Ok(printed)
 }
 
-// What the command of one line prints. An empty line prints nothing.
+// Returns what the command of one line prints. An empty line prints nothing.
 fn run_line<S: System>(
     rt: &impl Wait,
     alloc: Global,

@@ -2,8 +2,9 @@
 use duct::{Error, Expression, Pool, System};
 use std::sync::Wait;
 
-/// Runs a service until it ends well, and starts it again at most so often. Answers how often it was started again; the last
-/// failure where it never ended well, and at once what is no failure of its own.
+/// Runs a service until it succeeds, and restarts it at most this many times. Returns how many
+/// times it was restarted. Fails with the last failure of the service if it never succeeded, and at
+/// once with any other error.
 pub fn supervise<S: System>(
     rt: &impl Wait,
     system: &mut S,

@@ -1,4 +1,4 @@
-//! The users over the scripted system, and the caller over the real machine.
+//! Tests of these programs over the scripted system, and of two callers over the real machine.
 use crate::build::build;
 use crate::harness::started;
 use crate::hello::hello;
@@ -20,7 +20,7 @@ use std::time::Duration;
 
 type Tree = Expression<ScriptEnd>;
 
-/// What a script of two lines prints, and what was started.
+/// Returns what a script of two lines prints, and which commands were started.
 fn scripted(rt: &impl Wait, alloc: Global, bench: &mut Bench) -> Result<String, Error> {
     let mut text = run_script(rt, alloc, &mut bench.sys, "echo hi\nmake all")?;
     text.push_str(started(alloc, &bench.sys)?.as_str())?;
@@ -36,7 +36,7 @@ fn a_script(rt: HostRuntime) -> Result<(), Fail> {
     Ok(())
 }
 
-/// How many orders were noted.
+/// Returns how many orders were noted.
 fn orders(calls: &CallLog) -> u32 {
     let mut orders = 0_u32;
     for place in 0..calls.noted() {
@@ -62,7 +62,7 @@ fn step(alloc: Global) -> Result<Tree, Error> {
     make.pipe(&cmd!(in alloc; "tee", "log")?)
 }
 
-/// What comes of a step whose time has passed at its first poll.
+/// Runs a step with a limit of five seconds by this clock.
 fn built(
     rt: &impl Wait,
     bench: &mut Bench,
@@ -73,7 +73,7 @@ fn built(
     build(rt, &mut bench.sys, &mut bench.pool, clock, step, limit)
 }
 
-/// What came of a step, in words.
+/// Returns the result of a step as text.
 fn told(alloc: Global, built: &Result<Option<Output>, Error>) -> Result<String, AllocError> {
     match built {
         Ok(Some(_)) => String::from_str(alloc, "output"),
@@ -82,7 +82,8 @@ fn told(alloc: Global, built: &Result<Option<Output>, Error>) -> Result<String, 
     }
 }
 
-/// The same of a step of two commands.
+/// Runs a step of two commands whose limit has passed at its first poll. Returns its result as
+/// text.
 fn built_text(rt: &impl Wait, alloc: Global, bench: &mut Bench) -> Result<String, Error> {
     let clock = clock(alloc, [1, 9])?;
     let step = step(alloc)?;
@@ -90,7 +91,8 @@ fn built_text(rt: &impl Wait, alloc: Global, bench: &mut Bench) -> Result<String
     Ok(told(alloc, &built)?)
 }
 
-/// What comes of a step whose commands answer so, how many of them were killed, and how many the pool was given.
+/// Runs a step whose commands return these results to polls. Returns its result as text, how many
+/// commands were killed, and how many children were given to the pool.
 fn step_text(rt: &impl Wait, alloc: Global, children: &str) -> Result<String, Stop> {
     let mut bench = bench_of(alloc, Scene::of(children))?;
     let mut text = built_text(rt, alloc, &mut bench)?;
@@ -99,7 +101,7 @@ fn step_text(rt: &impl Wait, alloc: Global, children: &str) -> Result<String, St
     Ok(text)
 }
 
-/// What two commands answer, and what comes of their step.
+/// What two commands return to polls, and the text that their step has to give.
 const STEPS: [(&str, &str); 7] = [
     ("code 0; code 0", "output, 0 killed, 0 given"),
     ("running; running", "nothing, 2 killed, 2 given"),
@@ -113,7 +115,7 @@ const STEPS: [(&str, &str); 7] = [
     ("running; Other", "system: Other, 2 killed, 2 given"),
 ];
 
-/// Whatever comes of a step that was started, none of its commands runs on behind it.
+/// Checks that no command of a started step runs on after it, whatever the step returns.
 #[test]
 fn steps_with_a_time_limit(rt: HostRuntime) -> Result<(), Fail> {
     for (children, wanted) in STEPS {
@@ -123,13 +125,13 @@ fn steps_with_a_time_limit(rt: HostRuntime) -> Result<(), Fail> {
     Ok(())
 }
 
-/// How often a service was started again.
+/// Supervises a service, and returns how many times it was restarted.
 fn supervised(rt: &impl Wait, alloc: Global, bench: &mut Bench) -> Result<u32, Error> {
     let service: Tree = cmd!(in alloc; "server")?;
     supervise(rt, &mut bench.sys, &mut bench.pool, &service, 5)
 }
 
-/// A service that fails twice and ends well then.
+/// Checks a service that fails twice and then succeeds.
 #[test]
 fn a_service(rt: HostRuntime) -> Result<(), Fail> {
     let mut bench = bench_of(rt.alloc(), Scene::of("code 1; signal 9; running, code 0"))?;

@@ -3,7 +3,7 @@ use duct::{Error, Expression, Pool, System, cmd};
 use std::alloc::Global;
 use std::sync::Wait;
 
-/// How many bytes a pipeline prints to each stream, and why another one fails.
+/// Returns how many bytes a pipeline prints to each stream, and why another command fails.
 pub fn piped<S: System>(rt: &impl Wait, alloc: Global, system: &mut S) -> Result<String, Error> {
     let mut pool = Pool::new(alloc);
     let hello: Expression<S::End> = cmd!(in alloc; "sh", "-c", "echo hello; echo careful >&2")?;
@@ -20,7 +20,7 @@ pub fn piped<S: System>(rt: &impl Wait, alloc: Global, system: &mut S) -> Result
     }
 }
 
-/// What a command writes into a file.
+/// Returns what a command writes to a file.
 pub fn filed<S: System>(
     rt: &impl Wait,
     alloc: Global,

@@ -1,4 +1,5 @@
-//! The examples of the documents: over the real machine, and a test of a script over the scripted system.
+//! Tests of the documents' examples over the real machine, and of a script over the scripted
+//! system.
 use crate::build::build;
 use crate::clock::MachineClock;
 use crate::cookbook::{counted, fed, listed, merged, placed, stopped, swapped, unchecked};
@@ -16,7 +17,8 @@ use std::sync::Wait;
 use std::test::Fail;
 use std::time::Duration;
 
-/// A script stops at its first command that fails. No program runs: the test says what the child answers.
+/// Checks that a script stops at its first command that fails. No program runs: the test sets what
+/// the child returns to polls.
 #[test]
 fn a_script_stops_at_a_failure(rt: HostRuntime) -> Result<(), Fail> {
     let mut system = Script::new(rt.alloc())?;
@@ -36,7 +38,7 @@ fn a_pipeline_and_an_error(rt: HostRuntime) -> Result<(), Error> {
     Ok(())
 }
 
-/// Whether a command that sleeps takes longer than its limit.
+/// Returns whether a command that sleeps takes longer than its limit.
 fn is_late<S: System, C: Clock>(
     rt: &impl Wait,
     alloc: Global,
@@ -58,14 +60,14 @@ fn a_deadline_and_a_kill(rt: HostRuntime) -> Result<(), Error> {
     Ok(())
 }
 
-/// The path of a new file.
+/// Makes a new file, and returns its path.
 fn new_file<S: System>(rt: &impl Wait, alloc: Global, system: &mut S) -> Result<String, Error> {
     let mut pool = Pool::new(alloc);
     let mktemp: Expression<S::End> = cmd!(in alloc; "mktemp")?;
     mktemp.read(rt, system, &mut pool)
 }
 
-/// What a file has, which is removed.
+/// Returns the text of a file, and removes the file.
 fn take_file<S: System>(
     rt: &impl Wait,
     alloc: Global,
@@ -77,7 +79,7 @@ fn take_file<S: System>(
     take.read(rt, system, &mut pool)
 }
 
-/// What a command reads back from a file that it wrote.
+/// Returns what a command reads from a file that another command wrote.
 fn filed_text<S: System>(rt: &impl Wait, alloc: Global, system: &mut S) -> Result<String, Error> {
     let path = new_file(rt, alloc, system)?;
     let text = filed(rt, alloc, system, path.as_str())?;
@@ -93,7 +95,7 @@ fn redirections_and_environment(rt: HostRuntime) -> Result<(), Error> {
     Ok(())
 }
 
-/// What the examples of the cookbook read.
+/// Returns what the examples of the cookbook read.
 fn texts<S: System>(rt: &impl Wait, alloc: Global, system: &mut S) -> Result<String, Error> {
     let mut text = listed(rt, alloc, system)?;
     text.push_str(merged(rt, alloc, system)?.as_str())?;
@@ -142,7 +144,7 @@ fn a_signal_ends_a_service(rt: HostRuntime) -> Result<(), Error> {
     Ok(())
 }
 
-/// Runs a command whose file is open already.
+/// Runs a command that writes to an open file. Returns the file's text, and removes the file.
 fn written<S: System<End = End>>(
     rt: &impl Wait,
     alloc: Global,

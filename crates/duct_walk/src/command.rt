@@ -1,4 +1,4 @@
-//! A command: its canonical name, its streams, its hooks, and its spawn.
+//! A command: its canonical path, its streams, its hooks, and its spawn.
 use crate::context::{Context, Goes, Variables};
 use crate::hooks::change;
 use crate::made::Made;
@@ -13,7 +13,7 @@ use duct_script::system::Script;
 use std::alloc::Global;
 use std::mem::replace;
 
-/// Starts the command of these words inside of this.
+/// Starts the command with these words in this context.
 pub(crate) fn command(
     words: &[String],
     mut context: Context<'_>,
@@ -35,7 +35,7 @@ pub(crate) fn command(
     }
 }
 
-// The place of a command's child, and its spec once its hooks ran.
+// Allocates the place of a command's child, and returns it with the command's spec after its hooks.
 fn ready(
     words: &[String],
     context: &mut Context<'_>,
@@ -54,7 +54,7 @@ fn ready(
     Ok((seat, spec))
 }
 
-// The words of a command, the program by its canonical name where that is to be asked.
+// Returns the words of a command, with the canonical path of its program if that must be requested.
 fn named(
     alloc: Global,
     words: &[String],
@@ -72,7 +72,7 @@ fn named(
     Ok(named)
 }
 
-// Gets the parent's stream for a stream that goes to the other one.
+// Requests an end of the parent's stream, for an output stream that goes to the parent's other one.
 fn find(goes: &mut Goes, stream: Stream, sys: &mut Script) -> Result<(), Error> {
     let side = match (&*goes, stream) {
         (Goes::Parents(Stream::Out), Stream::Err) => Side::Out,
@@ -83,7 +83,7 @@ fn find(goes: &mut Goes, stream: Stream, sys: &mut Script) -> Result<(), Error> 
     Ok(())
 }
 
-// The spec that a command is asked for.
+// Returns the spec that the tree gives a command.
 fn asked(
     alloc: Global,
     words: Vec<String>,

@@ -1,4 +1,5 @@
-//! What a node stands inside of. The walk passes it inwards: it owns its ends, and each side of a pipe has one of its own.
+//! The context of a node. The walk passes it inwards. It owns its ends, and each side of a pipe has
+//! its own.
 use crate::requests::close;
 use duct_base::error::Error;
 use duct_base::names::EnvNameString;
@@ -22,10 +23,10 @@ pub(crate) enum Goes {
 /// The variables of a child.
 pub(crate) type Variables = BTreeMap<EnvNameString, String>;
 
-/// A hook, with the ends beside it.
+/// A hook with its ends.
 pub(crate) type Hooked<'t> = (&'t ScriptHook, &'t [ScriptEnd]);
 
-/// What a node stands inside of.
+/// The context of a node: what the nodes around it set.
 #[derive(Drop)]
 pub(crate) struct Context<'t> {
     pub input: Goes,
@@ -33,12 +34,12 @@ pub(crate) struct Context<'t> {
     pub error: Goes,
     pub folder: Option<&'t str>,
     pub variables: Variables,
-    /// The outermost first.
+    /// The hooks, the outermost first.
     pub hooks: Vec<Hooked<'t>>,
 }
 
 impl<'t> Context<'t> {
-    /// What the root stands inside of, where the parent's environment has these pairs.
+    /// Returns the context of the root, if the parent's environment has these pairs.
     pub(crate) fn root(
         alloc: Global,
         pairs: Vec<(String, String)>,
@@ -57,7 +58,7 @@ impl<'t> Context<'t> {
         })
     }
 
-    /// Lets a stream go there. What it had is closed.
+    /// Sends a stream there. An end that the stream had is closed.
     pub(crate) fn turn(&mut self, stream: Stream, goes: Goes, sys: &mut Script) {
         let had = match stream {
             Stream::In => replace(&mut self.input, goes),
@@ -67,33 +68,34 @@ impl<'t> Context<'t> {
         let_go(had, sys);
     }
 
-    /// Lets stdout go where stderr goes.
+    /// Sends stdout where stderr goes.
     pub(crate) fn output_to_error(&mut self, sys: &mut Script) -> Result<(), Error> {
         let goes = copy(&self.error, sys)?;
         self.turn(Stream::Out, goes, sys);
         Ok(())
     }
 
-    /// Lets stderr go where stdout goes.
+    /// Sends stderr where stdout goes.
     pub(crate) fn error_to_output(&mut self, sys: &mut Script) -> Result<(), Error> {
         let goes = copy(&self.output, sys)?;
         self.turn(Stream::Err, goes, sys);
         Ok(())
     }
 
-    /// Gives a variable a value. The spelling that is there is kept.
+    /// Sets a variable. A spelling that is already there is kept.
     pub(crate) fn set(&mut self, name: &EnvNameString, value: &String) -> Result<(), AllocError> {
         let (name, value) = (name.clone()?, value.clone()?);
         self.variables.insert(name, value)?;
         Ok(())
     }
 
-    /// Takes a variable away.
+    /// Removes a variable.
     pub(crate) fn unset(&mut self, name: &EnvNameString) {
         self.variables.remove(name);
     }
 
-    /// Opens a pipe, and answers what its left side stands inside of. This becomes what its right side stands inside of.
+    /// Opens a pipe, and returns the context of its left side. This context becomes that of its
+    /// right side.
     pub(crate) fn fork(&mut self, sys: &mut Script) -> Result<Context<'t>, Error> {
         let variables = self.variables.clone()?;
         let hooks = Vec::from_slice(*self.hooks.allocator(), self.hooks.as_slice())?;
@@ -118,7 +120,7 @@ impl<'t> Context<'t> {
         }
     }
 
-    /// Closes all that it has.
+    /// Closes all ends of the context.
     pub(crate) fn close(self, sys: &mut Script) {
         let_go(self.input, sys);
         let_go(self.output, sys);
@@ -133,22 +135,22 @@ fn let_go(goes: Goes, sys: &mut Script) {
     }
 }
 
-/// To a file that is opened to be read.
+/// Opens a file for reading.
 pub(crate) fn opened(path: &str, sys: &mut Script) -> Result<Goes, Error> {
     Ok(Goes::End(sys.open_read(path)?))
 }
 
-/// To a file that is made.
+/// Creates a file.
 pub(crate) fn created(path: &str, sys: &mut Script) -> Result<Goes, Error> {
     Ok(Goes::End(sys.create(path)?))
 }
 
-/// To one more of this end.
+/// Duplicates this end.
 pub(crate) fn lent(end: &ScriptEnd, sys: &mut Script) -> Result<Goes, Error> {
     Ok(Goes::End(sys.duplicate(end)?))
 }
 
-// One more that goes there.
+// Returns a copy of where a stream goes. An end is duplicated.
 fn copy(goes: &Goes, sys: &mut Script) -> Result<Goes, Error> {
     match goes {
         Goes::Parents(stream) => Ok(Goes::Parents(*stream)),

@@ -6,7 +6,7 @@ use duct_base::system::System;
 use duct_script::hook::ScriptHook;
 use duct_script::system::{Script, ScriptEnd};
 
-/// Runs a hook: it changes the spec, and then each stream goes where the spec says.
+/// Runs a hook: it changes the spec, and then each stream is sent where the spec says.
 pub(crate) fn change(
     hook: &ScriptHook,
     ends: &[ScriptEnd],
@@ -26,7 +26,7 @@ pub(crate) fn change(
     Ok(())
 }
 
-// Refused where a port names no end of these.
+// Fails if a port names a place at which the hook has no end.
 fn is_there(port: Port, ends: &[ScriptEnd]) -> Result<(), Error> {
     match port {
         Port::Place(place) if place >= ends.len() => Err(Error::HookEnd(place)),
@@ -34,7 +34,7 @@ fn is_there(port: Port, ends: &[ScriptEnd]) -> Result<(), Error> {
     }
 }
 
-// Turns a stream to where the spec says.
+// Sends a stream where the spec says.
 fn settle(
     stream: Stream,
     ends: &[ScriptEnd],

@@ -1,5 +1,6 @@
-//! A start of an expression by a plain recursive walk over the scripted system: a second body beside the library's own, which
-//! makes a flat list first and runs it after. Test support: nothing here is proved but that it is safe and ends.
+//! A start of an expression by a plain recursive walk over the scripted system: a second
+//! implementation beside the library's own, which first makes a flat list and then runs it. For
+//! tests: nothing is proved about it except that it is safe and ends.
 #![tactic(auto)]
 
 mod command;

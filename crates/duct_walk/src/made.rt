@@ -12,7 +12,8 @@ use std::alloc::Global;
 /// A capture pipe, if it is open: its read end and its write end.
 pub(crate) type Capture = Option<(ScriptEnd, ScriptEnd)>;
 
-/// The capture pipes, the children from left to right, and the workers in the order of their starts.
+/// The capture pipes, the children from left to right, and the workers in the order of their
+/// starts.
 #[derive(Drop)]
 pub(crate) struct Made {
     pub output: Capture,
@@ -34,7 +35,7 @@ impl Made {
     }
 }
 
-/// One more write end of a capture pipe, which is opened if it isn't open.
+/// Returns one more write end of a capture pipe. The pipe is opened if it isn't open.
 pub(crate) fn tap(capture: &mut Capture, sys: &mut Script) -> Result<Goes, Error> {
     let (reader, writer) = match capture.take() {
         Some(pipe) => pipe,

@@ -14,7 +14,7 @@ use duct_tree::tree::{Modifier, Node};
 use std::mem::swap;
 use std::sync::Arc;
 
-/// Starts what stands below a node, inside of this.
+/// Starts the expression at a node in this context.
 pub(crate) fn walk_node<'t>(
     node: &'t Node<ScriptEnd, ScriptHook>,
     mut context: Context<'t>,
@@ -53,7 +53,8 @@ pub(crate) fn walk_node<'t>(
 // The write end of an input's pipe, and the bytes that are fed to it.
 type Input<'t> = (ScriptEnd, &'t Arc<Vec<u8>>);
 
-// Asks what a modifier asks, and makes of what it stands inside of what its inner expression does. Answers what is left to be fed.
+// Makes the requests of a modifier, and changes the context to that of its inner expression.
+// Returns what is left to be fed.
 fn enter<'t>(
     modifier: &'t Modifier<ScriptEnd, ScriptHook>,
     context: &mut Context<'t>,
@@ -90,7 +91,7 @@ fn enter<'t>(
     Ok(None)
 }
 
-// Feeds what is left to be fed once the inner expression was started.
+// Feeds what is left to be fed, after the inner expression was started.
 fn leave(
     input: Option<Input<'_>>,
     started: Result<(), Error>,

@@ -1,5 +1,5 @@
-//! The requests that are given ends. The interface wants room for their entries, which was made as the ends were got: so none of
-//! these is refused for want of it.
+//! The requests that take ends. The interface requires room for their entries. That room was made
+//! when the ends were returned, so none of these requests fails because there is no room.
 ghost use Rattle.std.specs.Prelude.{◌≡◌, []};
 ghost use Rattle.duct_system.specs.Streams.{end_of};
 
@@ -39,7 +39,7 @@ fn stream(goes: Goes) -> Stdio<ScriptEnd> {
     }
 }
 
-// The same of what is no end.
+// Like `stream`, for a stream without an end. A stream with an end becomes `Null`.
 fn endless(goes: Goes) -> Stdio<ScriptEnd>
     ensures { end_of result ≡ [] }
 {

@@ -15,7 +15,8 @@ use duct_script::system::{Script, ScriptEnd};
 use duct_tree::tree::Node;
 use std::alloc::Global;
 
-/// What runs: the children from left to right, and the input workers and capture workers in the order of their starts.
+/// What runs: the children from left to right, and the input workers and capture workers in the
+/// order of their starts.
 #[derive(Drop)]
 pub struct Walked {
     pub children: Vec<Place<ScriptChild>>,
@@ -23,8 +24,8 @@ pub struct Walked {
     pub drains: Vec<ScriptDrain>,
 }
 
-/// Starts the expression of this root as its `launch` does, but for where duplicates, ends of the parent's streams and closes
-/// stand. Refused as that is.
+/// Starts the expression with this root as its `launch` does, except for where duplicates, ends of
+/// the parent's streams and closes are in the journal. Fails as `launch` does.
 pub fn walk(
     alloc: Global,
     root: &Node<ScriptEnd, ScriptHook>,
@@ -41,7 +42,8 @@ pub fn walk(
     }
 }
 
-/// Starts the expression of this root as its `launch_reader` does, with the same differences. Refused as that is.
+/// Starts the expression with this root as its `launch_reader` does, with the same differences.
+/// Fails as `launch_reader` does.
 pub fn walk_reader(
     alloc: Global,
     root: &Node<ScriptEnd, ScriptHook>,
@@ -66,7 +68,7 @@ fn running(made: Made) -> Walked {
     }
 }
 
-// The environment, the tree, and the workers of the capture pipes.
+// Makes the requests for the environment, the tree, and the workers of the capture pipes.
 fn start(
     alloc: Global,
     root: &Node<ScriptEnd, ScriptHook>,
@@ -82,7 +84,8 @@ fn start(
     drain_error(sys, made)
 }
 
-// The environment, one more capture of stdout with the tree inside of it, stderr's worker, and the reader of stdout's pipe.
+// Makes the requests for the environment, a capture of stdout around the tree, the tree, stderr's
+// worker, and the reader of stdout's pipe.
 fn start_reader(
     alloc: Global,
     root: &Node<ScriptEnd, ScriptHook>,
@@ -109,7 +112,7 @@ fn drain_error(sys: &mut Script, made: &mut Made) -> Result<(), Error> {
     Ok(())
 }
 
-// The read end of a capture pipe, if that is open. Its write end is closed.
+// Returns the read end of a capture pipe, if that is open. Its write end is closed.
 fn captured(capture: &mut Capture, sys: &mut Script) -> Option<ScriptEnd> {
     let (reader, writer) = capture.take()?;
     close(sys, writer);

@@ -1,4 +1,5 @@
-//! The same start by both bodies: the library's own, which has to go as every start has to, and the plain walk.
+//! The same start by both bodies: the library's own, which is checked as every start is, and the
+//! plain walk.
 use crate::cases::Case;
 use duct::{Entry, Error, Fault, Kind, System};
 use duct_plain::checker::{is_balanced, trace};
@@ -12,11 +13,11 @@ use duct_table::told::{pool_text, trace_text};
 use duct_walk::start::{Walked, walk, walk_reader};
 use std::alloc::{AllocError, Global};
 
-/// A request by its sort, and its number among those of that sort.
+/// A request: its sort, and its number among the requests of that sort.
 pub(crate) type Request = (Sort, u64);
 
-/// Starts a case by both bodies, where this request is refused, if one is. Fails where they don't agree. Returns the requests of
-/// the trace.
+/// Starts a case by both bodies. This request is refused, if there is one. Returns the requests of
+/// the trace. Fails if the bodies differ.
 pub(crate) fn agree(
     alloc: Global,
     case: Case,
@@ -30,7 +31,7 @@ pub(crate) fn agree(
     Err(Stop::Found(format!(in alloc; "{own} by the library, {walked} by the walk")?))
 }
 
-/// The system and the pool of a case.
+/// Returns the system and the pool of a case. This request is refused, if there is one.
 fn bench(alloc: Global, case: Case, refused: Option<Request>) -> Result<Bench, Stop> {
     let mut bench = bench_of(alloc, case.scene)?;
     if let Some((sort, number)) = refused {
@@ -40,7 +41,7 @@ fn bench(alloc: Global, case: Case, refused: Option<Request>) -> Result<Bench, S
     Ok(bench)
 }
 
-/// What came of the start by the library, and the requests of its trace.
+/// Starts a case by the library. Returns the result as text, and the requests of the trace.
 fn launched(
     alloc: Global,
     case: Case,
@@ -54,7 +55,7 @@ fn launched(
     Ok((text, requests))
 }
 
-/// What came of the start by the walk.
+/// Starts a case by the walk. Returns the result as text.
 fn walked(alloc: Global, case: Case, refused: Option<Request>) -> Result<String, Stop> {
     let mut bench = bench(alloc, case, refused)?;
     let answer = answered(alloc, case, &mut bench)?;
@@ -91,7 +92,7 @@ fn runs(alloc: Global, walked: &Walked) -> Result<Runs, AllocError> {
     )
 }
 
-/// What came of a start: the trace, what it returned, and the pool.
+/// Returns the result of a start as text: the trace, what it returned, and the pool.
 fn told(
     alloc: Global,
     way: Way,
@@ -105,7 +106,7 @@ fn told(
     Ok(text)
 }
 
-/// The requests of the trace of a journal.
+/// Returns the requests of the trace of a journal.
 fn requests(alloc: Global, entries: &[Entry]) -> Result<Vec<Request>, AllocError> {
     let mut requests = Vec::new(alloc);
     for entry in trace(alloc, entries)?.iter() {

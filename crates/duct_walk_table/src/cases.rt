@@ -1,4 +1,5 @@
-//! Cases of trees: random trees, written as those of rows, random scenes for them, and random requests that are refused.
+//! Cases: random trees, which are written as in rows, random scenes for them, and random requests
+//! that are refused.
 use duct::Entry;
 use duct_plan_table::starts::Way;
 use duct_script::system::ScriptEnd;
@@ -8,7 +9,7 @@ use duct_table::scenes::{Bench, Scene};
 use duct_table::stop::Stop;
 use std::alloc::{AllocError, Global};
 
-/// What is started, how, and what stands round the start.
+/// An expression, how it is started, and the system and the pool for it.
 #[derive(Clone, Copy)]
 pub(crate) struct Case<'t> {
     pub expression: &'t str,
@@ -17,19 +18,19 @@ pub(crate) struct Case<'t> {
 }
 
 impl<'t> Case<'t> {
-    /// The same, started in another way.
+    /// Returns the same case, started in another way.
     pub fn by(self, way: Way) -> Case<'t> {
         let mut case = self;
         case.way = way;
         case
     }
 
-    /// Its tree.
+    /// Returns the tree of its expression.
     pub fn tree(self, alloc: Global) -> Result<Tree<ScriptEnd>, Stop> {
         written(alloc, None, self.expression)
     }
 
-    /// Its tree, whose hooks note their calls where this bench does.
+    /// Returns the tree of its expression, whose hooks note their calls in the log of this bench.
     pub fn noted_tree(self, alloc: Global, bench: &Bench) -> Result<Tree<ScriptEnd>, Stop> {
         written(alloc, Some(&bench.calls), self.expression)
     }
@@ -37,7 +38,7 @@ impl<'t> Case<'t> {
 
 const COMMANDS: &[&str] = &["a", "b", "c,d", "./x", "/y", "e/f,g"];
 
-/// Each call of an expression, and hooks that refuse nothing.
+/// Each builder of an expression, and hooks that refuse nothing.
 const CALLS: &[&str] = &[
     "stdin_bytes=xyz",
     "stdin_path=i",
@@ -69,7 +70,7 @@ const CALLS: &[&str] = &[
     "before_spawn=set:A:6+unset:B+dir:/hook",
 ];
 
-/// Hooks that refuse a command, or name an end that isn't there.
+/// Hooks that refuse a command, or name an end that doesn't exist.
 const REFUSING: &[&str] = &[
     "before_spawn=out>0+refuse:Other,7",
     "before_spawn=refuse_word:b:PermissionDenied",
@@ -80,7 +81,7 @@ const PARENTS: &[&str] = &["", "A:0,c:7", "b:1,A:2,a:3"];
 
 const CANONICAL: &[&str] = &["", "./x:/real/x,e/f:/real/f"];
 
-/// What children answer to polls.
+/// What children return to polls.
 const CHILDREN: &[&str] = &[
     "",
     "running, code 0; Other; code 1",
@@ -88,20 +89,21 @@ const CHILDREN: &[&str] = &[
     "Other; signal 9; running; code 0",
 ];
 
-/// What the children of the pool answer.
+/// What the children of the pool return to polls.
 const KEPT: &[&str] = &[
     "",
     "running, code 0",
     "running, running, Other; running; code 0",
 ];
 
-/// One of these texts.
+/// Returns one of these texts.
 pub(crate) fn one_of(dice: &mut Dice, texts: &[&'static str]) -> &'static str {
     let place = dice.roll(texts.len() as u64) as usize;
     texts.get(place).copied().unwrap_or("")
 }
 
-/// The random case of a seed, whose expression is written into an empty text.
+/// Returns the random case of a seed. Writes its expression into `expression`, which is empty
+/// before.
 pub(crate) fn random_case(seed: u64, expression: &mut String) -> Result<Case<'_>, AllocError> {
     let mut dice = Dice::new(seed);
     let way = way(&mut dice);
@@ -114,7 +116,8 @@ pub(crate) fn random_case(seed: u64, expression: &mut String) -> Result<Case<'_>
     })
 }
 
-/// The entry of the request of this number, which counts all from 1, if that request can be refused.
+/// Returns the entry of the request of this number, if that request can be refused. All requests
+/// are counted, from 1.
 pub(crate) fn refusable(entries: &[Entry], number: u64) -> Option<&Entry> {
     let place = number.checked_sub(1)?;
     let entry = entries.get(place as usize)?;
@@ -124,11 +127,11 @@ pub(crate) fn refusable(entries: &[Entry], number: u64) -> Option<&Entry> {
     Some(entry)
 }
 
-/// The factor by which the seed of a drawn request stands apart from that of its case.
+/// The seed of a drawn request is the seed of its case times this factor.
 const APART: u64 = 7919;
 
-/// The number of a request of a journal that can be refused: the first one from a drawn one on, or else the first of all, which
-/// asks for the environment.
+/// Returns the number of a request of a journal that can be refused: the first one from a drawn one
+/// on, or else 1, the request for the environment.
 pub(crate) fn drawn(entries: &[Entry], seed: u64) -> u64 {
     let requests = entries.len() as u64;
     let first = Dice::new(seed.wrapping_mul(APART)).roll(requests);
@@ -158,7 +161,8 @@ fn scene(dice: &mut Dice) -> Scene<'static> {
     }
 }
 
-/// Adds an expression, which is built as its text is read: some steps, and pipes that join what is left.
+/// Adds an expression: a command, some steps, and pipes that join the expressions that the steps
+/// have built.
 fn push_expression(text: &mut String, dice: &mut Dice) -> Result<(), AllocError> {
     text.push_str(one_of(dice, COMMANDS))?;
     let mut built = 1;
@@ -171,7 +175,7 @@ fn push_expression(text: &mut String, dice: &mut Dice) -> Result<(), AllocError>
     Ok(())
 }
 
-/// Adds a step where so many expressions are built. Returns how many there are then.
+/// Adds a step, when `built` expressions are built. Returns how many are built after it.
 fn push_step(text: &mut String, dice: &mut Dice, built: u64) -> Result<u64, AllocError> {
     let (step, after) = match dice.roll(10) {
         0 | 1 => (one_of(dice, COMMANDS), built.saturating_add(1)),

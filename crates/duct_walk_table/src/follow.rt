@@ -1,5 +1,5 @@
-//! Starts by the library go as every start has to, with a fault at each request in turn, or at a random request; and what a refused
-//! start closes.
+//! Checks that starts by the library do only what a start may do, with a fault at each request in
+//! turn or at a random request. Lists the ends that a refused start closes.
 use crate::cases::{Case, drawn, refusable};
 use duct::{Entry, Error, Fault, Kind, System};
 use duct_plain::checker::fault_of;
@@ -8,7 +8,7 @@ use duct_table::scenes::bench_of;
 use duct_table::stop::Stop;
 use std::alloc::Global;
 
-/// Whether a start was refused for want of memory, which none of these is.
+/// Whether a start failed with an allocation failure, which none of these may.
 fn wants_memory(start: &Start) -> bool {
     match &start.answer {
         Err(Error::Memory) => true,
@@ -19,7 +19,8 @@ fn wants_memory(start: &Start) -> bool {
     }
 }
 
-/// Whether there was a request of this number, or it is 0, and the start failed with its fault, if it can be refused.
+/// Whether the start failed with the fault of the request of this number, if that request can be
+/// refused. If it can't, whether there was a request of this number, or the number is 0.
 fn is_refused(start: &Start, refused: u64) -> bool {
     let entries = start.bench.sys.journal();
     match (refusable(entries, refused), &start.answer) {
@@ -31,7 +32,9 @@ fn is_refused(start: &Start, refused: u64) -> bool {
     }
 }
 
-/// Starts a case where the request of this number is refused, which counts all from 1. With 0 none is.
+/// Starts a case. The request of this number is refused, where all requests are counted from 1;
+/// with 0 none is refused. Fails if the start does what no start may do, or if its error is not
+/// that fault.
 pub(crate) fn follows(alloc: Global, case: Case, refused: u64) -> Result<Start, Stop> {
     let mut bench = bench_of(alloc, case.scene)?;
     bench.sys.refuse(refused, Fault::new(Kind::NotFound))?;
@@ -46,7 +49,7 @@ pub(crate) fn follows(alloc: Global, case: Case, refused: u64) -> Result<Start, 
     Ok(start)
 }
 
-/// Starts a case without fault, and with one at each request in turn.
+/// Starts a case without a fault, and with a fault at each request in turn.
 pub(crate) fn follow_each(alloc: Global, case: Case) -> Result<(), Stop> {
     let start = follows(alloc, case, 0)?;
     let requests = start.bench.sys.requests();
@@ -57,7 +60,8 @@ pub(crate) fn follow_each(alloc: Global, case: Case) -> Result<(), Stop> {
     Ok(())
 }
 
-/// Starts the random case of a seed without fault, and with one at a random request that can be refused.
+/// Starts the random case of a seed without a fault, and with a fault at a random request that can
+/// be refused.
 pub(crate) fn follow_random(alloc: Global, case: Case, seed: u64) -> Result<(), Stop> {
     let start = follows(alloc, case, 0)?;
     let refused = drawn(start.bench.sys.journal(), seed);
@@ -66,7 +70,7 @@ pub(crate) fn follow_random(alloc: Global, case: Case, seed: u64) -> Result<(), 
     Ok(())
 }
 
-/// The numbers of the ends that a start closes where this request is refused.
+/// Returns the numbers of the ends that a start closes after this request was refused.
 pub(crate) fn closed(alloc: Global, case: Case, refused: u64) -> Result<String, Stop> {
     let start = follows(alloc, case, refused)?;
     let mut text = String::new(alloc);

@@ -1,6 +1,6 @@
-//! The table of starts that are tried again and again, with another request refused each time: of chosen trees and of random ones, by the
-//! library, by the plain walk, and by calls that wait.
-//! Test support: nothing here is proved but that it is safe and ends.
+//! The table of starts that are repeated with another request refused each time: of chosen trees
+//! and of random trees, by the library, by the plain walk, and by calls that wait.
+//! Test support: only safety and termination are proved here.
 #![tactic(auto)]
 
 mod agree;

@@ -1,19 +1,25 @@
-//! The table `starts`: trees that are started again and again, each time with another request refused.
+//! The table `starts`: trees that are started repeatedly, each time with another request refused.
 //!
-//! These lines say what the next ones speak of.
-//! - `expression` adds a tree to those of the row, which is started by `launch`, and `reader` one that is started by `launch_reader`.
-//! - `random` adds random trees, each with a way and a system of its own: `200 from 0` are those of the seeds 0 to 199.
-//! - `parent`, `canonical`, `children` and `kept` are what the system and the pool are for the trees that are no random ones, as in the
-//!   table `plans`; `refused` is the number of the one request that `closed` speaks of, which counts all from 1.
+//! These lines set up a row.
+//! - `expression` adds a tree that is started by `launch`, and `reader` one that is started by
+//!   `launch_reader`.
+//! - `random` adds random trees. Each has its own way to be started and its own system:
+//!   `200 from 0` are those of the seeds 0 to 199.
+//! - `parent`, `canonical`, `children` and `kept` set up the system and the pool for the trees that
+//!   are not random, as in the table `plans`. `refused` is the number of the request that is
+//!   refused for `closed`, where all requests are counted from 1.
 //!
-//! These are compared, with how many trees were tried.
-//! - `agree`: the library and the plain walk come to the same, without a fault and with one at each entry of the trace in turn.
-//! - `follow`: a start goes as every start has to, without a fault and with one at each request in turn, or of a random tree at a random
-//!   one.
-//! - `run` and `read`: the tree is run or read, whatever its way, with the same faults; the error, and what the pool has then, are what the
-//!   fault and the children's answers come to.
+//! These lines make checks, and are compared with the number of trees that were checked.
+//! - `agree`: the library and the plain walk have the same result, without a fault and with a fault
+//!   at each entry of the trace in turn.
+//! - `follow`: a start does only what a start may do, without a fault and with a fault at each
+//!   request in turn; for a random tree, with a fault at a random request.
+//! - `run` and `read`: the tree is run or read, however it would be started, with the same faults.
+//!   The error and the pool afterwards are what follows from the fault and from what the children
+//!   return.
 //!
-//! `closed` is compared with the ends that the start of the last expression closes behind the request that is refused.
+//! `closed` is compared with the numbers of the ends that the start of the last expression closes
+//! after the refused request.
 use crate::agree::agree_on_each;
 use crate::cases::{Case, random_case};
 use crate::follow::{closed, follow_each, follow_random};
@@ -25,7 +31,7 @@ use duct_table::table::Table;
 use std::alloc::Global;
 use std::sync::Wait;
 
-/// What is tried of each tree.
+/// What is checked of each tree.
 #[derive(Clone, Copy)]
 enum Check {
     Agree,
@@ -40,7 +46,7 @@ pub struct Starts<'t, R> {
     rt: R,
     alloc: Global,
     expressions: Vec<(&'t str, Way)>,
-    /// The first seed of the random trees, and the one behind the last.
+    /// The first seed of the random trees, and the one after the last.
     seeds: (u64, u64),
     scene: Scene<'t>,
     refused: u64,
@@ -59,7 +65,7 @@ impl<'t, R: Wait> Starts<'t, R> {
         }
     }
 
-    /// Tries each tree of the row. Returns how many there are.
+    /// Checks each tree of the row. Returns how many there are.
     fn tried(&self, check: Check) -> Result<String, Stop> {
         for (expression, way) in self.expressions.iter() {
             let case = self.case(expression, *way);
@@ -74,7 +80,7 @@ impl<'t, R: Wait> Starts<'t, R> {
         Ok(format!(in self.alloc; "{trees} trees")?)
     }
 
-    /// The case of an expression of the row.
+    /// Returns the case of an expression of the row.
     fn case(&self, expression: &'t str, way: Way) -> Case<'t> {
         Case {
             expression,
@@ -92,7 +98,7 @@ impl<'t, R: Wait> Starts<'t, R> {
         }
     }
 
-    /// Tries the random tree of a seed.
+    /// Checks the random tree of a seed.
     fn try_seed(&self, check: Check, seed: u64) -> Result<(), Stop> {
         let mut expression = String::new(self.alloc);
         let case = random_case(seed, &mut expression)?;
@@ -108,7 +114,7 @@ impl<'t, R: Wait> Starts<'t, R> {
         }
     }
 
-    /// The ends that the start of the last expression closes where a request is refused.
+    /// Returns the ends that the start of the last expression closes after the refused request.
     fn closed(&self) -> Result<String, Stop> {
         let (expression, way) = self.expressions.last().ok_or("no expression")?;
         closed(self.alloc, self.case(expression, *way), self.refused)
@@ -132,7 +138,7 @@ impl<'t, R: Wait> Table<'t> for Starts<'t, R> {
         Ok(None)
     }
 
-    /// Forgets what the lines said. What has to hold of each start was looked at with it.
+    /// Resets what the lines set. Each start has been checked already.
     fn end(&mut self) -> Result<(), Stop> {
         self.expressions.clear();
         self.seeds = (0, 0);
@@ -142,14 +148,14 @@ impl<'t, R: Wait> Table<'t> for Starts<'t, R> {
     }
 }
 
-/// The first seed, and the one behind the last: `200 from 0`.
+/// Returns the first seed, and the one after the last: `200 from 0`.
 fn seeds(text: &str) -> Result<(u64, u64), Stop> {
     let (count, first) = text.split_once(" from ").ok_or("no first seed")?;
     let first = first.parse::<u64>()?;
     Ok((first, first.saturating_add(count.parse::<u64>()?)))
 }
 
-/// What came of a case, with its expression where it failed.
+/// Returns the result of a case, with the case's expression if it failed.
 fn named(alloc: Global, case: Case, tried: Result<(), Stop>) -> Result<(), Stop> {
     match tried {
         Ok(()) => Ok(()),

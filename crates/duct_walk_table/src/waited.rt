@@ -1,6 +1,6 @@
-//! Runs and reads with a fault at each request in turn, or of random trees at a random request, where children end at once, run first, or
-//! can't be polled: the error, the ends, and what the pool keeps, found ended and lost are what that fault and the children's answers come
-//! to.
+//! Runs and reads with a fault at each request in turn, or for random trees at a random request.
+//! The children end at once, run first, or can't be polled. Checks that the error, the ends and the
+//! counts of the pool are what follows from that fault and from what the children return.
 use crate::cases::{Case, drawn, one_of, refusable};
 use crate::follow::follows;
 use duct::{Error, Fault, Kind, System};
@@ -16,7 +16,7 @@ use duct_table::words::fault;
 use std::alloc::{AllocError, Global};
 use std::sync::Wait;
 
-/// What a child of a random tree answers.
+/// What a child of a random tree returns to polls.
 const ANSWERS: &[&str] = &[
     "code 0",
     "running, code 0",
@@ -27,10 +27,11 @@ const ANSWERS: &[&str] = &[
     "running, NotFound",
 ];
 
-/// More polls than any of these lists has answers.
+/// More polls than any of these lists has results.
 const POLLS: usize = 5;
 
-/// What children answer to one poll: how many say that they run, have ended and answer a fault, and the first fault.
+/// What children return to one poll each: how many run, how many have ended, how many fail with a
+/// fault, and the first fault.
 #[derive(Clone, Copy)]
 struct Heard {
     running: usize,
@@ -40,7 +41,7 @@ struct Heard {
 }
 
 impl Heard {
-    /// What they and one child more answer.
+    /// Adds what one more child returns.
     fn with(self, answer: &str) -> Heard {
         let mut said = self;
         match (answer, fault(answer)) {
@@ -55,7 +56,8 @@ impl Heard {
     }
 }
 
-/// What a child answers to the poll of this number, from 0: the last of its answers is repeated, and an ending stands.
+/// Returns what a child returns to the poll of this number, counted from 0. The last result is
+/// repeated, and so is a status.
 fn answer(child: &str, poll: usize) -> &str {
     let mut place = 0_usize;
     for next in child.split(',') {
@@ -71,7 +73,7 @@ fn answer(child: &str, poll: usize) -> &str {
     }
 }
 
-/// What so many children answer to the poll of this number.
+/// Returns what the first `started` children return to the poll of this number.
 fn said(children: &str, started: u64, poll: usize) -> Heard {
     let mut said = Heard {
         running: 0,
@@ -89,7 +91,7 @@ fn said(children: &str, started: u64, poll: usize) -> Heard {
     said
 }
 
-/// The number of the first poll in which none of so many children says that it runs.
+/// Returns the number of the first poll in which none of the first `started` children runs.
 fn last_poll(children: &str, started: u64) -> usize {
     for poll in 0..POLLS {
         if said(children, started, poll).running == 0 {
@@ -99,23 +101,26 @@ fn last_poll(children: &str, started: u64) -> usize {
     POLLS
 }
 
-/// How many children a pool keeps, was given, found ended, and lost.
+/// How many children a pool holds, was given, reaped and lost.
 type Left = (usize, u64, u64, u64);
 
-/// What it has of so many children that it is given at the poll of this number.
+/// Returns the counts of a pool that is given the first `started` children, where the poll of each
+/// is the one of this number.
 fn given(children: &str, started: u64, poll: usize) -> Left {
     let said = said(children, started, poll);
     (said.running, started, said.ended, said.faults)
 }
 
-/// What is run or read, in a scene whose children all come to an end or a fault, and its start without fault.
+/// A case that is run or read, in a scene whose children all end or fail with a fault, and its
+/// start without a fault.
 #[derive(Clone, Copy)]
 struct Waited<'c> {
     case: Case<'c>,
     start: &'c Start,
 }
 
-/// By which error a start is refused, if it is: by the fault of the request of this number, else by the error of its hook.
+/// Returns the error with which a start fails, if it does: the fault of the request of this number,
+/// or else the error of a hook.
 fn refusal(start: &Start, refused: u64) -> Option<Error> {
     if refusable(start.bench.sys.journal(), refused).is_some() {
         return Some(Error::System(Fault::new(Kind::NotFound)));
@@ -127,8 +132,9 @@ fn refusal(start: &Start, refused: u64) -> Option<Error> {
     }
 }
 
-/// The error that has to come of it, if one has to, and what the pool has then. A refused start asks each child once. Else
-/// all are polled until none of them runs; if one answers a fault then, each is asked once more.
+/// Returns the expected error, if there is one, and the expected counts of the pool. A start that
+/// fails polls each child once. Otherwise all are polled until none of them runs; if one fails with
+/// a fault then, each is polled once more.
 fn wanted(waited: Waited, refused: u64, started: u64) -> (Option<Error>, Left) {
     let children = waited.case.scene.children;
     if let Some(error) = refusal(waited.start, refused) {
@@ -152,7 +158,8 @@ fn error(rt: &impl Wait, tree: &Tree<ScriptEnd>, way: Way, bench: &mut Bench) ->
     }
 }
 
-/// Runs or reads it where the request of this number is refused, which counts all from 1. With 0 none is.
+/// Runs or reads a case. The request of this number is refused, where all requests are counted from
+/// 1; with 0 none is refused. Fails if the result is not the expected one.
 fn waits(rt: &impl Wait, alloc: Global, waited: Waited, refused: u64) -> Result<(), Stop> {
     let case = waited.case;
     let mut bench = bench_of(alloc, case.scene)?;
@@ -162,7 +169,7 @@ fn waits(rt: &impl Wait, alloc: Global, waited: Waited, refused: u64) -> Result<
     is_right(alloc, waited, refused, &bench, error)
 }
 
-/// Fails where something else came of it than what has to.
+/// Fails if the error, the pool or the ends are not as expected.
 fn is_right(
     alloc: Global,
     waited: Waited,
@@ -179,7 +186,7 @@ fn is_right(
     Err(Stop::Found(format!(in alloc; "{error:?} with request {refused} refused")?))
 }
 
-/// Runs or reads a case, without fault and with one at each request in turn.
+/// Runs or reads a case, without a fault and with a fault at each request in turn.
 pub(crate) fn wait_each(rt: &impl Wait, alloc: Global, case: Case) -> Result<(), Stop> {
     let start = follows(alloc, case, 0)?;
     let waited = Waited {
@@ -192,10 +199,10 @@ pub(crate) fn wait_each(rt: &impl Wait, alloc: Global, case: Case) -> Result<(),
     Ok(())
 }
 
-/// The factor by which the seed of what children answer stands apart from that of their case.
+/// The seed of what children return is the seed of their case times this factor.
 const APART: u64 = 104_729;
 
-/// What so many children of a random tree answer.
+/// Returns what `count` children of a random tree return to polls.
 fn random_children(alloc: Global, seed: u64, count: u64) -> Result<String, AllocError> {
     let mut dice = Dice::new(seed.wrapping_mul(APART));
     let mut text = String::from_str(alloc, one_of(&mut dice, ANSWERS))?;
@@ -206,7 +213,8 @@ fn random_children(alloc: Global, seed: u64, count: u64) -> Result<String, Alloc
     Ok(text)
 }
 
-/// Runs or reads a case whose children answer this, without fault, and with one at a random request.
+/// Runs or reads a case whose children return this to polls, without a fault, and with a fault at a
+/// random request.
 fn wait_twice(
     rt: &impl Wait,
     alloc: Global,
@@ -233,7 +241,8 @@ fn wait_twice(
     waits(rt, alloc, waited, refused)
 }
 
-/// Runs or reads the random case of a seed, whose children answer at random, without fault, and with one at a random request.
+/// Runs or reads the random case of a seed, whose children return random results to polls, without
+/// a fault, and with a fault at a random request.
 pub(crate) fn wait_random(
     rt: &impl Wait,
     alloc: Global,

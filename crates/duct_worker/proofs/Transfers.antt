@@ -10,7 +10,7 @@ use Rattle.std.specs.declared.result.Result.{Result}
 use Rattle.std.specs.declared.result.Result.TheVariants.{Ok, Err}
 use Rattle.duct_worker.specs.Transfer.{AppendsFront}
 
--- a part of the rest was written behind what was done
+-- a part of the rest was written after what was written before
 pub writes_more : (a b c : Option (List ℕ)) (bytes done rest : List ℕ) (taken : ℕ)
     → bytes ≡ done ++ rest → Appends a b done → Appends b c (take taken rest)
     → (more : List ℕ) × (bytes ≡ more ++ take (length rest - taken) (drop taken rest))
@@ -23,13 +23,13 @@ writes_more a b c bytes done rest taken split before now = (
   Appends-trans a b c _ _ before now,
 )
 
--- where so much was done and no more, a front was written
+-- if this much was written and no more, a prefix was written
 pub front_so_far : (a b c : Option (List ℕ)) (bytes done rest : List ℕ)
     → bytes ≡ done ++ rest → Appends a b done → Keeps b c → AppendsFront a c bytes
 front_so_far a b c bytes done rest split before now =
     (done, rest, split, Appends-kept a b c done before now)
 
--- as much was read as a read says, behind what was there
+-- a read put its bytes after those that were already in the buffer
 pub read_in_place : {E : Type 0} (a b : Option (List ℕ)) (r : Result ℕ E)
     (front part rest : List ℕ) (at : ℕ) → length front ≡ at → ReadsAtMost r part
     → IfOk r (λ n. Consumes a b (take n part))
@@ -40,7 +40,7 @@ read_in_place a b (Ok n) front part rest at long fits read =
     read
 read_in_place a b (Err e) front part rest at long fits read = tt
 
--- what was filled before, and what a read gave behind it, are all that was read
+-- the bytes that were filled before, and those that a read put after them, are all that was read
 pub filled_more : (a b c : Option (List ℕ)) (xs ys : List ℕ) (filled n : ℕ)
     → take filled ys ≡ take filled xs → Consumes a b (take filled xs)
     → Consumes b c (take n (drop filled ys)) → Consumes a c (take (filled + n) ys)

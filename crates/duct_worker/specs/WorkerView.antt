@@ -3,7 +3,7 @@ use Rattle.duct_system.specs.Job.{JobView}
 use Rattle.duct_worker.specs.declared.shared.Shared.{Ghosts}
 use Rattle.duct_worker.specs.declared.worker.Worker.{Worker}
 
--- a worker, which keeps what it said first
+-- what contracts see of a worker: it stores the first result that it returned
 abbrev pub worker_view : {T : Type 0} {shared : Ghosts T} → Worker T shared → JobView T
 worker_view worker = record {
   number = worker.number;

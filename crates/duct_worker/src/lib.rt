@@ -1,4 +1,4 @@
-//! Workers: what writes bytes to an end or reads an end to its end, and a thread of its own for either.
+//! Workers, which write bytes to an end or read an end to EOF, each on a thread of its own.
 #![tactic(auto)]
 
 pub mod shared;

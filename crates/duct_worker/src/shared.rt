@@ -1,17 +1,18 @@
-//! The results of workers, which many may own.
+//! The results of workers, which can have several owners.
 ghost use Rattle.std.specs.Prelude.{◌≡◌, ℕ, List, [], IfSome, IfNone};
 
 use std::sync::Arc;
 
-/// A result that many may own.
+/// A result that can have several owners.
 pub trait Shared: Drop {
-    /// What it says, whoever owns it: its bytes, and none where it says no more than that the work is done.
+    /// Its bytes, the same for each owner. A result that only tells that the work is done has none.
     ghost bytes_of: { Self → List ℕ };
 
-    /// That one more owner may be refused.
+    /// Making one more owner may fail.
     ghost refusable: { Type 0 };
 
-    /// The same for one more owner, without memory, or none where it is refused.
+    /// Returns the same result, for one more owner, or `None` if that owner can't be made. It
+    /// doesn't allocate.
     fn share(&self) -> Option<Self>
         ensures same { IfSome result (λ again. bytes_of again ≡ bytes_of self.now) }
         ensures refused { IfNone result refusable };
@@ -27,7 +28,7 @@ impl Shared for () {
     }
 }
 
-/// The bytes are shared. One more owner is refused only where there are too many.
+/// The owners share the bytes. Making one more owner fails only if there are too many.
 impl Shared for Arc<Vec<u8>> {
     ghost use Rattle.std.specs.Arc.{arc_value};
 

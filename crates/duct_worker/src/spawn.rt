@@ -1,4 +1,4 @@
-//! Workers are started on threads of their own.
+//! Starting workers, each on a thread of its own.
 ghost use Rattle.std.specs.Prelude.{◌≡◌, ◌⊎◌, IfOk, IfErr};
 ghost use Rattle.duct_system.specs.Job.{unpolled_job};
 ghost use Rattle.duct_system.specs.declared.system.Kind.TheVariants.{OutOfMemory, Other};
@@ -14,9 +14,11 @@ use std::sync::{Arc, OnceLock};
 use std::thread;
 use std::thread::Threads;
 
-/// Starts a worker that writes the bytes to the writer as `feed` does, lets the writer go, and says `Done`, or the fault. Its
-/// number is 0. Where there is no memory the answer is `OutOfMemory`, and where no thread can be made `Other`; the writer
-/// is let go then, and nothing was written.
+/// Starts a worker that writes the bytes to the writer as `feed` does, and drops the writer. Polls
+/// of the worker then return `Done`, or the fault. Its number is 0.
+///
+/// Fails with `OutOfMemory` at an allocation failure, and with `Other` if no thread can be started.
+/// The writer is then dropped, and nothing was written.
 pub fn spawn_feed<R: Threads, W: Write + Send + Drop + 'static>(
     rt: &R,
     alloc: Global,
@@ -30,7 +32,7 @@ pub fn spawn_feed<R: Threads, W: Write + Send + Drop + 'static>(
     spawn_numbered_feed(rt, alloc, 0, writer, bytes)
 }
 
-/// As `spawn_feed`, with this number.
+/// Starts a worker as `spawn_feed` does, with this number.
 pub fn spawn_numbered_feed<R: Threads, W: Write + Send + Drop + 'static>(
     rt: &R,
     alloc: Global,
@@ -48,8 +50,10 @@ pub fn spawn_numbered_feed<R: Threads, W: Write + Send + Drop + 'static>(
     })
 }
 
-/// Starts a worker that reads the reader to its end as `drain` does, lets the reader go, and says the bytes, or the fault. Its
-/// number is 0, and it is refused as `spawn_feed` is; nothing was read then.
+/// Starts a worker that reads the reader to EOF as `drain` does, and drops the reader. Polls of the
+/// worker then return the bytes, or the fault. Its number is 0.
+///
+/// Fails as `spawn_feed` does. The reader is then dropped, and nothing was read.
 pub fn spawn_drain<R: Threads, S: Read + Send + Drop + 'static>(
     rt: &R,
     alloc: Global,
@@ -62,7 +66,7 @@ pub fn spawn_drain<R: Threads, S: Read + Send + Drop + 'static>(
     spawn_numbered_drain(rt, alloc, 0, reader)
 }
 
-/// As `spawn_drain`, with this number.
+/// Starts a worker as `spawn_drain` does, with this number.
 pub fn spawn_numbered_drain<R: Threads, S: Read + Send + Drop + 'static>(
     rt: &R,
     alloc: Global,
@@ -79,13 +83,13 @@ pub fn spawn_numbered_drain<R: Threads, S: Read + Send + Drop + 'static>(
     })
 }
 
-/// The bytes of a reader, to be shared.
+/// Reads the reader to EOF and returns its bytes, ready to be shared.
 fn drained<S: Read>(alloc: Global, reader: &mut S) -> Result<Arc<Vec<u8>>, Fault> {
     let bytes = drain(alloc, reader)?;
     Arc::new(alloc, bytes).map_err(|_| Fault::new(Kind::OutOfMemory))
 }
 
-/// Starts a thread that does the work, and then keeps what came of it for all who ask.
+/// Starts a thread that does the work and then stores the result for the polls.
 fn spawn_work<R: Threads, T: Shared + Send + Sync + 'static, F: FnOnce() -> Result<T, Fault>>(
     rt: &R,
     alloc: Global,
@@ -114,7 +118,7 @@ where
     Ok(Worker::new(number, left))
 }
 
-/// An empty place for a result, by two owners of it.
+/// Returns two owners of an empty cell for a result.
 fn two_owners<T: Drop>(alloc: Global) -> Result<(Left<T>, Left<T>), Fault>
     ensures { IfErr result (λ fault. fault.kind ≡ OutOfMemory) }
 {

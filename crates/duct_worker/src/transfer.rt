@@ -1,4 +1,4 @@
-//! What a worker does: it writes bytes to a writer, or reads a reader to its end.
+//! What a worker does: it writes bytes to a writer, or reads a reader to EOF.
 ghost use Rattle.std.specs.Prelude.{◌≡◌, ◌≢◌, ◌↔◌, ◌+◌, ◌<◌, ◌≤◌, IsTrue, IfOk, IfErr, IfSome, OnOk, OnErr, take, drop, length, vec_len};
 ghost use Rattle.std.specs.Io.{ReadsAtMost};
 ghost use Rattle.std.specs.Io.KnownBytes.{Appends, Consumes, IsAtEnd, Keeps};
@@ -11,19 +11,21 @@ use std::alloc::Global;
 use std::io;
 use std::io::{ErrorKind, Read, Write};
 
-/// How many bytes each read of a drain may give.
+/// How many bytes each read of a drain may return.
 const BLOCK: usize = 64 * 1024;
 
-/// Whether a signal interrupted what answered this error.
+/// Returns whether a signal interrupted the call that returned this error.
 fn is_interrupted(error: &io::Error) -> bool
     ensures { IsTrue result ↔ (error_kind error.now ≡ ErrorKind.Interrupted) }
 {
     error.kind() == ErrorKind::Interrupted
 }
 
-/// Writes all of the bytes, in order. A write that is interrupted is tried again; one that takes none of some bytes is answered
-/// `WriteZero`, and any other error is the answer. After an error a front of the bytes was written, and nothing is tried
-/// again. Of no bytes none is written, and the writer isn't asked.
+/// Writes all of the bytes, in order. An interrupted write is retried. If there are no bytes, the
+/// writer isn't called. It blocks while the writer does.
+///
+/// Fails with `WriteZero` if a write takes none of the bytes, and with any other error of the
+/// writer. A prefix of the bytes was then written, and nothing is retried.
 pub fn write_whole<W: Write>(writer: &mut W, bytes: &[u8]) -> io::Result<()>
     ensures whole { OnOk result
         (Appends (W.contents writer.old) (W.contents writer.new) bytes.now) }
@@ -49,8 +51,10 @@ pub fn write_whole<W: Write>(writer: &mut W, bytes: &[u8]) -> io::Result<()>
     Err(io::Error::from(ErrorKind::Other))
 }
 
-/// Writes all of the bytes to the writer, in order, as `write_whole` does. A broken pipe ends it well, though bytes may be left
-/// that nobody reads; any other error of the writer is the fault, and a front of the bytes was written.
+/// Writes all of the bytes to the writer, in order, as `write_whole` does. A broken pipe is a
+/// success, though there may be bytes left that nobody reads.
+///
+/// Fails with the fault of any other error of the writer. A prefix of the bytes was then written.
 pub fn feed<W: Write>(writer: &mut W, bytes: &[u8]) -> Result<(), Fault>
     ensures { (ending : Result (Unit {0}) ErrorKind)
         × Writes (W.contents writer.old) (W.contents writer.new) bytes.now ending
@@ -62,7 +66,7 @@ pub fn feed<W: Write>(writer: &mut W, bytes: &[u8]) -> Result<(), Fault>
     }
 }
 
-/// What a feed answers at an error of its writer.
+/// Returns the result of a feed at an error of its writer.
 fn fault_of_write(error: &io::Error) -> Result<(), Fault>
     ensures { result ≡ fault_fed (error_kind error.now) }
 {
@@ -72,9 +76,11 @@ fn fault_of_write(error: &io::Error) -> Result<(), Fault>
     }
 }
 
-/// Reads the reader to its end and answers its bytes. A read that is interrupted is tried again; any other error of the reader
-/// is the fault, and so is `OutOfMemory` where the list can't grow. After a fault the bytes that were read so far are lost.
-/// Each read may give 64 KiB, and goes straight into the list.
+/// Reads the reader to EOF and returns its bytes. An interrupted read is retried. Each read may
+/// return up to 64 KiB, and goes straight into the list. It blocks while the reader does.
+///
+/// Fails with the fault of any other error of the reader, and with `OutOfMemory` if the list can't
+/// grow. The bytes that were read so far are then lost.
 pub fn drain<R: Read>(alloc: Global, reader: &mut R) -> Result<Vec<u8>, Fault>
     ensures bytes { IfOk result
         (λ read. IfSome (R.remaining reader.old) (λ left. read.items ≡ left)) }
@@ -95,7 +101,8 @@ pub fn drain<R: Read>(alloc: Global, reader: &mut R) -> Result<Vec<u8>, Fault>
     Err(Fault::new(Kind::Other))
 }
 
-/// One read into the list behind the bytes that are filled. What stands behind the answered count more is room for a later read.
+/// Reads once into the list, after the bytes that are filled, and returns how many bytes it read.
+/// What follows them in the list is room for a later read.
 fn read_block<R: Read>(reader: &mut R, bytes: &mut Vec<u8>, filled: usize) -> Result<usize, Fault>
     requires { filled ≤ vec_len bytes.old }
     ensures within { filled ≤ vec_len bytes.new }
@@ -111,7 +118,7 @@ fn read_block<R: Read>(reader: &mut R, bytes: &mut Vec<u8>, filled: usize) -> Re
     Ok(read)
 }
 
-/// Makes the list longer, by zeros, than what is filled, so that a block fits behind it.
+/// Extends the list with zeros, so that a block fits after the bytes that are filled.
 fn make_room(bytes: &mut Vec<u8>, filled: usize) -> Result<(), Fault>
     requires { filled ≤ vec_len bytes.old }
     ensures within { filled ≤ vec_len bytes.new }
@@ -127,7 +134,7 @@ fn make_room(bytes: &mut Vec<u8>, filled: usize) -> Result<(), Fault>
     Ok(())
 }
 
-/// One read into what stands behind the place.
+/// Reads once into the buffer, from this place on.
 fn read_behind<R: Read>(reader: &mut R, buffer: &mut [u8], at: usize) -> io::Result<usize>
     requires { at < length buffer.old }
     ensures front { take at buffer.new ≡ take at buffer.old }
@@ -140,7 +147,8 @@ fn read_behind<R: Read>(reader: &mut R, buffer: &mut [u8], at: usize) -> io::Res
     read_retried(reader, &mut buffer[at..])
 }
 
-/// One read, tried again as long as it is interrupted. Any other error is the answer, and nothing was read then.
+/// Reads once, and retries a read that is interrupted. Fails with any other error; nothing was then
+/// read. It blocks while the reader does.
 pub fn read_retried<R: Read>(reader: &mut R, buffer: &mut [u8]) -> io::Result<usize>
     ensures bound { ReadsAtMost result buffer.new }
     ensures ok { IfOk result (λ read. Consumes (R.remaining reader.old) (R.remaining reader.new)

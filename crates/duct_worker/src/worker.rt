@@ -1,4 +1,4 @@
-//! Workers: what they said, which all who ask see again.
+//! Workers: what they returned, which each later poll returns again.
 ghost use Rattle.std.specs.Prelude.{◌≡◌, ◌↔◌, IsTrue, IfSome, IfNone};
 ghost use Rattle.duct_system.specs.Job.{unpolled_job};
 ghost use Rattle.duct_system.specs.declared.system.Said.TheVariants.{Running, Done};
@@ -9,10 +9,11 @@ use duct_system::system::{Fault, Job, Numbered, Said};
 use std::snapshot::Snapshot;
 use std::sync::{Arc, OnceLock};
 
-/// Where a thread leaves its result, for all who ask.
+/// Where a thread stores its result, for all who poll.
 pub(crate) type Left<T> = Arc<OnceLock<Result<T, Fault>>>;
 
-/// A worker on a thread of its own, with what it said. Where it is let go, its thread goes on to its end.
+/// A worker on a thread of its own, with what its polls returned. If it is dropped, its thread runs
+/// on until the work is done.
 #[derive(Drop)]
 pub struct Worker<T: Shared> {
     number: u64,
@@ -26,7 +27,8 @@ pub struct Worker<T: Shared> {
 impl<T: Shared> Worker<T> {
     ghost use Rattle.duct_worker.specs.WorkerView.{worker_view};
 
-    /// The worker of this number whose thread leaves its result there, before anybody asks it.
+    /// Returns the worker with this number whose thread stores its result there. It was never
+    /// polled.
     pub(crate) fn new(number: u64, left: Left<T>) -> Worker<T>
         ensures { worker_view result ≡ unpolled_job number }
     {
@@ -50,7 +52,7 @@ impl<T: Shared> Numbered for Worker<T> {
     }
 }
 
-/// What a worker may say is left open, but that it says its result again.
+/// Nothing is promised about what a worker returns, except that it returns its result again.
 impl<T: Shared> Job for Worker<T> {
     ghost use Rattle.std.proofs.Common.{refl};
     ghost use Rattle.duct_worker.specs.WorkerView.{worker_view};
@@ -84,7 +86,8 @@ impl<T: Shared> Job for Worker<T> {
     }
 }
 
-/// What the thread left so far. It is none where one more owner of its result is refused.
+/// Returns what the thread has stored so far, or `None` if one more owner of its result can't be
+/// made.
 fn look<T: Shared>(left: &OnceLock<Result<T, Fault>>) -> Option<Said<T>> {
     match left.get() {
         None => Some(Said::Running),
@@ -93,14 +96,14 @@ fn look<T: Shared>(left: &OnceLock<Result<T, Fault>>) -> Option<Said<T>> {
     }
 }
 
-/// Whether nothing is said yet.
+/// Returns whether there is no result yet.
 fn is_running<T>(said: &Said<T>) -> bool
     ensures { IsTrue result ↔ (said.now ≡ Running) }
 {
     matches!(said, Said::Running)
 }
 
-/// The same, with one more owner of its result, or none where that is refused.
+/// Returns the same, with one more owner of its result, or `None` if that owner can't be made.
 fn said_again<T: Shared>(said: &Said<T>) -> Option<Said<T>>
     ensures same { IfSome result (λ again. word_of T.bytes_of again ≡ word_of T.bytes_of said.now) }
     ensures refused { IfNone result (T.refusable × ((value : T) × (said.now ≡ Done value))) }

@@ -1,4 +1,5 @@
-//! The program `host`: reads the expression of its arguments over the real machine, prints its text, and ends with its status.
+//! The program `host`: reads the expression of its arguments over the real machine, prints its
+//! text, and exits with its status.
 #![tactic(auto)]
 
 use duct_host::host::Host;
@@ -7,7 +8,7 @@ use std::io::{ErrorKind, Write};
 use std::process::ExitCode;
 use std::{env, io};
 
-/// The arguments after the program's own name. Fails where one of them is not UTF-8.
+/// The arguments after the program's own name. Fails if one of them is not UTF-8.
 fn arguments<R: std::rt::Env + AllocGlobal>(rt: &R) -> io::Result<Vec<String>> {
     let mut words = Vec::new(rt.alloc());
     for word in env::args(rt)?.skip(1) {

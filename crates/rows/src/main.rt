@@ -1,7 +1,11 @@
-//! The program `rows`: reads the files of rows that its arguments name, and tries each row. Prints a line for each file with how many texts were
-//! compared, and one for each row that differs: its file and line, what was found and what was wanted. Ends with status 1 where one differs or a
-//! file can't be read, and where nothing was compared. Before the files may stand `--quiet`, by which only rows that differ are printed, and
-//! `--refused`, by which requests for memory may be refused: a row that says so is passed over, and counted.
+//! The program `rows`: reads the files of rows that its arguments name, and tries each row. Prints
+//! a line for each file with the number of texts that were compared, and a line for each row that
+//! differs: its file and line, what was found and what was wanted. Exits with status 1 if a row
+//! differs, if a file can't be read, and if a file compares nothing.
+//!
+//! Two options apply to the files after them. With `--quiet` only the rows that differ are printed.
+//! With `--refused` allocations may fail: the rest of a row that reports this is skipped, and the
+//! row is counted.
 #![tactic(auto)]
 
 use duct_call_table::calls::Calls;
@@ -26,7 +30,7 @@ use std::process::ExitCode;
 use std::sync::Wait;
 use std::{env, fs};
 
-/// Tries the rows of a file over the scripted system, or of parts, by its table.
+/// Tries the rows of a file by its table, which is over the scripted system or over single parts.
 fn tried<W: Write>(
     rt: &impl Wait,
     alloc: Global,
@@ -53,7 +57,7 @@ fn tried<W: Write>(
     }
 }
 
-/// Tries the rows of a file by its table, which the first line names.
+/// Tries the rows of a file by the table that its first line names.
 fn tried_by_table<R: Real + Wait, W: Write>(rt: &R, file: File, out: &mut W) -> io::Result<Counts> {
     let first = file.text.lines().next().unwrap_or("");
     match first.strip_prefix("table: ").unwrap_or("") {

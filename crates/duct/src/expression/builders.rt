@@ -19,7 +19,7 @@ use std::sync::Arc;
 /// expression as it was. Each fails with `Error::Memory`, and only at an allocation failure; what
 /// was passed in is then dropped. None of them starts, opens or blocks.
 impl<E: Drop, H: Drop> Expression<E, H> {
-    // The modifier round this expression.
+    // Puts a modifier around this expression.
     fn around(&self, modifier: Modifier<E, H>) -> Result<Expression<E, H>, Error>
         ensures tree { IfOk result
             (λ made. tree_view made ≡ around (modifier_view modifier) (tree_view self.now)) }
@@ -141,7 +141,7 @@ impl<E: Drop, H: Drop> Expression<E, H> {
         self.around(Modifier::StdoutFile(end))
     }
 
-    /// What stdout writes is thrown away.
+    /// What stdout writes is discarded.
     ///
     /// Example: `cmd!(in alloc; "make")?.stdout_null()?`
     pub fn stdout_null(&self) -> Result<Expression<E, H>, Error>
@@ -204,7 +204,7 @@ impl<E: Drop, H: Drop> Expression<E, H> {
         self.around(Modifier::StderrFile(end))
     }
 
-    /// What stderr writes is thrown away.
+    /// What stderr writes is discarded.
     ///
     /// Example: `cmd!(in alloc; "find", "/")?.stderr_null()?`
     pub fn stderr_null(&self) -> Result<Expression<E, H>, Error>
@@ -231,8 +231,8 @@ impl<E: Drop, H: Drop> Expression<E, H> {
         self.around(Modifier::StderrCapture)
     }
 
-    /// Stderr goes where stdout goes outside this node. So a capture that is to have both stands
-    /// outside of it.
+    /// Stderr goes where stdout goes outside this node. So a capture of both has to be outside this
+    /// node.
     ///
     /// Example: `cmd!(in alloc; "make")?.stderr_to_stdout()?.stdout_capture()?`
     pub fn stderr_to_stdout(&self) -> Result<Expression<E, H>, Error>
@@ -271,7 +271,7 @@ impl<E: Drop, H: Drop> Expression<E, H> {
         self.around(Modifier::Dir(path))
     }
 
-    /// The commands have this variable, whatever is said of it outside. Names are equal without
+    /// The commands have this variable, whatever is set outside this node. Names are equal without
     /// regard to the case of ASCII letters, and a spelling that the name has further outside is
     /// kept.
     ///
@@ -286,7 +286,7 @@ impl<E: Drop, H: Drop> Expression<E, H> {
         self.around(Modifier::Env(EnvNameString::from(name), value))
     }
 
-    /// The commands don't have this variable, in any spelling, whatever is said of it outside.
+    /// The commands don't have this variable, in any spelling, whatever is set outside this node.
     ///
     /// Example: `cmd!(in alloc; "ls")?.env_remove("LS_COLORS")?`
     pub fn env_remove(&self, name: &str) -> Result<Expression<E, H>, Error>
@@ -298,7 +298,7 @@ impl<E: Drop, H: Drop> Expression<E, H> {
         self.around(Modifier::EnvRemove(EnvNameString::from(name)))
     }
 
-    /// The commands have these variables alone: the parent's and those set outside are gone. Of a
+    /// The commands have only these variables: the parent's and those set outside are gone. Of a
     /// name given twice, in any spelling, the first spelling and the last value count.
     ///
     /// Example: `cmd!(in alloc; "env")?.full_env(&[("PATH", "/usr/bin:/bin")])?`
@@ -326,8 +326,8 @@ impl<E: Drop, H: Drop> Expression<E, H> {
     }
 
     /// Before each command is started the hook changes its spec, the outermost of several hooks
-    /// first. A hook may name the ends beside it by their places, from 0. A command that it gives
-    /// one gets a duplicate.
+    /// first. A hook may name the ends that are passed with it by their places, from 0. A command
+    /// that it gives one gets a duplicate.
     ///
     /// A start fails with `Error::Hook` where the hook stops a command, and with `Error::HookEnd`
     /// where it names a place without an end.

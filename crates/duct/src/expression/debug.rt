@@ -10,7 +10,7 @@ impl<E, H> fmt::Debug for Expression<E, H> {
     ghost debug_output = { λ expression. shown (tree_view expression) };
 
     /// Writes `Cmd(["a", "b"])` for a command, `Pipe(L, R)` for a pipe, and `Io(Modifier, X)` for a
-    /// modifier round X. An end is `<end>` and a hook `<closure>`. The text is promised where all
+    /// modifier around X. An end is `<end>` and a hook `<closure>`. The text is promised where all
     /// words, paths, names and values are printable ASCII.
     fn fmt<W: fmt::Write>(&self, f: &mut fmt::Formatter<W>) -> fmt::Result {
         self.root().fmt(f)

@@ -1,4 +1,4 @@
-//! The orders to the commands of an expression that runs, and how it is given up.
+//! The orders to the commands of a running expression, and how it is given up.
 ghost use Rattle.std.specs.Prelude.{◌≡◌, ◌<◌, length, map};
 ghost use Rattle.duct_base.specs.Pool.{IsGiven};
 ghost use Rattle.duct_system.specs.Child.{OrdersChild};
@@ -23,7 +23,7 @@ fn give<C: Child>(child: &mut C, order: Order) -> Result<(), Fault>
     }
 }
 
-// An answer, with its fault as the system's error.
+// Converts the result of an order: a fault becomes `Error::System`.
 fn result_of(answer: Result<(), Fault>) -> Result<(), Error>
     ensures { OrderAnswers answer result }
 {
@@ -31,8 +31,11 @@ fn result_of(answer: Result<(), Fault>) -> Result<(), Error>
 }
 
 impl<S: System> Running<S> {
-    /// Kills each command that is not known as ended, once and from left to right, also behind one that refused. Answers the
-    /// leftmost fault as `Error::System`. A command that had no memory to note the order was not asked, and answered `OutOfMemory`.
+    /// Kills each command that is not known to have ended, once and from left to right. Where one
+    /// can't be killed, the others still are. It doesn't wait until they have ended.
+    ///
+    /// Fails with `Error::System`, the leftmost fault. Where there is no memory to note the order
+    /// for a command, the command is not killed and its fault is `OutOfMemory`.
     pub fn kill(&mut self) -> Result<(), Error>
         ensures shape { self.new.shape ≡ self.old.shape }
         ensures ordered { IsOrdered S.Child.may_obey Kill
@@ -45,8 +48,9 @@ impl<S: System> Running<S> {
         self.order_all(Order::Kill)
     }
 
-    /// Sends a signal, by its number, to each command that is not known as ended, as `kill` kills them. It may wait for a program that
-    /// the system has send it.
+    /// Sends the signal of this number to each command that is not known to have ended, in the
+    /// order of `kill`. It may wait for a program that the system runs to send it. Fails as `kill`
+    /// does.
     pub fn signal(&mut self, signal: i32) -> Result<(), Error>
         ensures shape { self.new.shape ≡ self.old.shape }
         ensures ordered { IsOrdered S.Child.may_obey (Signal signal)
@@ -59,8 +63,9 @@ impl<S: System> Running<S> {
         self.order_all(Order::Signal(signal))
     }
 
-    /// Gives the children to a pool, from left to right. Each is asked once: one that runs goes behind the pool's others, one
-    /// that ended counts as reaped, and one that answered a fault as lost. The workers are let go. It takes no memory.
+    /// Gives the children to a pool, from left to right, and drops the workers. Each child is
+    /// polled once: one that runs is appended to the pool, one that has ended counts as reaped, and
+    /// one whose poll returned a fault counts as lost. It allocates nothing and doesn't block.
     pub fn give_up(self, pool: &mut Pool<S::Child>)
         ensures { IsGiven S.Child.may_answer S.Child.child_view self.children pool.old pool.new }
     {
@@ -86,7 +91,8 @@ impl<S: System> Running<S> {
         give(&mut self.children[at], order)
     }
 
-    // Gives an order to each child that has not ended, from left to right, and answers the first fault.
+    // Gives an order to each child that has not ended, from left to right, and returns the first
+    // fault.
     fn order_all(&mut self, order: Order) -> Result<(), Error>
         ensures shape { self.new.shape ≡ self.old.shape }
         ensures ordered { IsOrdered S.Child.may_obey order

@@ -8,7 +8,7 @@ use duct_system::system::{ExitStatus, Output};
 use std::alloc::{AllocError, Global};
 use std::sync::Arc;
 
-/// An output of this status and of copies of these bytes.
+/// Returns an output with this status and copies of these bytes.
 pub(crate) fn answer(
     alloc: Global,
     status: ExitStatus,
@@ -32,7 +32,7 @@ pub(crate) fn answer(
     Ok(made)
 }
 
-/// The message of a command of these words that ended so.
+/// Returns the message of a command with these words and this exit status.
 pub(crate) fn failure(
     alloc: Global,
     words: &Vec<String>,

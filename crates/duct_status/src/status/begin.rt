@@ -1,4 +1,4 @@
-//! The words before anything is told.
+//! The reports before the first event.
 ghost use Rattle.std.specs.Prelude.{◌≡◌, ◌++◌, replicate, if◌then◌else◌, OnOk, Some, None};
 ghost use Rattle.std.specs.Option.{option_map};
 ghost use Rattle.duct_status.specs.EventView.{bytes_said};
@@ -11,7 +11,7 @@ use duct_system::system::Said;
 use std::alloc::AllocError;
 use std::sync::Arc;
 
-/// Adds a word for each command and each input worker of a shape: all run.
+/// Adds a report for each command and each input worker of a shape: all run.
 #[tactic(auto, using(crate::proofs::Begins::more))]
 pub(crate) fn begin(
     shape: &Shape,
@@ -40,7 +40,7 @@ pub(crate) fn begin(
     Ok(())
 }
 
-/// The word of a capture worker, if it is there: it runs.
+/// Returns the first report of a capture worker, if it is there: it runs.
 pub(crate) fn first_word(is_there: bool) -> Option<Said<Arc<Vec<u8>>>>
     ensures { option_map bytes_said result ≡ (if is_there then Some said.Running else None) }
 {

@@ -1,4 +1,4 @@
-//! The command whose status stands for the whole, chosen pipe by pipe.
+//! The winning command, chosen pipe by pipe.
 ghost use Rattle.std.specs.Prelude.{◌≡◌, ◌+◌, ◌<◌, ◌≤◌, not, ◌&&◌, ◌||◌, length, map, string_bytes, slice_get};
 ghost use Rattle.std.specs.Arc.{arc_value};
 ghost use Rattle.duct_status.specs.Choice.{chosen, is_failure, is_checked_failure};
@@ -10,7 +10,8 @@ use crate::status::{Shape, Word};
 use duct_system::system::ExitStatus;
 use std::sync::Arc;
 
-/// The command that a part of a shape chose, with the number of the command after that part.
+/// The command that was chosen in a part of a shape, and the number of the first command after that
+/// part.
 #[derive(Clone, Copy)]
 pub(crate) struct Chosen<'a> {
     pub(crate) words: &'a Arc<Vec<String>>,
@@ -20,14 +21,14 @@ pub(crate) struct Chosen<'a> {
 }
 
 impl Chosen<'_> {
-    /// Whether it failed.
+    /// Returns whether it failed.
     fn is_failure(&self) -> bool
         ensures { result ≡ not (is_success self.now.status) }
     {
         !self.status.success()
     }
 
-    /// Whether it failed and is not unchecked.
+    /// Returns whether it failed and is not unchecked.
     pub(crate) fn is_checked_failure(&self) -> bool
         ensures { result ≡ (not (is_success self.now.status) && self.now.is_checked) }
     {
@@ -35,7 +36,7 @@ impl Chosen<'_> {
     }
 }
 
-/// How a command ended; one that has not ended counts as a success.
+/// Returns the exit status of a command. One that has not ended counts as a success.
 fn status_at(commands: &[Word], at: usize) -> ExitStatus
     requires { at < length commands.now }
     ensures { result ≡ status_of (slice_get commands.now at) }

@@ -1,4 +1,4 @@
-//! One more of an event, without memory.
+//! Copies of events, made without an allocation.
 ghost use Rattle.std.specs.Prelude.{◌≡◌, IfOk};
 ghost use Rattle.duct_status.specs.EventView.{bytes_said, event_view};
 
@@ -7,7 +7,8 @@ use duct_system::system::Said;
 use std::alloc::AllocError;
 use std::sync::Arc;
 
-/// The same word, with one more owner of its bytes; refused only where std refuses that owner.
+/// Returns the same report, with one more owner of its bytes. Fails only if that owner can't be
+/// made.
 fn copy_said(said: &Said<Arc<Vec<u8>>>) -> Result<Said<Arc<Vec<u8>>>, AllocError>
     ensures { IfOk result (λ copy. bytes_said copy ≡ bytes_said said.now) }
 {
@@ -18,7 +19,8 @@ fn copy_said(said: &Said<Arc<Vec<u8>>>) -> Result<Said<Arc<Vec<u8>>>, AllocError
     }
 }
 
-/// The same event, with one more owner of its bytes; refused only where std refuses that owner.
+/// Returns the same event, with one more owner of its bytes. Fails only if that owner can't be
+/// made.
 pub(crate) fn copy(event: &Event) -> Result<Event, AllocError>
     ensures { IfOk result (λ copy. event_view copy ≡ event_view event.now) }
 {

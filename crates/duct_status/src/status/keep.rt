@@ -1,4 +1,4 @@
-//! What is kept of a word that was told.
+//! How a report is stored.
 ghost use Rattle.std.specs.Prelude.{◌≡◌, is_some, nat_lt, vec_len};
 ghost use Rattle.std.specs.Option.{option_map};
 ghost use Rattle.duct_status.specs.EventView.{bytes_said};
@@ -9,7 +9,7 @@ use crate::status::Word;
 use duct_system::system::Said;
 use std::sync::Arc;
 
-/// Keeps a worker's word: its first `Done` or `Fault` stays.
+/// Stores a worker's report: its first `Done` or `Fault` stays.
 pub(crate) fn keep<T: Drop>(kept: &mut Said<T>, heard: Said<T>)
     ensures { kept.new ≡ kept_after kept.old heard }
 {
@@ -19,7 +19,7 @@ pub(crate) fn keep<T: Drop>(kept: &mut Said<T>, heard: Said<T>)
     }
 }
 
-/// Keeps an input worker's word, and says whether that worker is there.
+/// Stores an input worker's report, and returns whether that worker is there.
 pub(crate) fn keep_at(inputs: &mut Vec<Said<()>>, at: usize, heard: Said<()>) -> bool
     ensures items { inputs.new.items ≡ change_at (λ old. kept_after old heard) at inputs.old.items }
     ensures len { vec_len inputs.new ≡ vec_len inputs.old }
@@ -34,7 +34,8 @@ pub(crate) fn keep_at(inputs: &mut Vec<Said<()>>, at: usize, heard: Said<()>) ->
     true
 }
 
-/// The word of a command after one more: an ended command keeps its ending.
+/// Returns the report that a command has after one more: a command that has ended keeps its exit
+/// status.
 fn after(word: Word, heard: Word) -> Word
     ensures { result ≡ word_after word heard }
 {
@@ -44,7 +45,7 @@ fn after(word: Word, heard: Word) -> Word
     }
 }
 
-/// Keeps a command's word, and says whether that command is there.
+/// Stores a command's report, and returns whether that command is there.
 pub(crate) fn tell_at(commands: &mut Vec<Word>, at: usize, heard: Word) -> bool
     ensures items { commands.new.items
         ≡ change_at (λ old. word_after old heard) at commands.old.items }
@@ -58,7 +59,7 @@ pub(crate) fn tell_at(commands: &mut Vec<Word>, at: usize, heard: Word) -> bool
     true
 }
 
-/// Keeps a capture worker's word, and says whether there is such a worker.
+/// Stores a capture worker's report, and returns whether there is such a worker.
 pub(crate) fn keep_bytes(drain: &mut Option<Said<Arc<Vec<u8>>>>, heard: Said<Arc<Vec<u8>>>) -> bool
     ensures bytes { option_map bytes_said drain.new
         ≡ option_map (λ old. kept_after old (bytes_said heard)) (option_map bytes_said drain.old) }

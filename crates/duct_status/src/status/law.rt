@@ -4,9 +4,10 @@ ghost use Rattle.duct_status.specs.Endings.{Endings};
 ghost use Rattle.duct_status.specs.Laws.{IsStrictTotalOrder, ExactlyOneWins, FailsWhereSomeFails, UncheckedKeeps};
 ghost use Rattle.duct_status.specs.Winner.{IsWinner};
 
-/// Does nothing: its clauses are the law. In every tree, with unchecked at any depth and any statuses, to beat is a strict
-/// total order on the commands, so exactly one wins. The choice made pipe by pipe finds it. It failed exactly where some
-/// command failed, and unchecked changes no status and no winner of what it wraps.
+/// Does nothing: its contract is the law. In every tree, with unchecked at any depth and any exit
+/// statuses, `Beats` is a strict total order on the commands, so exactly one command wins. The
+/// choice that is made pipe by pipe finds it. It failed if and only if some command failed.
+/// Unchecked changes no exit status and no winning command of what it wraps.
 pub fn precedence()
     ensures order { (t : Endings) → IsStrictTotalOrder t }
     ensures one { (t : Endings) → ExactlyOneWins t }

@@ -7,7 +7,8 @@ ghost use Rattle.duct_status.specs.Outcome.{command_said, input_said, in_tree_or
 use crate::status::{Shape, Word};
 use duct_system::system::{Fault, Said};
 
-/// What was found in a part of a shape, with the numbers of the command and of the input worker after it.
+/// What was found in a part of a shape, and the numbers of the command and of the input worker
+/// after it.
 #[derive(Clone, Copy)]
 pub(crate) struct Found {
     pub(crate) fault: Option<Fault>,
@@ -17,7 +18,7 @@ pub(crate) struct Found {
 }
 
 impl Found {
-    /// What one word is, with the numbers after it.
+    /// Returns what is found in one report, with the numbers after it.
     fn new(said: Said<()>, next_command: usize, next_input: usize) -> Found
         ensures fault { result.fault ≡ first_fault (said ∷ []) }
         ensures runs { result.runs ≡ some_runs (said ∷ []) }
@@ -37,7 +38,7 @@ impl Found {
         }
     }
 
-    /// What was found in both, the earlier one first.
+    /// Returns what was found in both parts; this one comes first.
     fn before(self, later: Found) -> Found
         ensures fault { result.fault ≡ option_or self.fault later.fault }
         ensures runs { result.runs ≡ (self.runs || later.runs) }
@@ -53,7 +54,7 @@ impl Found {
     }
 }
 
-/// The word of a command as that of a worker.
+/// Returns the report of a command in the form of a worker's.
 fn command_at(commands: &[Word], at: usize) -> Said<()>
     requires { at < length commands.now }
     ensures { result ≡ command_said (slice_get commands.now at) }
@@ -65,7 +66,7 @@ fn command_at(commands: &[Word], at: usize) -> Said<()>
     }
 }
 
-/// The word of an input worker.
+/// Returns the report of an input worker.
 fn input_at(inputs: &[Said<()>], at: usize) -> Said<()>
     requires { at < length inputs.now }
     ensures { result ≡ input_said (slice_get inputs.now at) }
@@ -73,7 +74,8 @@ fn input_at(inputs: &[Said<()>], at: usize) -> Said<()>
     inputs[at]
 }
 
-/// Looks through a part of a shape whose first command and first input worker have these numbers.
+/// Looks through the reports of a part of a shape. Its first command and its first input worker
+/// have these numbers.
 #[tactic(auto, using(crate::proofs::Looks::fault_append, crate::proofs::Looks::runs_append))]
 pub(crate) fn look(
     shape: &Shape,

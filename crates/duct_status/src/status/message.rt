@@ -5,7 +5,7 @@ ghost use Rattle.duct_status.specs.Message.{printed_message};
 use duct_system::system::ExitStatus;
 use std::alloc::{AllocError, Global};
 
-/// Names a command's words and how it ended.
+/// Returns the message: a command's words and how it ended.
 #[tactic(auto, using(crate::proofs::Shown::list_of_map))]
 pub(crate) fn message(
     alloc: Global,

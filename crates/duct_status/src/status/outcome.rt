@@ -1,4 +1,4 @@
-//! What the latest words come to.
+//! The outcome of the latest reports.
 ghost use Rattle.std.specs.Prelude.{◌≡◌};
 ghost use Rattle.std.specs.Option.{option_map};
 ghost use Rattle.duct_status.specs.Bytes.{lent_bytes, outcome_view};
@@ -9,7 +9,8 @@ use crate::status::look::Found;
 use duct_system::system::{Fault, Said, Side};
 use std::sync::Arc;
 
-/// A fault, something that still runs, or that all have ended, with the bytes of stdout and of stderr.
+/// The outcome: something still runs, a fault, or all have ended, with the bytes of stdout and of
+/// stderr.
 #[derive(Clone, Copy)]
 pub(crate) enum Outcome<'a> {
     Waits,
@@ -17,7 +18,7 @@ pub(crate) enum Outcome<'a> {
     Finished(&'a [u8], &'a [u8]),
 }
 
-/// The word of a capture worker. Without one no bytes are captured.
+/// Returns the report of a capture worker. If there is none, no bytes are captured.
 fn bytes_of(drain: &Option<Said<Arc<Vec<u8>>>>) -> Said<&[u8]>
     ensures { lent_bytes result ≡ captured (option_map bytes_said drain.now) }
 {
@@ -29,7 +30,8 @@ fn bytes_of(drain: &Option<Said<Arc<Vec<u8>>>>) -> Said<&[u8]>
     }
 }
 
-/// A fault that was found, else whether something runs, else what stdout's capture worker said, then stderr's.
+/// Returns the outcome: the fault that was found; else `Waits` if something runs; else stdout's
+/// capture worker decides, and then stderr's.
 pub(crate) fn judge<'a>(
     found: Found,
     output: &'a Option<Said<Arc<Vec<u8>>>>,
@@ -56,7 +58,8 @@ pub(crate) fn judge<'a>(
     }
 }
 
-/// The stream whose capture worker decides and has not finished, where no fault was found and nothing runs.
+/// Returns the stream whose capture worker decides and has not finished, if no fault was found and
+/// nothing runs.
 pub(crate) fn awaited(
     found: Found,
     output: &Option<Said<Arc<Vec<u8>>>>,

@@ -1,4 +1,4 @@
-//! Shapes that are the same: whether two are, and the same once more.
+//! Comparing and copying shapes.
 ghost use Rattle.std.specs.Prelude.{◌≡◌, ◌↔◌, IfOk, IsTrue, map, string_bytes};
 ghost use Rattle.duct_status.specs.ShapeView.{shape_view};
 
@@ -6,7 +6,7 @@ use crate::status::Shape;
 use std::alloc::{AllocError, Global};
 
 impl Shape {
-    /// Whether both have the same commands, with the same words, in the same tree.
+    /// Returns whether both have the same commands, with the same words, in the same tree.
     pub fn is_same(&self, other: &Shape) -> bool
         ensures { IsTrue result ↔ (shape_view self.now ≡ shape_view other.now) }
     {
@@ -27,8 +27,8 @@ impl Shape {
         }
     }
 
-    /// The same shape once more, with one more owner of each command's words. Refused for want of memory, and where std
-    /// refuses such an owner.
+    /// Returns the same shape, with one more owner of each command's words. Fails at an allocation
+    /// failure, and if such an owner can't be made.
     pub fn try_clone(&self, alloc: Global) -> Result<Shape, AllocError>
         ensures { IfOk result (λ copy. shape_view copy ≡ shape_view self.now) }
     {
@@ -47,7 +47,7 @@ impl Shape {
     }
 }
 
-// Whether two lists of words are the same.
+// Returns whether two lists of words are the same.
 fn same_words(one: &[String], other: &[String]) -> bool
     ensures { IsTrue result ↔ (map string_bytes one.now ≡ map string_bytes other.now) }
 {

@@ -1,4 +1,5 @@
-//! Refused memory at the builders of expressions: the expressions that a builder is called on stay as they were.
+//! Tests of allocation failures in the builders of expressions: the expressions that a builder is
+//! called on stay as they were.
 use super::outcome;
 use duct::{Error, cmd};
 use duct_script::system::ScriptEnd;
@@ -34,7 +35,7 @@ const BUILDERS: [&str; 22] = [
     "pipe=b",
 ];
 
-/// What a builder makes of two commands.
+/// Calls the builder of a text on two commands, and returns the new expression.
 fn built(
     alloc: Global,
     a: &Tree<ScriptEnd>,
@@ -63,7 +64,8 @@ fn shows(alloc: Global, tree: &Tree<ScriptEnd>, text: &str) -> Result<(), Stop> 
     Err(Stop::Found(found))
 }
 
-/// What came of a builder. Whether or not it was refused, the commands stay as they were.
+/// The outcome of a builder. Fails unless the commands stay as they were, whether or not the
+/// builder failed.
 fn kept(
     alloc: Global,
     a: &Tree<ScriptEnd>,
@@ -79,7 +81,7 @@ fn kept(
     Ok(came)
 }
 
-/// What came of each builder.
+/// The outcome of all builders.
 fn builders(alloc: Global) -> Result<MemoryOutcome, Stop> {
     let a: Tree<ScriptEnd> = cmd!(in alloc; "a")?;
     let b: Tree<ScriptEnd> = cmd!(in alloc; "b")?;
@@ -90,7 +92,7 @@ fn builders(alloc: Global) -> Result<MemoryOutcome, Stop> {
     Ok(came)
 }
 
-/// A clone takes no memory, and is the same expression.
+/// The outcome of a clone, which allocates nothing and has the same debug text.
 fn cloned(alloc: Global) -> Result<MemoryOutcome, Stop> {
     let a: Tree<ScriptEnd> = cmd!(in alloc; "a")?;
     match a.clone() {
@@ -100,19 +102,20 @@ fn cloned(alloc: Global) -> Result<MemoryOutcome, Stop> {
     Ok(MemoryOutcome::Whole)
 }
 
-/// Builders, and what they are called on.
+/// Checks that each builder succeeds, or fails with an allocation failure and leaves the commands
+/// as they were.
 #[test]
 fn memory_of_builders(rt: HostRuntime) {
     assert_ne!(rt; outcome(builders(rt.alloc())), MemoryOutcome::Wrong);
 }
 
-/// A clone.
+/// Checks that a clone allocates nothing.
 #[test]
 fn memory_of_a_clone(rt: HostRuntime) {
     assert_ne!(rt; outcome(cloned(rt.alloc())), MemoryOutcome::Wrong);
 }
 
-/// With ample memory all go well.
+/// Checks that all succeed if no allocation fails.
 #[test]
 fn all_memory_is_there(rt: HostRuntime) {
     let came = outcome(builders(rt.alloc())).then(outcome(cloned(rt.alloc())));

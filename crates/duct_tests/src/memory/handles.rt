@@ -1,4 +1,4 @@
-//! Refused memory at the calls of a handle.
+//! Tests of allocation failures in the calls of a handle.
 use super::outcome;
 use crate::bench::{Waited, Waiting, handle_of, wait};
 use duct::unix::HandleExt;
@@ -15,14 +15,15 @@ use std::alloc::Global;
 use std::sync::{Arc, Wait};
 use std::time::Duration;
 
-/// A system in which a command runs and ends, and its capture worker has `xy`.
+/// A system whose command runs at first and then exits with code 0, and whose capture worker
+/// returns `xy`.
 fn bench(alloc: Global) -> Result<Bench, Stop> {
     let mut bench = bench_of(alloc, Scene::of("running, code 0"))?;
     set_drains(alloc, &mut bench.sys, "done xy")?;
     Ok(bench)
 }
 
-/// A handle of that command.
+/// Starts that command, and returns its handle.
 fn started(alloc: Global, bench: &mut Bench) -> Result<Handle<Script>, Stop> {
     handle_of(alloc, bench, "a stdout_capture")
 }
@@ -38,8 +39,8 @@ fn gives_xy(waited: Waited) -> bool {
     }
 }
 
-/// Each wait is with a token of its own. While the command runs a wait needs no memory. One that is refused at the end keeps what it
-/// heard, and the next one returns it.
+/// Waits with a new token each time. A wait allocates nothing while the command runs. If a wait
+/// fails to allocate at the end, the result is kept, and the next wait returns it.
 fn waited_again(rt: &impl Wait, handle: &Handle<Script>, waiting: Waiting) -> MemoryOutcome {
     let first = wait(rt, handle, Waiting::Deadline(Duration::ZERO));
     let runs = matches!(first, Ok(None));
@@ -52,7 +53,7 @@ fn waited_again(rt: &impl Wait, handle: &Handle<Script>, waiting: Waiting) -> Me
     }
 }
 
-/// What came of a handle, which is given up then without memory.
+/// The outcome of a handle, which is then given up without an allocation.
 fn left(
     handle: Handle<Script>,
     pool: &mut Pool<ScriptChild>,
@@ -69,7 +70,7 @@ fn waits_so(rt: &impl Wait, alloc: Global, waiting: Waiting) -> Result<MemoryOut
     Ok(left(handle, &mut bench.pool, came))
 }
 
-/// What came of a poll, and of the waits that end by a clock.
+/// The outcome of a poll, and of the waits that a clock limits.
 fn waits(rt: &impl Wait, alloc: Global) -> MemoryOutcome {
     let second = Duration::from_secs(1);
     outcome(waits_so(rt, alloc, Waiting::Try))
@@ -86,7 +87,8 @@ fn counting_bench(alloc: Global) -> Result<Bench, Stop> {
     Ok(Bench { sys, pool, calls })
 }
 
-/// One order to two commands that run. One that finds no memory to note it is not asked, and the other is ordered all the same.
+/// The outcome of one order to two commands that run. A child that fails to allocate the note of
+/// the order is not given it, but the other child is.
 fn ordered(rt: &impl Wait, handle: &Handle<Script>, log: &CallLog, order: Order) -> MemoryOutcome {
     let before = log.noted();
     let answer = match order {
@@ -103,7 +105,7 @@ fn ordered(rt: &impl Wait, handle: &Handle<Script>, log: &CallLog, order: Order)
     }
 }
 
-/// So many orders that the note of a kill needs memory, and that of a signal too.
+/// Enough orders that the note of a kill allocates, and the note of a signal does too.
 const ORDERS: [Order; 5] = [
     Order::Kill,
     Order::Signal(15),
@@ -112,7 +114,7 @@ const ORDERS: [Order; 5] = [
     Order::Signal(15),
 ];
 
-/// All orders. The ids need no memory.
+/// The outcome of all orders. The ids allocate nothing.
 fn all_ordered(rt: &impl Wait, handle: &Handle<Script>, log: &CallLog) -> MemoryOutcome {
     let mut came = MemoryOutcome::Whole;
     for order in ORDERS {
@@ -131,7 +133,8 @@ fn orders(rt: &impl Wait, alloc: Global) -> Result<MemoryOutcome, Stop> {
     Ok(came.then(MemoryOutcome::whole_if(kept)))
 }
 
-/// Two handles of one child each that runs, given up to another pool than that of their starts, which is swept then. Neither takes memory.
+/// Gives up two handles with one running child each to another pool than that of their starts, and
+/// sweeps that pool. Neither allocates.
 fn given_up(alloc: Global) -> Result<MemoryOutcome, Stop> {
     let mut bench = bench_of(alloc, Scene::of("running, code 0; running, Other"))?;
     let mut pool = Pool::new(alloc);
@@ -142,25 +145,26 @@ fn given_up(alloc: Global) -> Result<MemoryOutcome, Stop> {
     Ok(MemoryOutcome::whole_if(kept && counts(&pool) == (0, 2, 1, 1)))
 }
 
-/// A poll, and waits until a moment or for a while, with tokens that don't know the output.
+/// Checks a poll, and the waits with a timeout or a deadline, with tokens that don't know the
+/// output.
 #[test]
 fn memory_of_waits(rt: HostRuntime) {
     assert_ne!(rt; waits(&rt, rt.alloc()), MemoryOutcome::Wrong);
 }
 
-/// Kills, signals and ids.
+/// Checks kills, signals and ids.
 #[test]
 fn memory_of_orders(rt: HostRuntime) {
     assert_ne!(rt; outcome(orders(&rt, rt.alloc())), MemoryOutcome::Wrong);
 }
 
-/// Handles that are given up, and a sweep of their pool.
+/// Checks handles that are given up, and a sweep of their pool.
 #[test]
 fn memory_of_pools(rt: HostRuntime) {
     assert_ne!(rt; outcome(given_up(rt.alloc())), MemoryOutcome::Wrong);
 }
 
-/// With ample memory all go well.
+/// Checks that all succeed if no allocation fails.
 #[test]
 fn all_memory_is_there(rt: HostRuntime) {
     let alloc = rt.alloc();

@@ -1,4 +1,4 @@
-//! Refused memory at the start of one command and at its polls.
+//! Tests of allocation failures in the start of one command and in its polls.
 use super::outcome;
 use duct::{Entry, Error, Running, System};
 use duct_script::system::Script;
@@ -16,7 +16,8 @@ fn bench(alloc: Global) -> Result<Bench, Stop> {
     bench_of(alloc, scene)
 }
 
-/// What came of a poll, if it is not that the child runs: the message of the failure, or no memory.
+/// The outcome of a poll, or `None` if the child still runs: `Whole` for the message of the
+/// failure, `Refused` for an allocation failure.
 fn came_of_poll(running: &mut Running<Script>) -> Option<MemoryOutcome> {
     match running.poll() {
         Ok(None) => None,
@@ -28,7 +29,7 @@ fn came_of_poll(running: &mut Running<Script>) -> Option<MemoryOutcome> {
     }
 }
 
-/// Polls until the message of the failure comes, past polls that found no memory.
+/// Polls until the message of the failure is returned. A poll that fails to allocate is repeated.
 fn polled(running: &mut Running<Script>) -> MemoryOutcome {
     let mut came = MemoryOutcome::Whole;
     for _ in 0..4 {
@@ -41,7 +42,8 @@ fn polled(running: &mut Running<Script>) -> MemoryOutcome {
     MemoryOutcome::Wrong
 }
 
-/// What came of a start and of its polls, where the journal has the whole start or how it begins.
+/// The outcome of a start and of its polls. The journal has the whole start if it succeeded, and at
+/// most its first request if it failed.
 fn ended(started: Result<Running<Script>, Error>, journal: &[Entry]) -> MemoryOutcome {
     match started {
         Ok(mut running) => {
@@ -56,7 +58,7 @@ fn ended(started: Result<Running<Script>, Error>, journal: &[Entry]) -> MemoryOu
     }
 }
 
-/// What came of the start of a command and of its polls, which leave the pool as it was.
+/// The outcome of the start of a command and of its polls, which leave the pool as it was.
 fn launched(alloc: Global) -> Result<MemoryOutcome, Stop> {
     let mut bench = bench(alloc)?;
     let tree = written(alloc, None, "f,x")?;
@@ -66,13 +68,13 @@ fn launched(alloc: Global) -> Result<MemoryOutcome, Stop> {
     Ok(came.then(MemoryOutcome::whole_if(given)))
 }
 
-/// The start of a command, and its polls to the end.
+/// Checks the start of a command, and its polls to the end.
 #[test]
 fn memory_of_polls(rt: HostRuntime) {
     assert_ne!(rt; outcome(launched(rt.alloc())), MemoryOutcome::Wrong);
 }
 
-/// With ample memory it goes well.
+/// Checks that it succeeds if no allocation fails.
 #[test]
 fn all_memory_is_there(rt: HostRuntime) {
     assert_eq!(rt; outcome(launched(rt.alloc())), MemoryOutcome::Whole);

@@ -1,4 +1,4 @@
-//! Refused memory at the calls of a reader handle.
+//! Tests of allocation failures in the calls of a reader handle.
 use super::outcome;
 use crate::bench::{Waited, read_once};
 use duct::{Error, Kind, ReaderHandle, System};
@@ -12,7 +12,8 @@ use duct_table::workers::{set_drains, set_reader};
 use std::alloc::Global;
 use std::sync::Wait;
 
-/// A system in which one command runs and ends, a capture worker has `xy`, and a reader `xy` and a newline.
+/// A system whose command runs at first and then exits with code 0, whose capture worker returns
+/// `xy`, and whose reader has `xy` and a newline.
 fn bench(alloc: Global) -> Result<Bench, Stop> {
     let mut bench = bench_of(alloc, Scene::of("running, code 0"))?;
     set_drains(alloc, &mut bench.sys, "done xy")?;
@@ -20,7 +21,7 @@ fn bench(alloc: Global) -> Result<Bench, Stop> {
     Ok(bench)
 }
 
-/// Whether an output came, with what stderr's capture worker has.
+/// Whether a wait returned an output, with the bytes of stderr's capture worker.
 fn gives_output(waited: Waited) -> bool {
     match waited {
         Ok(Some(output)) => {
@@ -30,7 +31,8 @@ fn gives_output(waited: Waited) -> bool {
     }
 }
 
-/// A refused poll keeps what it heard, and the next one returns it.
+/// The outcome of a poll. If it fails to allocate, the result is kept, and the next poll returns
+/// it.
 fn polled<R: Wait>(handle: &ReaderHandle<Script, R>) -> MemoryOutcome {
     match handle.try_wait() {
         Err(Error::Memory) => MemoryOutcome::refused_if(gives_output(handle.try_wait())),
@@ -38,7 +40,7 @@ fn polled<R: Wait>(handle: &ReaderHandle<Script, R>) -> MemoryOutcome {
     }
 }
 
-/// A kill that finds no memory to note it is refused, and the next one is obeyed.
+/// The outcome of a kill. If it fails to allocate its note, the next kill succeeds.
 fn killed<R: Wait>(handle: &ReaderHandle<Script, R>) -> MemoryOutcome {
     match handle.kill() {
         Ok(()) => MemoryOutcome::Whole,
@@ -49,7 +51,7 @@ fn killed<R: Wait>(handle: &ReaderHandle<Script, R>) -> MemoryOutcome {
     }
 }
 
-/// Whether a read of two bytes at most gives these.
+/// Whether a read of at most two bytes returns these bytes.
 fn gives<R: Wait>(handle: &ReaderHandle<Script, R>, wanted: &[u8]) -> bool {
     let mut buffer = [0; 2];
     match read_once(handle, &mut buffer) {
@@ -58,7 +60,7 @@ fn gives<R: Wait>(handle: &ReaderHandle<Script, R>, wanted: &[u8]) -> bool {
     }
 }
 
-/// Reads to the end, and there once more. The first read at the end may be refused.
+/// Reads to EOF, and once more there. The first read at EOF may fail to allocate.
 fn read_through<R: Wait>(handle: &ReaderHandle<Script, R>) -> MemoryOutcome {
     let bytes = gives(handle, b"xy") && gives(handle, b"\n");
     match read_once(handle, &mut [0; 2]) {
@@ -68,14 +70,15 @@ fn read_through<R: Wait>(handle: &ReaderHandle<Script, R>) -> MemoryOutcome {
     }
 }
 
-/// Who hears first that the command has ended.
+/// Which call finds first that the command has ended.
 #[derive(Clone, Copy)]
 enum First {
     Read,
     Poll,
 }
 
-/// Each call of a handle whose command runs at first. The ids, and the poll while it runs, need no memory.
+/// The outcome of each call of a handle whose command runs at first. The ids, and the poll while
+/// the command runs, allocate nothing.
 fn asked<R: Wait>(handle: &ReaderHandle<Script, R>, first: First) -> MemoryOutcome {
     let runs = matches!(handle.try_wait(), Ok(None)) && handle.pids().len() == 1;
     let came = MemoryOutcome::whole_if(runs).then(killed(handle));
@@ -85,7 +88,7 @@ fn asked<R: Wait>(handle: &ReaderHandle<Script, R>, first: First) -> MemoryOutco
     }
 }
 
-/// What came of a reader handle, where each child that was started is the pool's.
+/// The outcome of a reader handle. The pool is given each child that was started.
 fn reads(rt: &impl Wait, alloc: Global, first: First) -> Result<MemoryOutcome, Stop> {
     let mut bench = bench(alloc)?;
     let tree = written(alloc, None, "a stderr_capture")?;
@@ -102,7 +105,7 @@ fn reads(rt: &impl Wait, alloc: Global, first: First) -> Result<MemoryOutcome, S
     })
 }
 
-/// A read hears of the end.
+/// Checks the calls where a read finds the end first.
 #[test]
 fn memory_of_reads(rt: HostRuntime) {
     assert_ne!(rt;
@@ -111,7 +114,7 @@ fn memory_of_reads(rt: HostRuntime) {
     );
 }
 
-/// A poll hears of it.
+/// Checks the calls where a poll finds the end first.
 #[test]
 fn memory_of_a_poll(rt: HostRuntime) {
     assert_ne!(rt;
@@ -120,7 +123,7 @@ fn memory_of_a_poll(rt: HostRuntime) {
     );
 }
 
-/// With ample memory all go well.
+/// Checks that all succeed if no allocation fails.
 #[test]
 fn all_memory_is_there(rt: HostRuntime) {
     let read = outcome(reads(&rt, rt.alloc(), First::Read));

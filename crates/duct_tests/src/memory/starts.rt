@@ -1,5 +1,6 @@
-//! Where a start may find no memory, by its plan: before its first request, or at a command, whose spec, hooks and places take memory. Then
-//! each end that was got is spent, and each child that was started is the pool's.
+//! Tests of where a start may fail to allocate, by its plan: before its first request, or at a
+//! command, whose spec, hooks and places allocate. After a failure each end that the start got is
+//! spent, and each child that was started was given to the pool.
 use super::outcome;
 use duct::{Error, System};
 use duct_plain::checker::{is_balanced, trace};
@@ -14,8 +15,8 @@ use duct_table::told::{children_started, counts};
 use std::alloc::{AllocError, Global};
 use std::sync::Wait;
 
-/// Trees of each kind of node whose hooks refuse nothing, one whose hook writes a word and a variable, and one with more commands and inputs
-/// than a list has room for at first.
+/// Trees of each kind of node whose hooks don't refuse, one whose hook adds a word and a variable,
+/// and one with more commands and inputs than a list has room for at first.
 const TREES: [&str; 13] = [
     "a",
     "a stdin_path=i stdout_path=o stderr_path=e",
@@ -41,7 +42,7 @@ enum Way {
     ReaderHandle,
 }
 
-/// All ways.
+/// All ways to start a tree.
 const WAYS: [Way; 4] = [
     Way::Launch,
     Way::LaunchReader,
@@ -49,15 +50,15 @@ const WAYS: [Way; 4] = [
     Way::ReaderHandle,
 ];
 
-/// A system that was asked once, so that its journal has room for the first request of a start, and a pool that keeps a child, which has
-/// ended when it is asked next.
+/// A system to which one request was made, so that its journal has room for the first request of a
+/// start, and a pool that keeps a child, which has ended by its next poll.
 fn bench(alloc: Global) -> Result<Bench, Stop> {
     let mut bench = bench_of(alloc, Scene::of("& running, code 0"))?;
     drop(bench.sys.environment()?);
     Ok(bench)
 }
 
-/// Starts a tree, and lets go what runs.
+/// Starts a tree, and drops or gives up what runs.
 fn start(rt: &impl Wait, tree: &Tree<ScriptEnd>, bench: &mut Bench, way: Way) -> Result<(), Error> {
     let (sys, pool) = (&mut bench.sys, &mut bench.pool);
     match way {
@@ -72,7 +73,7 @@ fn start(rt: &impl Wait, tree: &Tree<ScriptEnd>, bench: &mut Bench, way: Way) ->
     Ok(())
 }
 
-/// Whether the item at this place of the plan of a start is that of a command.
+/// Whether the item at this place of a start's plan belongs to a command.
 fn is_at_command(
     alloc: Global,
     tree: &Tree<ScriptEnd>,
@@ -87,13 +88,13 @@ fn is_at_command(
     Ok(matches!(item, Some(Item::Canonicalize(_) | Item::Spawn(_, _))))
 }
 
-/// How many items of its plan a start asked for.
+/// Returns how many items of its plan a start made requests for.
 fn asked(alloc: Global, bench: &Bench) -> Result<usize, AllocError> {
     let trace = trace(alloc, bench.sys.journal())?;
     Ok(trace.len().saturating_sub(1))
 }
 
-/// Whether a start that asked so much may find no memory there.
+/// Whether a start may fail with this error after it made this many requests.
 fn may_stop(
     alloc: Global,
     tree: &Tree<ScriptEnd>,
@@ -110,8 +111,9 @@ fn may_stop(
     is_at_command(alloc, tree, way, asked)
 }
 
-/// Whether the pool has what it should of a start that was refused: where nothing was asked it is as it was; else it was given each child that
-/// was started, each of which runs, and may have found the other one ended.
+/// Whether the pool has what it should after a start that failed. If no request was made, the pool
+/// is as it was. Otherwise it was given each child that was started, all of which run, and may have
+/// found that its old child has ended.
 fn is_left(bench: &Bench, asked: usize) -> bool {
     if asked == 0 {
         return counts(&bench.pool) == (1, 1, 0, 0);
@@ -122,7 +124,7 @@ fn is_left(bench: &Bench, asked: usize) -> bool {
     kept == (begun as usize, given, 1, 0) || kept == (given as usize, given, 0, 0)
 }
 
-/// What the pool has of a start that went well.
+/// Whether the pool has what it should after a start that succeeded.
 fn is_given(bench: &Bench, way: Way) -> bool {
     match way {
         Way::Launch | Way::LaunchReader => counts(&bench.pool) == (0, 1, 1, 0),
@@ -133,7 +135,8 @@ fn is_given(bench: &Bench, way: Way) -> bool {
     }
 }
 
-/// What came of a start, by its answer, the ends of its journal, and what the pool has. All children say that they run.
+/// The outcome of a start, by its result, the ends in its journal, and the pool. All children say
+/// that they run.
 fn came_of(
     alloc: Global,
     tree: &Tree<ScriptEnd>,
@@ -153,7 +156,7 @@ fn came_of(
     }
 }
 
-/// What came of a start of a tree.
+/// The outcome of one start of a tree.
 fn tried(
     rt: &impl Wait,
     alloc: Global,
@@ -165,7 +168,7 @@ fn tried(
     Ok(came_of(alloc, tree, &bench, way, started)?)
 }
 
-/// What came of each start of a tree.
+/// The outcome of all starts of a tree.
 fn each_way(rt: &impl Wait, alloc: Global, text: &str) -> Result<MemoryOutcome, Stop> {
     let tree = written(alloc, None, text)?;
     let mut came = MemoryOutcome::Whole;
@@ -175,7 +178,7 @@ fn each_way(rt: &impl Wait, alloc: Global, text: &str) -> Result<MemoryOutcome, 
     Ok(came)
 }
 
-/// What came of each start of each tree.
+/// The outcome of all starts of all trees.
 fn all(rt: &impl Wait, alloc: Global) -> MemoryOutcome {
     let mut came = MemoryOutcome::Whole;
     for text in TREES {
@@ -184,13 +187,13 @@ fn all(rt: &impl Wait, alloc: Global) -> MemoryOutcome {
     came
 }
 
-/// Each start of each tree.
+/// Checks each start of each tree.
 #[test]
 fn memory_of_starts(rt: HostRuntime) {
     assert_ne!(rt; all(&rt, rt.alloc()), MemoryOutcome::Wrong);
 }
 
-/// With ample memory each goes well.
+/// Checks that each start succeeds if no allocation fails.
 #[test]
 fn all_memory_is_there(rt: HostRuntime) {
     assert_eq!(rt; all(&rt, rt.alloc()), MemoryOutcome::Whole);

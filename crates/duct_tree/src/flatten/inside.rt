@@ -1,4 +1,4 @@
-//! What a node stands inside of: its scope, and where its streams go.
+//! The context of a node: its scope, and where its streams go.
 ghost use Rattle.std.specs.Prelude.{◌≡◌, ◌+◌, IfOk, IsOkUnless};
 ghost use Rattle.duct_start.specs.Flat.{outside};
 ghost use Rattle.duct_tree.specs.InsideView.{wires_view};
@@ -9,17 +9,17 @@ use duct_base::spec::Stream;
 use duct_base::system::Side;
 use std::alloc::AllocError;
 
-/// How a stream gets where it goes.
+/// Where a command gets the end of a stream from.
 pub(crate) enum Wire<'a, E> {
-    /// By this stream of the parent.
+    /// From this stream of the parent.
     Parents(Stream),
-    /// By nothing.
+    /// From nowhere: the stream goes to nothing.
     Nothing,
-    /// By the end at this depth of the stack.
+    /// From the end at this depth of the stack.
     Slot(usize),
-    /// By the capture pipe of this stream.
+    /// From the capture pipe of this stream.
     Captured(Side),
-    /// By an end of the caller.
+    /// From this caller's end.
     Lent(&'a E),
 }
 
@@ -31,7 +31,7 @@ impl<E> Clone for Wire<'_, E> {
 
 impl<E> Copy for Wire<'_, E> {}
 
-/// What a node stands inside of.
+/// The context of a node.
 pub(crate) struct Inside<'a, E> {
     /// The index of its scope.
     pub scope: usize,
@@ -41,7 +41,7 @@ pub(crate) struct Inside<'a, E> {
     pub output: Wire<'a, E>,
     /// The wire of stderr.
     pub error: Wire<'a, E>,
-    /// How many ends stand on the stack.
+    /// How many ends are on the stack.
     pub depth: usize,
 }
 
@@ -54,7 +54,7 @@ impl<E> Clone for Inside<'_, E> {
 impl<E> Copy for Inside<'_, E> {}
 
 impl<'a, E> Inside<'a, E> {
-    /// What the root stands inside of: no scope, and the parent's streams.
+    /// Returns the context of the root: the root's scope, the parent's streams and an empty stack.
     pub(crate) fn root() -> Inside<'a, E>
         ensures scope { result.scope ≡ 0 }
         ensures wires { wires_view result ≡ outside }
@@ -69,35 +69,36 @@ impl<'a, E> Inside<'a, E> {
         }
     }
 
-    /// The same with another scope.
+    /// Returns the same context with another scope.
     pub(crate) fn with_scope(self, scope: usize) -> Inside<'a, E>
         ensures { result ≡ record self.entry { scope = scope } }
     {
         Inside { scope, ..self }
     }
 
-    /// The same with another wire of stdin.
+    /// Returns the same context with another wire of stdin.
     pub(crate) fn with_input(self, input: Wire<'a, E>) -> Inside<'a, E>
         ensures { result ≡ record self.entry { input = input.entry } }
     {
         Inside { input, ..self }
     }
 
-    /// The same with another wire of stdout.
+    /// Returns the same context with another wire of stdout.
     pub(crate) fn with_output(self, output: Wire<'a, E>) -> Inside<'a, E>
         ensures { result ≡ record self.entry { output = output.entry } }
     {
         Inside { output, ..self }
     }
 
-    /// The same with another wire of stderr.
+    /// Returns the same context with another wire of stderr.
     pub(crate) fn with_error(self, error: Wire<'a, E>) -> Inside<'a, E>
         ensures { result ≡ record self.entry { error = error.entry } }
     {
         Inside { error, ..self }
     }
 
-    /// The same over a stack with so many ends more.
+    /// Returns the same context with `by` more ends on the stack. Fails with `Error::Memory` where
+    /// their count does not fit in a `usize`.
     pub(crate) fn deeper(self, by: usize) -> Result<Inside<'a, E>, Error>
         ensures inside { IfOk result
             (λ inside. inside ≡ record self.entry { depth = self.entry.depth + by }) }

@@ -9,23 +9,24 @@ use duct_run::action::Action;
 use duct_run::scope::{Scope, Setting};
 use std::alloc::Global;
 
-/// The actions of a tree and the scopes that they name, with how much they need.
+/// The actions of a tree and the scopes that they name, with the numbers by which a start makes
+/// room.
 #[derive(Drop)]
 pub struct Listing<'a, E, H> {
     pub actions: Vec<Action<'a, E>>,
     pub scopes: Vec<Scope<'a, E, H>>,
     /// How many commands the actions start.
     pub commands: usize,
-    /// How many workers they start that write input.
+    /// How many input workers the actions start.
     pub inputs: usize,
-    /// No more ends than this stand on the stack.
+    /// The stack never has more ends than this.
     pub deepest: usize,
     pub ghost commands_counted: { commands ≡ spawn_count (actions_view actions.items) },
     pub ghost inputs_counted: { inputs ≡ feed_count (actions_view actions.items) },
 }
 
 impl<'a, E, H> Listing<'a, E, H> {
-    /// A list of nothing.
+    /// Returns an empty list.
     pub(crate) fn new(alloc: Global) -> Listing<'a, E, H>
         ensures actions { result.actions.items ≡ [] }
         ensures scopes { result.scopes.items ≡ [] }
@@ -56,7 +57,7 @@ impl<'a, E, H> Listing<'a, E, H> {
         Ok(())
     }
 
-    /// Notes that so many ends stand on the stack.
+    /// Notes that this many ends are on the stack.
     pub(crate) fn reach(&mut self, depth: usize)
         ensures actions { self.new.actions ≡ self.old.actions }
         ensures scopes { self.new.scopes ≡ self.old.scopes }
@@ -64,7 +65,7 @@ impl<'a, E, H> Listing<'a, E, H> {
         self.deepest = self.deepest.max(depth);
     }
 
-    /// Adds a scope, and answers its index.
+    /// Adds a scope and returns its index.
     pub(crate) fn add_scope(
         &mut self,
         setting: Setting<'a, E, H>,
@@ -83,7 +84,7 @@ impl<'a, E, H> Listing<'a, E, H> {
     }
 }
 
-/// So many more.
+/// Returns `count + by`. Fails with `Error::Memory` where that does not fit in a `usize`.
 pub(crate) fn more(count: usize, by: usize) -> Result<usize, Error>
     ensures sum { IfOk result (λ sum. sum ≡ count + by) }
     ensures memory { IsOkUnless result Error.Memory }

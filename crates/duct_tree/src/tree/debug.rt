@@ -67,7 +67,8 @@ impl<E, H> fmt::Debug for Modifier<E, H> {
     }
 }
 
-// A name with its parenthesis, then a text in quotes, then the other parenthesis.
+// Writes a name that ends with its opening parenthesis, a text in quotes, and the closing
+// parenthesis.
 fn write_text<W: fmt::Write>(name: &str, text: &str, f: &mut fmt::Formatter<W>) -> fmt::Result
     ensures { DisplaysOnOk W.write_str_gives f.old result
         (printed (named name.now (quote text.now))) f.new }
@@ -114,7 +115,7 @@ fn write_full_env<W: fmt::Write>(
     f.write_str("})")
 }
 
-// A command with these words.
+// Writes a command with these words.
 #[tactic(auto, using(duct_status::proofs::Shown::list_of_map))]
 fn write_command<W: fmt::Write>(words: &[String], f: &mut fmt::Formatter<W>) -> fmt::Result
     ensures { DisplaysOnOk W.write_str_gives f.old result
@@ -123,7 +124,7 @@ fn write_command<W: fmt::Write>(words: &[String], f: &mut fmt::Formatter<W>) -> 
     write!(f, "Cmd({words:?})")
 }
 
-// The variables that are left, the first after the lead and each other one after a comma.
+// Writes the remaining variables, with `lead` before the first and a comma before each other one.
 fn write_vars<W: fmt::Write>(
     mut rest: Iter<'_, EnvNameString, String>,
     lead: &str,

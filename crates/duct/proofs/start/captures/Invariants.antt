@@ -1,4 +1,4 @@
--- The actions that are left say what all say.
+-- The remaining actions give the same result as all actions.
 use Rattle.std.proofs.Common.{◌≡◌, drop}
 use Rattle.duct_start.specs.Actions.{captures_in}
 use Rattle.duct_run.specs.ActionView.{actions_view}

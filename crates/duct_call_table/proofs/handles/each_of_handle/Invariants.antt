@@ -1,4 +1,4 @@
--- The token is one of the handle.
+-- The token belongs to the handle.
 use Rattle.std.specs.Prelude.{◌≡◌}
 use Rattle.duct_call_table.proofs.handles.each_of_handle.Given as goal
 

@@ -1,4 +1,4 @@
--- What was polled is of the numbers that it had at first.
+-- What is polled keeps the numbers that it had at first.
 use Rattle.duct_running.specs.Stays.{Stays}
 use Rattle.duct_handle.proofs.finish.wait_for.Given as goal
 

@@ -1,4 +1,4 @@
--- The spec and the streams are those that the tree asks for.
+-- The spec and the streams are those that the tree gives.
 use Rattle.duct_plan.proofs.AskedThere.{asked_there}
 use Rattle.duct_plan.proofs.asked.asked_at.Goals as goal
 

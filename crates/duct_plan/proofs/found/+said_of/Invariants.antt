@@ -1,4 +1,4 @@
--- Each call has one pair less to look at.
+-- Each call has one pair fewer to look at.
 use Rattle.std.proofs.Common.{length}
 use Rattle.duct_plan.proofs.found.+said_of.Given as goal
 

@@ -1,4 +1,4 @@
--- Each call has one node less to look at.
+-- Each call has one node fewer to look at.
 use Rattle.std.proofs.Common.{length}
 use Rattle.duct_plan.proofs.lookup.+folder.Given as goal
 

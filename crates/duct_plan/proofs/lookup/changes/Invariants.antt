@@ -1,4 +1,4 @@
--- The changes so far, and then those of the nodes that are left, are all.
+-- The changes so far, followed by those of the nodes that are left, are all changes.
 use Rattle.std.proofs.Common.{◌≡◌, ◌++◌, map, drop}
 use Rattle.duct_start.specs.Lookup.{changes}
 use Rattle.duct_plan.specs.Found.{change_of}

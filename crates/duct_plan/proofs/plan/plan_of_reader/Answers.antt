@@ -1,4 +1,4 @@
--- A capture round the whole tree asks nothing after it.
+-- A capture around the whole tree makes no request after the tree's.
 use Rattle.std.proofs.Common.{◌≡◌, ℕ, List, [], ◌∷◌, ap, sym, ◌∙◌, length, arith}
 use Rattle.std.proofs.lemmas.List.{append-nil, length-map}
 use Rattle.std.proofs.lemmas.Result.{IfOk-weaker}

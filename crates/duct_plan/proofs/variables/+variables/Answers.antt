@@ -1,4 +1,4 @@
--- One change further in.
+-- One more change, nearer to the command.
 use Rattle.std.proofs.Common.{map}
 use Rattle.std.proofs.lemmas.Result.{IfOk-weaker}
 use Rattle.duct_system.specs.SpecView.{pair_text}

@@ -1,4 +1,4 @@
--- Each call has one change less to look at.
+-- Each call has one change fewer to look at.
 use Rattle.std.proofs.Common.{length}
 use Rattle.duct_plan.proofs.variables.+variables.Given as goal
 

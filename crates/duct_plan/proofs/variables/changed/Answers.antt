@@ -1,4 +1,4 @@
--- Variables that were put in, taken away or replaced.
+-- Variables that were inserted, removed or replaced.
 use Rattle.std.proofs.Common.{rules, ◌∙◌}
 use Rattle.std.specs.Prelude.{not}
 use Rattle.std.proofs.lemmas.Map.Made.{filter_same_pairs}

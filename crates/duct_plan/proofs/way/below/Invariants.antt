@@ -1,4 +1,4 @@
--- The way so far is the node and the front of the way from it.
+-- The path so far is the node, followed by a prefix of the path from it.
 use Rattle.std.proofs.Common.{◌≡◌, ◌∷◌, take}
 use Rattle.duct_plan.proofs.way.below.Given as goal
 

@@ -1,4 +1,4 @@
--- What was read so far, with what is read of the rest behind it, is what is read of all.
+-- What was read so far, followed by what is read of the rest, is what is read of all.
 use Rattle.std.proofs.Common.{◌≡◌, map, string_bytes, None, length}
 use Rattle.duct_system.specs.SpecView.{texts_of}
 use Rattle.duct_program.specs.Command.{parts_of}

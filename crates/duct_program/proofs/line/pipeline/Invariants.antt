@@ -1,4 +1,4 @@
--- The pipe so far, with the commands of the rest piped behind it, is the pipe of all.
+-- The pipe so far, with the remaining commands piped after it, is the pipe of all.
 use Rattle.std.proofs.Common.{◌≡◌, map, string_bytes}
 use Rattle.std.specs.Option.{option_map}
 use Rattle.duct.specs.TreeView.{tree_view}

@@ -1,4 +1,4 @@
--- What is left round the tree so far is all round the command.
+-- The remaining redirections around the tree so far are all redirections around the command.
 use Rattle.std.proofs.Common.{◌≡◌, map, vec_len}
 use Rattle.duct.specs.TreeView.{tree_view}
 use Rattle.duct_program.specs.CommandView.{redirection_view}

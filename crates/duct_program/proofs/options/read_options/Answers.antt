@@ -1,4 +1,4 @@
--- What is answered where the options end.
+-- What is returned where the options end.
 use Rattle.std.proofs.Common.{arith, rules}
 use Rattle.std.proofs.lemmas.Grind.{common_steps}
 use Rattle.duct_program.proofs.options.read_options.Goals as goal

@@ -1,4 +1,4 @@
--- What is read behind the options so far is what is read of all.
+-- What is read after the options so far is what is read of all.
 use Rattle.std.proofs.Common.{◌≡◌, map, string_bytes, false, length}
 use Rattle.duct_program.specs.Options.{no_options, options_from}
 use Rattle.duct_program.specs.OptionsView.{options_view}

@@ -1,4 +1,4 @@
--- The first piece, where there is a `|` and where there is none.
+-- The first piece, with and without a `|`.
 use Rattle.std.proofs.Common.{string_bytes, sym, ◌∙◌}
 use Rattle.duct_program.specs.Pieces.{is_bar}
 use Rattle.duct_program.proofs.Cuts.{cut, uncut}

@@ -1,4 +1,4 @@
--- What was taken off the end were line ends.
+-- All bytes taken off the end are line ends.
 use Rattle.std.proofs.Common.{◌≡◌, ℕ, List, ◌++◌, length}
 use Rattle.duct_reader.specs.Trimmed.{trimmed}
 use Rattle.duct_reader.proofs.text.text_length.Given as goal

@@ -1,4 +1,4 @@
--- One scope further outwards.
+-- One step to the scope outside.
 use Rattle.std.proofs.Common.{◌∙◌, ap, sym, Some, None}
 use Rattle.duct_run.proofs.Outwards.{IsRead, outer_below, outer_within, folder_is, root_is}
 use Rattle.duct_run.proofs.asked.folder_in.Goals as goal

@@ -1,4 +1,4 @@
--- The folder of the scope that was asked for is that of the one so far outwards.
+-- The scope reached so far has the folder of the scope that was passed in.
 use Rattle.std.proofs.Common.{◌≡◌, ◌≤◌, length}
 use Rattle.duct_start.specs.Listed.{scope_in}
 use Rattle.duct_run.specs.ScopeView.{scopes_view}

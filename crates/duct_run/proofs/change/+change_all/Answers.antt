@@ -1,4 +1,4 @@
--- The hooks of the scopes outside, and then that of this one.
+-- The hooks of the scopes outside, and then the hook of this one.
 use Rattle.std.proofs.Common.{◌≤◌, ◌∷◌, [], ◌++◌, ◌∙◌, ap, sym, arith, refl}
 use Rattle.std.proofs.lemmas.List.{append-nil}
 use Rattle.std.proofs.lemmas.Result.{err_from_is_err_and, IfErr-weaker, on_ok_weaker}

@@ -1,4 +1,4 @@
--- The spawn of a command, or what stops it.
+-- The spawn of a command, or what makes it fail.
 use Rattle.std.proofs.lemmas.Result.{err_from_is_err_and}
 use Rattle.std.proofs.Common.{◌≡◌, ◌+◌, ◌≤◌, ap, sym, ◌∙◌, subst, arith, rules, length, map, string_bytes, length-append, ◌++◌, ◌∷◌, []}
 use Rattle.duct_system.specs.Child.{IsUnasked}

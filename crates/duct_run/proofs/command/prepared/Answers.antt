@@ -1,4 +1,4 @@
--- What is asked before a command, or what stops it there.
+-- What is asked for before a command, or what makes that fail.
 use Rattle.std.proofs.lemmas.Result.{err_from_is_err_and}
 use Rattle.std.proofs.Common.{subst, map, string_bytes}
 use Rattle.duct_system.specs.SpecView.{pair_text}

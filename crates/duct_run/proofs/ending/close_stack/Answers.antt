@@ -1,4 +1,4 @@
--- One end more is closed.
+-- One more end is closed.
 use Rattle.std.proofs.Common.{◌∷◌, [], ℕ, List, arith, sym, subst}
 use Rattle.std.proofs.lemmas.Grind.{common_steps}
 use Rattle.std.proofs.lemmas.List.{map-append}

@@ -1,4 +1,4 @@
--- The ends that were closed so far, and those that are left, are the stack.
+-- The ends closed so far and the remaining ones are the stack.
 use Rattle.std.proofs.Common.{◌≡◌, ◌++◌, length}
 use Rattle.std.specs.Prelude.{map}
 use Rattle.std.specs.Vec.Iter.{into_iter_items, into_iter_len}

@@ -1,4 +1,4 @@
--- One child more is given.
+-- One more child is given.
 use Rattle.std.proofs.Common.{arith}
 use Rattle.std.proofs.lemmas.Grind.{common_steps}
 use Rattle.duct_base.proofs.Taking.{given_next}

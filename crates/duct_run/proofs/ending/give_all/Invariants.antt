@@ -1,4 +1,4 @@
--- The children that were given so far, and those that are left, are all.
+-- The children given so far and the remaining ones are all children.
 use Rattle.std.proofs.Common.{◌≡◌, ◌++◌, length}
 use Rattle.std.specs.Vec.Iter.{into_iter_items, into_iter_len}
 use Rattle.duct_base.specs.Pool.{IsGiven}

@@ -1,4 +1,4 @@
--- One action more of the list; without memory for it, and where it is refused, the run is.
+-- One more action of the list. If there is no memory for it, or it fails, the run fails.
 use Rattle.std.proofs.Common.{◌≡◌, ◌+◌, ◌∷◌, [], arith, drop, map, refl}
 use Rattle.std.proofs.lemmas.Result.{err_from_is_err_and}
 use Rattle.duct_system.specs.SpecView.{pair_text}

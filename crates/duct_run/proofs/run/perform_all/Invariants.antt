@@ -1,4 +1,4 @@
--- Wherever a run stood before all actions, it stands before those that are left.
+-- A run that had all actions left at the start now has the remaining ones left.
 use Rattle.std.proofs.Common.{◌≡◌, [], drop, map}
 use Rattle.duct_system.specs.SpecView.{pair_text}
 use Rattle.duct_start.specs.Actions.{State}

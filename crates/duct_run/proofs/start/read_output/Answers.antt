@@ -1,4 +1,4 @@
--- The two ends of stdout's capture pipe are spent, the write end first.
+-- Both ends of stdout's capture pipe are given away, the write end first.
 use Rattle.std.proofs.Common.{ap, sym, ◌∙◌}
 use Rattle.duct_run.specs.OutputRead.{pipe_view}
 use Rattle.duct_run.proofs.start.read_output.Goals as goal

@@ -1,4 +1,4 @@
--- What a refused run leaves is given up.
+-- What a failed run holds is given up.
 use Rattle.duct_run.proofs.GivenUp.{room_left}
 use Rattle.duct_run.proofs.start.start.Goals as goal
 

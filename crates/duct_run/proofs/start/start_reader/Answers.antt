@@ -1,4 +1,4 @@
--- What a refused run of a reader leaves is given up.
+-- What a failed run of a reader holds is given up.
 use Rattle.duct_run.proofs.GivenUp.{room_left}
 use Rattle.duct_run.proofs.start.start_reader.Goals as goal
 

@@ -1,4 +1,4 @@
--- Variables that were put in or taken away.
+-- A variable that was inserted or removed.
 use Rattle.duct_system.proofs.Entries.{are_ordered}
 use Rattle.duct_run.proofs.Changed.{put_in, taken_away}
 use Rattle.duct_run.proofs.variables.changed.Goals as goal

@@ -1,4 +1,4 @@
--- One scope further outwards.
+-- One step to the scope outside.
 use Rattle.std.proofs.Common.{◌∙◌, ◌++◌, [], ap, sym, map, inl, inr}
 use Rattle.duct_start.specs.Found.{variable}
 use Rattle.duct_start.specs.Step.{said}

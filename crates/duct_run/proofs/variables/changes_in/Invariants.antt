@@ -1,4 +1,4 @@
--- The changes so far, and then those of the scope so far outwards, are all.
+-- The changes collected so far, then those of the scope reached so far, are all changes.
 use Rattle.std.proofs.Common.{◌≡◌, ◌≤◌, ◌++◌, length, map}
 use Rattle.duct_start.specs.Listed.{scope_in}
 use Rattle.duct_run.specs.Changes.{change_of}

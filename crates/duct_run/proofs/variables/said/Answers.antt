@@ -1,4 +1,4 @@
--- One more pair is put in, and in the end all are.
+-- One more pair is inserted, and at the end all are.
 use Rattle.std.proofs.Common.{ap, ◌∙◌, ◌++◌, [], ◌∷◌, map, take, subst, sym}
 use Rattle.std.proofs.lemmas.List.{take_more}
 use Rattle.duct_system.proofs.Entries.{are_ordered}

@@ -1,4 +1,4 @@
--- The map so far says what the pairs so far say.
+-- The map has the variables of the pairs read so far.
 use Rattle.std.proofs.Common.{map, take}
 use Rattle.std.specs.BTreeMap.{IsOrdered}
 use Rattle.duct_system.specs.Name.{name_cmp}

@@ -1,4 +1,4 @@
--- The furthest change that is left is made, and in the end all are.
+-- The furthest remaining change is applied, and at the end all are.
 use Rattle.std.proofs.Common.{◌∙◌, ap, map, subst, sym}
 use Rattle.duct_system.specs.SpecView.{AreOrdered, pair_text, var_view, variable_in}
 use Rattle.duct_run.proofs.Gathering.{begun_whole, begun_said, one_made}

@@ -1,4 +1,4 @@
--- The changes that are left, before the variables so far, are all that is asked.
+-- The remaining changes, applied to the variables so far, are all changes of the scopes.
 use Rattle.std.proofs.Common.{◌≡◌, ◌++◌, ◌∷◌, [], ℕ, List, map, vec_len}
 use Rattle.duct_system.specs.SpecView.{AreOrdered, pair_text, var_view}
 use Rattle.duct_start.specs.Found.{Replaces, variable}

@@ -1,4 +1,4 @@
--- The first ones have these numbers.
+-- The first items have these numbers.
 use Rattle.std.proofs.Common.{◌≡◌, length, map, take}
 use Rattle.duct_running.proofs.numbers.have_numbers.Given as goal
 

@@ -1,4 +1,4 @@
--- The numbers so far are those of the first ones, and there is room for the others.
+-- The numbers so far are those of the first items, and there is room for the others.
 use Rattle.std.proofs.Common.{◌≡◌, ◌≤◌, length, map, take, vec_capacity}
 use Rattle.duct_running.proofs.numbers.note.Given as goal
 

@@ -4,7 +4,7 @@ use Rattle.std.specs.Cmp.Lexicographic.{slice_cmp}
 use Rattle.std.specs.Ordering.{nat_cmp}
 use Rattle.duct_system.proofs.names.order.Given as goal
 
--- the order is that of what is left of both
+-- the order is that of what is left of both texts
 abbrev pub invariant-loop-i : goal.invariant-loop-i
 invariant-loop-i l =
     slice_cmp nat_cmp (map to_ascii_lowercase l.one) (map to_ascii_lowercase l.other)

@@ -1,4 +1,4 @@
--- What is entered by its row is entered.
+-- A node that is entered by its row is entered.
 use Rattle.std.proofs.Common.{◌≡◌, ◌+◌, length, ap, ◌∙◌}
 use Rattle.duct_start.specs.Flat.{wired}
 use Rattle.duct_start.specs.Listed.{scope_index}

@@ -1,4 +1,4 @@
--- The list of a modifier's ending is that of its row.
+-- The list after a modifier's last actions is the one that its row gives.
 use Rattle.std.proofs.Common.{◌≡◌, ap, ◌∙◌}
 use Rattle.std.proofs.lemmas.Result.{on_ok_weaker}
 use Rattle.duct_run.specs.ActionView.{actions_view}

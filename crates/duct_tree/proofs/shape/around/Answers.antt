@@ -1,4 +1,4 @@
--- What the shape says of a modifier is what it says of its row.
+-- The shape of a modifier is the one that its row gives.
 use Rattle.std.proofs.Common.{ap, ◌∙◌}
 use Rattle.std.proofs.lemmas.Result.{IfOk-weaker}
 use Rattle.duct_status.specs.ShapeView.{shape_view}

@@ -1,4 +1,4 @@
--- What is filled was read.
+-- The bytes that are filled were read.
 use Rattle.std.proofs.Common.{◌≤◌, vec_len, take}
 use Rattle.std.specs.Io.KnownBytes.{Consumes}
 use Rattle.duct_worker.proofs.transfer.drain.Given as goal

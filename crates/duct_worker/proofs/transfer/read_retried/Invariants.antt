@@ -1,4 +1,4 @@
--- Reads that were interrupted gave nothing, and left the buffer as long as it was.
+-- Interrupted reads read nothing, and left the length of the buffer as it was.
 use Rattle.std.proofs.Common.{◌≡◌, length}
 use Rattle.std.specs.Io.KnownBytes.{Keeps}
 use Rattle.duct_worker.proofs.transfer.read_retried.Given as goal

@@ -1,4 +1,4 @@
--- What is gone from the rest was written.
+-- What is no longer in the rest was written.
 use Rattle.std.proofs.Common.{◌≡◌, ℕ, List, ◌++◌}
 use Rattle.std.specs.Io.KnownBytes.{Appends}
 use Rattle.duct_worker.proofs.transfer.write_whole.Given as goal

@@ -1,4 +1,4 @@
--- A start of a whole tree with the reader of its stdout, of what was made for it.
+-- A start of a whole tree with the reader of its stdout, from what was allocated for it.
 use Rattle.std.proofs.Common.{◌≡◌, ◌+◌, ◌*◌, ◌∙◌, [], ap, sym, refl, arith}
 use Rattle.std.proofs.lemmas.List.{length-map}
 use Rattle.std.proofs.lemmas.Result.{err_from_is_err_and}

@@ -1,4 +1,4 @@
--- A start of a whole tree that is read to its end.
+-- A start of a whole tree that is read to EOF.
 use Rattle.std.specs.Prelude.{Ok, Err, false, is_some}
 use Rattle.std.proofs.Common.{inl, inr, subst}
 use Rattle.std.proofs.lemmas.Result.{err_from_is_err_and}

@@ -1,4 +1,4 @@
--- One more pair is put in.
+-- One more pair is inserted.
 use Rattle.std.proofs.Common.{arith}
 use Rattle.std.proofs.lemmas.List.Sums.{fold_more}
 use Rattle.std.proofs.lemmas.Grind.{common_steps}

@@ -1,4 +1,4 @@
--- The lock is taken between two looks at what is published.
+-- What is published is looked up before the lock is taken, and once more under the lock.
 use Rattle.std.proofs.Common.{subst}
 use Rattle.duct_handle.specs.HandleView.{SeenView}
 use Rattle.duct_handle.specs.Waited.{Waited}

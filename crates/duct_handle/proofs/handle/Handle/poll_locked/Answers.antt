@@ -1,4 +1,4 @@
--- What is found under the lock by a token that knows nothing yet.
+-- What a token that knows nothing yet finds under the lock.
 use Rattle.std.proofs.Common.{Ok, Err, None, ap, subst, sym, ◌∙◌}
 use Rattle.std.proofs.lemmas.Result.{err_from_is_err_and}
 use Rattle.std.specs.Option.{option_map}

@@ -1,4 +1,4 @@
--- The token is one of the handle, and still knows what it knew.
+-- The token belongs to the handle, and still knows what it knew.
 use Rattle.std.proofs.Common.{◌≡◌, IfSome, Some}
 use Rattle.duct_handle.proofs.handle.Handle.wait_deadline_as.Given as goal
 

@@ -1,4 +1,4 @@
--- The item at the place asks for a child, and as many before it do as are counted.
+-- The item at the place is a spawn, and the number of spawns before it is the counted one.
 use Rattle.std.proofs.Common.{sym, ◌∙◌, ap, arith, ◌<◌, map, take}
 use Rattle.std.specs.Prelude.{count_by}
 use Rattle.duct_plan.proofs.Counted.{passes_at, count_front, more_than_before}

@@ -1,4 +1,4 @@
--- The commands of the items so far are counted, and the one that is looked for is not among them.
+-- The spawns of the items so far are counted, and the wanted one is not among them.
 use Rattle.std.proofs.Common.{◌≡◌, ◌≤◌, map, take}
 use Rattle.std.specs.Prelude.{count_by}
 use Rattle.duct_plan.specs.Commands.{is_spawn}

@@ -8,7 +8,7 @@ use Rattle.duct_handle.specs.HandleView.{HandleView, SeenView}
 use Rattle.duct_reader.specs.Reads.{ClosesAs, KnowsOutput}
 use Rattle.duct_reader.proofs.reader.ReaderHandle.read_as.Goals as goal
 
--- where the end of the pipe is no failure, the token knows the output
+-- if a read at EOF doesn't fail, the token knows the output
 closes_known : (answer : ℕ → Answer → Type 0) (feed : ℕ → Said (Unit {0}) → Type 0)
     (drain : ℕ → Said Bytes → Type 0) (handle : HandleView) (before after : SeenView)
     (result : Result ℕ Error) → ClosesAs answer feed drain handle before after result

@@ -1,4 +1,4 @@
--- The canonical name of a path is put in.
+-- The canonical path of a path is inserted.
 use Rattle.std.proofs.Common.{refl}
 use Rattle.duct_script.proofs.Paths.{insert_texts}
 use Rattle.duct_script.proofs.system.Script.canonical.Goals as goal

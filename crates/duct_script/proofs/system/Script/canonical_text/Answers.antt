@@ -1,4 +1,4 @@
--- The canonical name of a path is looked up by its text.
+-- The canonical path of a path is looked up by its text.
 use Rattle.std.proofs.Common.{ap, ◌∙◌, refl, unwrap_or}
 use Rattle.duct_script.proofs.Paths.{canonical_of-found}
 use Rattle.duct_script.proofs.system.Script.canonical_text.Goals as goal

@@ -1,4 +1,4 @@
--- A child that obeys is put in.
+-- The script of a child whose orders succeed is added.
 use Rattle.std.proofs.Common.{◌∙◌}
 use Rattle.duct_script.proofs.system.Script.polls.Goals as goal
 

@@ -1,4 +1,4 @@
--- One more variable is put in.
+-- One variable is set.
 use Rattle.std.proofs.Common.{refl, rules, ◌∙◌}
 use Rattle.duct_system.proofs.Entries.{insert_var}
 use Rattle.duct_system.proofs.spec.CommandSpec.env.Goals as goal

@@ -1,4 +1,4 @@
--- The entries of other names are left.
+-- The entries with other names stay.
 use Rattle.std.proofs.Common.{refl, rules}
 use Rattle.std.specs.Prelude.{not}
 use Rattle.std.proofs.lemmas.Map.Made.{filter_same_pairs}

@@ -1,4 +1,4 @@
--- Each call has one variable less to write.
+-- Each call has one variable fewer to write.
 use Rattle.std.proofs.Common.{length}
 use Rattle.duct_tree.proofs.tree.debug.+write_vars.Given as goal
 

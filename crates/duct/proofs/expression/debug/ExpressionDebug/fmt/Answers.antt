@@ -1,4 +1,4 @@
--- What the root prints is the text that is promised.
+-- The root prints the promised text.
 use Rattle.duct_tree.specs.NodeView.{node_view}
 use Rattle.duct_tree.specs.Text.{form_text, is_form_printable, printed, tree_form}
 use Rattle.duct_tree.proofs.Printing.{form_prints, displays_if}
