@@ -9,7 +9,7 @@ use Rattle.duct_system.specs.Name.{is_same_name}
 use Rattle.duct_system.specs.SpecView.{Vars, AreOrdered, said_of, spelled, variable_in, with_var}
 use Rattle.duct_system.proofs.Variables.{name_equiv, same_at, variable_in-with, said_of-more, with_ordered}
 use Rattle.duct.specs.LastValues.{last_values}
-use Rattle.duct_start.specs.Found.{Change, Sets, variable, value_found}
+use Rattle.duct_start.specs.Surroundings.{VariableChange, Sets, variable, value_found}
 
 finds_all : (pairs vars said : Vars) → AreOrdered vars
     → ((name : List ℕ) → variable_in name vars ≡ said_of name said) →
@@ -29,7 +29,7 @@ last_values_say pairs name = finds_all pairs [] [] tt (λ other. refl) name
 
 -- if the nearest change sets a name, the name's value is that of the change, whatever the outer
 -- changes are
-pub nearest_value : (pairs : Vars) (changes : List Change) (name nearest value : List ℕ)
+pub nearest_value : (pairs : Vars) (changes : List VariableChange) (name nearest value : List ℕ)
     → is_same_name name nearest ≡ true
     → value_found pairs (Sets nearest value ∷ changes) name ≡ Some value
 nearest_value pairs changes name nearest value same =
@@ -37,7 +37,7 @@ nearest_value pairs changes name nearest value same =
     ap (λ b. option_map (λ pair. pair.1) (cond b (Some (spelled nearest further, value)) further)) same
 
 -- a variable hides an outer one of the same name: no name's value changes with the outer one
-pub inner_hides_outer : (pairs : Vars) (changes : List Change) (name : List ℕ)
+pub inner_hides_outer : (pairs : Vars) (changes : List VariableChange) (name : List ℕ)
     (inner value outer other : List ℕ) →
     is_same_name inner outer ≡ true
     → value_found pairs (Sets inner value ∷ Sets outer other ∷ changes) name

@@ -19,7 +19,7 @@ use Rattle.duct_running.specs.NumbersView.{numbers_in}
 use Rattle.duct_running.specs.Stays.{Stays}
 use Rattle.duct_handle.specs.Started.{AreNumbers}
 use Rattle.duct_handle.proofs.Beginning.{are_numbers}
-use Rattle.duct.specs.Ended.{PoolHasRoom, LeavesGiven}
+use Rattle.duct.specs.RunResults.{PoolHasRoom, LeavesGiven}
 
 abbrev IsUnordered : ChildView → Type 0
 IsUnordered child = child.orders ≡ []

@@ -5,10 +5,10 @@ use Rattle.std.specs.List.{All}
 use Rattle.std.specs.Prelude.{Err, Ok, OnErr, is_some}
 use Rattle.std.specs.declared.result.Result.{Result}
 use Rattle.duct_system.specs.declared.system.Side.{Side}
-use Rattle.duct_start.specs.Actions.{ActionOf, capture_at, captures_in}
-use Rattle.duct_start.specs.Flat.{flat_of, rooted}
-use Rattle.duct_start.specs.Listed.{AreOutwards, IsWithin, ListedScope, listed_of, resolved_all, scopes_from}
-use Rattle.duct_start.specs.Plan.{begun, planned}
+use Rattle.duct_start.specs.Actions.{ActionOf, capture_place, captures_in}
+use Rattle.duct_start.specs.Flat.{actions_of, root_scope}
+use Rattle.duct_start.specs.ActionList.{AreOutwards, IsWithin, ScopeEntry, list_of, resolved_all, scopes_from}
+use Rattle.duct_start.specs.Plan.{initial_plan, plan_of_subtree}
 use Rattle.duct_start.specs.TreeView.{TreeView}
 use Rattle.duct_start.proofs.Counted.{list_captures}
 use Rattle.duct_start.proofs.Outwards.{listed_outwards}
@@ -25,19 +25,19 @@ on_err (Err error) q = q
 
 -- these scopes and actions were made for this tree
 module _ {E H : Type 0} (tree : TreeView E H) (scopes : List (declared.Scope E H)) (actions : List (Action E))
-    (scopes_are : scopes_view scopes ≡ (listed_of tree).scopes) (actions_are : actions_view actions ≡ (listed_of tree).actions) where
-  pub runs_flat : resolved_all (all_scopes scopes) (actions_view actions) ≡ flat_of tree
-  runs_flat = (λ i. resolved_all (scopes_from (rooted ∷ []) (scopes_are i)) (actions_are i)) ∙ list_resolves tree
+    (scopes_are : scopes_view scopes ≡ (list_of tree).scopes) (actions_are : actions_view actions ≡ (list_of tree).actions) where
+  pub runs_flat : resolved_all (all_scopes scopes) (actions_view actions) ≡ actions_of tree
+  runs_flat = (λ i. resolved_all (scopes_from (root_scope ∷ []) (scopes_are i)) (actions_are i)) ∙ list_resolves tree
 
   pub outwards : AreOutwards (scopes_view scopes)
-  outwards = subst (λ (l : List (ListedScope E H)). AreOutwards l) (sym scopes_are) (listed_outwards tree)
+  outwards = subst (λ (l : List (ScopeEntry E H)). AreOutwards l) (sym scopes_are) (listed_outwards tree)
 
   pub within : All (IsWithin (length scopes)) (actions_view actions)
   within =
-      let count : length (listed_of tree).scopes ≡ length scopes = sym (sym (length-map scopes _) ∙ ap (λ (l : List (ListedScope E H)). length l) scopes_are) in
-      subst (λ (n : ℕ). All (IsWithin n) (actions_view actions)) count (subst (λ (l : List (ActionOf E ℕ)). All (IsWithin (length (listed_of tree).scopes)) l) (sym actions_are) (listed_within tree))
+      let count : length (list_of tree).scopes ≡ length scopes = sym (sym (length-map scopes _) ∙ ap (λ (l : List (ScopeEntry E H)). length l) scopes_are) in
+      subst (λ (n : ℕ). All (IsWithin n) (actions_view actions)) count (subst (λ (l : List (ActionOf E ℕ)). All (IsWithin (length (list_of tree).scopes)) l) (sym actions_are) (listed_within tree))
 
   -- its tree determines whether a list opens a capture pipe
   pub captured : (which : Side) → captures_in which (actions_view actions) ≡ is_some
-      (capture_at which (planned [] tree begun))
+      (capture_place which (plan_of_subtree [] tree initial_plan))
   captured which = ap (λ (l : List (ActionOf E ℕ)). captures_in which l) actions_are ∙ sym (list_captures which tree)

@@ -1,4 +1,4 @@
-pub mod Ended
+pub mod RunResults
 pub mod LastValues
 pub mod Pairs
 pub mod Ready

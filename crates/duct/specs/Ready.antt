@@ -13,22 +13,22 @@ use Rattle.duct_status.specs.declared.status.Core.{Core}
 use Rattle.duct_status.specs.declared.status.Drains.{Drains}
 use Rattle.duct_start.specs.Chain.{Allows, Refuses}
 use Rattle.duct_start.specs.Left.{Leaves, LeavesStarted, pool_view}
-use Rattle.duct_start.specs.Listed.{listed_of}
+use Rattle.duct_start.specs.ActionList.{list_of}
 use Rattle.duct_start.specs.Plan.{Plan}
 use Rattle.duct_start.specs.ShapeOfTree.{shape_of_tree}
 use Rattle.duct_start.specs.Start.{StartRefused, StartSucceeds}
 use Rattle.duct_start.specs.TreeView.{TreeView}
 use Rattle.duct_run.specs.ActionView.{actions_view}
-use Rattle.duct_run.specs.HeldView.{IsEmpty}
+use Rattle.duct_run.specs.ResourcesView.{IsEmpty}
 use Rattle.duct_run.specs.ScopeView.{scopes_view}
-use Rattle.duct_run.specs.declared.held.Held.{Held}
-use Rattle.duct_running.specs.declared.running.Room.{Room}
-use Rattle.duct.specs.Ended.{PoolHasRoom}
+use Rattle.duct_run.specs.declared.resources.Resources.{Resources}
+use Rattle.duct_running.specs.declared.running.RunningBuffers.{RunningBuffers}
+use Rattle.duct.specs.RunResults.{PoolHasRoom}
 use Rattle.duct.specs.declared.start.Ready.{Ready}
 
 -- the room is empty, and is enough for the ids of the commands of this shape and for two capture
 -- workers
-pub record FitsShape {D : Type 0} (shape : ShapeView) (room : Room D) : Type 0 where
+pub record FitsShape {D : Type 0} (shape : ShapeView) (room : RunningBuffers D) : Type 0 where
   pub unnamed : room.ids.items ≡ []
   pub named : command_count shape ≤ vec_capacity room.ids
   pub empty : room.drains.items ≡ []
@@ -36,7 +36,7 @@ pub record FitsShape {D : Type 0} (shape : ShapeView) (room : Room D) : Type 0 w
 
 -- a core for this tree that was told nothing, with room that fits its shape, and nothing held
 pub record IsPrepared {E H A C F D : Type 0} (tree : TreeView E H) (drains : Drains) (core : Core)
-    (room : Room D) (held : Held A C F D) : Type 0 where
+    (room : RunningBuffers D) (held : Resources A C F D) : Type 0 where
   pub shape : shape_in core ≡ shape_of_tree tree
   pub silent : latest_in core ≡ latest_told (shape_in core) drains []
   pub fits : FitsShape (shape_in core) room
@@ -46,8 +46,8 @@ pub record IsPrepared {E H A C F D : Type 0} (tree : TreeView E H) (drains : Dra
 -- a capture worker
 pub record IsReady {E H C F D : Type 0} (tree listed : TreeView E H) (output error : Bool)
     (ready : Ready E H C F D) : Type 0 where
-  pub actions : actions_view ready.list.actions.items ≡ (listed_of listed).actions
-  pub scopes : scopes_view ready.list.scopes.items ≡ (listed_of listed).scopes
+  pub actions : actions_view ready.list.actions.items ≡ (list_of listed).actions
+  pub scopes : scopes_view ready.list.scopes.items ≡ (list_of listed).scopes
   pub prepared : IsPrepared tree (record { out = output; err = error }) ready.core ready.room
       ready.held
 

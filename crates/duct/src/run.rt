@@ -7,17 +7,17 @@ ghost use Rattle.duct_start.specs.Left.{Leaves, LeavesStarted, pool_view};
 ghost use Rattle.duct_start.specs.Plan.{plan_of, plan_of_reader};
 ghost use Rattle.duct_start.specs.Start.{StartSucceeds, StartRefused};
 ghost use Rattle.duct_handle.specs.Started.{IsHandle};
-ghost use Rattle.duct.specs.Ended.{Ended, EndedBy, PoolHasRoom, LeavesGiven, WasRead};
+ghost use Rattle.duct.specs.RunResults.{WaitReturns, WaitFails, PoolHasRoom, LeavesGiven, ReadReturns};
 ghost use Rattle.duct.specs.TreeView.{tree_view};
 
 use crate::expression::Expression;
-use crate::start::room_beside;
+use crate::start::handle_buffers_of;
 use duct_base::error::Error;
 use duct_base::pool::Pool;
 use duct_base::spec::Hook;
 use duct_base::system::{Child, Job, Output, System};
+use duct_handle::buffers::handle_of;
 use duct_handle::finish::finish;
-use duct_handle::room::handle_of;
 use duct_reader::read::read_text;
 use duct_reader::reader::{ReaderHandle, reader_handle_of};
 use std::io::Read;
@@ -57,7 +57,7 @@ impl<E: Drop, H: Hook> Expression<E, H> {
             → LeavesStarted S.Child.may_answer S.Child.child_view added pool.old pool.new) }
     {
         let alloc = self.allocator();
-        let room = room_beside(alloc, self.root())?;
+        let room = handle_buffers_of(alloc, self.root())?;
         let (running, reader) = self.launch_reader(sys, pool)?;
         Ok(reader_handle_of(rt, handle_of(alloc, running, room), reader))
     }
@@ -81,7 +81,7 @@ impl<E: Drop, H: Hook> Expression<E, H> {
             StartSucceeds H.allows E.number_of tree (plan_of tree) (S.journal_view sys.old)
             (S.journal_view sys.new)) }
         ensures output { IfOk result (λ output. let tree = tree_view self.now in
-            Ended S.Child.may_answer S.Feed.may_say S.Drain.may_say tree
+            WaitReturns S.Child.may_answer S.Feed.may_say S.Drain.may_say tree
             (is_some (plan_of tree).out) (is_some (plan_of tree).err)
             (segment (S.journal_view sys.old).entries (S.journal_view sys.new).entries)
             (answered output.status output.stdout.items output.stderr.items)) }
@@ -97,7 +97,7 @@ impl<E: Drop, H: Hook> Expression<E, H> {
             × (PoolHasRoom added pool.old
             → LeavesStarted S.Child.may_answer S.Child.child_view added pool.old pool.new))
             ⊎ (StartSucceeds H.allows E.number_of tree (plan_of tree) old new
-            × EndedBy S.Child.may_answer S.Feed.may_say S.Drain.may_say tree
+            × WaitFails S.Child.may_answer S.Feed.may_say S.Drain.may_say tree
             (is_some (plan_of tree).out) (is_some (plan_of tree).err) added e)) }
         ensures pool_given { OnErr result
             (let old = S.journal_view sys.old in
@@ -130,7 +130,7 @@ impl<E: Drop, H: Hook> Expression<E, H> {
             StartSucceeds H.allows E.number_of tree (plan_of_reader tree) (S.journal_view sys.old)
             (S.journal_view sys.new)) }
         ensures text { IfOk result (λ text. let tree = tree_view self.now in
-            WasRead S.Child.may_answer S.Feed.may_say S.Drain.may_say tree S.may_read
+            ReadReturns S.Child.may_answer S.Feed.may_say S.Drain.may_say tree S.may_read
             S.Reader.remaining (is_some (plan_of_reader tree).err)
             (segment (S.journal_view sys.old).entries (S.journal_view sys.new).entries) (Ok text)) }
         ensures swept { OnOk result (Leaves S.Child.may_answer []
@@ -145,7 +145,7 @@ impl<E: Drop, H: Hook> Expression<E, H> {
             × (PoolHasRoom added pool.old
             → LeavesStarted S.Child.may_answer S.Child.child_view added pool.old pool.new))
             ⊎ (StartSucceeds H.allows E.number_of tree (plan_of_reader tree) old new
-            × WasRead S.Child.may_answer S.Feed.may_say S.Drain.may_say tree S.may_read
+            × ReadReturns S.Child.may_answer S.Feed.may_say S.Drain.may_say tree S.may_read
             S.Reader.remaining (is_some (plan_of_reader tree).err) added (Err e))) }
         ensures pool_given { OnErr result
             (let old = S.journal_view sys.old in

@@ -9,17 +9,17 @@ ghost use Rattle.duct_status.specs.ShapeView.{command_count, input_count, shape_
 ghost use Rattle.duct_start.specs.Actions.{captures_in, is_capture};
 ghost use Rattle.duct_start.specs.Left.{Leaves, LeavesStarted, pool_view};
 ghost use Rattle.duct_start.specs.Plan.{plan_of, plan_of_reader};
-ghost use Rattle.duct_start.specs.Ran.{MadeReader};
+ghost use Rattle.duct_start.specs.RunContract.{MadeReader};
 ghost use Rattle.duct_start.specs.Running.{IsRunning};
 ghost use Rattle.duct_start.specs.ShapeOfTree.{shape_of_tree};
 ghost use Rattle.duct_start.specs.Start.{StartSucceeds, StartRefused};
 ghost use Rattle.duct_start.specs.TreeView.{around, stdout_capture};
 ghost use Rattle.duct_run.specs.ActionView.{action_view, actions_view};
-ghost use Rattle.duct_run.specs.HeldView.{AreNew};
+ghost use Rattle.duct_run.specs.ResourcesView.{AreNew};
 ghost use Rattle.duct_running.specs.NumbersView.{HaveRoom};
 ghost use Rattle.duct_handle.specs.Started.{IsHandle};
 ghost use Rattle.duct_tree.specs.NodeView.{node_view};
-ghost use Rattle.duct.specs.Ended.{PoolHasRoom};
+ghost use Rattle.duct.specs.RunResults.{PoolHasRoom};
 ghost use Rattle.duct.specs.Ready.{FitsShape, IsPrepared, IsReady, Launched};
 ghost use Rattle.duct.specs.TreeView.{tree_view};
 
@@ -29,13 +29,13 @@ use duct_base::pool::{Place, Pool};
 use duct_base::spec::Hook;
 use duct_base::status::{Core, Drains, Shape};
 use duct_base::system::{Side, System};
+use duct_handle::buffers::{HandleBuffers, handle_buffers, handle_of};
 use duct_handle::handle::Handle;
-use duct_handle::room::{HandleRoom, handle_of, handle_room};
 use duct_run::action::Action;
-use duct_run::held::{Held, nothing_held};
+use duct_run::resources::{Resources, no_resources};
 use duct_run::start::{start, start_reader};
-use duct_running::running::{Room, Running, running_of};
-use duct_tree::flatten::{Listing, flatten, flatten_captured};
+use duct_running::running::{Running, RunningBuffers, running_of};
+use duct_tree::flatten::{ActionList, flatten, flatten_captured};
 use duct_tree::shape::shape_of;
 use duct_tree::tree::Node;
 use std::alloc::Global;
@@ -51,8 +51,8 @@ fn is_capture<E>(action: Action<'_, E>, side: Side) -> bool
         | Action::Pipe
         | Action::Input
         | Action::Duplicate(_)
-        | Action::Tap(_)
-        | Action::Lend(_)
+        | Action::DuplicateCapture(_)
+        | Action::DuplicateCallerEnd(_)
         | Action::Parent(_)
         | Action::Close
         | Action::Spawn(_, _, _)
@@ -104,10 +104,10 @@ fn inputs_of(shape: &Shape) -> Result<usize, Error>
 }
 
 // What a handle of this tree keeps outside its lock.
-pub(crate) fn room_beside<E: Drop, H, S: System>(
+pub(crate) fn handle_buffers_of<E: Drop, H, S: System>(
     alloc: Global,
     root: &Node<E, H>,
-) -> Result<HandleRoom<S>, Error>
+) -> Result<HandleBuffers<S>, Error>
     ensures shape { IfOk result
         (λ room. shape_view room.shape ≡ shape_of_tree (node_view root.now)) }
     ensures empty { IfOk result (λ room. room.ids.items ≡ []) }
@@ -124,44 +124,44 @@ pub(crate) fn room_beside<E: Drop, H, S: System>(
     let again = shape_of(alloc, root)?;
     let commands = commands_of(&shape)?;
     let inputs = inputs_of(&shape)?;
-    handle_room(alloc, shape, again, commands, inputs)
+    handle_buffers(alloc, shape, again, commands, inputs)
 }
 
 // Room for the ids of the commands of this shape, and for two capture workers.
-fn room_for<D: Drop>(alloc: Global, shape: &Shape) -> Result<Room<D>, Error>
+fn running_buffers<D: Drop>(alloc: Global, shape: &Shape) -> Result<RunningBuffers<D>, Error>
     ensures fits { IfOk result (FitsShape (shape_view shape.now)) }
     ensures memory { IsOkUnless result Error.Memory }
 {
     let ids = Vec::with_capacity(alloc, commands_of(shape)?)?;
     let drains = Vec::with_capacity(alloc, 2)?;
-    Ok(Room { ids, drains })
+    Ok(RunningBuffers { ids, drains })
 }
 
 // What a start allocates before its first request: its list, a core for its tree, room for what
 // runs, and nothing held, with room for what the list gets.
 #[derive(Drop)]
 struct Ready<'a, E, H, C, F, D> {
-    list: Listing<'a, E, H>,
+    list: ActionList<'a, E, H>,
     core: Core,
-    room: Room<D>,
-    held: Held<E, C, F, D>,
+    room: RunningBuffers<D>,
+    held: Resources<E, C, F, D>,
 }
 
 // Allocates all of it but the list.
 fn prepare<E: Drop, H, C: Drop, F: Drop, D: Drop>(
     alloc: Global,
     root: &Node<E, H>,
-    list: &Listing<'_, E, H>,
+    list: &ActionList<'_, E, H>,
     drains: Drains,
-) -> Result<(Core, Room<D>, Held<E, C, F, D>), Error>
+) -> Result<(Core, RunningBuffers<D>, Resources<E, C, F, D>), Error>
     ensures prepared { IfOk result
         (λ made. IsPrepared (node_view root.now) drains made.0 made.1 made.2) }
     ensures memory { IsOkUnless result Error.Memory }
 {
     let shape = shape_of(alloc, root)?;
-    let room = room_for(alloc, &shape)?;
+    let room = running_buffers(alloc, &shape)?;
     let core = Core::new(alloc, shape, drains)?;
-    let held = nothing_held(
+    let held = no_resources(
         alloc,
         list.deepest.saturating_add(3),
         list.commands.saturating_add(1),
@@ -173,8 +173,8 @@ fn prepare<E: Drop, H, C: Drop, F: Drop, D: Drop>(
 // Makes what runs from what a run of the list left.
 fn running<S: System>(
     core: Core,
-    kept: Held<S::End, Place<S::Child>, S::Feed, S::Drain>,
-    room: Room<S::Drain>,
+    kept: Resources<S::End, Place<S::Child>, S::Feed, S::Drain>,
+    room: RunningBuffers<S::Drain>,
 ) -> Running<S>
     requires silent { latest_in core ≡ latest_told (shape_in core)
         (record { out = is_some kept.output_worker; err = is_some kept.error_worker }) [] }
@@ -190,7 +190,7 @@ fn running<S: System>(
       error = kept.error_worker;
     } }
 {
-    let Held {
+    let Resources {
         stack,
         output,
         error,
@@ -317,7 +317,7 @@ impl<E: Drop, H: Hook> Expression<E, H> {
             → LeavesStarted S.Child.may_answer S.Child.child_view added pool.old pool.new) }
     {
         let alloc = self.allocator();
-        let room = room_beside(alloc, self.root())?;
+        let room = handle_buffers_of(alloc, self.root())?;
         let running = self.launch(sys, pool)?;
         Ok(handle_of(alloc, running, room))
     }

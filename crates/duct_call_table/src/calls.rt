@@ -46,7 +46,7 @@ use crate::texts::{push_error, push_read, push_run};
 use duct::{Error, Output, System};
 use duct_plain::checker::is_balanced;
 use duct_table::expressions::{Tree, written_with};
-use duct_table::stop::Stop;
+use duct_table::stop::TableError;
 use duct_table::table::Table;
 use duct_table::told::{children_started, pool_text, trace_text};
 use std::alloc::Global;
@@ -90,7 +90,7 @@ impl<'t, 'r, R: Wait, M: Machine> Calls<'t, 'r, R, M> {
         }
     }
 
-    fn begin(&mut self) -> Result<(), Stop> {
+    fn begin(&mut self) -> Result<(), TableError> {
         if self.is_begun {
             return Ok(());
         }
@@ -103,7 +103,7 @@ impl<'t, 'r, R: Wait, M: Machine> Calls<'t, 'r, R, M> {
     }
 
     /// Returns the tree of the row's expression.
-    pub(crate) fn tree(&mut self) -> Result<Tree<M::End>, Stop> {
+    pub(crate) fn tree(&mut self) -> Result<Tree<M::End>, TableError> {
         let log = self.machine.log()?;
         written_with(self.alloc, &mut self.machine, log.as_ref(), self.expression)
     }
@@ -115,7 +115,7 @@ impl<'t, 'r, R: Wait, M: Machine> Calls<'t, 'r, R, M> {
     }
 
     /// Makes the calls of a line.
-    fn call(&mut self, key: &str, text: &str) -> Result<(), Stop> {
+    fn call(&mut self, key: &str, text: &str) -> Result<(), TableError> {
         self.answers.clear();
         self.counted = self.counts();
         self.make(key, text)
@@ -136,7 +136,7 @@ impl<'t, 'r, R: Wait, M: Machine> Calls<'t, 'r, R, M> {
         }
     }
 
-    fn make(&mut self, key: &str, text: &str) -> Result<(), Stop> {
+    fn make(&mut self, key: &str, text: &str) -> Result<(), TableError> {
         match key {
             "launch" => self.launch(text),
             "handle" => self.handle(text),
@@ -149,24 +149,26 @@ impl<'t, 'r, R: Wait, M: Machine> Calls<'t, 'r, R, M> {
     }
 
     /// Adds the error of a start.
-    pub(crate) fn refused(&mut self, error: &Error) -> Result<(), Stop> {
+    pub(crate) fn refused(&mut self, error: &Error) -> Result<(), TableError> {
         self.settle(true);
         Ok(push_error(&mut self.answers, error)?)
     }
 
     /// Adds the result of a call. Fails if it is an allocation failure after which the row doesn't
     /// go on.
-    pub(crate) fn add(&mut self, refusal: Refusal, answer: &str) -> Result<(), Stop> {
+    pub(crate) fn add(&mut self, refusal: Refusal, answer: &str) -> Result<(), TableError> {
         self.answers.push_str(answer)?;
         let is_refused = answer.contains("out of memory") || answer.contains("OutOfMemory");
         match refusal {
-            Refusal::Wrong if is_refused => Err(Stop::Text("a call that needs none was refused")),
-            Refusal::Last if is_refused => Err(Stop::Error(Error::Memory)),
+            Refusal::Wrong if is_refused => Err(TableError::Text(
+                "a call that needs none was refused",
+            )),
+            Refusal::Last if is_refused => Err(TableError::Error(Error::Memory)),
             Refusal::Told | Refusal::Wrong | Refusal::Last => Ok(()),
         }
     }
 
-    fn run_once(&mut self) -> Result<Result<Output, Error>, Stop> {
+    fn run_once(&mut self) -> Result<Result<Output, Error>, TableError> {
         let tree = self.tree()?;
         let rt = self.rt;
         let (system, pool) = self.machine.stage();
@@ -175,13 +177,13 @@ impl<'t, 'r, R: Wait, M: Machine> Calls<'t, 'r, R, M> {
         Ok(answer)
     }
 
-    fn run(&mut self) -> Result<(), Stop> {
+    fn run(&mut self) -> Result<(), TableError> {
         let answer = self.run_once()?;
         Ok(push_run(&mut self.answers, &answer)?)
     }
 
     /// Runs `times` times. Adds each result that differs from the one before.
-    fn repeat(&mut self, times: u64) -> Result<(), Stop> {
+    fn repeat(&mut self, times: u64) -> Result<(), TableError> {
         let mut last = String::new(self.alloc);
         for _ in 0..times {
             last = self.run_again(last.as_str())?;
@@ -189,7 +191,7 @@ impl<'t, 'r, R: Wait, M: Machine> Calls<'t, 'r, R, M> {
         Ok(())
     }
 
-    fn run_again(&mut self, last: &str) -> Result<String, Stop> {
+    fn run_again(&mut self, last: &str) -> Result<String, TableError> {
         let answer = self.run_once()?;
         let mut text = String::new(self.alloc);
         push_run(&mut text, &answer)?;
@@ -199,7 +201,7 @@ impl<'t, 'r, R: Wait, M: Machine> Calls<'t, 'r, R, M> {
         Ok(text)
     }
 
-    fn read(&mut self) -> Result<(), Stop> {
+    fn read(&mut self) -> Result<(), TableError> {
         let tree = self.tree()?;
         let rt = self.rt;
         let (system, pool) = self.machine.stage();
@@ -208,13 +210,13 @@ impl<'t, 'r, R: Wait, M: Machine> Calls<'t, 'r, R, M> {
         Ok(push_read(&mut self.answers, &answer)?)
     }
 
-    fn perform(&mut self, text: &str) -> Result<(), Stop> {
+    fn perform(&mut self, text: &str) -> Result<(), TableError> {
         let (system, _) = self.machine.stage();
         self.performed
             .perform(self.rt, system, self.arguments, text == "unwritten")
     }
 
-    fn sweep(&mut self, text: &str) -> Result<(), Stop> {
+    fn sweep(&mut self, text: &str) -> Result<(), TableError> {
         if text == "once" {
             self.machine.stage().1.sweep();
             return Ok(());
@@ -227,11 +229,11 @@ impl<'t, 'r, R: Wait, M: Machine> Calls<'t, 'r, R, M> {
             }
             self.machine.pause();
         }
-        Err(Stop::Text("the children go on"))
+        Err(TableError::Text("the children go on"))
     }
 
     /// Returns what the line of this key is compared with.
-    fn found(&mut self, key: &str, text: &str) -> Result<Option<String>, Stop> {
+    fn found(&mut self, key: &str, text: &str) -> Result<Option<String>, TableError> {
         let alloc = self.alloc;
         let found = match key {
             "answers" => self.answers_text()?,
@@ -246,16 +248,16 @@ impl<'t, 'r, R: Wait, M: Machine> Calls<'t, 'r, R, M> {
         Ok(Some(found))
     }
 
-    fn answers_text(&self) -> Result<String, Stop> {
+    fn answers_text(&self) -> Result<String, TableError> {
         match self.answers.as_str() {
             "" => Ok(String::from_str(self.alloc, "started.")?),
             _ => Ok(self.answers.clone()?),
         }
     }
 
-    fn line_of_machine(&mut self, key: &str, text: &str) -> Result<Option<String>, Stop> {
+    fn line_of_machine(&mut self, key: &str, text: &str) -> Result<Option<String>, TableError> {
         match self.machine.line(key, text)? {
-            Line::Unknown => Err(Stop::Text("no such key")),
+            Line::Unknown => Err(TableError::Text("no such key")),
             Line::Set => Ok(None),
             Line::Found(found) => Ok(Some(found)),
         }
@@ -263,20 +265,20 @@ impl<'t, 'r, R: Wait, M: Machine> Calls<'t, 'r, R, M> {
 
     /// Fails if an end is not spent, or if the pool was given another number of children than it
     /// had to be.
-    fn check(&mut self) -> Result<(), Stop> {
+    fn check(&mut self) -> Result<(), TableError> {
         let (system, _) = self.machine.stage();
         if !is_balanced(self.alloc, system.journal())? {
-            return Err(Stop::Text("an end is not spent"));
+            return Err(TableError::Text("an end is not spent"));
         }
         if self.is_lost {
-            return Err(Stop::Text("the pool was not given each child"));
+            return Err(TableError::Text("the pool was not given each child"));
         }
         Ok(())
     }
 }
 
 impl<'t, R: Wait, M: Machine> Table<'t> for Calls<'t, '_, R, M> {
-    fn line(&mut self, key: &'t str, text: &'t str) -> Result<Option<String>, Stop> {
+    fn line(&mut self, key: &'t str, text: &'t str) -> Result<Option<String>, TableError> {
         self.begin()?;
         match key {
             "expression" => self.expression = text,
@@ -291,7 +293,7 @@ impl<'t, R: Wait, M: Machine> Table<'t> for Calls<'t, '_, R, M> {
         Ok(None)
     }
 
-    fn end(&mut self) -> Result<(), Stop> {
+    fn end(&mut self) -> Result<(), TableError> {
         if !self.is_begun {
             return Ok(());
         }

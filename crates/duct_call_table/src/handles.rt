@@ -6,7 +6,7 @@ use crate::machine::Machine;
 use crate::texts::{push_done, push_polled, push_run};
 use duct::unix::HandleExt;
 use duct::{Clock, Error, Handle, Output, Seen, System};
-use duct_table::stop::Stop;
+use duct_table::stop::TableError;
 use duct_table::words::first_word;
 use std::sync::{Arc, Wait};
 use std::time::Duration;
@@ -25,11 +25,11 @@ type Waited = Result<Option<Arc<Output>>, Error>;
 
 impl<R: Wait, M: Machine> Calls<'_, '_, R, M> {
     /// Starts the expression of the row, and makes these calls on its handle.
-    pub(crate) fn handle(&mut self, calls: &str) -> Result<(), Stop> {
+    pub(crate) fn handle(&mut self, calls: &str) -> Result<(), TableError> {
         let (calls, end) = split_last(calls);
         let (refusal, end) = marked(end);
         if !matches!(end, "give" | "leave" | "into" | "share") {
-            return Err(Stop::Text("no call that spends a handle"));
+            return Err(TableError::Text("no call that spends a handle"));
         }
         match self.started()? {
             Ok(handle) => self.call_handle(handle, calls, end, refusal),
@@ -37,7 +37,7 @@ impl<R: Wait, M: Machine> Calls<'_, '_, R, M> {
         }
     }
 
-    fn started(&mut self) -> Result<Result<Handle<M::System>, Error>, Stop> {
+    fn started(&mut self) -> Result<Result<Handle<M::System>, Error>, TableError> {
         let tree = self.tree()?;
         let (system, pool) = self.machine.stage();
         Ok(tree.start(system, pool))
@@ -49,7 +49,7 @@ impl<R: Wait, M: Machine> Calls<'_, '_, R, M> {
         calls: &str,
         end: &str,
         refusal: Refusal,
-    ) -> Result<(), Stop> {
+    ) -> Result<(), TableError> {
         self.machine.note_start();
         let made = each_of_handle(self, &handle, calls);
         self.machine.note_calls();
@@ -75,9 +75,9 @@ impl<R: Wait, M: Machine> Calls<'_, '_, R, M> {
     fn into_output(
         &mut self,
         handle: Handle<M::System>,
-        made: Result<(), Stop>,
+        made: Result<(), TableError>,
         refusal: Refusal,
-    ) -> Result<(), Stop> {
+    ) -> Result<(), TableError> {
         let output = handle.into_output(self.rt, self.machine.stage().1);
         self.settle(output.is_err());
         self.machine.note_calls();
@@ -91,9 +91,9 @@ impl<R: Wait, M: Machine> Calls<'_, '_, R, M> {
     fn share(
         &mut self,
         handle: Handle<M::System>,
-        made: Result<(), Stop>,
+        made: Result<(), TableError>,
         refusal: Refusal,
-    ) -> Result<(), Stop> {
+    ) -> Result<(), TableError> {
         let kept = handle.wait(self.rt);
         let told = self.into_output(handle, made, refusal);
         drop(kept);
@@ -106,7 +106,7 @@ fn each_of_handle<R: Wait, M: Machine>(
     table: &mut Calls<'_, '_, R, M>,
     handle: &Handle<M::System>,
     calls: &str,
-) -> Result<(), Stop> {
+) -> Result<(), TableError> {
     let mut seen = handle.seen();
     for call in calls.split(',') {
         let (refusal, call) = marked(call);
@@ -123,7 +123,7 @@ fn of_handle<R: Wait, M: Machine>(
     seen: &mut Seen<M::System>,
     call: &str,
     answer: &mut String,
-) -> Result<(), Stop>
+) -> Result<(), TableError>
     requires { seen.old.cell ≡ handle.now.cell }
     ensures { seen.new.cell ≡ handle.now.cell }
 {
@@ -148,7 +148,7 @@ fn waited<S: System, C: Clock>(
     clock: &C,
     seen: &mut Seen<S>,
     call: &str,
-) -> Result<Waited, Stop>
+) -> Result<Waited, TableError>
     requires { seen.old.cell ≡ handle.now.cell }
     ensures { seen.new.cell ≡ handle.now.cell }
 {
@@ -161,7 +161,7 @@ fn waited<S: System, C: Clock>(
     Ok(wait(rt, handle, clock, wait_of(call)?))
 }
 
-fn wait_of(call: &str) -> Result<Waiting, Stop> {
+fn wait_of(call: &str) -> Result<Waiting, TableError> {
     match first_word(call) {
         ("try", _) => Ok(Waiting::Try),
         ("wait", _) => Ok(Waiting::End),
@@ -171,7 +171,7 @@ fn wait_of(call: &str) -> Result<Waiting, Stop> {
 }
 
 /// Reads a duration: `0`, `5s`, `1ns`, or `most` for the greatest.
-pub(crate) fn duration(text: &str) -> Result<Duration, Stop> {
+pub(crate) fn duration(text: &str) -> Result<Duration, TableError> {
     if text == "most" {
         return Ok(Duration::MAX);
     }

@@ -1,7 +1,7 @@
 //! Texts for the entries of a journal, and for a spec.
 use duct::{CommandSpec, Entry, Error, Stream};
 use duct_script::text::Words;
-use duct_table::stop::Stop;
+use duct_table::stop::TableError;
 use std::alloc::{AllocError, Global};
 
 /// Returns the entries in words.
@@ -14,10 +14,10 @@ pub fn journal_text(alloc: Global, journal: &[Entry]) -> Result<String, AllocErr
 }
 
 /// Returns the spec of the last entry as text. Fails if that entry is no spawn.
-pub fn last_spec(alloc: Global, journal: &[Entry]) -> Result<String, Stop> {
+pub fn last_spec(alloc: Global, journal: &[Entry]) -> Result<String, TableError> {
     match journal.last() {
         Some(Entry::Spawn(spec, _, _)) => Ok(spec_text(alloc, spec)?),
-        _ => Err(Stop::Text("no child was started last")),
+        _ => Err(TableError::Text("no child was started last")),
     }
 }
 

@@ -3,16 +3,16 @@ use crate::calls::{Calls, TURNS, marked, split_last};
 use crate::machine::Machine;
 use crate::texts::{push_done, push_polled};
 use duct::{Error, Output, Running};
-use duct_table::stop::Stop;
+use duct_table::stop::TableError;
 use duct_table::words::first_word;
 use std::sync::{Arc, Wait};
 
 impl<R: Wait, M: Machine> Calls<'_, '_, R, M> {
     /// Launches the expression of the row, and makes these calls on what runs.
-    pub(crate) fn launch(&mut self, calls: &str) -> Result<(), Stop> {
+    pub(crate) fn launch(&mut self, calls: &str) -> Result<(), TableError> {
         let (calls, end) = split_last(calls);
         if !matches!(end, "parts" | "give") {
-            return Err(Stop::Text("no call that spends what runs"));
+            return Err(TableError::Text("no call that spends what runs"));
         }
         match self.launched()? {
             Ok(running) => self.call_running(running, calls, end),
@@ -20,7 +20,7 @@ impl<R: Wait, M: Machine> Calls<'_, '_, R, M> {
         }
     }
 
-    fn launched(&mut self) -> Result<Result<Running<M::System>, Error>, Stop> {
+    fn launched(&mut self) -> Result<Result<Running<M::System>, Error>, TableError> {
         let tree = self.tree()?;
         let (system, pool) = self.machine.stage();
         Ok(tree.launch(system, pool))
@@ -31,7 +31,7 @@ impl<R: Wait, M: Machine> Calls<'_, '_, R, M> {
         mut running: Running<M::System>,
         calls: &str,
         end: &str,
-    ) -> Result<(), Stop> {
+    ) -> Result<(), TableError> {
         self.machine.note_start();
         let made = self.each_of_running(&mut running, calls);
         self.machine.note_calls();
@@ -50,7 +50,7 @@ impl<R: Wait, M: Machine> Calls<'_, '_, R, M> {
         &mut self,
         running: &mut Running<M::System>,
         calls: &str,
-    ) -> Result<(), Stop> {
+    ) -> Result<(), TableError> {
         for call in calls.split(',') {
             let (refusal, call) = marked(call);
             let mut answer = String::new(self.alloc);
@@ -65,7 +65,7 @@ impl<R: Wait, M: Machine> Calls<'_, '_, R, M> {
         running: &mut Running<M::System>,
         call: &str,
         answer: &mut String,
-    ) -> Result<(), Stop> {
+    ) -> Result<(), TableError> {
         match first_word(call) {
             ("", _) => (),
             ("poll", _) => push_polled(answer, &running.poll())?,

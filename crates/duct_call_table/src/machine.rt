@@ -2,7 +2,7 @@
 use duct::{Clock, Place, Pool, System};
 use duct_script::calls::CallLog;
 use duct_table::expressions::Lender;
-use duct_table::stop::Stop;
+use duct_table::stop::TableError;
 use std::sync::Arc;
 
 /// The pool of a system's children.
@@ -35,7 +35,7 @@ pub trait Machine: Lender + Drop {
     type Clock: Clock;
 
     /// Begins a row, with a new system and an empty pool.
-    fn begin(&mut self) -> Result<(), Stop>;
+    fn begin(&mut self) -> Result<(), TableError>;
 
     /// Returns the system and the pool.
     fn stage(&mut self) -> (&mut Self::System, &mut PoolOf<Self::System>);
@@ -44,14 +44,14 @@ pub trait Machine: Lender + Drop {
     fn clock(&self) -> &Self::Clock;
 
     /// Returns the log in which hooks note their calls, if there is one.
-    fn log(&self) -> Result<Option<Arc<CallLog>>, Stop>;
+    fn log(&self) -> Result<Option<Arc<CallLog>>, TableError>;
 
     /// Reads a line about the machine.
-    fn line(&mut self, key: &str, text: &str) -> Result<Line, Stop>;
+    fn line(&mut self, key: &str, text: &str) -> Result<Line, TableError>;
 
     /// Makes a call that only this machine has, and adds its result. What runs has children of
     /// these ids. Fails if there is no such call.
-    fn call(&mut self, answer: &mut String, ids: &[u32], call: &str) -> Result<(), Stop>;
+    fn call(&mut self, answer: &mut String, ids: &[u32], call: &str) -> Result<(), TableError>;
 
     /// Notes that something was started, and that calls on it follow.
     fn note_start(&mut self);
@@ -61,11 +61,11 @@ pub trait Machine: Lender + Drop {
 
     /// Takes the children and workers of what ran, and keeps of them what later lines of the row
     /// are compared with.
-    fn spend(&mut self, parts: PartsOf<Self::System>) -> Result<(), Stop>;
+    fn spend(&mut self, parts: PartsOf<Self::System>) -> Result<(), TableError>;
 
     /// Waits for a short time between two polls of what still runs.
     fn pause(&self);
 
     /// Ends a row. Fails if something is left.
-    fn end(&mut self) -> Result<(), Stop>;
+    fn end(&mut self) -> Result<(), TableError>;
 }

@@ -4,7 +4,7 @@ use duct::{Expression, System};
 use duct_program::line::line;
 use duct_program::perform::perform;
 use duct_script::hook::ScriptHook;
-use duct_table::stop::Stop;
+use duct_table::stop::TableError;
 use std::alloc::{AllocError, Global};
 use std::sync::Wait;
 
@@ -31,7 +31,7 @@ fn argument(alloc: Global, word: &str) -> Result<String, AllocError> {
 
 /// Returns the debug text of the expression that these arguments mean, or the text of the error if
 /// they mean none. Fails on allocation failure.
-pub fn line_text(alloc: Global, args: &str) -> Result<String, Stop> {
+pub fn line_text(alloc: Global, args: &str) -> Result<String, TableError> {
     let args = arguments(alloc, args)?;
     let made: Result<Expression<u64, ScriptHook>, _> = line(alloc, args.as_slice());
     let text = match made {
@@ -70,7 +70,7 @@ impl Performed {
         system: &mut S,
         args: &str,
         is_unwritten: bool,
-    ) -> Result<(), Stop> {
+    ) -> Result<(), TableError> {
         let args = arguments(self.alloc, args)?;
         self.status = if is_unwritten {
             unwritten(rt, self.alloc, system, args.as_slice())

@@ -3,7 +3,7 @@ use crate::calls::{Calls, marked, split_last};
 use crate::machine::Machine;
 use crate::texts::{push_bytes, push_done, push_error, push_polled};
 use duct::{Error, ReaderHandle, System};
-use duct_table::stop::Stop;
+use duct_table::stop::TableError;
 use duct_table::words::first_word;
 use std::alloc::{AllocError, Global};
 use std::io::{self, Read};
@@ -11,10 +11,10 @@ use std::sync::Wait;
 
 impl<'r, R: Wait, M: Machine> Calls<'_, 'r, R, M> {
     /// Starts the expression of the row with a reader, and makes these calls on its reader handle.
-    pub(crate) fn reader(&mut self, calls: &str) -> Result<(), Stop> {
+    pub(crate) fn reader(&mut self, calls: &str) -> Result<(), TableError> {
         let (calls, end) = split_last(calls);
         if end != "give" {
-            return Err(Stop::Text("no call that spends a reader handle"));
+            return Err(TableError::Text("no call that spends a reader handle"));
         }
         match self.started_reader()? {
             Ok(handle) => self.call_reader(handle, calls),
@@ -22,7 +22,9 @@ impl<'r, R: Wait, M: Machine> Calls<'_, 'r, R, M> {
         }
     }
 
-    fn started_reader(&mut self) -> Result<Result<ReaderHandle<M::System, &'r R>, Error>, Stop> {
+    fn started_reader(
+        &mut self,
+    ) -> Result<Result<ReaderHandle<M::System, &'r R>, Error>, TableError> {
         let tree = self.tree()?;
         let (system, pool) = self.machine.stage();
         Ok(tree.reader(self.rt, system, pool))
@@ -32,7 +34,7 @@ impl<'r, R: Wait, M: Machine> Calls<'_, 'r, R, M> {
         &mut self,
         mut handle: ReaderHandle<M::System, &'r R>,
         calls: &str,
-    ) -> Result<(), Stop> {
+    ) -> Result<(), TableError> {
         self.machine.note_start();
         let made = self.each_of_reader(&mut handle, calls);
         self.machine.note_calls();
@@ -45,7 +47,7 @@ impl<'r, R: Wait, M: Machine> Calls<'_, 'r, R, M> {
         &mut self,
         handle: &mut ReaderHandle<M::System, &'r R>,
         calls: &str,
-    ) -> Result<(), Stop> {
+    ) -> Result<(), TableError> {
         for call in calls.split(',') {
             let (refusal, call) = marked(call);
             let mut answer = String::new(self.alloc);
@@ -60,7 +62,7 @@ impl<'r, R: Wait, M: Machine> Calls<'_, 'r, R, M> {
         handle: &mut ReaderHandle<M::System, &'r R>,
         call: &str,
         answer: &mut String,
-    ) -> Result<(), Stop> {
+    ) -> Result<(), TableError> {
         match first_word(call) {
             ("", _) => (),
             ("try", _) => push_polled(answer, &handle.try_wait())?,
@@ -117,7 +119,7 @@ fn push_std<S: System, R: Wait>(
     alloc: Global,
     handle: &mut ReaderHandle<S, R>,
     call: &str,
-) -> Result<(), Stop> {
+) -> Result<(), TableError> {
     let (call, length) = first_word(call);
     let mut buffer = vec![in alloc; 0; length.parse()?]?;
     match read_of_std(handle, call, buffer.as_mut_slice()) {

@@ -26,7 +26,7 @@ use duct_script::job::{ScriptDrain, ScriptFeed};
 use duct_script::system::{Script, ScriptEnd};
 use duct_table::expressions::{Lender, Strangers};
 use duct_table::scenes::{Bench, Scene, bench_of, keep_children, set_children, set_refusals};
-use duct_table::stop::Stop;
+use duct_table::stop::TableError;
 use duct_table::told::{noted_text, program};
 use duct_table::words::{pairs, pieces};
 use duct_table::workers::{set_drains, set_feeds, set_reader};
@@ -48,7 +48,7 @@ pub struct Scripted {
 impl Scripted {
     /// Returns a plain scripted system with an empty pool, and a clock that shows zero. Fails on
     /// allocation failure.
-    pub fn new(alloc: Global) -> Result<Scripted, Stop> {
+    pub fn new(alloc: Global) -> Result<Scripted, TableError> {
         Ok(Scripted {
             alloc,
             bench: bench_of(alloc, Scene::plain())?,
@@ -59,7 +59,7 @@ impl Scripted {
     }
 
     /// Sets up the system by a line. Returns whether there is such a line.
-    fn set(&mut self, key: &str, text: &str) -> Result<bool, Stop> {
+    fn set(&mut self, key: &str, text: &str) -> Result<bool, TableError> {
         let alloc = self.alloc;
         let system = &mut self.bench.sys;
         match key {
@@ -144,7 +144,7 @@ fn set_canonical(alloc: Global, system: &mut Script, text: &str) -> Result<(), A
     Ok(())
 }
 
-fn clock_of(alloc: Global, text: &str) -> Result<ScriptClock, Stop> {
+fn clock_of(alloc: Global, text: &str) -> Result<ScriptClock, TableError> {
     let mut moments = Vec::new(alloc);
     for moment in pieces(alloc, text)? {
         moments.push(duration(moment)?)?;
@@ -155,7 +155,7 @@ fn clock_of(alloc: Global, text: &str) -> Result<ScriptClock, Stop> {
 impl Lender for Scripted {
     type End = ScriptEnd;
 
-    fn lend(&mut self, number: u64) -> Result<ScriptEnd, Stop> {
+    fn lend(&mut self, number: u64) -> Result<ScriptEnd, TableError> {
         Strangers { alloc: self.alloc }.lend(number)
     }
 }
@@ -165,7 +165,7 @@ impl Machine for Scripted {
 
     type Clock = ScriptClock;
 
-    fn begin(&mut self) -> Result<(), Stop> {
+    fn begin(&mut self) -> Result<(), TableError> {
         *self = Scripted::new(self.alloc)?;
         Ok(())
     }
@@ -179,11 +179,11 @@ impl Machine for Scripted {
         &self.clock
     }
 
-    fn log(&self) -> Result<Option<Arc<CallLog>>, Stop> {
+    fn log(&self) -> Result<Option<Arc<CallLog>>, TableError> {
         Ok(Some(Arc::try_clone(&self.bench.calls)?))
     }
 
-    fn line(&mut self, key: &str, text: &str) -> Result<Line, Stop> {
+    fn line(&mut self, key: &str, text: &str) -> Result<Line, TableError> {
         let alloc = self.alloc;
         let found = match key {
             "calls" => noted_text(alloc, &self.bench, self.places)?,
@@ -196,9 +196,9 @@ impl Machine for Scripted {
         Ok(Line::Found(found))
     }
 
-    fn call(&mut self, answer: &mut String, ids: &[u32], call: &str) -> Result<(), Stop> {
+    fn call(&mut self, answer: &mut String, ids: &[u32], call: &str) -> Result<(), TableError> {
         if call != "ids" {
-            return Err(Stop::Text("no such call"));
+            return Err(TableError::Text("no such call"));
         }
         answer.push_str("ids")?;
         for id in ids {
@@ -219,14 +219,14 @@ impl Machine for Scripted {
         self.places.1 = self.bench.calls.noted();
     }
 
-    fn spend(&mut self, parts: PartsOf<Script>) -> Result<(), Stop> {
+    fn spend(&mut self, parts: PartsOf<Script>) -> Result<(), TableError> {
         let (children, feeds, drains) = parts;
         Ok(self.push_parts(children, feeds.as_slice(), drains.as_slice())?)
     }
 
     fn pause(&self) {}
 
-    fn end(&mut self) -> Result<(), Stop> {
+    fn end(&mut self) -> Result<(), TableError> {
         Ok(())
     }
 }

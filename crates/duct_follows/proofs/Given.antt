@@ -8,9 +8,9 @@ use Rattle.duct_system.specs.Origin.{Origin}
 use Rattle.duct_system.specs.SpecView.{SpecView}
 use Rattle.duct_system.specs.declared.error.Error.{Error}
 use Rattle.duct_system.specs.declared.system.Stdio.{Stdio}
-use Rattle.duct_start.specs.Chain.{Wired, Chain, ChainStops, lent}
+use Rattle.duct_start.specs.Chain.{SpecWithOrigins, HooksChange, HooksStop, hooks_by_origin}
 use Rattle.duct_start.specs.Follows.{IsSpawnedAt, IsAskedAt}
-use Rattle.duct_start.specs.Found.{Found}
+use Rattle.duct_start.specs.Surroundings.{Surroundings}
 use Rattle.duct_follows.specs.Given.{AreThese, AreAnswered, FoundNoMemory, Decides}
 use Rattle.duct_follows.specs.ScriptHooks.{allows, refuses}
 use Rattle.duct_follows.specs.Wiring.{wired_of}
@@ -23,20 +23,20 @@ use Rattle.duct_plan.specs.declared.asked.Wired as answer
 use Rattle.duct_script.specs.declared.hook.ScriptHook.{ScriptHook}
 
 -- if a result has some spec and streams, it has those of `wired_of`
-answered_of : (wired : Wired) (asked : answer.Wired) → IsAnswered wired asked
+answered_of : (wired : SpecWithOrigins) (asked : answer.Wired) → IsAnswered wired asked
     → IsAnswered (wired_of asked) asked
 answered_of wired asked is = record { spec_is = refl; streams_are = wired-streams asked.spec asked.streams (three_streams wired.input wired.output wired.error asked.streams is.streams_are) }
 
 -- and they are the same
-answered_is : (wired : Wired) (asked : answer.Wired) → IsAnswered wired asked
+answered_is : (wired : SpecWithOrigins) (asked : answer.Wired) → IsAnswered wired asked
     → wired ≡ wired_of asked
 answered_is wired asked is =
     let own = answered_of wired asked is in
     same_wired wired (wired_of asked) (is.spec_is ∙ sym own.spec_is) (is.streams_are ∙ sym own.streams_are)
 
-module _ {E : Type 0} (entries : List EntryView) (number_of : E → ℕ) (place : ℕ) (found : Found E ScriptHook) (words : List (List ℕ)) where
+module _ {E : Type 0} (entries : List EntryView) (number_of : E → ℕ) (place : ℕ) (found : Surroundings E ScriptHook) (words : List (List ℕ)) where
   -- the tree gives the command this spec and these streams
-  abbrev pub IsAskedHere : Wired → Type 0
+  abbrev pub IsAskedHere : SpecWithOrigins → Type 0
   IsAskedHere wired = IsAskedAt entries number_of place found words wired
 
   -- the spawn must be given this spec and these streams
@@ -49,20 +49,20 @@ module _ {E : Type 0} (entries : List EntryView) (number_of : E → ℕ) (place 
   answer_is_asked asked there = subst IsAskedHere (answered_is there.0 asked there.2) there.1
 
   -- and nothing else
-  pub only_the_answer : (asked : answer.Wired) (wired : Wired)
+  pub only_the_answer : (asked : answer.Wired) (wired : SpecWithOrigins)
       → IsAskedThere entries number_of place found words asked → IsAskedHere wired
       → wired ≡ wired_of asked
   only_the_answer asked wired there is = same_asked_at entries number_of place found words wired (wired_of asked) is (answer_is_asked asked there)
 
   given_these : (asked given : answer.Wired)
       → IsAskedThere entries number_of place found words asked →
-      Chain allows (lent number_of found.hooks) (wired_of asked) (wired_of given) → IsAnswered (wired_of given) given →
+      HooksChange allows (hooks_by_origin number_of found.hooks) (wired_of asked) (wired_of given) → IsAnswered (wired_of given) given →
       (spec : SpecView) (streams : List (Stdio Origin)) → IsSpawnedHere spec streams ↔ AreThese given spec streams
   given_these asked given there chain own spec streams =
       let to : IsSpawnedHere spec streams → AreThese given spec streams = λ is.
       let before : is.0 ≡ wired_of asked = only_the_answer asked is.0 there is.2 in
-      let also : Chain allows (lent number_of found.hooks) (wired_of asked) is.1 = subst (λ (wired : Wired). Chain allows (lent number_of found.hooks) wired is.1) before is.3 in
-      let after : is.1 ≡ wired_of given = chain_one allows makes_one (lent number_of found.hooks) (wired_of asked) is.1 (wired_of given) also chain in
+      let also : HooksChange allows (hooks_by_origin number_of found.hooks) (wired_of asked) is.1 = subst (λ (wired : SpecWithOrigins). HooksChange allows (hooks_by_origin number_of found.hooks) wired is.1) before is.3 in
+      let after : is.1 ≡ wired_of given = chain_one allows makes_one (hooks_by_origin number_of found.hooks) (wired_of asked) is.1 (wired_of given) also chain in
       record { spec_is = is.4 ∙ ap (λ wired. wired.spec) after; streams_are = is.5 ∙ ap streams_in after ∙ own.streams_are } in
       let back : AreThese given spec streams → IsSpawnedHere spec streams = λ these.
       (wired_of asked, wired_of given, answer_is_asked asked there, chain, these.spec_is, these.streams_are ∙ sym own.streams_are) in
@@ -70,22 +70,22 @@ module _ {E : Type 0} (entries : List EntryView) (number_of : E → ℕ) (place 
 
   given_none : (asked : answer.Wired) (error : Error)
       → IsAskedThere entries number_of place found words asked →
-      ChainStops allows refuses (lent number_of found.hooks) (wired_of asked) error → ¬ (FoundNoMemory error) →
+      HooksStop allows refuses (hooks_by_origin number_of found.hooks) (wired_of asked) error → ¬ (FoundNoMemory error) →
       (spec : SpecView) (streams : List (Stdio Origin)) → IsSpawnedHere spec streams ↔ ⊥
   given_none asked error there stops decided spec streams =
       let to : IsSpawnedHere spec streams → ⊥ = λ is.
       let before : is.0 ≡ wired_of asked = only_the_answer asked is.0 there is.2 in
-      let also : Chain allows (lent number_of found.hooks) (wired_of asked) is.1 = subst (λ (wired : Wired). Chain allows (lent number_of found.hooks) wired is.1) before is.3 in
-      chain_none allows refuses makes_one makes_none (lent number_of found.hooks) (wired_of asked) is.1 error decided stops also in
+      let also : HooksChange allows (hooks_by_origin number_of found.hooks) (wired_of asked) is.1 = subst (λ (wired : SpecWithOrigins). HooksChange allows (hooks_by_origin number_of found.hooks) wired is.1) before is.3 in
+      chain_none allows refuses makes_one makes_none (hooks_by_origin number_of found.hooks) (wired_of asked) is.1 error decided stops also in
       (to, λ never. absurd never)
 
   -- the spawn must be given what the hooks made, or nothing if they stopped the start other than
   -- with `OutOfMemory`
   pub given_is : (asked : answer.Wired) (made : Result answer.Wired Error)
       (given : Option answer.Wired) → IsAskedThere entries number_of place found words asked →
-      IfOk made (λ after. Chain allows (lent number_of found.hooks) (wired_of asked) (wired_of after)) →
+      IfOk made (λ after. HooksChange allows (hooks_by_origin number_of found.hooks) (wired_of asked) (wired_of after)) →
       IfOk made (λ after. IsAnswered (wired_of after) after) →
-      IfErr made (λ error. ChainStops allows refuses (lent number_of found.hooks) (wired_of asked) error) →
+      IfErr made (λ error. HooksStop allows refuses (hooks_by_origin number_of found.hooks) (wired_of asked) error) →
       Decides made given → (spec : SpecView) (streams : List (Stdio Origin)) → IsSpawnedHere spec streams ↔ AreAnswered given spec streams
   given_is asked (Ok after) given there chain own stops decides spec streams =
       subst (λ (given : Option answer.Wired). IsSpawnedHere spec streams ↔ AreAnswered given spec streams) (sym decides) (given_these asked after there chain own spec streams)

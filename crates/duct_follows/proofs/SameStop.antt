@@ -6,7 +6,7 @@ use Rattle.duct_system.specs.declared.error.Error.{Error}
 use Rattle.duct_system.specs.declared.error.Error.TheVariants.{System, Checked, NotUtf8, Hook, HookEnd, Deadline, Memory}
 use Rattle.duct_system.specs.declared.system.Fault.{Fault}
 use Rattle.duct_system.specs.declared.system.Kind.TheVariants.{OutOfMemory}
-use Rattle.duct_start.specs.Chain.{Wired, Allows, Refuses, Stops, ChainStops}
+use Rattle.duct_start.specs.Chain.{SpecWithOrigins, Allows, Refuses, HookStops, HooksStop}
 use Rattle.duct_follows.specs.Cause.{IsSameStop}
 use Rattle.duct_follows.specs.Given.{FoundNoMemory}
 use Rattle.duct_follows.proofs.Chains.{MakesOne, MakesNone, changes_one, stops_none}
@@ -40,9 +40,9 @@ same_stop_is Memory other same = absurd same
 
 module _ {H : Type 0} (allows : Allows H) (refuses : Refuses H) (makes_one : MakesOne allows) (makes_none : MakesNone allows refuses) (refuses_one : RefusesByOne refuses) where
   -- one hook stops a start with at most one such error
-  stops_same : (hook : H) (ends : List Origin) (before : Wired) (one other : Error)
+  stops_same : (hook : H) (ends : List Origin) (before : SpecWithOrigins) (one other : Error)
       → ¬ (FoundNoMemory one) → ¬ (FoundNoMemory other) →
-      Stops allows refuses hook ends before one → Stops allows refuses hook ends before other → IsSameStop one other
+      HookStops allows refuses hook ends before one → HookStops allows refuses hook ends before other → IsSameStop one other
   stops_same hook ends before (Hook one) (Hook other) decided also stops again = refuses_one hook before.spec one other stops again decided also
   stops_same hook ends before (Hook one) (HookEnd other) decided also stops again = absurd (makes_none hook before.spec again.0 one stops decided again.1.allowed)
   stops_same hook ends before (HookEnd one) (Hook other) decided also stops again = absurd (makes_none hook before.spec stops.0 other again also stops.1.allowed)
@@ -65,9 +65,9 @@ module _ {H : Type 0} (allows : Allows H) (refuses : Refuses H) (makes_one : Mak
   stops_same hook ends before Memory other decided also stops again = absurd stops
 
   -- a list of hooks stops a start with at most one such error
-  pub chain_stops_same : (hooks : List (H × List Origin)) (before : Wired) (one other : Error)
+  pub chain_stops_same : (hooks : List (H × List Origin)) (before : SpecWithOrigins) (one other : Error)
       → ¬ (FoundNoMemory one) → ¬ (FoundNoMemory other) →
-      ChainStops allows refuses hooks before one → ChainStops allows refuses hooks before other → IsSameStop one other
+      HooksStop allows refuses hooks before one → HooksStop allows refuses hooks before other → IsSameStop one other
   chain_stops_same [] before one other decided also stops again = absurd stops
   chain_stops_same (hook ∷ hooks) before one other decided also (inl stops) (inl again) = stops_same hook.0 hook.1 before one other decided also stops again
   chain_stops_same (hook ∷ hooks) before one other decided also (inl stops) (inr again) =
@@ -76,4 +76,4 @@ module _ {H : Type 0} (allows : Allows H) (refuses : Refuses H) (makes_one : Mak
       absurd (stops_none allows refuses makes_one makes_none hook.0 hook.1 before stops.0 other also again stops.1)
   chain_stops_same (hook ∷ hooks) before one other decided also (inr stops) (inr again) =
       let same : again.0 ≡ stops.0 = changes_one allows makes_one hook.0 hook.1 before again.0 stops.0 again.1 stops.1 in
-      chain_stops_same hooks stops.0 one other decided also stops.2 (subst (λ (between : Wired). ChainStops allows refuses hooks between other) same again.2)
+      chain_stops_same hooks stops.0 one other decided also stops.2 (subst (λ (between : SpecWithOrigins). HooksStop allows refuses hooks between other) same again.2)

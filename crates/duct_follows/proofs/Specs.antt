@@ -8,9 +8,9 @@ use Rattle.duct_system.specs.declared.spec.Port.{Port}
 use Rattle.duct_system.specs.declared.spec.Stream.TheVariants.{In, Out, Err}
 use Rattle.duct_system.specs.declared.system.Stdio.{Stdio}
 use Rattle.duct_start.specs.Asked.{IsAsked}
-use Rattle.duct_start.specs.Chain.{Wired}
+use Rattle.duct_start.specs.Chain.{SpecWithOrigins}
 use Rattle.duct_start.specs.Follows.{IsAskedAt}
-use Rattle.duct_start.specs.Found.{Found}
+use Rattle.duct_start.specs.Surroundings.{Surroundings}
 use Rattle.duct_follows.proofs.Variables.{same_vars}
 
 -- the spec with these parts
@@ -18,7 +18,7 @@ abbrev spec_of : List (List ℕ) → Option (List ℕ) → Vars → Port → Por
 spec_of words folder vars input output error = record { words = words; folder = folder; vars = vars; input = input; output = output; error = error }
 
 -- the spec and the streams with these parts
-abbrev wired_of : SpecView → Stdio Origin → Stdio Origin → Stdio Origin → Wired
+abbrev wired_of : SpecView → Stdio Origin → Stdio Origin → Stdio Origin → SpecWithOrigins
 wired_of spec input output error = record { spec = spec; input = input; output = output; error = error }
 
 -- specs with the same parts are equal
@@ -29,7 +29,7 @@ same_spec one other words folder vars input output error =
     let same : spec_of one.words one.folder one.vars one.input one.output one.error ≡ spec_of other.words other.folder other.vars other.input other.output other.error = cc in same
 
 -- specs that are asked for with the same variables, program, lookup and words are equal
-pub same_asked : {E H : Type 0} (pairs : Vars) (program : List ℕ) (found : Found E H)
+pub same_asked : {E H : Type 0} (pairs : Vars) (program : List ℕ) (found : Surroundings E H)
     (words : List (List ℕ)) (one other : SpecView) →
     IsAsked pairs program found words one → IsAsked pairs program found words other → one ≡ other
 same_asked pairs program found words one other is also =
@@ -42,7 +42,7 @@ same_asked pairs program found words one other is also =
     (is.ports_are Err ∙ sym (also.ports_are Err))
 
 -- specs with their streams are equal if their parts are
-pub same_wired : (one other : Wired) → one.spec ≡ other.spec
+pub same_wired : (one other : SpecWithOrigins) → one.spec ≡ other.spec
     → one.input ∷ one.output ∷ one.error ∷ [] ≡ other.input ∷ other.output ∷ other.error ∷ []
     → one ≡ other
 same_wired one other spec streams =
@@ -50,7 +50,7 @@ same_wired one other spec streams =
 
 -- so a tree gives a command at most one spec with its streams
 pub same_asked_at : {E H : Type 0} (entries : List EntryView) (number_of : E → ℕ) (place : ℕ)
-    (found : Found E H) (words : List (List ℕ)) (one other : Wired) →
+    (found : Surroundings E H) (words : List (List ℕ)) (one other : SpecWithOrigins) →
     IsAskedAt entries number_of place found words one → IsAskedAt entries number_of place found words other → one ≡ other
 same_asked_at entries number_of place found words one other is also =
     same_wired one other (same_asked _ _ found words one.spec other.spec is.spec_is also.spec_is) (is.streams_are ∙ sym also.streams_are)

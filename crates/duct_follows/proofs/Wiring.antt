@@ -5,13 +5,13 @@ use Rattle.duct_system.specs.Origin.{Origin}
 use Rattle.duct_system.specs.SpecView.{SpecView}
 use Rattle.duct_system.specs.Streams.{stream_of}
 use Rattle.duct_system.specs.declared.system.Stdio.{Stdio}
-use Rattle.duct_start.specs.Chain.{Wired}
+use Rattle.duct_start.specs.Chain.{SpecWithOrigins}
 use Rattle.duct_plain.specs.declared.checker.Source.{Source}
 use Rattle.duct_plain.specs.Source.{origin_of}
 use Rattle.duct_follows.specs.Wiring.{wired_with}
 
 -- the three streams in the order stdin, stdout, stderr
-abbrev pub streams_in : Wired → List (Stdio Origin)
+abbrev pub streams_in : SpecWithOrigins → List (Stdio Origin)
 streams_in wired = wired.input ∷ wired.output ∷ wired.error ∷ []
 
 -- a list that stands for three streams has three items

@@ -7,7 +7,7 @@ use Rattle.duct_system.specs.SpecView.{SpecView}
 use Rattle.duct_system.specs.Streams.{stream_of}
 use Rattle.duct_system.specs.declared.system.Stdio.{Stdio}
 use Rattle.duct_system.specs.declared.system.Stdio.TheVariants.{Inherit}
-use Rattle.duct_start.specs.Chain.{Wired}
+use Rattle.duct_start.specs.Chain.{SpecWithOrigins}
 use Rattle.duct_plan.specs.Found.{hook_of}
 use Rattle.duct_plan.specs.declared.asked.Wired as answer
 use Rattle.duct_plain.specs.Source.{origin_of}
@@ -19,7 +19,7 @@ from (Some stream) = stream_of origin_of stream
 from None = Inherit
 
 -- a spec with the three streams in the order stdin, stdout, stderr
-abbrev pub wired_with : SpecView → List (Stdio Source) → Wired
+abbrev pub wired_with : SpecView → List (Stdio Source) → SpecWithOrigins
 wired_with spec streams =
     record {
       spec = spec;
@@ -30,7 +30,7 @@ wired_with spec streams =
     }
 
 -- the spec of a command and where its streams come from
-abbrev pub wired_of : answer.Wired → Wired
+abbrev pub wired_of : answer.Wired → SpecWithOrigins
 wired_of wired = wired_with wired.spec wired.streams
 
 -- the hooks with their ends

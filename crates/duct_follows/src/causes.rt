@@ -4,7 +4,7 @@ ghost use Rattle.std.specs.Option.{option_copied};
 ghost use Rattle.duct_system.specs.EntryView.{entry_view};
 ghost use Rattle.duct_system.specs.Trace.{trace};
 ghost use Rattle.duct_system.specs.declared.system.Kind.TheVariants.{OutOfMemory};
-ghost use Rattle.duct_start.specs.Causes.{last_fault, AnswersLastFault, StoppedBy, StoppedNext, HasCause};
+ghost use Rattle.duct_start.specs.Causes.{last_fault, ReturnsLastFault, StoppedBy, StoppedNext, HasCause};
 ghost use Rattle.duct_start.specs.Step.{AskSpawn};
 ghost use Rattle.duct_follows.specs.Cause.{IsSameStop, Tells};
 ghost use Rattle.duct_follows.specs.ScriptHooks.{allows, refuses};
@@ -78,7 +78,7 @@ pub fn last_fault(added: &[Entry]) -> Option<Fault>
 /// Returns whether the error is the fault of the last entry that is not a close. If that entry has
 /// no fault, it returns true.
 pub fn answers_last_fault(added: &[Entry], error: &Error) -> bool
-    ensures { IsTrue result ↔ AnswersLastFault (map entry_view added.now) error.now }
+    ensures { IsTrue result ↔ ReturnsLastFault (map entry_view added.now) error.now }
 {
     match last_fault(added) {
         None => true,

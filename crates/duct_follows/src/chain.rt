@@ -2,7 +2,7 @@
 //! them stops the start.
 ghost use Rattle.std.specs.Prelude.{◌≡◌, length, OnOk, IfOk, IfErr};
 ghost use Rattle.duct_system.specs.Streams.{stream_of};
-ghost use Rattle.duct_start.specs.Chain.{Changes, Chain, Stops, ChainStops, lent, missing, missing_at, settle, settled, with_found};
+ghost use Rattle.duct_start.specs.Chain.{HookChanges, HooksChange, HookStops, HooksStop, hooks_by_origin, missing_place, missing_at, after_hook, stream_after_hook, with_resolved_port};
 ghost use Rattle.duct_follows.specs.Wiring.{wired_with, wired_of, hooks_of, lent_ends};
 ghost use Rattle.duct_plan.specs.AskedOf.{IsAnswered};
 ghost use Rattle.duct_plain.specs.Source.{origin_of};
@@ -18,12 +18,11 @@ use duct_plan::asked::Wired;
 /// ends, in the order stdin, stdout, stderr. Fails with the error with which a start would stop:
 /// that of the first hook that refuses the spec or names a place at which it has no end.
 pub fn wired<E: Numbered, H: Hook>(asked: Wired, hooks: &[(&H, &[E])]) -> Result<Wired, Error>
-    ensures ok { IfOk result
-        (λ after. Chain H.allows (lent E.number_of (hooks_of hooks.now)) (wired_of asked)
-        (wired_of after)) }
+    ensures ok { IfOk result (λ after. HooksChange H.allows
+        (hooks_by_origin E.number_of (hooks_of hooks.now)) (wired_of asked) (wired_of after)) }
     ensures streams { IfOk result (λ after. IsAnswered (wired_of after) after) }
     ensures err { IfErr result
-        (λ error. ChainStops H.allows H.refuses (lent E.number_of (hooks_of hooks.now))
+        (λ error. HooksStop H.allows H.refuses (hooks_by_origin E.number_of (hooks_of hooks.now))
         (wired_of asked) error) }
 {
     let mut after = asked;
@@ -38,11 +37,10 @@ fn run<E: Numbered, H: Hook>(
     hooks: &[(&H, &[E])],
 ) -> Result<(), Error>
     ensures three { length streams.new ≡ 3 }
-    ensures ok { OnOk result
-        (Chain H.allows (lent E.number_of (hooks_of hooks.now)) (wired_with spec.old streams.old)
-        (wired_with spec.new streams.new)) }
+    ensures ok { OnOk result (HooksChange H.allows (hooks_by_origin E.number_of
+        (hooks_of hooks.now)) (wired_with spec.old streams.old) (wired_with spec.new streams.new)) }
     ensures err { IfErr result
-        (λ error. ChainStops H.allows H.refuses (lent E.number_of (hooks_of hooks.now))
+        (λ error. HooksStop H.allows H.refuses (hooks_by_origin E.number_of (hooks_of hooks.now))
         (wired_with spec.old streams.old) error) }
 {
     match hooks.split_first() {
@@ -62,26 +60,26 @@ fn change<E: Numbered, H: Hook>(
     streams: &mut [Stdio<Source>; 3],
 ) -> Result<(), Error>
     ensures ok { OnOk result
-        (Changes H.allows hook.now (lent_ends E.number_of ends.now)
+        (HookChanges H.allows hook.now (lent_ends E.number_of ends.now)
         (wired_with spec.old streams.old) (wired_with spec.new streams.new)) }
     ensures err { IfErr result
-        (λ error. Stops H.allows H.refuses hook.now (lent_ends E.number_of ends.now)
+        (λ error. HookStops H.allows H.refuses hook.now (lent_ends E.number_of ends.now)
         (wired_with spec.old streams.old) error) }
 {
     if let Err(fault) = hook.change(spec) {
         return Err(Error::Hook(fault));
     }
-    if let Some(place) = missing(ends.len(), spec) {
+    if let Some(place) = missing_place(ends.len(), spec) {
         return Err(Error::HookEnd(place));
     }
-    settle(ends, spec, streams);
+    after_hook(ends, spec, streams);
     Ok(())
 }
 
 /// Returns the first place in a spec at which the hook has no end, in the order stdin, stdout,
 /// stderr.
-fn missing(count: usize, spec: &CommandSpec) -> Option<usize>
-    ensures { result ≡ missing count spec.now }
+fn missing_place(count: usize, spec: &CommandSpec) -> Option<usize>
+    ensures { result ≡ missing_place count spec.now }
 {
     missing_at(count, spec.port(Stream::In))
         .or(missing_at(count, spec.port(Stream::Out)))
@@ -99,15 +97,15 @@ fn missing_at(count: usize, port: Port) -> Option<usize>
 }
 
 /// Finds the places of a spec among the ends of its hook.
-fn settle<E: Numbered>(ends: &[E], spec: &mut CommandSpec, streams: &mut [Stdio<Source>; 3])
+fn after_hook<E: Numbered>(ends: &[E], spec: &mut CommandSpec, streams: &mut [Stdio<Source>; 3])
     ensures { wired_with spec.new streams.new
-        ≡ settle (lent_ends E.number_of ends.now) spec.old (wired_with spec.old streams.old) }
+        ≡ after_hook (lent_ends E.number_of ends.now) spec.old (wired_with spec.old streams.old) }
 {
     let [input, output, error] = *streams;
     *streams = [
-        settled(ends, spec.port(Stream::In), input),
-        settled(ends, spec.port(Stream::Out), output),
-        settled(ends, spec.port(Stream::Err), error),
+        stream_after_hook(ends, spec.port(Stream::In), input),
+        stream_after_hook(ends, spec.port(Stream::Out), output),
+        stream_after_hook(ends, spec.port(Stream::Err), error),
     ];
     find(spec, Stream::In);
     find(spec, Stream::Out);
@@ -115,9 +113,9 @@ fn settle<E: Numbered>(ends: &[E], spec: &mut CommandSpec, streams: &mut [Stdio<
 }
 
 /// Returns what a port makes of a stream.
-fn settled<E: Numbered>(ends: &[E], port: Port, stream: Stdio<Source>) -> Stdio<Source>
+fn stream_after_hook<E: Numbered>(ends: &[E], port: Port, stream: Stdio<Source>) -> Stdio<Source>
     ensures { stream_of origin_of result
-        ≡ settled (lent_ends E.number_of ends.now) port (stream_of origin_of stream) }
+        ≡ stream_after_hook (lent_ends E.number_of ends.now) port (stream_of origin_of stream) }
 {
     match port {
         Port::Inherit => Stdio::Inherit,
@@ -132,7 +130,7 @@ fn settled<E: Numbered>(ends: &[E], port: Port, stream: Stdio<Source>) -> Stdio<
 
 /// Makes the port of a stream `Given` if it is a place.
 fn find(spec: &mut CommandSpec, stream: Stream)
-    ensures { spec.new ≡ with_found stream spec.old }
+    ensures { spec.new ≡ with_resolved_port stream spec.old }
 {
     if let Port::Place(_) = spec.port(stream) {
         give(spec, stream);

@@ -12,7 +12,7 @@ use Rattle.duct_system.specs.declared.error.Error.{Error}
 use Rattle.duct_system.specs.declared.system.ExitStatus.{ExitStatus}
 use Rattle.duct_system.specs.declared.system.Order.{Order}
 use Rattle.duct_running.specs.Ordered.{AllOrdered, IsOrdered}
-use Rattle.duct_running.specs.Told.{IsTold}
+use Rattle.duct_running.specs.Allowed.{ChildAnswersAllowed}
 use Rattle.duct_handle.specs.Obeyed.{IsObeyed, CommandAnswers}
 
 module _ (answer : ℕ → Answer → Type 0) (obey : ℕ → Order → Bool → Obeyed → Type 0) (order : Order) where
@@ -26,7 +26,7 @@ module _ (answer : ℕ → Answer → Type 0) (obey : ℕ → Order → Bool →
   obeyed_by before after heard None told (inr (may, unasked, none)) = inr (inr (may, none))
 
   all_obeyed : (befores : List ChildView) (answers : List Obeyed) (afters : List ChildView)
-      → AllOrdered obey order befores answers afters → All (IsTold answer) befores
+      → AllOrdered obey order befores answers afters → All (ChildAnswersAllowed answer) befores
       → AllZip (CommandAnswers answer obey order) (map (λ (c : ChildView). c.number) befores) answers
   all_obeyed [] [] [] ordered told = tt
   all_obeyed [] [] (after ∷ afters) ordered told = absurd ordered
@@ -34,14 +34,14 @@ module _ (answer : ℕ → Answer → Type 0) (obey : ℕ → Order → Bool →
   all_obeyed (before ∷ befores) [] afters ordered told = absurd ordered
   all_obeyed (before ∷ befores) (heard ∷ answers) [] ordered told = absurd ordered
   all_obeyed (before ∷ befores) (heard ∷ answers) (after ∷ afters) ordered told = (
-    obeyed_by before after heard before.ending (All-head (IsTold answer) before befores told).ended ordered.0,
-    all_obeyed befores answers afters ordered.1 (All-tail (IsTold answer) before befores told),
+    obeyed_by before after heard before.ending (All-head (ChildAnswersAllowed answer) before befores told).ended ordered.0,
+    all_obeyed befores answers afters ordered.1 (All-tail (ChildAnswersAllowed answer) before befores told),
   )
 
   -- all commands, by the numbers that the handle keeps
   pub order_obeyed : (befores afters : List ChildView) (numbers : List ℕ)
       (result : Result (Unit {0}) Error) → IsOrdered obey order befores result afters
-      → ∥ All (IsTold answer) befores ∥₁ → map (λ (c : ChildView). c.number) befores ≡ numbers
+      → ∥ All (ChildAnswersAllowed answer) befores ∥₁ → map (λ (c : ChildView). c.number) befores ≡ numbers
       → IsObeyed answer obey order numbers result
   order_obeyed befores afters numbers result ordered told are =
       subst (λ (ns : List ℕ). IsObeyed answer obey order ns result) are

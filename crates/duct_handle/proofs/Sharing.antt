@@ -12,7 +12,7 @@ use Rattle.duct_status.specs.ShapeView.{ShapeView, shape_view}
 use Rattle.once_cell.specs.Once.{Agrees}
 use Rattle.duct_running.specs.Answered.{Concluded, IsAnswer, WasConcluded}
 use Rattle.duct_running.specs.Polled.{Polled}
-use Rattle.duct_running.specs.Told.{OneRuns}
+use Rattle.duct_running.specs.Allowed.{OneRuns}
 use Rattle.duct_running.specs.NumbersView.{NumbersView}
 use Rattle.duct_running.specs.Stored.{Bytes}
 use Rattle.duct_handle.specs.AnswerView.{answer_view}

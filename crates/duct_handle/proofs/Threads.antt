@@ -23,7 +23,7 @@ use Rattle.duct_status.proofs.Threads.{shape_field_send, shape_field_sync}
 use Rattle.duct_running.proofs.numbers.Numbers.TheSendSync as numbers
 use Rattle.duct_running.proofs.Threads.{running_send}
 use Rattle.duct_handle.specs.contracts.published.Published
-use Rattle.duct_handle.specs.contracts.look.Locked
+use Rattle.duct_handle.specs.contracts.poll.HandleState
 use Rattle.duct_handle.specs.contracts.handle.Handle
 use Rattle.duct_handle.specs.contracts.handle.Handle.TheInside
 use Rattle.duct_handle.proofs.published.Answer.TheSendSync as answer
@@ -54,17 +54,17 @@ module _ (S E C F D R : RattleType)
   spare_send = Box-send (Published.the_row S E C F D R s e c cn f fn d dn r) published_send
 
   locked_field_send : IsSend C → IsSend F → IsSend D
-      → IsSend (Locked.the_field S E C F D R s e c cn f fn d dn r).row
+      → IsSend (HandleState.the_field S E C F D R s e c cn f fn d dn r).row
   locked_field_send child feed drain = struct_send
-      (shape (Locked.the_type S E C F D R s e c cn f fn d dn r)) (
+      (shape (HandleState.the_type S E C F D R s e c cn f fn d dn r)) (
         running_send S E C F D R s e c cn f fn d dn r child feed drain,
         (search (spare_send, sendable) depth 20, tt),
       )
 
   locked_send : IsSend C → IsSend F → IsSend D
-      → IsSend (Locked.the_row S E C F D R s e c cn f fn d dn r)
+      → IsSend (HandleState.the_row S E C F D R s e c cn f fn d dn r)
   locked_send child feed drain = recorded_send _ _ _
-      (Locked.the_type S E C F D R s e c cn f fn d dn r).to_one
+      (HandleState.the_type S E C F D R s e c cn f fn d dn r).to_one
       (locked_field_send child feed drain)
 
   fields_sync : IsSend C → IsSend F → IsSend D
@@ -79,7 +79,7 @@ module _ (S E C F D R : RattleType)
             (
               Vec-sync u32 (search sendable),
               (
-                mutex.the_sync (Locked.the_row S E C F D R s e c cn f fn d dn r) (locked_send child feed drain),
+                mutex.the_sync (HandleState.the_row S E C F D R s e c cn f fn d dn r) (locked_send child feed drain),
                 (
                   box.the_sync (Published.the_row S E C F D R s e c cn f fn d dn r) published_send published_sync,
                   tt,

@@ -12,7 +12,7 @@ use Rattle.duct_status.specs.ShapeView.{shape_view}
 use Rattle.duct_running.specs.Answered.{IsAnswer}
 use Rattle.duct_running.specs.Polled.{Gives, Polled}
 use Rattle.duct_running.specs.Stored.{Bytes}
-use Rattle.duct_running.specs.Told.{OneRuns}
+use Rattle.duct_running.specs.Allowed.{OneRuns}
 use Rattle.duct_handle.specs.AnswerView.{answer_view}
 use Rattle.duct_handle.specs.HandleView.{HandleView, PublishedView, SeenView}
 

@@ -9,7 +9,7 @@ ghost use Rattle.duct_running.specs.NumbersView.{numbers_in};
 ghost use Rattle.duct_running.specs.Stays.{Stays};
 ghost use Rattle.duct_handle.specs.Waited.{at_end};
 
-use crate::output::settled;
+use crate::output::output_or_give_up;
 use crate::pause::Pause;
 use duct_base::error::Error;
 use duct_base::pool::Pool;
@@ -27,7 +27,7 @@ fn polled<S: System>(running: &mut Running<S>) -> Result<Option<Arc<Output>>, Er
         (numbers_in S.Child.child_view S.Feed.job_view S.Drain.job_view running.new) result }
 {
     let polled = running.poll();
-    running.are_told();
+    running.answers_allowed();
     polled
 }
 
@@ -78,5 +78,5 @@ pub fn finish<S: System>(
         × IsGiven S.Child.may_answer S.Child.child_view waited.children pool.old pool.new) }
 {
     let waited = wait_for(rt, &mut running);
-    settled(alloc, running, waited, pool)
+    output_or_give_up(alloc, running, waited, pool)
 }

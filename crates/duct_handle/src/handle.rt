@@ -4,10 +4,10 @@ ghost use Rattle.std.specs.Prelude.{◌≡◌, IfNone, IfSome, Ok, Some, None};
 ghost use Rattle.duct_status.specs.ShapeView.{shape_view};
 ghost use Rattle.duct_running.specs.Answered.{IsAnswer};
 ghost use Rattle.duct_running.specs.NumbersView.{numbers_view};
-ghost use Rattle.duct_running.specs.Told.{OneRuns};
+ghost use Rattle.duct_running.specs.Allowed.{OneRuns};
 ghost use Rattle.duct_handle.specs.Waited.{GivesAgain, KnowsIfEnded, Waited};
 
-use crate::look::{Locked, differs, look, same};
+use crate::poll::{HandleState, mismatch_error, poll_and_publish, same};
 use crate::published::{Answer, Published};
 use duct_base::error::Error;
 use duct_base::status::Shape;
@@ -29,7 +29,7 @@ pub struct Handle<S: System> {
     pub(crate) shape: Shape,
     pub(crate) numbers: Numbers,
     pub(crate) ids: Vec<u32>,
-    pub(crate) lock: Mutex<Locked<S>>,
+    pub(crate) lock: Mutex<HandleState<S>>,
     pub(crate) cell: OnceBox<Published<S>>,
 }
 
@@ -182,7 +182,7 @@ impl<S: System> Handle<S> {
     // Polls what the lock holds, and publishes how it ended.
     fn poll_locked(
         &self,
-        locked: &mut Locked<S>,
+        locked: &mut HandleState<S>,
         seen: &mut Seen<S>,
         busy: &mut bool,
     ) -> Result<Option<Arc<Output>>, Error>
@@ -191,7 +191,7 @@ impl<S: System> Handle<S> {
         ensures { Waited S.Child.may_answer S.Feed.may_say S.Drain.may_say self.now
             seen.old seen.new result }
     {
-        let looked = look(locked, &self.shape, &self.numbers);
+        let looked = poll_and_publish(locked, &self.shape, &self.numbers);
         *busy = locked.running.is_busy();
         let Some(published) = looked? else {
             return Ok(None);
@@ -224,12 +224,12 @@ impl<S: System> Handle<S> {
         }) result }
     {
         if !same(published, &self.shape, &self.numbers) {
-            return Err(differs());
+            return Err(mismatch_error());
         }
         match &published.answer {
             Some(Answer::Output(output)) => Ok(Some(Arc::try_clone(output)?)),
             Some(Answer::Failed(text)) => Err(Error::Checked(Arc::try_clone(text)?)),
-            None => Err(differs()),
+            None => Err(mismatch_error()),
         }
     }
 }

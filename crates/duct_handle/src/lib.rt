@@ -2,13 +2,13 @@
 //! published once.
 #![tactic(auto)]
 
+pub mod buffers;
 pub mod finish;
 pub mod handle;
-mod look;
 mod orders;
 mod output;
 mod pause;
+mod poll;
 pub mod published;
-pub mod room;
 pub mod unix;
 mod wait;

@@ -4,7 +4,7 @@ ghost use Rattle.duct_running.specs.NumbersView.{numbers_view};
 ghost use Rattle.duct_handle.specs.Obeyed.{IsObeyed};
 
 use crate::handle::Handle;
-use crate::look::differs;
+use crate::poll::mismatch_error;
 use duct_base::error::Error;
 use duct_base::status::Shape;
 use duct_base::system::{Child, Order, System};
@@ -22,9 +22,9 @@ fn ordered<S: System>(
     ensures { IsObeyed S.Child.may_answer S.Child.may_obey order
         (numbers_view numbers.now).children result }
 {
-    running.are_told();
+    running.answers_allowed();
     if !running.is_of(shape, numbers) {
-        return Err(differs());
+        return Err(mismatch_error());
     }
     match order {
         Order::Kill => running.kill(),

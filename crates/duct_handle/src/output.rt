@@ -9,9 +9,9 @@ ghost use Rattle.duct_status.specs.ReplyView.{answered};
 ghost use Rattle.duct_running.specs.NumbersView.{numbers_view};
 ghost use Rattle.duct_handle.specs.AreGiven.{AreGiven};
 
+use crate::buffers::into_locked;
 use crate::handle::Handle;
-use crate::look::differs;
-use crate::room::released;
+use crate::poll::mismatch_error;
 use duct_base::error::Error;
 use duct_base::pool::Pool;
 use duct_base::status::Shape;
@@ -36,7 +36,7 @@ fn copy(alloc: Global, output: &Output) -> Result<Output, AllocError>
 }
 
 // The output itself, copied where another owner shares it.
-fn own(alloc: Global, output: Arc<Output>) -> Result<Output, Error>
+fn owned_output(alloc: Global, output: Arc<Output>) -> Result<Output, Error>
     ensures status { IfOk result (λ own. own.status ≡ (arc_value output).status) }
     ensures stdout { IfOk result (λ own. own.stdout.items ≡ (arc_value output).stdout.items) }
     ensures stderr { IfOk result (λ own. own.stderr.items ≡ (arc_value output).stderr.items) }
@@ -51,7 +51,7 @@ fn own(alloc: Global, output: Arc<Output>) -> Result<Output, Error>
 /// Returns what follows a wait: the output itself, copied only where another owner shares it; the
 /// pool is then left as it was. Where the wait failed, or the copy at an allocation failure, the
 /// children are given to the pool.
-pub(crate) fn settled<S: System>(
+pub(crate) fn output_or_give_up<S: System>(
     alloc: Global,
     running: Running<S>,
     waited: Result<Arc<Output>, Error>,
@@ -73,7 +73,7 @@ pub(crate) fn settled<S: System>(
     };
     let (children, feeds, drains) = running.into_parts();
     drop((feeds, drains));
-    match own(alloc, output) {
+    match owned_output(alloc, output) {
         Ok(output) => {
             drop(children);
             Ok(output)
@@ -87,7 +87,7 @@ pub(crate) fn settled<S: System>(
 
 // Does the same with what a lock held, if it has the shape and the numbers that were kept outside
 // the lock.
-fn settled_of<S: System>(
+fn checked_output_or_give_up<S: System>(
     alloc: Global,
     released: (Running<S>, Shape, Numbers),
     waited: Result<Arc<Output>, Error>,
@@ -104,9 +104,9 @@ fn settled_of<S: System>(
     let (ran, shape, numbers) = released;
     if !ran.is_of(&shape, &numbers) {
         ran.give_up(pool);
-        return Err(differs());
+        return Err(mismatch_error());
     }
-    settled(alloc, ran, waited, pool)
+    output_or_give_up(alloc, ran, waited, pool)
 }
 
 impl<S: System> Handle<S> {
@@ -128,6 +128,6 @@ impl<S: System> Handle<S> {
     {
         let waited = self.wait(rt);
         let alloc = self.alloc;
-        settled_of(alloc, released(self), waited, pool)
+        checked_output_or_give_up(alloc, into_locked(self), waited, pool)
     }
 }

@@ -3,7 +3,7 @@
 ghost use Rattle.std.specs.Prelude.{◌≡◌, ◌⊎◌, is_some, true, IfSome, Ok, Err, Some, None};
 ghost use Rattle.duct_status.specs.ShapeView.{shape_view};
 ghost use Rattle.duct_running.specs.Answered.{IsAnswer};
-ghost use Rattle.duct_running.specs.Told.{OneRuns};
+ghost use Rattle.duct_running.specs.Allowed.{OneRuns};
 ghost use Rattle.duct_handle.specs.Deadline.{IsLate, IsTimely};
 ghost use Rattle.duct_handle.specs.Waited.{Waited, at_end};
 

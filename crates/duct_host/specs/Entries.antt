@@ -23,4 +23,5 @@ variable_of (byte ∷ rest) = option_map (with_front (byte ∷ [])) (parts_at_si
 -- name or no `=`
 abbrev pub AddsVariable : List ℕ → Vars → Vars → Type 0
 AddsVariable entry old new =
-    (IsUtf8 entry → new ≡ old ++ option_to_list (variable_of entry)) × (¬ (IsUtf8 entry) → new ≡ old)
+    (IsUtf8 entry → new ≡ old ++ option_to_list (variable_of entry))
+    × (¬ (IsUtf8 entry) → new ≡ old)

@@ -41,7 +41,7 @@ use duct_request_table::machine::{Real, children_text, open_descriptors};
 use duct_request_table::odd::Script;
 use duct_script::calls::CallLog;
 use duct_table::expressions::Lender;
-use duct_table::stop::Stop;
+use duct_table::stop::TableError;
 use duct_table::words::first_word;
 use std::alloc::{AllocError, Global};
 use std::fs::{self, File};
@@ -95,7 +95,7 @@ impl<R: Real> HostMachine<R> {
     /// Returns a machine with a new host and an empty pool. Notes which descriptors and children
     /// there are, how often this thread has slept, and the time. Fails if the runtime can't read
     /// these, and on allocation failure.
-    pub fn new(rt: &R, script: Option<Script>) -> Result<HostMachine<R>, Stop> {
+    pub fn new(rt: &R, script: Option<Script>) -> Result<HostMachine<R>, TableError> {
         let alloc = rt.alloc();
         let opened = open_descriptors(rt)?;
         let children = children_text(rt)?;
@@ -121,7 +121,7 @@ impl<R: Real> HostMachine<R> {
         })
     }
 
-    fn set(&mut self, key: &str, text: &str) -> Result<(), Stop> {
+    fn set(&mut self, key: &str, text: &str) -> Result<(), TableError> {
         match key {
             "adopt_pipe" => self.adopt_pipe(text),
             "adopt_file" => {
@@ -140,23 +140,23 @@ impl<R: Real> HostMachine<R> {
     }
 
     /// Begins the next row of scripted results. Fails if nothing is scripted.
-    fn begin_script(&self) -> Result<(), Stop> {
+    fn begin_script(&self) -> Result<(), TableError> {
         match &self.script {
             Some(script) => Ok(script.begin()),
-            None => Err(Stop::Text("nothing is scripted")),
+            None => Err(TableError::Text("nothing is scripted")),
         }
     }
 
     /// Returns how many scripted results were taken, or that all were. Fails if nothing is
     /// scripted.
-    fn script_questions(&self) -> Result<String, Stop> {
+    fn script_questions(&self) -> Result<String, TableError> {
         match &self.script {
             Some(script) => Ok(questions(self.clock.rt.alloc(), script)?),
-            None => Err(Stop::Text("nothing is scripted")),
+            None => Err(TableError::Text("nothing is scripted")),
         }
     }
 
-    fn adopt_pipe(&mut self, text: &str) -> Result<(), Stop> {
+    fn adopt_pipe(&mut self, text: &str) -> Result<(), TableError> {
         let (reader, mut writer) = io::pipe(&self.clock.rt)?;
         writer.write_all(text.as_bytes())?;
         let read = self.host.adopt_reader(reader)?;
@@ -165,40 +165,40 @@ impl<R: Real> HostMachine<R> {
         Ok(self.ends.push(write)?)
     }
 
-    fn adopt_captured(&mut self) -> Result<(), Stop> {
+    fn adopt_captured(&mut self) -> Result<(), TableError> {
         let (reader, writer) = io::pipe(&self.clock.rt)?;
         self.captured = Some(reader);
         let write = self.host.adopt_writer(writer)?;
         Ok(self.ends.push(write)?)
     }
 
-    fn adopt_file(&mut self, file: File) -> Result<(), Stop> {
+    fn adopt_file(&mut self, file: File) -> Result<(), TableError> {
         let end = self.host.adopt_file(file)?;
         Ok(self.ends.push(end)?)
     }
 
     /// Returns how many more file descriptors are open than when the row began. Fails if there are
     /// fewer.
-    fn more_opened(&self) -> Result<usize, Stop> {
+    fn more_opened(&self) -> Result<usize, TableError> {
         let opened = open_descriptors(&self.clock.rt)?;
         opened
             .checked_sub(self.opened)
-            .ok_or(Stop::Text("a descriptor was closed"))
+            .ok_or(TableError::Text("a descriptor was closed"))
     }
 
     /// Returns the ids of the children that this thread has got since the row began. Fails if an
     /// older child is gone.
-    fn more_children(&self) -> Result<String, Stop> {
+    fn more_children(&self) -> Result<String, TableError> {
         let alloc = self.clock.rt.alloc();
         let children = children_text(&self.clock.rt)?;
         match children.as_str().strip_prefix(self.children.as_str()) {
             Some(more) => Ok(String::from_str(alloc, more)?),
-            None => Err(Stop::Text("a child of others was asked")),
+            None => Err(TableError::Text("a child of others was asked")),
         }
     }
 
     /// Fails unless these are the ids of those children.
-    fn has_ids(&self, ids: &[u32]) -> Result<(), Stop> {
+    fn has_ids(&self, ids: &[u32]) -> Result<(), TableError> {
         let mut text = String::new(self.clock.rt.alloc());
         for id in ids {
             write!(text, "{id} ")?;
@@ -206,12 +206,12 @@ impl<R: Real> HostMachine<R> {
         if text.as_str() == self.more_children()?.as_str() {
             Ok(())
         } else {
-            Err(Stop::Found(text))
+            Err(TableError::Found(text))
         }
     }
 
     /// Returns the path with the text of the file, and removes the file.
-    fn file_text(&self, path: &str) -> Result<String, Stop> {
+    fn file_text(&self, path: &str) -> Result<String, TableError> {
         let rt = &self.clock.rt;
         let text = fs::read_to_string(rt, path)?;
         fs::remove_file(rt, path)?;
@@ -219,7 +219,7 @@ impl<R: Real> HostMachine<R> {
     }
 
     /// Returns how often the clock was read, or else how often this thread has slept in this row.
-    fn count(&self, key: &str) -> Result<u64, Stop> {
+    fn count(&self, key: &str) -> Result<u64, TableError> {
         if key == "clock" {
             return Ok(self.clock.asked.load(Ordering::SeqCst));
         }
@@ -232,7 +232,7 @@ impl<R: Real> HostMachine<R> {
         Ok(now.saturating_sub(self.begun).as_millis())
     }
 
-    fn found(&self, key: &str, text: &str) -> Result<Option<String>, Stop> {
+    fn found(&self, key: &str, text: &str) -> Result<Option<String>, TableError> {
         let alloc = self.clock.rt.alloc();
         let found = match key {
             "opened" => format!(in alloc; "{}", self.more_opened()?)?,
@@ -248,9 +248,9 @@ impl<R: Real> HostMachine<R> {
     }
 
     /// Reads the pipe to EOF, and adds the bytes.
-    fn read_captured(&mut self, answer: &mut String) -> Result<(), Stop> {
+    fn read_captured(&mut self, answer: &mut String) -> Result<(), TableError> {
         let Some(mut reader) = self.captured.take() else {
-            return Err(Stop::Text("nothing is captured"));
+            return Err(TableError::Text("nothing is captured"));
         };
         let mut bytes = Vec::new(self.clock.rt.alloc());
         reader.read_to_end(&mut bytes)?;
@@ -277,10 +277,10 @@ impl<R: Real> HostMachine<R> {
 impl<R: Real> Lender for HostMachine<R> {
     type End = End;
 
-    fn lend(&mut self, number: u64) -> Result<End, Stop> {
+    fn lend(&mut self, number: u64) -> Result<End, TableError> {
         match self.ends.iter().position(|end| end.number() == number) {
             Some(place) if place < self.ends.len() => Ok(self.ends.swap_remove(place)),
-            _ => Err(Stop::Text("there is no such end")),
+            _ => Err(TableError::Text("there is no such end")),
         }
     }
 }
@@ -290,7 +290,7 @@ impl<R: Real> Machine for HostMachine<R> {
 
     type Clock = Counting<R>;
 
-    fn begin(&mut self) -> Result<(), Stop> {
+    fn begin(&mut self) -> Result<(), TableError> {
         let script = self.script.take();
         *self = HostMachine::new(&self.clock.rt, script)?;
         Ok(())
@@ -304,11 +304,11 @@ impl<R: Real> Machine for HostMachine<R> {
         &self.clock
     }
 
-    fn log(&self) -> Result<Option<Arc<CallLog>>, Stop> {
+    fn log(&self) -> Result<Option<Arc<CallLog>>, TableError> {
         Ok(None)
     }
 
-    fn line(&mut self, key: &str, text: &str) -> Result<Line, Stop> {
+    fn line(&mut self, key: &str, text: &str) -> Result<Line, TableError> {
         if let Some(found) = self.found(key, text)? {
             return Ok(Line::Found(found));
         }
@@ -316,7 +316,7 @@ impl<R: Real> Machine for HostMachine<R> {
         Ok(Line::Set)
     }
 
-    fn call(&mut self, answer: &mut String, ids: &[u32], call: &str) -> Result<(), Stop> {
+    fn call(&mut self, answer: &mut String, ids: &[u32], call: &str) -> Result<(), TableError> {
         match first_word(call) {
             ("ids", _) => self.has_ids(ids),
             ("ended", _) => all_ended(&self.clock.rt, ids),
@@ -325,7 +325,7 @@ impl<R: Real> Machine for HostMachine<R> {
                 thread::sleep(&self.clock.rt, Duration::from_millis(length.parse()?));
                 Ok(())
             }
-            _ => Err(Stop::Text("no such call")),
+            _ => Err(TableError::Text("no such call")),
         }
     }
 
@@ -333,7 +333,7 @@ impl<R: Real> Machine for HostMachine<R> {
 
     fn note_calls(&mut self) {}
 
-    fn spend(&mut self, parts: PartsOf<Host<R>>) -> Result<(), Stop> {
+    fn spend(&mut self, parts: PartsOf<Host<R>>) -> Result<(), TableError> {
         let (children, _feeds, _drains) = parts;
         self.spent = children;
         Ok(())
@@ -343,14 +343,14 @@ impl<R: Real> Machine for HostMachine<R> {
         thread::sleep(&self.clock.rt, Duration::from_millis(1));
     }
 
-    fn end(&mut self) -> Result<(), Stop> {
+    fn end(&mut self) -> Result<(), TableError> {
         self.sweep();
         self.captured = None;
         self.ends.clear();
         if self.more_opened()? == 0 && self.more_children()?.is_empty() {
             Ok(())
         } else {
-            Err(Stop::Text("something is left"))
+            Err(TableError::Text("something is left"))
         }
     }
 }
@@ -372,7 +372,7 @@ fn count_text(alloc: Global, ids: &str) -> Result<String, AllocError> {
 }
 
 /// Returns the text if the count is between its two numbers, or else the count.
-fn between(alloc: Global, text: &str, count: u64) -> Result<String, Stop> {
+fn between(alloc: Global, text: &str, count: u64) -> Result<String, TableError> {
     let (least, most) = first_word(text);
     if least.parse::<u64>()? <= count && count <= most.parse::<u64>()? {
         Ok(String::from_str(alloc, text)?)
@@ -382,7 +382,7 @@ fn between(alloc: Global, text: &str, count: u64) -> Result<String, Stop> {
 }
 
 /// Returns the text if its number is greater than the count, or else the count.
-fn within(alloc: Global, text: &str, count: u128) -> Result<String, Stop> {
+fn within(alloc: Global, text: &str, count: u128) -> Result<String, TableError> {
     if count < text.parse::<u128>()? {
         Ok(String::from_str(alloc, text)?)
     } else {
@@ -391,25 +391,25 @@ fn within(alloc: Global, text: &str, count: u128) -> Result<String, Stop> {
 }
 
 /// Returns how often this thread has slept so far: its voluntary context switches.
-fn sleeps<R: Real>(rt: &R) -> Result<u64, Stop> {
+fn sleeps<R: Real>(rt: &R) -> Result<u64, TableError> {
     let text = fs::read_to_string(rt, "/proc/thread-self/status")?;
     for line in text.lines() {
         if let Some(count) = line.strip_prefix("voluntary_ctxt_switches:") {
             return Ok(count.trim().parse()?);
         }
     }
-    Err(Stop::Text("nobody counts sleeps"))
+    Err(TableError::Text("nobody counts sleeps"))
 }
 
 /// Waits until each child has ended, and doesn't reap it.
-fn all_ended<R: Real>(rt: &R, ids: &[u32]) -> Result<(), Stop> {
+fn all_ended<R: Real>(rt: &R, ids: &[u32]) -> Result<(), TableError> {
     for id in ids {
         ended(rt, *id)?;
     }
     Ok(())
 }
 
-fn ended<R: Real>(rt: &R, id: u32) -> Result<(), Stop> {
+fn ended<R: Real>(rt: &R, id: u32) -> Result<(), TableError> {
     let path = format!(in rt.alloc(); "/proc/{id}/stat")?;
     for _ in 0..TURNS {
         if is_ended(rt, path.as_str())? {
@@ -417,11 +417,11 @@ fn ended<R: Real>(rt: &R, id: u32) -> Result<(), Stop> {
         }
         thread::sleep(rt, Duration::from_millis(1));
     }
-    Err(Stop::Text("the child goes on"))
+    Err(TableError::Text("the child goes on"))
 }
 
 /// Whether the child is a zombie: it has ended, and was not reaped.
-fn is_ended<R: Real>(rt: &R, path: &str) -> Result<bool, Stop> {
+fn is_ended<R: Real>(rt: &R, path: &str) -> Result<bool, TableError> {
     let text = fs::read_to_string(rt, path)?;
     let (_, state) = text.as_str().rsplit_once(") ").unwrap_or(("", ""));
     Ok(state.starts_with('Z'))

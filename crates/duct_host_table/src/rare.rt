@@ -5,7 +5,7 @@
 use duct_request_table::machine::Real;
 use duct_request_table::odd::{Odd, Script};
 use duct_request_table::requests::HostRequests;
-use duct_table::stop::Stop;
+use duct_table::stop::TableError;
 use duct_table::table::Table;
 use std::alloc::{AllocError, Global};
 
@@ -39,7 +39,7 @@ impl<R: Real> RareRequests<R> {
 }
 
 impl<'t, R: Real> Table<'t> for RareRequests<R> {
-    fn line(&mut self, key: &'t str, text: &'t str) -> Result<Option<String>, Stop> {
+    fn line(&mut self, key: &'t str, text: &'t str) -> Result<Option<String>, TableError> {
         match key {
             "returns" => {
                 self.script.begin();
@@ -50,7 +50,7 @@ impl<'t, R: Real> Table<'t> for RareRequests<R> {
         }
     }
 
-    fn end(&mut self) -> Result<(), Stop> {
+    fn end(&mut self) -> Result<(), TableError> {
         self.table.end()
     }
 }

@@ -9,7 +9,7 @@ use duct_request_table::machine::Real;
 use duct_request_table::odd::{Odd, Script};
 use duct_request_table::specs::spec;
 use duct_table::memory::MemoryOutcome;
-use duct_table::stop::Stop;
+use duct_table::stop::TableError;
 use duct_table::waits::heard;
 use std::os::fd::AsRawFd;
 use std::rt::{Clock, Files};
@@ -112,7 +112,7 @@ fn draining<R: Real>(rt: &R) -> Result<Worker<Arc<Vec<u8>>>, Error> {
 fn worked<J: Job + Drop>(
     rt: &impl Clock,
     started: Result<J, Error>,
-) -> Result<MemoryOutcome, Stop> {
+) -> Result<MemoryOutcome, TableError> {
     let mut worker = match started {
         Ok(worker) => worker,
         Err(error) => return Ok(MemoryOutcome::of(Err(error))),

@@ -4,9 +4,9 @@ use Rattle.std.proofs.Common.{◌≡◌, ℕ, List, [], ◌∷◌, ◌++◌, len
 use Rattle.std.specs.Prelude.{Some, None, is_some, if◌then◌else◌}
 use Rattle.std.specs.declared.option.Option.{Option}
 use Rattle.std.proofs.lemmas.List.{append-nil}
-use Rattle.duct_start.specs.Lookup.{found_on}
+use Rattle.duct_start.specs.Lookup.{surroundings_on}
 use Rattle.duct_start.specs.Path.{Path, left_of, right_of, within}
-use Rattle.duct_start.specs.Plan.{Plan, asks, opened, place_for, planned}
+use Rattle.duct_start.specs.Plan.{Plan, with_item, with_opening, place_for, plan_of_subtree}
 use Rattle.duct_start.specs.Step.{Item, Opening, OpensNothing, Opens, CapturesOut, CapturesErr, AskPipe, step}
 use Rattle.duct_start.specs.TreeView.{ModifierView, TreeView, command, pipe, around}
 use Rattle.duct_start.proofs.Commanded.{items_of, commanded_is}
@@ -30,7 +30,7 @@ module _ {E H : Type 0} where
   captures_on (Some p) plan other on = same_on plan.items
 
   opened_on : (opening : Opening E H) (plan : Plan E H)
-      → GoesOn plan.items (opened opening plan).items
+      → GoesOn plan.items (with_opening opening plan).items
   opened_on OpensNothing plan = same_on plan.items
   opened_on (Opens item) plan = (item ∷ [], refl)
   opened_on CapturesOut plan = captures_on plan.out plan _ (AskPipe ∷ [], refl)
@@ -38,21 +38,21 @@ module _ {E H : Type 0} where
 
   -- a tree only adds to the end of a plan
   planned_on : (tree : TreeView E H) (up : Path E H) (plan : Plan E H)
-      → (more : List (Item E H)) × ((planned up tree plan).items ≡ plan.items ++ more)
+      → (more : List (Item E H)) × ((plan_of_subtree up tree plan).items ≡ plan.items ++ more)
   planned_on (command words) up plan =
-      (items_of (found_on up) words, ap (λ (p : Plan E H). p.items) (commanded_is (found_on up) words plan))
+      (items_of (surroundings_on up) words, ap (λ (p : Plan E H). p.items) (commanded_is (surroundings_on up) words plan))
   planned_on (pipe left right) up plan =
       let place = length plan.items in
-      let begun = asks AskPipe plan in
-      let first = planned (left_of place ∷ up) left begun in
+      let begun = with_item AskPipe plan in
+      let first = plan_of_subtree (left_of place ∷ up) left begun in
       goes_on plan.items first.items _
       (goes_on plan.items begun.items first.items (AskPipe ∷ [], refl) (planned_on left (left_of place ∷ up) begun))
       (planned_on right (right_of place ∷ up) first)
   planned_on (around modifier inner) up plan =
       let opening = (step modifier).opening in
       let place = place_for opening plan in
-      let begun = opened opening plan in
-      let inside = planned (within place modifier ∷ up) inner begun in
+      let begun = with_opening opening plan in
+      let inside = plan_of_subtree (within place modifier ∷ up) inner begun in
       goes_on plan.items inside.items _
       (goes_on plan.items begun.items inside.items (opened_on opening plan) (planned_on inner (within place modifier ∷ up) begun))
       ((step modifier).closing place, refl)
@@ -63,13 +63,13 @@ module _ {E H : Type 0} where
       → (step modifier).opening ≡ Opens item
       → (inner : TreeView E H) (up : Path E H) (plan : Plan E H)
       → (later : List (Item E H))
-      × ((planned up (around modifier inner) plan).items ≡ plan.items ++ item ∷ later)
+      × ((plan_of_subtree up (around modifier inner) plan).items ≡ plan.items ++ item ∷ later)
   outer_opened modifier item is inner up plan =
       let opening = (step modifier).opening in
       let place = place_for opening plan in
-      let inside = planned_on inner (within place modifier ∷ up) (opened opening plan) in
+      let inside = planned_on inner (within place modifier ∷ up) (with_opening opening plan) in
       let closing = (step modifier).closing place in (
         inside.0 ++ closing,
-        ap (λ items. items ++ closing) (inside.1 ∙ ap (λ start. (opened start plan).items ++ inside.0) is ∙ append_assoc plan.items (item ∷ []) inside.0)
+        ap (λ items. items ++ closing) (inside.1 ∙ ap (λ start. (with_opening start plan).items ++ inside.0) is ∙ append_assoc plan.items (item ∷ []) inside.0)
             ∙ append_assoc plan.items (item ∷ inside.0) closing,
       )

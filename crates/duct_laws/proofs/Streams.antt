@@ -7,18 +7,18 @@ use Rattle.std.proofs.lemmas.List.{append-nil}
 use Rattle.duct_system.specs.declared.spec.Stream.{Stream}
 use Rattle.duct_system.specs.declared.spec.Stream.TheVariants.{In, Out, Err}
 use Rattle.duct_laws.specs.Redirected.{redirected}
-use Rattle.duct_start.specs.Found.{Target}
-use Rattle.duct_start.specs.Lookup.{turned, goes, folder, changes, hooks, found_on}
-use Rattle.duct_start.specs.Path.{Path, within, place_of, step_of}
+use Rattle.duct_start.specs.Surroundings.{Target}
+use Rattle.duct_start.specs.Lookup.{resolved_turn, stream_goes, folder_on, changes_on, hooks_on, surroundings_on}
+use Rattle.duct_start.specs.Path.{Path, within, segment_place, step_of}
 use Rattle.duct_start.specs.Step.{Turn, Decides, Follows, step}
 use Rattle.duct_start.specs.TreeView.{ModifierView, stdin_bytes, stdin_path, stdin_file, stdin_null, stdout_path, stdout_file, stdout_null, stdout_capture, stdout_to_stderr, stderr_path, stderr_file, stderr_null, stderr_capture, stderr_to_stdout, stdout_stderr_swap, dir, env, env_remove, full_env, unchecked, before_spawn}
 
 -- two paths to the root on which a command finds the same
 record AreAlike {E H : Type 0} (one other : Path E H) : Type 0 where
-  streams : (stream : Stream) → goes one stream ≡ goes other stream
-  folders : folder one ≡ folder other
-  variables : changes one ≡ changes other
-  hooked : hooks one ≡ hooks other
+  streams : (stream : Stream) → stream_goes one stream ≡ stream_goes other stream
+  folders : folder_on one ≡ folder_on other
+  variables : changes_on one ≡ changes_on other
+  hooked : hooks_on one ≡ hooks_on other
 
 alike_within : {E H : Type 0} (front one other : Path E H) → AreAlike one other
     → AreAlike (front ++ one) (front ++ other)
@@ -26,14 +26,14 @@ alike_within [] one other alike = alike
 alike_within (crumb ∷ front) one other alike =
     let rest = alike_within front one other alike in
     record {
-      streams = λ stream i. turned ((step_of crumb).turn (place_of crumb) stream) (λ outer. rest.streams outer i);
+      streams = λ stream i. resolved_turn ((step_of crumb).turn (segment_place crumb) stream) (λ outer. rest.streams outer i);
       folders = λ i. option_or (step_of crumb).folder (rest.folders i);
       variables = λ i. (step_of crumb).changes ++ rest.variables i;
       hooked = λ i. rest.hooked i ++ (step_of crumb).hooks;
     }
 
 found_alike : {E H : Type 0} (one other : Path E H) → AreAlike one other
-    → found_on one ≡ found_on other
+    → surroundings_on one ≡ surroundings_on other
 found_alike one other alike = λ i. record {
   folder = alike.folders i;
   changes = alike.variables i;
@@ -101,10 +101,10 @@ module _ {E : Type 0} (turns : Stream → Turn E) where
 -- a turn that does not follow this stream is not changed by turns that redirect only this stream
 passes : {E : Type 0} (stream : Stream) (turn : Turn E) → IsApart stream turn
     → (turns : Stream → Turn E) → TurnsOne stream turns → (further : Stream → Target E)
-    → turned turn (λ other. turned (turns other) further) ≡ turned turn further
+    → resolved_turn turn (λ other. resolved_turn (turns other) further) ≡ resolved_turn turn further
 passes stream (Decides target) apart turns one further = refl
 passes stream (Follows other) apart turns one further =
-    ap (λ next. turned next further) (one.others other apart)
+    ap (λ next. resolved_turn next further) (one.others other apart)
 
 -- a node that changes only this stream
 record Speaks {E H : Type 0} (stream : Stream) (modifier : ModifierView E H) (place : ℕ)
@@ -161,36 +161,36 @@ module _ {E H : Type 0} where
   -- the inner one alone
   pub redirected_once : (front up : Path E H) (inner outer : ModifierView E H) (p q : ℕ)
       (stream : Stream) → redirected inner ≡ Some stream → redirected outer ≡ Some stream
-      → found_on (front ++ within p inner ∷ within q outer ∷ up)
-      ≡ found_on (front ++ within p inner ∷ up)
+      → surroundings_on (front ++ within p inner ∷ within q outer ∷ up)
+      ≡ surroundings_on (front ++ within p inner ∷ up)
   redirected_once front up inner outer p q stream one other =
       let a = speaks_of inner p stream one in
       let b = speaks_of outer q stream other in
       found_alike _ _
       (alike_within front (within p inner ∷ within q outer ∷ up) (within p inner ∷ up) record {
-        streams = λ s. passes stream ((step inner).turn p s) (a.turns.apart s) ((step outer).turn q) b.turns (λ t. goes up t);
-        folders = ap (λ f. option_or (step inner).folder (option_or f (folder up))) b.no_folder;
-        variables = ap (λ c. (step inner).changes ++ (c ++ changes up)) b.no_changes;
-        hooked = ap (λ h. (hooks up ++ h) ++ (step inner).hooks) b.no_hooks ∙ ap (λ h. h ++ (step inner).hooks) (append-nil (hooks up));
+        streams = λ s. passes stream ((step inner).turn p s) (a.turns.apart s) ((step outer).turn q) b.turns (λ t. stream_goes up t);
+        folders = ap (λ f. option_or (step inner).folder (option_or f (folder_on up))) b.no_folder;
+        variables = ap (λ c. (step inner).changes ++ (c ++ changes_on up)) b.no_changes;
+        hooked = ap (λ h. (hooks_on up ++ h) ++ (step inner).hooks) b.no_hooks ∙ ap (λ h. h ++ (step inner).hooks) (append-nil (hooks_on up));
       })
 
   -- two swaps of stdout and stderr, one directly around the other: a command finds the same as
   -- without them
   pub swapped_back : (front up : Path E H) (p q : ℕ)
-      → found_on (front ++ within p stdout_stderr_swap ∷ within q stdout_stderr_swap ∷ up)
-      ≡ found_on (front ++ up)
+      → surroundings_on (front ++ within p stdout_stderr_swap ∷ within q stdout_stderr_swap ∷ up)
+      ≡ surroundings_on (front ++ up)
   swapped_back front up p q =
       found_alike _ _
       (alike_within front (within p stdout_stderr_swap ∷ within q stdout_stderr_swap ∷ up) up record {
         streams = back;
         folders = refl;
         variables = refl;
-        hooked = append-nil (hooks up ++ []) ∙ append-nil (hooks up);
+        hooked = append-nil (hooks_on up ++ []) ∙ append-nil (hooks_on up);
       })
     where
       back : (stream : Stream)
-          → goes (within p stdout_stderr_swap ∷ within q stdout_stderr_swap ∷ up) stream
-          ≡ goes up stream
+          → stream_goes (within p stdout_stderr_swap ∷ within q stdout_stderr_swap ∷ up) stream
+          ≡ stream_goes up stream
       back In = refl
       back Out = refl
       back Err = refl

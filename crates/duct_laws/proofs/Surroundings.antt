@@ -6,21 +6,21 @@ use Rattle.std.specs.declared.option.Option.{Option}
 use Rattle.duct_system.specs.Name.{is_same_name}
 use Rattle.duct_system.specs.SpecView.{Vars, spelled}
 use Rattle.duct_system.proofs.Variables.{name_equiv, same_at}
-use Rattle.duct_start.specs.Found.{Change, Sets, Removes, Replaces, variable, value_found}
-use Rattle.duct_start.specs.Lookup.{folder, changes}
+use Rattle.duct_start.specs.Surroundings.{VariableChange, Sets, Removes, Replaces, variable, value_found}
+use Rattle.duct_start.specs.Lookup.{folder_on, changes_on}
 use Rattle.duct_start.specs.Path.{Path, within, step_of}
 use Rattle.duct_start.specs.TreeView.{dir, env, full_env}
 
 module _ {E H : Type 0} where
   -- a folder that is set inside overrides each folder that is set outside
   pub inner_folder : (front up other : Path E H) (p : ℕ) (path : List ℕ)
-      → folder (front ++ within p (dir path) ∷ up) ≡ folder (front ++ within p (dir path) ∷ other)
+      → folder_on (front ++ within p (dir path) ∷ up) ≡ folder_on (front ++ within p (dir path) ∷ other)
   inner_folder [] up other p path = refl
   inner_folder (crumb ∷ front) up other p path =
       ap (option_or (step_of crumb).folder) (inner_folder front up other p path)
 
 -- if two lists of changes agree on a name, they still do with the same nearer changes added to both
-behind : (pairs others : Vars) (name : List ℕ) (near one other : List Change)
+behind : (pairs others : Vars) (name : List ℕ) (near one other : List VariableChange)
     → variable pairs one name ≡ variable others other name
     → variable pairs (near ++ one) name ≡ variable others (near ++ other) name
 behind pairs others name [] one other same = same
@@ -52,7 +52,7 @@ removed_behind false one other same = same
 
 -- if two lists of changes give a name the same value, they still do with the same nearer changes
 -- added to both
-value_behind : (pairs : Vars) (name : List ℕ) (near one other : List Change)
+value_behind : (pairs : Vars) (name : List ℕ) (near one other : List VariableChange)
     → value_found pairs one name ≡ value_found pairs other name
     → value_found pairs (near ++ one) name ≡ value_found pairs (near ++ other) name
 value_behind pairs name [] one other same = same
@@ -66,22 +66,22 @@ value_behind pairs name (Replaces vars ∷ near) one other same = refl
 
 module _ {E H : Type 0} where
   value_round : (pairs : Vars) (name : List ℕ) (front one other : Path E H)
-      → value_found pairs (changes one) name ≡ value_found pairs (changes other) name
-      → value_found pairs (changes (front ++ one)) name
-      ≡ value_found pairs (changes (front ++ other)) name
+      → value_found pairs (changes_on one) name ≡ value_found pairs (changes_on other) name
+      → value_found pairs (changes_on (front ++ one)) name
+      ≡ value_found pairs (changes_on (front ++ other)) name
   value_round pairs name [] one other same = same
   value_round pairs name (crumb ∷ front) one other same =
-      value_behind pairs name (step_of crumb).changes (changes (front ++ one))
-      (changes (front ++ other)) (value_round pairs name front one other same)
+      value_behind pairs name (step_of crumb).changes (changes_on (front ++ one))
+      (changes_on (front ++ other)) (value_round pairs name front one other same)
 
   -- a variable that is set inside overrides one of the same name that is set anywhere outside: the
   -- values of all names are the same without the outer one
   pub inner_variable : (pairs : Vars) (front middle up : Path E H) (p q : ℕ)
       (inner value outer hidden : List ℕ) → is_same_name inner outer ≡ true → (name : List ℕ)
       → value_found pairs
-      (changes (front ++ within p (env inner value) ∷ (middle ++ within q (env outer hidden) ∷ up)))
+      (changes_on (front ++ within p (env inner value) ∷ (middle ++ within q (env outer hidden) ∷ up)))
       name
-      ≡ value_found pairs (changes (front ++ within p (env inner value) ∷ (middle ++ up))) name
+      ≡ value_found pairs (changes_on (front ++ within p (env inner value) ∷ (middle ++ up))) name
   inner_variable pairs front middle up p q inner value outer hidden same name =
       value_round pairs name front
       (within p (env inner value) ∷ (middle ++ within q (env outer hidden) ∷ up))
@@ -97,15 +97,15 @@ module _ {E H : Type 0} where
       one = middle ++ up
 
       far : Option (List ℕ × List ℕ)
-      far = variable pairs (changes up) name
+      far = variable pairs (changes_on up) name
 
       passed : is_same_name name outer ≡ false
-          → value_found pairs (changes (within q (env outer hidden) ∷ up)) name ≡ valued far
+          → value_found pairs (changes_on (within q (env outer hidden) ∷ up)) name ≡ valued far
       passed differs = ap (λ b. valued_by b outer hidden far) differs
 
       by : (b c : Bool) → is_same_name name outer ≡ c → b ≡ c
-          → valued_by b inner value (variable pairs (changes both) name)
-          ≡ valued_by b inner value (variable pairs (changes one) name)
+          → valued_by b inner value (variable pairs (changes_on both) name)
+          ≡ valued_by b inner value (variable pairs (changes_on one) name)
       by true c is tied = refl
       by false false is tied =
           value_round pairs name middle (within q (env outer hidden) ∷ up) up (passed is)
@@ -114,11 +114,11 @@ module _ {E H : Type 0} where
   -- a whole environment that is set inside overrides the changes of variables outside, and the
   -- parent's environment
   pub inner_environment : (pairs others : Vars) (front up other : Path E H) (p : ℕ) (vars : Vars)
-      (name : List ℕ) → variable pairs (changes (front ++ within p (full_env vars) ∷ up)) name
-      ≡ variable others (changes (front ++ within p (full_env vars) ∷ other)) name
+      (name : List ℕ) → variable pairs (changes_on (front ++ within p (full_env vars) ∷ up)) name
+      ≡ variable others (changes_on (front ++ within p (full_env vars) ∷ other)) name
   inner_environment pairs others [] up other p vars name = refl
   inner_environment pairs others (crumb ∷ front) up other p vars name =
       behind pairs others name (step_of crumb).changes
-      (changes (front ++ within p (full_env vars) ∷ up))
-      (changes (front ++ within p (full_env vars) ∷ other))
+      (changes_on (front ++ within p (full_env vars) ∷ up))
+      (changes_on (front ++ within p (full_env vars) ∷ other))
       (inner_environment pairs others front up other p vars name)

@@ -10,12 +10,12 @@ use duct_plain::latest::latest_of_command;
 use duct_plain::outcome::{Outcome, outcome_of_events};
 use duct_plain::winner::winner;
 use duct_table::dice::Dice;
-use duct_table::stop::Stop;
+use duct_table::stop::TableError;
 use std::alloc::{AllocError, Global};
 
 /// Compares the replies of the core to random events of a random tree with those of the reference
 /// programs, and counts them. Fails if a reply differs, or on an allocation failure.
-pub fn compare_core(alloc: Global, seed: u64, counts: &mut Counts) -> Result<(), Stop> {
+pub fn compare_core(alloc: Global, seed: u64, counts: &mut Counts) -> Result<(), TableError> {
     let mut dice = Dice::new(seed);
     let tree = random_tree(alloc, &mut dice)?;
     let text = random_events(alloc, &mut dice, tree.commands)?;
@@ -81,7 +81,7 @@ fn compare_replies(
     tree: &Tree,
     events: &[Event],
     counts: &mut Counts,
-) -> Result<(), Stop> {
+) -> Result<(), TableError> {
     let replies = Core::run(alloc, tree.shape.try_clone(alloc)?, tree.drains, events)?;
     for (at, reply) in replies.iter().enumerate() {
         compare_reply(alloc, tree, events, at, reply, counts)?;
@@ -89,7 +89,7 @@ fn compare_replies(
     if replies.len() == events.len() {
         return Ok(());
     }
-    Err(Stop::Text("another number of replies"))
+    Err(TableError::Text("another number of replies"))
 }
 
 fn compare_reply(
@@ -99,7 +99,7 @@ fn compare_reply(
     at: usize,
     reply: &Reply,
     counts: &mut Counts,
-) -> Result<(), Stop> {
+) -> Result<(), TableError> {
     let wanted = wanted_reply(alloc, tree, events, at)?;
     let mut found = String::new(alloc);
     push_reply(&mut found, reply)?;
@@ -107,7 +107,12 @@ fn compare_reply(
 }
 
 /// The reply of the reference programs to the event at this index.
-fn wanted_reply(alloc: Global, tree: &Tree, events: &[Event], at: usize) -> Result<String, Stop> {
+fn wanted_reply(
+    alloc: Global,
+    tree: &Tree,
+    events: &[Event],
+    at: usize,
+) -> Result<String, TableError> {
     let (before, _) = events.split_at_checked(at).ok_or("no event")?;
     let is_known = match events.get(at).ok_or("no event")? {
         Event::Conclude => return concluded(alloc, tree, before),
@@ -123,7 +128,7 @@ fn wanted_reply(alloc: Global, tree: &Tree, events: &[Event], at: usize) -> Resu
 /// Returns the reply of the reference programs to a `conclude` after these events, as a text. Fails
 /// if the tree has more commands or inputs than can be counted, if the winning command has not
 /// ended, or on an allocation failure.
-pub fn concluded(alloc: Global, tree: &Tree, events: &[Event]) -> Result<String, Stop> {
+pub fn concluded(alloc: Global, tree: &Tree, events: &[Event]) -> Result<String, TableError> {
     let shape = &tree.shape;
     let _ = commands_in(shape).ok_or("too many commands")?;
     let _ = inputs_in(shape).ok_or("too many inputs")?;
@@ -146,7 +151,7 @@ fn push_finished(
     events: &[Event],
     captured: [&[u8]; 2],
     text: &mut String,
-) -> Result<(), Stop> {
+) -> Result<(), TableError> {
     let [output, error] = captured;
     let (chosen, status) = chosen(alloc, shape, events)?;
     if status.success() || !is_checked(shape, chosen) {
@@ -161,16 +166,20 @@ fn push_finished(
 }
 
 /// The number of the winning command after these events, and its exit status.
-fn chosen(alloc: Global, shape: &Shape, events: &[Event]) -> Result<(usize, ExitStatus), Stop> {
+fn chosen(
+    alloc: Global,
+    shape: &Shape,
+    events: &[Event],
+) -> Result<(usize, ExitStatus), TableError> {
     let commands = commands_in(shape).ok_or("too many commands")?;
     let words = latest_words(alloc, commands, events)?;
     if words.len() != commands {
-        return Err(Stop::Text("a word is missing"));
+        return Err(TableError::Text("a word is missing"));
     }
     let chosen = winner(shape, words.as_slice());
     match words.get(chosen) {
         Some(Word::Ended(status)) => Ok((chosen, *status)),
-        _ => Err(Stop::Text("the winner has not ended")),
+        _ => Err(TableError::Text("the winner has not ended")),
     }
 }
 

@@ -6,7 +6,7 @@
 //! - `first`: the debug text of the first one, after the others are dropped.
 use duct_script::system::ScriptEnd;
 use duct_table::expressions::{Strangers, Tree, written_all};
-use duct_table::stop::Stop;
+use duct_table::stop::TableError;
 use duct_table::table::Table;
 use std::alloc::{AllocError, Global};
 
@@ -28,7 +28,7 @@ impl<'t> Expressions<'t> {
 }
 
 impl<'t> Table<'t> for Expressions<'t> {
-    fn line(&mut self, key: &'t str, text: &'t str) -> Result<Option<String>, Stop> {
+    fn line(&mut self, key: &'t str, text: &'t str) -> Result<Option<String>, TableError> {
         if key == "expression" {
             self.expression = text;
             return Ok(None);
@@ -36,19 +36,19 @@ impl<'t> Table<'t> for Expressions<'t> {
         Ok(Some(shown(self.alloc, self.expression, key)?))
     }
 
-    fn end(&mut self) -> Result<(), Stop> {
+    fn end(&mut self) -> Result<(), TableError> {
         self.expression = "";
         Ok(())
     }
 }
 
 /// The text that is found for a line with this key.
-fn shown(alloc: Global, expression: &str, key: &str) -> Result<String, Stop> {
+fn shown(alloc: Global, expression: &str, key: &str) -> Result<String, TableError> {
     let mut made = written_all(alloc, &mut Strangers { alloc }, None, expression)?;
     match key {
         "shows" => (),
         "first" => made.truncate(1),
-        _ => return Err(Stop::Text("no such key")),
+        _ => return Err(TableError::Text("no such key")),
     }
     Ok(texts(alloc, made.as_slice())?)
 }

@@ -7,10 +7,10 @@
 //! - `trace`: the entries of the trace, as texts.
 //! - `origin 3`: where the end with this number comes from.
 use duct::Entry;
-use duct_plain::checker::{got, held, is_balanced, origin, spent, trace};
+use duct_plain::checker::{closed_numbers, is_balanced, open_count, opened_numbers, origin, trace};
 use duct_script::text::Words;
 use duct_table::journals::journal;
-use duct_table::stop::Stop;
+use duct_table::stop::TableError;
 use duct_table::streams::push_source;
 use duct_table::table::Table;
 use duct_table::words::first_word;
@@ -31,7 +31,7 @@ impl<'t> Journals<'t> {
 }
 
 impl<'t> Table<'t> for Journals<'t> {
-    fn line(&mut self, key: &'t str, text: &'t str) -> Result<Option<String>, Stop> {
+    fn line(&mut self, key: &'t str, text: &'t str) -> Result<Option<String>, TableError> {
         if key == "journal" {
             self.journal = text;
             return Ok(None);
@@ -40,14 +40,14 @@ impl<'t> Table<'t> for Journals<'t> {
         Ok(Some(checked(self.alloc, entries.as_slice(), key)?))
     }
 
-    fn end(&mut self) -> Result<(), Stop> {
+    fn end(&mut self) -> Result<(), TableError> {
         self.journal = "";
         Ok(())
     }
 }
 
 /// The text that is found for a line with this key.
-fn checked(alloc: Global, entries: &[Entry], key: &str) -> Result<String, Stop> {
+fn checked(alloc: Global, entries: &[Entry], key: &str) -> Result<String, TableError> {
     match first_word(key) {
         ("says", _) => Ok(numbers(alloc, entries)?),
         ("trace", _) => Ok(traced(alloc, entries)?),
@@ -56,13 +56,13 @@ fn checked(alloc: Global, entries: &[Entry], key: &str) -> Result<String, Stop> 
             push_source(&mut text, origin(entries, number.parse()?))?;
             Ok(text)
         }
-        _ => Err(Stop::Text("no such key")),
+        _ => Err(TableError::Text("no such key")),
     }
 }
 
 fn numbers(alloc: Global, entries: &[Entry]) -> Result<String, AllocError> {
-    let got = got(alloc, entries)?;
-    let spent = spent(alloc, entries)?;
+    let got = opened_numbers(alloc, entries)?;
+    let spent = closed_numbers(alloc, entries)?;
     let mut text = format!(in alloc; "got {got:?} spent {spent:?}")?;
     push_counts(alloc, entries, &mut text)?;
     Ok(text)
@@ -70,7 +70,7 @@ fn numbers(alloc: Global, entries: &[Entry]) -> Result<String, AllocError> {
 
 fn push_counts(alloc: Global, entries: &[Entry], text: &mut String) -> Result<(), AllocError> {
     let balanced = is_balanced(alloc, entries)?;
-    let held = held(alloc, entries)?;
+    let held = open_count(alloc, entries)?;
     let traced = trace(alloc, entries)?.len();
     write!(text, " balanced {balanced} held {held} trace {traced}")
 }

@@ -12,7 +12,7 @@
 //!   set. `canonical_in_folder ./x` is the same where a folder is set.
 use duct::{Error, Expression, IntoExecutablePath, asks_canonical, cmd};
 use duct_base::names::EnvNameString;
-use duct_table::stop::Stop;
+use duct_table::stop::TableError;
 use duct_table::table::Table;
 use duct_table::words::first_word;
 use std::alloc::{AllocError, Global};
@@ -22,19 +22,19 @@ use std::path::{Path, PathBuf};
 
 /// The table of names.
 #[derive(Drop)]
-pub struct Names {
+pub struct NameSucceeds {
     alloc: Global,
 }
 
-impl Names {
+impl NameSucceeds {
     /// Returns a table that has read no line yet.
-    pub fn new(alloc: Global) -> Names {
-        Names { alloc }
+    pub fn new(alloc: Global) -> NameSucceeds {
+        NameSucceeds { alloc }
     }
 }
 
-impl<'t> Table<'t> for Names {
-    fn line(&mut self, key: &'t str, _text: &'t str) -> Result<Option<String>, Stop> {
+impl<'t> Table<'t> for NameSucceeds {
+    fn line(&mut self, key: &'t str, _text: &'t str) -> Result<Option<String>, TableError> {
         let mut found = String::new(self.alloc);
         let (call, rest) = first_word(key);
         match call {
@@ -45,12 +45,12 @@ impl<'t> Table<'t> for Names {
             "command" => push_commands(self.alloc, rest, &mut found)?,
             "canonical" => write!(found, "{}", asks_canonical(rest, false))?,
             "canonical_in_folder" => write!(found, "{}", asks_canonical(rest, true))?,
-            _ => return Err(Stop::Text("no such key")),
+            _ => return Err(TableError::Text("no such key")),
         }
         Ok(Some(found))
     }
 
-    fn end(&mut self) -> Result<(), Stop> {
+    fn end(&mut self) -> Result<(), TableError> {
         Ok(())
     }
 }

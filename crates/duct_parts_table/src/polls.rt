@@ -18,7 +18,7 @@ use duct_script::system::Script;
 use duct_table::dice::Dice;
 use duct_table::expressions::written;
 use duct_table::scenes::set_children;
-use duct_table::stop::Stop;
+use duct_table::stop::TableError;
 use duct_table::workers::{set_drains, set_feeds};
 use std::alloc::{AllocError, Global};
 use std::sync::Arc;
@@ -39,7 +39,7 @@ struct Lists {
 /// Compares the results of some polls of a random expression with those of the reference programs,
 /// and counts them. Fails if a result differs, if other children or workers are polled, or on an
 /// allocation failure.
-pub fn compare_polls(alloc: Global, seed: u64, counts: &mut Counts) -> Result<(), Stop> {
+pub fn compare_polls(alloc: Global, seed: u64, counts: &mut Counts) -> Result<(), TableError> {
     let mut dice = Dice::new(seed);
     let tree = random_tree(alloc, &mut dice)?;
     let lists = random_lists(alloc, &mut dice, &tree)?;
@@ -56,7 +56,7 @@ pub fn compare_polls(alloc: Global, seed: u64, counts: &mut Counts) -> Result<()
     ) {
         return Ok(());
     }
-    Err(Stop::Text("others are asked"))
+    Err(TableError::Text("others are asked"))
 }
 
 fn random_lists(alloc: Global, dice: &mut Dice, tree: &Tree) -> Result<Lists, AllocError> {
@@ -120,7 +120,7 @@ fn fault(dice: &mut Dice) -> &'static str {
 
 /// Starts the expression of a tree over a system whose children and workers return the results in
 /// the lists.
-fn started(alloc: Global, tree: &Tree, lists: &Lists) -> Result<Running<Script>, Stop> {
+fn started(alloc: Global, tree: &Tree, lists: &Lists) -> Result<Running<Script>, TableError> {
     let mut sys = Script::new(alloc)?;
     set_children(alloc, &mut sys, lists.commands.as_str())?;
     set_feeds(alloc, &mut sys, lists.inputs.as_str())?;
@@ -144,7 +144,7 @@ fn poll_all(
     lists: &Lists,
     events: &mut Vec<Event>,
     counts: &mut Counts,
-) -> Result<(), Stop> {
+) -> Result<(), TableError> {
     for _ in 0..POLLS {
         ask_all(alloc, tree, lists, events)?;
         let wanted = concluded(alloc, tree, events.as_slice())?;
@@ -176,7 +176,12 @@ fn polled(
 
 /// Appends all events of one poll. A drain is polled only if the outcome waits for it, and stdout's
 /// drain before stderr's.
-fn ask_all(alloc: Global, tree: &Tree, lists: &Lists, events: &mut Vec<Event>) -> Result<(), Stop> {
+fn ask_all(
+    alloc: Global,
+    tree: &Tree,
+    lists: &Lists,
+    events: &mut Vec<Event>,
+) -> Result<(), TableError> {
     for (command, words) in lists.commands.split(';').enumerate() {
         ask(alloc, events, Who::Command(command), words)?;
     }
@@ -208,7 +213,7 @@ fn is_finished(tree: &Tree, out: bool, events: &[Event]) -> bool {
 }
 
 /// Appends the next word of a child or worker that is due. The last word of its list is repeated.
-fn ask(alloc: Global, events: &mut Vec<Event>, who: Who, words: &str) -> Result<(), Stop> {
+fn ask(alloc: Global, events: &mut Vec<Event>, who: Who, words: &str) -> Result<(), TableError> {
     if words.is_empty() || !is_due(events.as_slice(), who) {
         return Ok(());
     }

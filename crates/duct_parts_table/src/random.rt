@@ -10,7 +10,7 @@
 use crate::cores::compare_core;
 use crate::polls::compare_polls;
 use duct::Error;
-use duct_table::stop::Stop;
+use duct_table::stop::TableError;
 use duct_table::table::Table;
 use duct_table::words::first_word;
 use std::alloc::{AllocError, Global};
@@ -27,7 +27,7 @@ pub struct Counts {
 impl Counts {
     /// Counts a reply if it is the wanted one. Otherwise fails with the reply that was found, or
     /// with an allocation failure if the reply reports one.
-    pub fn compare(&mut self, found: String, wanted: &str) -> Result<(), Stop> {
+    pub fn compare(&mut self, found: String, wanted: &str) -> Result<(), TableError> {
         if found.as_str() != wanted {
             return Err(differing(found));
         }
@@ -52,11 +52,11 @@ impl Counts {
 }
 
 /// The reason to stop at a reply that is not the wanted one.
-fn differing(found: String) -> Stop {
+fn differing(found: String) -> TableError {
     if found.as_str().contains("out of memory") {
-        return Stop::Error(Error::Memory);
+        return TableError::Error(Error::Memory);
     }
-    Stop::Found(found)
+    TableError::Found(found)
 }
 
 /// The table of random comparisons.
@@ -77,7 +77,7 @@ impl Random {
 }
 
 impl<'t> Table<'t> for Random {
-    fn line(&mut self, key: &'t str, text: &'t str) -> Result<Option<String>, Stop> {
+    fn line(&mut self, key: &'t str, text: &'t str) -> Result<Option<String>, TableError> {
         if key == "more" {
             return Ok(Some(more(self.alloc, &self.counts, text)?));
         }
@@ -87,7 +87,7 @@ impl<'t> Table<'t> for Random {
         Ok(Some(format!(in self.alloc; "{count} from {seed}")?))
     }
 
-    fn end(&mut self) -> Result<(), Stop> {
+    fn end(&mut self) -> Result<(), TableError> {
         self.counts = Counts { counts: [0; 6] };
         Ok(())
     }
@@ -99,12 +99,12 @@ fn compare_all(
     count: u64,
     from: u64,
     counts: &mut Counts,
-) -> Result<(), Stop> {
+) -> Result<(), TableError> {
     for seed in from..from.saturating_add(count) {
         match key {
             "cores" => compare_core(alloc, seed, counts)?,
             "polls" => compare_polls(alloc, seed, counts)?,
-            _ => return Err(Stop::Text("no such key")),
+            _ => return Err(TableError::Text("no such key")),
         }
     }
     Ok(())
@@ -112,7 +112,7 @@ fn compare_all(
 
 /// The kinds of replies in a text. Each has its number in the text if there were more of them, and
 /// otherwise the number that there were.
-fn more(alloc: Global, counts: &Counts, text: &str) -> Result<String, Stop> {
+fn more(alloc: Global, counts: &Counts, text: &str) -> Result<String, TableError> {
     let mut found = String::new(alloc);
     for part in text.split(", ") {
         let (kind, least) = first_word(part);

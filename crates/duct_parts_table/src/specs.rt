@@ -15,7 +15,7 @@
 use duct::{CommandSpec, Error, Hook, Port, Stream};
 use duct_base::spec::{give, spec_of};
 use duct_table::hooks::hook;
-use duct_table::stop::Stop;
+use duct_table::stop::TableError;
 use duct_table::table::Table;
 use duct_table::words::{first_word, pieces};
 use std::alloc::{AllocError, Global};
@@ -41,7 +41,7 @@ impl<'t> Specs<'t> {
 }
 
 impl<'t> Table<'t> for Specs<'t> {
-    fn line(&mut self, key: &'t str, text: &'t str) -> Result<Option<String>, Stop> {
+    fn line(&mut self, key: &'t str, text: &'t str) -> Result<Option<String>, TableError> {
         if key == "hook" {
             self.hook = text;
             return Ok(None);
@@ -54,11 +54,11 @@ impl<'t> Table<'t> for Specs<'t> {
         }
         match &mut self.spec {
             Some(spec) => of_spec(self.alloc, spec, key, text),
-            None => Err(Stop::Text("no spec")),
+            None => Err(TableError::Text("no spec")),
         }
     }
 
-    fn end(&mut self) -> Result<(), Stop> {
+    fn end(&mut self) -> Result<(), TableError> {
         self.spec = None;
         self.hook = "";
         Ok(())
@@ -71,11 +71,11 @@ fn of_spec(
     spec: &mut CommandSpec,
     key: &str,
     text: &str,
-) -> Result<Option<String>, Stop> {
+) -> Result<Option<String>, TableError> {
     match key {
         "writes" => write_all(alloc, spec, text)?,
         "spec" => return Ok(Some(spec_text(alloc, spec)?)),
-        _ => return Err(Stop::Text("no such key")),
+        _ => return Err(TableError::Text("no such key")),
     }
     Ok(None)
 }
@@ -140,7 +140,7 @@ fn push_variable(text: &mut String, name: &str, value: &str) -> Result<(), Alloc
 }
 
 /// Makes the writes that are separated by whitespace.
-fn write_all(alloc: Global, spec: &mut CommandSpec, steps: &str) -> Result<(), Stop> {
+fn write_all(alloc: Global, spec: &mut CommandSpec, steps: &str) -> Result<(), TableError> {
     for step in steps.split_whitespace() {
         write(alloc, spec, step)?;
     }
@@ -148,16 +148,16 @@ fn write_all(alloc: Global, spec: &mut CommandSpec, steps: &str) -> Result<(), S
 }
 
 /// Makes a write. If it fails, the spec has to be unchanged.
-fn write(alloc: Global, spec: &mut CommandSpec, step: &str) -> Result<(), Stop> {
+fn write(alloc: Global, spec: &mut CommandSpec, step: &str) -> Result<(), TableError> {
     let before = spec_text(alloc, spec)?;
     let wrote = written(alloc, spec, step);
     if wrote.is_err() && spec_text(alloc, spec)?.as_str() != before.as_str() {
-        return Err(Stop::Text("a write that failed changed the spec"));
+        return Err(TableError::Text("a write that failed changed the spec"));
     }
     wrote
 }
 
-fn written(alloc: Global, spec: &mut CommandSpec, step: &str) -> Result<(), Stop> {
+fn written(alloc: Global, spec: &mut CommandSpec, step: &str) -> Result<(), TableError> {
     let (call, values) = step.split_once('=').unwrap_or((step, ""));
     match call {
         "arg" => spec.arg(values)?,
@@ -173,7 +173,7 @@ fn written(alloc: Global, spec: &mut CommandSpec, step: &str) -> Result<(), Stop
 }
 
 /// Makes a write that doesn't allocate.
-fn written_in_place(spec: &mut CommandSpec, call: &str, values: &str) -> Result<(), Stop> {
+fn written_in_place(spec: &mut CommandSpec, call: &str, values: &str) -> Result<(), TableError> {
     match call {
         "env_remove" => spec.env_remove(values),
         "env_clear" => spec.env_clear(),
@@ -181,13 +181,13 @@ fn written_in_place(spec: &mut CommandSpec, call: &str, values: &str) -> Result<
         "stdout_to_null" => spec.stdout(Port::Null),
         "stderr_to_inherit" => spec.stderr(Port::Inherit),
         "give_stdin" => give(spec, Stream::In),
-        _ => return Err(Stop::Text("no such write")),
+        _ => return Err(TableError::Text("no such write")),
     }
     Ok(())
 }
 
 /// The spec of these words after the hook of a text has changed it, or the hook's error, as a text.
-fn changed(alloc: Global, text: &str, words: &str) -> Result<String, Stop> {
+fn changed(alloc: Global, text: &str, words: &str) -> Result<String, TableError> {
     let hook = hook(alloc, None, text)?;
     let mut spec = spec_of_words(alloc, words, [Port::Inherit; 3])?;
     match hook.change(&mut spec) {

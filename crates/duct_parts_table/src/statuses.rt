@@ -17,7 +17,7 @@
 //! - `due`: those of the commands 0 to 7 that are due after the events.
 use duct_base::status::{Core, Drains, Event, Reply, Shape, Word};
 use duct_base::system::{ExitStatus, Side};
-use duct_table::stop::Stop;
+use duct_table::stop::TableError;
 use duct_table::table::Table;
 use duct_table::words::{fault, first_word, pieces};
 use duct_table::workers::{drain_word, feed_word};
@@ -50,19 +50,19 @@ impl<'t> Statuses<'t> {
 }
 
 impl<'t> Table<'t> for Statuses<'t> {
-    fn line(&mut self, key: &'t str, text: &'t str) -> Result<Option<String>, Stop> {
+    fn line(&mut self, key: &'t str, text: &'t str) -> Result<Option<String>, TableError> {
         match key {
             "shape" => self.row = begun(text),
             "captured" => self.row.captured = text,
             "events" => self.row.events = text,
             "replies" => return Ok(Some(replies(self.alloc, self.row, text)?)),
             "due" => return Ok(Some(due(self.alloc, self.row)?)),
-            _ => return Err(Stop::Text("no such key")),
+            _ => return Err(TableError::Text("no such key")),
         }
         Ok(None)
     }
 
-    fn end(&mut self) -> Result<(), Stop> {
+    fn end(&mut self) -> Result<(), TableError> {
         self.row = begun("");
         Ok(())
     }
@@ -78,7 +78,7 @@ fn begun(shape: &str) -> Row<'_> {
 
 /// The replies to the events of a row. If the two ways differ by more than allocation failures, the
 /// text has both.
-fn replies(alloc: Global, row: Row, wanted: &str) -> Result<String, Stop> {
+fn replies(alloc: Global, row: Row, wanted: &str) -> Result<String, TableError> {
     let steps = in_steps(alloc, row)?;
     let run = in_one_run(alloc, row)?;
     if steps.as_str() == run.as_str() {
@@ -107,27 +107,32 @@ fn is_but_for_memory(found: &str, wanted: &str) -> bool {
     wanted.next().is_none()
 }
 
-fn in_steps(alloc: Global, row: Row) -> Result<String, Stop> {
+fn in_steps(alloc: Global, row: Row) -> Result<String, TableError> {
     let mut text = String::new(alloc);
     push_steps(alloc, &mut core(alloc, row)?, row.events, &mut text)?;
     Ok(text)
 }
 
 /// A core of the row, before any event.
-fn core(alloc: Global, row: Row) -> Result<Core, Stop> {
+fn core(alloc: Global, row: Row) -> Result<Core, TableError> {
     let shape = shape(alloc, row.shape)?;
     Ok(Core::new(alloc, shape, captured(row.captured)?)?)
 }
 
 /// Passes the events to the core one by one, and appends the replies.
-fn push_steps(alloc: Global, core: &mut Core, told: &str, text: &mut String) -> Result<(), Stop> {
+fn push_steps(
+    alloc: Global,
+    core: &mut Core,
+    told: &str,
+    text: &mut String,
+) -> Result<(), TableError> {
     for event in events(alloc, told)? {
         push_reply(text, &core.step(event))?;
     }
     Ok(())
 }
 
-fn in_one_run(alloc: Global, row: Row) -> Result<String, Stop> {
+fn in_one_run(alloc: Global, row: Row) -> Result<String, TableError> {
     let shape = shape(alloc, row.shape)?.try_clone(alloc)?;
     let events = events(alloc, row.events)?;
     let replies = Core::run(alloc, shape, captured(row.captured)?, events.as_slice())?;
@@ -143,7 +148,7 @@ fn replies_text(alloc: Global, replies: &[Reply]) -> Result<String, AllocError> 
 }
 
 /// The commands that are due after the events of a row.
-fn due(alloc: Global, row: Row) -> Result<String, Stop> {
+fn due(alloc: Global, row: Row) -> Result<String, TableError> {
     let mut text = String::new(alloc);
     let mut core = core(alloc, row)?;
     push_steps(alloc, &mut core, row.events, &mut text)?;
@@ -163,7 +168,7 @@ fn push_due(core: &Core, text: &mut String) -> Result<(), AllocError> {
 
 /// Builds the shape of a text. Of several shapes, returns the last one. Fails if a node lacks a
 /// part, or on an allocation failure.
-pub fn shape(alloc: Global, text: &str) -> Result<Shape, Stop> {
+pub fn shape(alloc: Global, text: &str) -> Result<Shape, TableError> {
     let mut shapes = Vec::new(alloc);
     for word in text.split_whitespace() {
         add_node(alloc, &mut shapes, word)?;
@@ -171,15 +176,15 @@ pub fn shape(alloc: Global, text: &str) -> Result<Shape, Stop> {
     last(&mut shapes)
 }
 
-fn last(shapes: &mut Vec<Shape>) -> Result<Shape, Stop> {
+fn last(shapes: &mut Vec<Shape>) -> Result<Shape, TableError> {
     match shapes.pop() {
         Some(shape) => Ok(shape),
-        None => Err(Stop::Text("no shape")),
+        None => Err(TableError::Text("no shape")),
     }
 }
 
 /// Adds the node of a word, in place of the last shapes, which become its parts.
-fn add_node(alloc: Global, shapes: &mut Vec<Shape>, word: &str) -> Result<(), Stop> {
+fn add_node(alloc: Global, shapes: &mut Vec<Shape>, word: &str) -> Result<(), TableError> {
     let node = match word {
         "input" => Shape::Input(Box::new(alloc, last(shapes)?)?),
         "unchecked" => Shape::Unchecked(Box::new(alloc, last(shapes)?)?),
@@ -190,7 +195,7 @@ fn add_node(alloc: Global, shapes: &mut Vec<Shape>, word: &str) -> Result<(), St
 }
 
 /// A pipe of the last shape into this one.
-fn pipe(alloc: Global, right: Shape, shapes: &mut Vec<Shape>) -> Result<Shape, Stop> {
+fn pipe(alloc: Global, right: Shape, shapes: &mut Vec<Shape>) -> Result<Shape, TableError> {
     let right = Box::new(alloc, right)?;
     let left = Box::new(alloc, last(shapes)?)?;
     Ok(Shape::Pipe(left, right))
@@ -206,7 +211,7 @@ fn command(alloc: Global, words: &str) -> Result<Shape, AllocError> {
 }
 
 /// Which streams are captured.
-fn captured(text: &str) -> Result<Drains, Stop> {
+fn captured(text: &str) -> Result<Drains, TableError> {
     match text {
         "" => Ok(Drains {
             out: false,
@@ -220,12 +225,12 @@ fn captured(text: &str) -> Result<Drains, Stop> {
             out: true,
             err: true,
         }),
-        _ => Err(Stop::Text("no such streams")),
+        _ => Err(TableError::Text("no such streams")),
     }
 }
 
 /// Reads the events of a text. Fails if an event is malformed, or on an allocation failure.
-pub fn events(alloc: Global, text: &str) -> Result<Vec<Event>, Stop> {
+pub fn events(alloc: Global, text: &str) -> Result<Vec<Event>, TableError> {
     let mut events = Vec::new(alloc);
     for part in text.split(';') {
         let part = part.trim();
@@ -236,7 +241,7 @@ pub fn events(alloc: Global, text: &str) -> Result<Vec<Event>, Stop> {
     Ok(events)
 }
 
-fn event(alloc: Global, text: &str) -> Result<Event, Stop> {
+fn event(alloc: Global, text: &str) -> Result<Event, TableError> {
     let (first, rest) = first_word(text);
     match first {
         "conclude" => Ok(Event::Conclude),
@@ -260,7 +265,7 @@ pub enum Who {
 
 /// Returns the event of a word from this source. Fails if the word is malformed, or on an
 /// allocation failure.
-pub fn said(alloc: Global, who: Who, word: &str) -> Result<Event, Stop> {
+pub fn said(alloc: Global, who: Who, word: &str) -> Result<Event, TableError> {
     match who {
         Who::Command(at) => Ok(Event::Command(at, command_word(word)?)),
         Who::Input(at) => Ok(Event::Input(at, feed_word(word)?)),
@@ -268,7 +273,7 @@ pub fn said(alloc: Global, who: Who, word: &str) -> Result<Event, Stop> {
     }
 }
 
-fn command_word(text: &str) -> Result<Word, Stop> {
+fn command_word(text: &str) -> Result<Word, TableError> {
     match first_word(text) {
         ("running", _) => Ok(Word::Running),
         ("code", code) => Ok(Word::Ended(ExitStatus::Code(code.parse()?))),

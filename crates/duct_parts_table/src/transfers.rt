@@ -13,7 +13,7 @@
 //!   at least 64 KiB.
 use crate::scripted::{Sink, Source};
 use duct_base::system::{Fault, Kind};
-use duct_table::stop::Stop;
+use duct_table::stop::TableError;
 use duct_table::table::Table;
 use duct_table::words::first_word;
 use duct_worker::transfer::{drain, feed};
@@ -47,7 +47,7 @@ impl Transfers {
 }
 
 impl<'t> Table<'t> for Transfers {
-    fn line(&mut self, key: &'t str, text: &'t str) -> Result<Option<String>, Stop> {
+    fn line(&mut self, key: &'t str, text: &'t str) -> Result<Option<String>, TableError> {
         match first_word(key) {
             ("bytes", _) => self.bytes = Some(text.parse()?),
             ("room", _) => self.has_room = text == "yes",
@@ -64,12 +64,12 @@ impl<'t> Table<'t> for Transfers {
                 let script = repeated(self.alloc, script)?;
                 return Ok(Some(drained(self.alloc, self.all()?.as_slice(), script.as_str())?));
             }
-            _ => return Err(Stop::Text("no such key")),
+            _ => return Err(TableError::Text("no such key")),
         }
         Ok(None)
     }
 
-    fn end(&mut self) -> Result<(), Stop> {
+    fn end(&mut self) -> Result<(), TableError> {
         self.bytes = None;
         self.has_room = false;
         Ok(())
@@ -86,7 +86,7 @@ fn places(alloc: Global, count: usize) -> Result<Vec<u8>, AllocError> {
 }
 
 /// A script, repeated if its last words are `times` and a number.
-fn repeated(alloc: Global, script: &str) -> Result<String, Stop> {
+fn repeated(alloc: Global, script: &str) -> Result<String, TableError> {
     match script.rsplit_once(" times ") {
         Some((words, times)) => {
             let words = format!(in alloc; "{words} ")?;
@@ -97,13 +97,13 @@ fn repeated(alloc: Global, script: &str) -> Result<String, Stop> {
 }
 
 /// The result of a feed, as a text.
-fn fed(alloc: Global, all: &[u8], script: &str, has_room: bool) -> Result<String, Stop> {
+fn fed(alloc: Global, all: &[u8], script: &str, has_room: bool) -> Result<String, TableError> {
     let room = if has_room { all.len() } else { 0 };
     let taken = Vec::with_capacity(alloc, room)?;
     let mut sink = Sink { script, taken };
     let answer = feed(&mut sink, all);
     if has_room && answer == Err(Fault::new(Kind::OutOfMemory)) {
-        return Err(Stop::Text("a feed wants memory"));
+        return Err(TableError::Text("a feed wants memory"));
     }
     refused(answer, script)?;
     came_to(alloc, answer, all, sink.taken.as_slice())
@@ -120,7 +120,7 @@ fn refused(answer: Result<(), Fault>, script: &str) -> Result<(), Fault> {
 }
 
 /// The result of a drain, as a text.
-fn drained(alloc: Global, all: &[u8], script: &str) -> Result<String, Stop> {
+fn drained(alloc: Global, all: &[u8], script: &str) -> Result<String, TableError> {
     let mut source = Source {
         script,
         left: all,
@@ -128,7 +128,7 @@ fn drained(alloc: Global, all: &[u8], script: &str) -> Result<String, Stop> {
     };
     let found = drain(alloc, &mut source);
     if source.least < BLOCK {
-        return Err(Stop::Text("a read with less room than 64 KiB"));
+        return Err(TableError::Text("a read with less room than 64 KiB"));
     }
     match found {
         Ok(bytes) => came_to(alloc, Ok(()), all, bytes.as_slice()),
@@ -148,9 +148,9 @@ fn came_to(
     answer: Result<(), Fault>,
     all: &[u8],
     moved: &[u8],
-) -> Result<String, Stop> {
+) -> Result<String, TableError> {
     if !all.starts_with(moved) {
-        return Err(Stop::Text("other bytes were moved"));
+        return Err(TableError::Text("other bytes were moved"));
     }
     let mut text = String::new(alloc);
     match answer {

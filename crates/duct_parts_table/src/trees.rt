@@ -3,7 +3,7 @@
 use crate::statuses::shape;
 use duct_base::status::{Drains, Shape};
 use duct_table::dice::Dice;
-use duct_table::stop::Stop;
+use duct_table::stop::TableError;
 use std::alloc::{AllocError, Global};
 
 /// A random tree.
@@ -19,7 +19,7 @@ pub struct Tree {
 }
 
 /// Returns the next random tree. Fails on an allocation failure.
-pub fn random_tree(alloc: Global, dice: &mut Dice) -> Result<Tree, Stop> {
+pub fn random_tree(alloc: Global, dice: &mut Dice) -> Result<Tree, TableError> {
     let commands = dice.roll(6).saturating_add(1);
     let text = tree_text(alloc, dice, commands)?;
     let shape = shape(alloc, text.as_str())?;

@@ -3,7 +3,7 @@
 ghost use Rattle.std.specs.Prelude.{◌≡◌, ◌++◌, ◌↔◌, map, IfOk, OnOk, IsTrue};
 ghost use Rattle.duct_system.specs.EntryView.{entry_view};
 ghost use Rattle.duct_system.specs.Trace.{trace, is_traced, fault_of};
-ghost use Rattle.duct_system.specs.Ledger.{got, got_by, spent, spent_by, count_of, IsBalanced, held};
+ghost use Rattle.duct_system.specs.Ledger.{opened_numbers, opened_by, closed_numbers, closed_by, count_of, IsBalanced, open_count};
 ghost use Rattle.duct_system.specs.Origin.{origin};
 ghost use Rattle.duct_system.specs.Streams.{ends_of};
 ghost use Rattle.duct_plain.specs.Balance.{Balances, BalancesAt, AllBalance};
@@ -27,8 +27,8 @@ pub enum Source {
 
 /// Returns the numbers of the ends that requests returned, in order. Fails only on allocation
 /// failure.
-pub fn got(alloc: Global, entries: &[Entry]) -> Result<Vec<u64>, AllocError>
-    ensures { IfOk result (λ numbers. numbers.items ≡ got (map entry_view entries.now)) }
+pub fn opened_numbers(alloc: Global, entries: &[Entry]) -> Result<Vec<u64>, AllocError>
+    ensures { IfOk result (λ numbers. numbers.items ≡ opened_numbers (map entry_view entries.now)) }
 {
     let mut numbers = Vec::new(alloc);
     for entry in entries {
@@ -39,8 +39,8 @@ pub fn got(alloc: Global, entries: &[Entry]) -> Result<Vec<u64>, AllocError>
 
 /// Returns the numbers of the ends that were spent, in order: those that a request took. Fails only
 /// on allocation failure.
-pub fn spent(alloc: Global, entries: &[Entry]) -> Result<Vec<u64>, AllocError>
-    ensures { IfOk result (λ numbers. numbers.items ≡ spent (map entry_view entries.now)) }
+pub fn closed_numbers(alloc: Global, entries: &[Entry]) -> Result<Vec<u64>, AllocError>
+    ensures { IfOk result (λ numbers. numbers.items ≡ closed_numbers (map entry_view entries.now)) }
 {
     let mut numbers = Vec::new(alloc);
     for entry in entries {
@@ -54,17 +54,17 @@ pub fn spent(alloc: Global, entries: &[Entry]) -> Result<Vec<u64>, AllocError>
 pub fn is_balanced(alloc: Global, entries: &[Entry]) -> Result<bool, AllocError>
     ensures { IfOk result (λ balanced. IsTrue balanced ↔ IsBalanced (map entry_view entries.now)) }
 {
-    let got = got(alloc, entries)?;
-    let spent = spent(alloc, entries)?;
+    let got = opened_numbers(alloc, entries)?;
+    let spent = closed_numbers(alloc, entries)?;
     Ok(balance(got.as_slice(), spent.as_slice()))
 }
 
 /// Returns how many ends were returned and are not spent yet. Fails only on allocation failure.
-pub fn held(alloc: Global, entries: &[Entry]) -> Result<usize, AllocError>
-    ensures { IfOk result (λ count. count ≡ held (map entry_view entries.now)) }
+pub fn open_count(alloc: Global, entries: &[Entry]) -> Result<usize, AllocError>
+    ensures { IfOk result (λ count. count ≡ open_count (map entry_view entries.now)) }
 {
-    let got = got(alloc, entries)?.len();
-    let spent = spent(alloc, entries)?.len();
+    let got = opened_numbers(alloc, entries)?.len();
+    let spent = closed_numbers(alloc, entries)?.len();
     Ok(got.saturating_sub(spent))
 }
 
@@ -171,7 +171,8 @@ fn count_of(number: u64, numbers: &[u64]) -> usize
 
 /// Adds the numbers of the ends that an entry's request returned.
 fn push_got(numbers: &mut Vec<u64>, entry: &Entry) -> Result<(), AllocError>
-    ensures { OnOk result (numbers.new.items ≡ numbers.old.items ++ got_by (entry_view entry.now)) }
+    ensures { OnOk result (numbers.new.items ≡ numbers.old.items ++ opened_by
+        (entry_view entry.now)) }
 {
     match entry {
         Entry::Pipe(Ok((reader, writer))) => {
@@ -190,7 +191,7 @@ fn push_got(numbers: &mut Vec<u64>, entry: &Entry) -> Result<(), AllocError>
 /// Adds the numbers of the ends that an entry's request took.
 fn push_spent(numbers: &mut Vec<u64>, entry: &Entry) -> Result<(), AllocError>
     ensures { OnOk result
-        (numbers.new.items ≡ numbers.old.items ++ spent_by (entry_view entry.now)) }
+        (numbers.new.items ≡ numbers.old.items ++ closed_by (entry_view entry.now)) }
 {
     match entry {
         Entry::Spawn(_, io, _) => push_ends(numbers, io),

@@ -7,13 +7,13 @@ use Rattle.duct_system.specs.Streams.{stream_of}
 use Rattle.duct_system.specs.declared.spec.Stream.TheVariants.{In, Out, Err}
 use Rattle.duct_start.specs.Asked.{IsAsked, stream_to, streams_to}
 use Rattle.duct_start.specs.Follows.{pairs_in, program_at}
-use Rattle.duct_start.specs.Found.{Found}
+use Rattle.duct_start.specs.Surroundings.{Surroundings}
 use Rattle.duct_plan.specs.AskedOf.{IsAskedThere}
 use Rattle.duct_plan.specs.declared.asked.Wired.{Wired}
 use Rattle.duct_plain.specs.Source.{origin_of}
 
 pub asked_there : {E H : Type 0} (entries : List EntryView) (number_of : E → ℕ) (place : ℕ)
-    (found : Found E H) (words : List (List ℕ)) (pairs : Vars) (program : List ℕ) (answer : Wired) →
+    (found : Surroundings E H) (words : List (List ℕ)) (pairs : Vars) (program : List ℕ) (answer : Wired) →
     pairs ≡ pairs_in entries → program ≡ program_at entries place found words → IsAsked pairs program found words answer.spec →
     map (stream_of origin_of) answer.streams ≡ streams_to entries number_of found → IsAskedThere entries number_of place found words answer
 asked_there entries number_of place found words pairs program answer pairs_are program_is spec_is streams_are = (

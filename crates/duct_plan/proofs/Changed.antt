@@ -10,7 +10,7 @@ use Rattle.duct_system.specs.Name.{is_same_name, name_cmp}
 use Rattle.duct_system.specs.SpecView.{Vars, spelled, var_view, variable_in}
 use Rattle.duct_system.proofs.Entries.{insert_var, filter_vars, are_ordered}
 use Rattle.duct_system.proofs.Variables.{variable_in-with, variable_in-without}
-use Rattle.duct_start.specs.Found.{Sets, Removes, Replaces}
+use Rattle.duct_start.specs.Surroundings.{Sets, Removes, Replaces}
 use Rattle.duct_plan.specs.Variables.{Changes}
 
 module _ {Z : Type 0} (es new : List (List ℕ × String Z)) where

@@ -3,10 +3,10 @@ use Rattle.std.specs.Prelude.{ℕ, List, map}
 use Rattle.std.specs.Borrow.{Bor}
 use Rattle.std.specs.Option.{option_copied}
 use Rattle.duct_system.specs.SpecView.{var_view}
-use Rattle.duct_start.specs.Found as outwards
-use Rattle.duct_plan.specs.declared.found.Change.{Change}
-use Rattle.duct_plan.specs.declared.found.Change.TheVariants.{Sets, Removes, Replaces}
-use Rattle.duct_plan.specs.declared.found.Found.{Found}
+use Rattle.duct_start.specs.Surroundings as outwards
+use Rattle.duct_plan.specs.declared.found.VariableChange.{VariableChange}
+use Rattle.duct_plan.specs.declared.found.VariableChange.TheVariants.{Sets, Removes, Replaces}
+use Rattle.duct_plan.specs.declared.found.Surroundings.{Surroundings}
 use Rattle.duct_plan.specs.declared.found.Target.{Target}
 use Rattle.duct_plan.specs.declared.found.Target.TheVariants.{Parents, Nothing, ReaderAt, WriterAt, FileAt, Lends}
 
@@ -20,7 +20,7 @@ target_of (FileAt place) = outwards.FileAt place
 target_of (Lends end) = outwards.Lends end.now
 
 -- how a node changes the variables
-abbrev pub change_of : Change → outwards.Change
+abbrev pub change_of : VariableChange → outwards.VariableChange
 change_of (Sets name value) = outwards.Sets name.now value.now
 change_of (Removes name) = outwards.Removes name.now
 change_of (Replaces vars) = outwards.Replaces (map var_view vars.now.entries)
@@ -30,7 +30,7 @@ abbrev pub hook_of : {E H : Type 0} → Bor H × Bor (List E) → H × List E
 hook_of hook = (hook.0.now, hook.1.now)
 
 -- all that is found
-abbrev pub found_of : {E H : Type 0} → Found E H → outwards.Found E H
+abbrev pub found_of : {E H : Type 0} → Surroundings E H → outwards.Surroundings E H
 found_of found = record {
   folder = option_copied found.folder;
   changes = map change_of found.changes.items;

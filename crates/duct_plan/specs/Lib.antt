@@ -1,8 +1,8 @@
 pub mod AskedOf
 pub mod Commands
 pub mod EntryViews
-pub mod Found
+pub mod Surroundings
 pub mod PlanView
-pub mod Step
+pub mod NodeStep
 pub mod Variables
 pub mod Way

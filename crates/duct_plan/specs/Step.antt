@@ -4,13 +4,13 @@ use Rattle.std.specs.Borrow.{Bor}
 use Rattle.std.specs.Option.{option_copied}
 use Rattle.std.specs.declared.option.Option.{Option}
 use Rattle.duct_system.specs.declared.spec.Stream.TheVariants.{In, Out, Err}
-use Rattle.duct_start.specs.Found as outwards
+use Rattle.duct_start.specs.Surroundings as outwards
 use Rattle.duct_start.specs.Step as node
 use Rattle.duct_plan.specs.Found.{change_of, hook_of}
-use Rattle.duct_plan.specs.declared.found.Change.{Change}
+use Rattle.duct_plan.specs.declared.found.VariableChange.{VariableChange}
 use Rattle.duct_plan.specs.declared.step.Opening.{Opening}
 use Rattle.duct_plan.specs.declared.step.Opening.TheVariants as opening
-use Rattle.duct_plan.specs.declared.step.Step.{Step}
+use Rattle.duct_plan.specs.declared.step.NodeStep.{NodeStep}
 use Rattle.duct_plan.specs.declared.step.Turn.{Turn}
 use Rattle.duct_plan.specs.declared.step.Turn.TheVariants as turn
 
@@ -38,7 +38,7 @@ turn_of turn.Writes place = node.Decides (outwards.WriterAt place)
 turn_of turn.Opened place = node.Decides (outwards.FileAt place)
 
 -- the change of variables, if there is one
-abbrev pub changes_of : Option Change → List outwards.Change
+abbrev pub changes_of : Option VariableChange → List outwards.VariableChange
 changes_of None = []
 changes_of (Some change) = change_of change ∷ []
 
@@ -48,7 +48,7 @@ hooks_of None = []
 hooks_of (Some hook) = hook_of hook ∷ []
 
 -- the code's step of a node that does nothing
-abbrev pub idle : {E H : Type 0} → Step E H
+abbrev pub idle : {E H : Type 0} → NodeStep E H
 idle = record {
   opening = opening.Nothing;
   feed = None;
@@ -61,7 +61,7 @@ idle = record {
 }
 
 -- the result is what this node does
-pub record IsStep {E H : Type 0} (step : node.Step E H) (answer : Step E H) : Type 0 where
+pub record IsStep {E H : Type 0} (step : node.NodeStep E H) (answer : NodeStep E H) : Type 0 where
   pub opening_is : opening_of answer.opening ≡ step.opening
   pub closing_is : (place : ℕ) → closing_of answer.feed place ≡ step.closing place
   pub input_is : (place : ℕ) → turn_of answer.input place ≡ step.turn place In

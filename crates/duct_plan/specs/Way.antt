@@ -4,16 +4,16 @@ use Rattle.duct_start.specs.Path as path
 use Rattle.duct_start.specs.Path.{Path}
 use Rattle.duct_start.specs.TreeView.{stdout_capture}
 use Rattle.duct_tree.specs.NodeView.{modifier_view}
-use Rattle.duct_plan.specs.declared.way.Crumb.{Crumb}
-use Rattle.duct_plan.specs.declared.way.Crumb.TheVariants.{LeftOf, RightOf, Within, Captured}
+use Rattle.duct_plan.specs.declared.way.PathSegment.{PathSegment}
+use Rattle.duct_plan.specs.declared.way.PathSegment.TheVariants.{LeftOf, RightOf, Within, Captured}
 
 -- one node around a command
-abbrev pub crumb_of : {E H : Type 0} → Crumb E H → path.Crumb E H
+abbrev pub crumb_of : {E H : Type 0} → PathSegment E H → path.PathSegment E H
 crumb_of (LeftOf place) = path.left_of place
 crumb_of (RightOf place) = path.right_of place
 crumb_of (Within place modifier) = path.within place (modifier_view modifier.now)
 crumb_of (Captured place) = path.within place stdout_capture
 
 -- the nodes around a command, the nearest first
-abbrev pub way_of : {E H : Type 0} → List (Crumb E H) → Path E H
+abbrev pub way_of : {E H : Type 0} → List (PathSegment E H) → Path E H
 way_of way = map crumb_of way

@@ -10,7 +10,7 @@ ghost use Rattle.duct_plan.specs.Found.{found_of};
 ghost use Rattle.duct_plan.specs.EntryViews.{entry_views};
 ghost use Rattle.duct_plan.specs.PlanView.{plan_view};
 
-use crate::found::Found;
+use crate::found::Surroundings;
 use crate::items::{Item, Plan};
 use crate::plan::{is_canonical, program_of};
 use crate::streams::{port_to, streams_to};
@@ -87,7 +87,7 @@ pub fn asked_at<E: Numbered, H>(
     alloc: Global,
     trace: &[&Entry],
     place: usize,
-    found: &Found<'_, E, H>,
+    found: &Surroundings<'_, E, H>,
     words: &[String],
 ) -> Result<Wired, AllocError>
     requires { place ≤ length trace.now }
@@ -106,7 +106,7 @@ pub fn asked_at<E: Numbered, H>(
 fn program_at<'t, E, H>(
     trace: &[&'t Entry],
     place: usize,
-    found: &Found<'_, E, H>,
+    found: &Surroundings<'_, E, H>,
     words: &'t [String],
 ) -> &'t str
     ensures { result.now ≡ program_at (entry_views trace.now) place (found_of found.now)
@@ -124,7 +124,7 @@ fn spec<E, H>(
     alloc: Global,
     pairs: &[(String, String)],
     program: &str,
-    found: &Found<'_, E, H>,
+    found: &Surroundings<'_, E, H>,
     words: &[String],
 ) -> Result<CommandSpec, AllocError>
     ensures { IfOk result

@@ -4,7 +4,7 @@ ghost use Rattle.std.specs.Prelude.{◌≡◌, map};
 ghost use Rattle.std.specs.Option.{option_map};
 ghost use Rattle.duct_system.specs.Name.{is_same_name};
 ghost use Rattle.duct_system.specs.SpecView.{last_value, pair_text, said_of, spelled, var_view, variable_in};
-ghost use Rattle.duct_start.specs.Found.{variable};
+ghost use Rattle.duct_start.specs.Surroundings.{variable};
 ghost use Rattle.duct_plan.specs.Found.{change_of, pair_seen};
 
 use duct::Stream;
@@ -32,7 +32,7 @@ pub enum Target<'t, E> {
 
 /// How a node changes the variables.
 #[derive(Clone, Copy, Debug)]
-pub enum Change<'t> {
+pub enum VariableChange<'t> {
     /// Sets this name to this value.
     Sets(&'t str, &'t str),
     /// Removes this name.
@@ -43,11 +43,11 @@ pub enum Change<'t> {
 
 /// What a command finds on its path to the root.
 #[derive(Drop)]
-pub struct Found<'t, E, H> {
+pub struct Surroundings<'t, E, H> {
     /// The folder of the nearest node that sets one.
     pub folder: Option<&'t str>,
     /// The changes of variables, the nearest first.
-    pub changes: Vec<Change<'t>>,
+    pub changes: Vec<VariableChange<'t>>,
     /// Where stdin goes.
     pub input: Target<'t, E>,
     /// Where stdout goes.
@@ -63,7 +63,7 @@ pub struct Found<'t, E, H> {
 /// change is kept. If no change decides, `pairs` do, one after the other.
 pub fn variable<'t>(
     pairs: &'t [(String, String)],
-    changes: &[Change<'t>],
+    changes: &[VariableChange<'t>],
     name: &str,
 ) -> Option<(&'t str, &'t str)>
     ensures { option_map pair_seen result
@@ -73,7 +73,7 @@ pub fn variable<'t>(
         return said_of(pairs, name);
     };
     match *change {
-        Change::Sets(other, value) => {
+        VariableChange::Sets(other, value) => {
             let found = variable(pairs, further, name);
             if is_same(name, other) {
                 Some((spelled(other, found), value))
@@ -81,13 +81,13 @@ pub fn variable<'t>(
                 found
             }
         }
-        Change::Removes(other) => {
+        VariableChange::Removes(other) => {
             if is_same(name, other) {
                 return None;
             }
             variable(pairs, further, name)
         }
-        Change::Replaces(vars) => variable_in(vars, name),
+        VariableChange::Replaces(vars) => variable_in(vars, name),
     }
 }
 

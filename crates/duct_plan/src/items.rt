@@ -3,7 +3,7 @@ ghost use Rattle.std.specs.Prelude.{◌≤◌, ◌↔◌, IsNone, IfSome, count_
 ghost use Rattle.duct_plan.specs.Commands.{is_spawn, IsCommandAt};
 ghost use Rattle.duct_plan.specs.PlanView.{plan_view};
 
-use crate::found::Found;
+use crate::found::Surroundings;
 use std::fmt;
 
 /// One request of a start. A place is that of another item of the same plan, counted from 0.
@@ -15,7 +15,7 @@ pub enum Item<'t, E, H> {
     Create(&'t str),
     Canonicalize(&'t str),
     /// The spawn of a command: what the command finds on its path to the root, and its words.
-    Spawn(Found<'t, E, H>, &'t [String]),
+    Spawn(Surroundings<'t, E, H>, &'t [String]),
     /// The start of a worker that writes these bytes to the pipe that the item at this place opens.
     Feed(usize, &'t [u8]),
     /// The start of a worker that reads the pipe that the item at this place opens.

@@ -1,6 +1,6 @@
 //! The requests of a start, computed from the tree alone.
 ghost use Rattle.std.specs.Prelude.{◌≡◌, IfOk, map, string_bytes};
-ghost use Rattle.duct_start.specs.Plan.{asks, captures_out, captures_err, opened, place_for, closed, program_of, is_canonical, commanded, planned, begun, drains, reads, plan_of, plan_of_reader};
+ghost use Rattle.duct_start.specs.Plan.{with_item, with_output_capture, with_error_capture, with_opening, place_for, with_closing, program_of, is_canonical, with_command, plan_of_subtree, initial_plan, with_drain, with_reader, plan_of, plan_of_reader};
 ghost use Rattle.duct_tree.specs.NodeView.{node_view};
 ghost use Rattle.duct.specs.TreeView.{tree_view};
 ghost use Rattle.duct_plan.specs.Found.{found_of};
@@ -8,11 +8,11 @@ ghost use Rattle.duct_plan.specs.PlanView.{item_of, plan_view};
 ghost use Rattle.duct_plan.specs.Step.{opening_of, closing_of};
 ghost use Rattle.duct_plan.specs.Way.{way_of};
 
-use crate::found::Found;
+use crate::found::Surroundings;
 use crate::items::{Item, Plan};
-use crate::lookup::found_on;
+use crate::lookup::surroundings_on;
 use crate::step::{Opening, modifier_step};
-use crate::way::{Crumb, below};
+use crate::way::{PathSegment, below};
 use duct::tree::Node;
 use duct::{Expression, asks_canonical};
 use std::alloc::{AllocError, Global};
@@ -25,9 +25,9 @@ pub fn plan<'t, E: Drop, H: Drop>(
 ) -> Result<Plan<'t, E, H>, AllocError>
     ensures { IfOk result (λ plan. plan_view plan ≡ plan_of (tree_view expression.now)) }
 {
-    let plan = planned(alloc, &[], expression.root(), begun(alloc)?)?;
+    let plan = plan_of_subtree(alloc, &[], expression.root(), initial_plan(alloc)?)?;
     let (out, err) = (plan.out, plan.err);
-    drains(err, drains(out, plan)?)
+    with_drain(err, with_drain(out, plan)?)
 }
 
 /// Returns the plan of a reader's start: that of the tree inside one capture of stdout. The reader
@@ -38,17 +38,22 @@ pub fn plan_of_reader<'t, E: Drop, H: Drop>(
 ) -> Result<Plan<'t, E, H>, AllocError>
     ensures { IfOk result (λ plan. plan_view plan ≡ plan_of_reader (tree_view expression.now)) }
 {
-    let begun = begun(alloc)?;
-    let place = begun.items.len();
-    let plan = captures_out(begun)?;
-    let plan = planned(alloc, &[Crumb::Captured(place)], expression.root(), plan)?;
+    let first = initial_plan(alloc)?;
+    let place = first.items.len();
+    let plan = with_output_capture(first)?;
+    let plan = plan_of_subtree(
+        alloc,
+        &[PathSegment::Captured(place)],
+        expression.root(),
+        plan,
+    )?;
     let (out, err) = (plan.out, plan.err);
-    reads(out, drains(err, plan)?)
+    with_reader(out, with_drain(err, plan)?)
 }
 
 /// Returns the plan before its tree: its first request is for the environment.
-fn begun<'t, E: Drop, H: Drop>(alloc: Global) -> Result<Plan<'t, E, H>, AllocError>
-    ensures { IfOk result (λ plan. plan_view plan ≡ begun) }
+fn initial_plan<'t, E: Drop, H: Drop>(alloc: Global) -> Result<Plan<'t, E, H>, AllocError>
+    ensures { IfOk result (λ plan. plan_view plan ≡ initial_plan) }
 {
     let mut items = Vec::new(alloc);
     items.push(Item::Environment)?;
@@ -60,12 +65,12 @@ fn begun<'t, E: Drop, H: Drop>(alloc: Global) -> Result<Plan<'t, E, H>, AllocErr
 }
 
 /// Adds one more item at the end of the plan.
-fn asks<'t, E: Drop, H: Drop>(
+fn with_item<'t, E: Drop, H: Drop>(
     item: Item<'t, E, H>,
     plan: Plan<'t, E, H>,
 ) -> Result<Plan<'t, E, H>, AllocError>
     ensures { IfOk result
-        (λ more. plan_view more ≡ asks (item_of item.entry) (plan_view plan.entry)) }
+        (λ more. plan_view more ≡ with_item (item_of item.entry) (plan_view plan.entry)) }
 {
     let Plan {
         mut items,
@@ -77,54 +82,58 @@ fn asks<'t, E: Drop, H: Drop>(
 }
 
 /// Adds the request for stdout's capture pipe to the plan, if that isn't open yet.
-fn captures_out<'t, E: Drop, H: Drop>(plan: Plan<'t, E, H>) -> Result<Plan<'t, E, H>, AllocError>
-    ensures { IfOk result (λ more. plan_view more ≡ captures_out (plan_view plan.entry)) }
+fn with_output_capture<'t, E: Drop, H: Drop>(
+    plan: Plan<'t, E, H>,
+) -> Result<Plan<'t, E, H>, AllocError>
+    ensures { IfOk result (λ more. plan_view more ≡ with_output_capture (plan_view plan.entry)) }
 {
     if plan.out.is_some() {
         return Ok(plan);
     }
     let place = plan.items.len();
-    let mut more = asks(Item::Pipe, plan)?;
+    let mut more = with_item(Item::Pipe, plan)?;
     more.out = Some(place);
     Ok(more)
 }
 
 /// Adds the request for stderr's capture pipe to the plan, if that isn't open yet.
-fn captures_err<'t, E: Drop, H: Drop>(plan: Plan<'t, E, H>) -> Result<Plan<'t, E, H>, AllocError>
-    ensures { IfOk result (λ more. plan_view more ≡ captures_err (plan_view plan.entry)) }
+fn with_error_capture<'t, E: Drop, H: Drop>(
+    plan: Plan<'t, E, H>,
+) -> Result<Plan<'t, E, H>, AllocError>
+    ensures { IfOk result (λ more. plan_view more ≡ with_error_capture (plan_view plan.entry)) }
 {
     if plan.err.is_some() {
         return Ok(plan);
     }
     let place = plan.items.len();
-    let mut more = asks(Item::Pipe, plan)?;
+    let mut more = with_item(Item::Pipe, plan)?;
     more.err = Some(place);
     Ok(more)
 }
 
 /// Adds the worker of a capture pipe to the plan, if that pipe is open.
-fn drains<'t, E: Drop, H: Drop>(
+fn with_drain<'t, E: Drop, H: Drop>(
     pipe: Option<usize>,
     plan: Plan<'t, E, H>,
 ) -> Result<Plan<'t, E, H>, AllocError>
-    ensures { IfOk result (λ more. plan_view more ≡ drains pipe (plan_view plan.entry)) }
+    ensures { IfOk result (λ more. plan_view more ≡ with_drain pipe (plan_view plan.entry)) }
 {
     match pipe {
         None => Ok(plan),
-        Some(place) => asks(Item::Drain(place), plan),
+        Some(place) => with_item(Item::Drain(place), plan),
     }
 }
 
 /// Adds the reader of a capture pipe to the plan, if that pipe is open.
-fn reads<'t, E: Drop, H: Drop>(
+fn with_reader<'t, E: Drop, H: Drop>(
     pipe: Option<usize>,
     plan: Plan<'t, E, H>,
 ) -> Result<Plan<'t, E, H>, AllocError>
-    ensures { IfOk result (λ more. plan_view more ≡ reads pipe (plan_view plan.entry)) }
+    ensures { IfOk result (λ more. plan_view more ≡ with_reader pipe (plan_view plan.entry)) }
 {
     match pipe {
         None => Ok(plan),
-        Some(place) => asks(Item::Reader(place), plan),
+        Some(place) => with_item(Item::Reader(place), plan),
     }
 }
 
@@ -139,7 +148,7 @@ pub(crate) fn program_of(words: &[String]) -> &str
 }
 
 /// Returns whether the canonical path of a command's program is requested before its spawn.
-pub(crate) fn is_canonical<E, H>(found: &Found<'_, E, H>, words: &[String]) -> bool
+pub(crate) fn is_canonical<E, H>(found: &Surroundings<'_, E, H>, words: &[String]) -> bool
     ensures { result ≡ is_canonical (found_of found.now) (map string_bytes words.now) }
 {
     asks_canonical(program_of(words), found.folder.is_some())
@@ -148,70 +157,75 @@ pub(crate) fn is_canonical<E, H>(found: &Found<'_, E, H>, words: &[String]) -> b
 /// Adds the requests of a tree to the plan. `way` is the path from the tree to the root. A node's
 /// first request comes before those of its inner expression, and the left side of a pipe before the
 /// right.
-fn planned<'t, E: Drop, H: Drop>(
+fn plan_of_subtree<'t, E: Drop, H: Drop>(
     alloc: Global,
-    way: &[Crumb<'t, E, H>],
+    way: &[PathSegment<'t, E, H>],
     node: &'t Node<E, H>,
     plan: Plan<'t, E, H>,
 ) -> Result<Plan<'t, E, H>, AllocError>
     ensures { IfOk result
         (λ after. plan_view after
-        ≡ planned (way_of way.now) (node_view node.now) (plan_view plan.entry)) }
+        ≡ plan_of_subtree (way_of way.now) (node_view node.now) (plan_view plan.entry)) }
 {
     match node {
-        Node::Cmd(words) => commanded(found_on(alloc, way)?, words.as_slice(), plan),
+        Node::Cmd(words) => with_command(surroundings_on(alloc, way)?, words.as_slice(), plan),
         Node::Pipe(left, right) => {
             let place = plan.items.len();
-            let left_way = below(alloc, Crumb::LeftOf(place), way)?;
-            let right_way = below(alloc, Crumb::RightOf(place), way)?;
-            let plan = planned(alloc, left_way.as_slice(), left, asks(Item::Pipe, plan)?)?;
-            planned(alloc, right_way.as_slice(), right, plan)
+            let left_way = below(alloc, PathSegment::LeftOf(place), way)?;
+            let right_way = below(alloc, PathSegment::RightOf(place), way)?;
+            let plan = plan_of_subtree(
+                alloc,
+                left_way.as_slice(),
+                left,
+                with_item(Item::Pipe, plan)?,
+            )?;
+            plan_of_subtree(alloc, right_way.as_slice(), right, plan)
         }
         Node::Io(modifier, inner) => {
             let step = modifier_step(modifier);
             let place = place_for(step.opening, &plan);
-            let inner_way = below(alloc, Crumb::Within(place, modifier), way)?;
-            let plan = opened(step.opening, plan)?;
-            let plan = planned(alloc, inner_way.as_slice(), inner, plan)?;
-            closed(step.feed, place, plan)
+            let inner_way = below(alloc, PathSegment::Within(place, modifier), way)?;
+            let plan = with_opening(step.opening, plan)?;
+            let plan = plan_of_subtree(alloc, inner_way.as_slice(), inner, plan)?;
+            with_closing(step.feed, place, plan)
         }
     }
 }
 
 /// Adds to the plan a command that finds this: first the request for its program's canonical path,
 /// if it is needed, and then its spawn.
-fn commanded<'t, E: Drop, H: Drop>(
-    found: Found<'t, E, H>,
+fn with_command<'t, E: Drop, H: Drop>(
+    found: Surroundings<'t, E, H>,
     words: &'t [String],
     plan: Plan<'t, E, H>,
 ) -> Result<Plan<'t, E, H>, AllocError>
     ensures { IfOk result
         (λ after. plan_view after
-        ≡ commanded (found_of found.entry) (map string_bytes words.now) (plan_view plan.entry)) }
+        ≡ with_command (found_of found.entry) (map string_bytes words.now) (plan_view plan.entry)) }
 {
     let plan = if is_canonical(&found, words) {
-        asks(Item::Canonicalize(program_of(words)), plan)?
+        with_item(Item::Canonicalize(program_of(words)), plan)?
     } else {
         plan
     };
-    asks(Item::Spawn(found, words), plan)
+    with_item(Item::Spawn(found, words), plan)
 }
 
 /// Adds to the plan the request that a node makes before those of its inner expression.
-fn opened<'t, E: Drop, H: Drop>(
+fn with_opening<'t, E: Drop, H: Drop>(
     opening: Opening<'t>,
     plan: Plan<'t, E, H>,
 ) -> Result<Plan<'t, E, H>, AllocError>
     ensures { IfOk result
-        (λ more. plan_view more ≡ opened (opening_of opening.entry) (plan_view plan.entry)) }
+        (λ more. plan_view more ≡ with_opening (opening_of opening.entry) (plan_view plan.entry)) }
 {
     match opening {
         Opening::Nothing => Ok(plan),
-        Opening::Pipe => asks(Item::Pipe, plan),
-        Opening::OpenRead(path) => asks(Item::OpenRead(path), plan),
-        Opening::Create(path) => asks(Item::Create(path), plan),
-        Opening::CapturesOut => captures_out(plan),
-        Opening::CapturesErr => captures_err(plan),
+        Opening::Pipe => with_item(Item::Pipe, plan),
+        Opening::OpenRead(path) => with_item(Item::OpenRead(path), plan),
+        Opening::Create(path) => with_item(Item::Create(path), plan),
+        Opening::CapturesOut => with_output_capture(plan),
+        Opening::CapturesErr => with_error_capture(plan),
     }
 }
 
@@ -230,16 +244,16 @@ fn place_for<E, H>(opening: Opening<'_>, plan: &Plan<'_, E, H>) -> usize
 
 /// Adds to the plan the request that a node at this place makes after those of its inner
 /// expression: the worker that feeds these bytes to its pipe.
-fn closed<'t, E: Drop, H: Drop>(
+fn with_closing<'t, E: Drop, H: Drop>(
     feed: Option<&'t [u8]>,
     place: usize,
     plan: Plan<'t, E, H>,
 ) -> Result<Plan<'t, E, H>, AllocError>
-    ensures { IfOk result
-        (λ more. plan_view more ≡ closed (closing_of feed.entry place) (plan_view plan.entry)) }
+    ensures { IfOk result (λ more. plan_view more ≡ with_closing (closing_of feed.entry place)
+        (plan_view plan.entry)) }
 {
     match feed {
         None => Ok(plan),
-        Some(bytes) => asks(Item::Feed(place, bytes), plan),
+        Some(bytes) => with_item(Item::Feed(place, bytes), plan),
     }
 }

@@ -5,7 +5,7 @@ ghost use Rattle.duct_start.specs.Step.{step};
 ghost use Rattle.duct_tree.specs.NodeView.{modifier_view};
 ghost use Rattle.duct_plan.specs.Step.{idle, IsStep};
 
-use crate::found::Change;
+use crate::found::VariableChange;
 use duct::Stream;
 use duct::tree::Modifier;
 use std::convert::AsStr;
@@ -43,7 +43,7 @@ pub(crate) enum Turn<'t, E> {
 /// What a node does. Its place is that of the item that it adds to the plan or, for a capture, that
 /// of its stream's one pipe.
 #[derive_where(Clone, Copy)]
-pub(crate) struct Step<'t, E, H> {
+pub(crate) struct NodeStep<'t, E, H> {
     pub opening: Opening<'t>,
     /// The bytes that are fed to the pipe at its place, after the requests of its inner expression.
     pub feed: Option<&'t [u8]>,
@@ -54,15 +54,15 @@ pub(crate) struct Step<'t, E, H> {
     /// Where stderr goes.
     pub error: Turn<'t, E>,
     pub folder: Option<&'t str>,
-    pub change: Option<Change<'t>>,
+    pub change: Option<VariableChange<'t>>,
     pub hook: Option<(&'t H, &'t [E])>,
 }
 
 /// Returns the step of a node that only makes this request before those of its inner expression.
-fn only<'t, E, H>(opening: Opening<'t>) -> Step<'t, E, H>
+fn only<'t, E, H>(opening: Opening<'t>) -> NodeStep<'t, E, H>
     ensures { result ≡ record idle { opening = opening.entry } }
 {
-    Step {
+    NodeStep {
         opening,
         feed: None,
         input: Turn::Follows(Stream::In),
@@ -75,51 +75,51 @@ fn only<'t, E, H>(opening: Opening<'t>) -> Step<'t, E, H>
 }
 
 /// Returns the step of a node that makes this request and sends stdin there.
-pub(crate) fn at_stdin<'t, E, H>(opening: Opening<'t>, input: Turn<'t, E>) -> Step<'t, E, H>
+pub(crate) fn at_stdin<'t, E, H>(opening: Opening<'t>, input: Turn<'t, E>) -> NodeStep<'t, E, H>
     ensures { result ≡ record idle { opening = opening.entry; input = input.entry } }
 {
-    Step {
+    NodeStep {
         input,
         ..only(opening)
     }
 }
 
 /// Returns the step of a node that makes this request and sends stdout there.
-pub(crate) fn at_stdout<'t, E, H>(opening: Opening<'t>, output: Turn<'t, E>) -> Step<'t, E, H>
+pub(crate) fn at_stdout<'t, E, H>(opening: Opening<'t>, output: Turn<'t, E>) -> NodeStep<'t, E, H>
     ensures { result ≡ record idle { opening = opening.entry; output = output.entry } }
 {
-    Step {
+    NodeStep {
         output,
         ..only(opening)
     }
 }
 
 /// Returns the step of a node that makes this request and sends stderr there.
-pub(crate) fn at_stderr<'t, E, H>(opening: Opening<'t>, error: Turn<'t, E>) -> Step<'t, E, H>
+pub(crate) fn at_stderr<'t, E, H>(opening: Opening<'t>, error: Turn<'t, E>) -> NodeStep<'t, E, H>
     ensures { result ≡ record idle { opening = opening.entry; error = error.entry } }
 {
-    Step {
+    NodeStep {
         error,
         ..only(opening)
     }
 }
 
 /// Returns the step of a node that only changes the variables.
-fn changing<'t, E, H>(change: Change<'t>) -> Step<'t, E, H>
+fn changing<'t, E, H>(change: VariableChange<'t>) -> NodeStep<'t, E, H>
     ensures { result ≡ record idle { change = Some change.entry } }
 {
-    Step {
+    NodeStep {
         change: Some(change),
         ..only(Opening::Nothing)
     }
 }
 
 /// Returns the step of a modifier.
-pub(crate) fn modifier_step<'t, E, H>(modifier: &'t Modifier<E, H>) -> Step<'t, E, H>
+pub(crate) fn modifier_step<'t, E, H>(modifier: &'t Modifier<E, H>) -> NodeStep<'t, E, H>
     ensures { IsStep (step (modifier_view modifier.now)) result }
 {
     match modifier {
-        Modifier::StdinBytes(bytes) => Step {
+        Modifier::StdinBytes(bytes) => NodeStep {
             feed: Some(bytes.as_slice()),
             ..at_stdin(Opening::Pipe, Turn::Reads)
         },
@@ -136,20 +136,20 @@ pub(crate) fn modifier_step<'t, E, H>(modifier: &'t Modifier<E, H>) -> Step<'t, 
         Modifier::StderrNull => at_stderr(Opening::Nothing, Turn::Nothing),
         Modifier::StderrCapture => at_stderr(Opening::CapturesErr, Turn::Writes),
         Modifier::StderrToStdout => at_stderr(Opening::Nothing, Turn::Follows(Stream::Out)),
-        Modifier::StdoutStderrSwap => Step {
+        Modifier::StdoutStderrSwap => NodeStep {
             output: Turn::Follows(Stream::Err),
             error: Turn::Follows(Stream::Out),
             ..only(Opening::Nothing)
         },
-        Modifier::Dir(path) => Step {
+        Modifier::Dir(path) => NodeStep {
             folder: Some(path.as_str()),
             ..only(Opening::Nothing)
         },
-        Modifier::Env(name, value) => changing(Change::Sets(name.as_str(), value.as_str())),
-        Modifier::EnvRemove(name) => changing(Change::Removes(name.as_str())),
-        Modifier::FullEnv(vars) => changing(Change::Replaces(vars)),
+        Modifier::Env(name, value) => changing(VariableChange::Sets(name.as_str(), value.as_str())),
+        Modifier::EnvRemove(name) => changing(VariableChange::Removes(name.as_str())),
+        Modifier::FullEnv(vars) => changing(VariableChange::Replaces(vars)),
         Modifier::Unchecked => only(Opening::Nothing),
-        Modifier::BeforeSpawn(hook, ends) => Step {
+        Modifier::BeforeSpawn(hook, ends) => NodeStep {
             hook: Some((hook, ends.as_slice())),
             ..only(Opening::Nothing)
         },

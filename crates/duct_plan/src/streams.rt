@@ -6,7 +6,7 @@ ghost use Rattle.duct_plan.specs.Found.{target_of, found_of};
 ghost use Rattle.duct_plan.specs.EntryViews.{entry_views};
 ghost use Rattle.duct_plain.specs.Source.{origin_of};
 
-use crate::found::{Found, Target};
+use crate::found::{Surroundings, Target};
 use crate::trace::{first_end, second_end};
 use duct::{Entry, Numbered, Port, Side, Stdio, Stream};
 use duct_plain::checker::Source;
@@ -56,7 +56,7 @@ fn stream_to<E: Numbered>(trace: &[&Entry], stream: Stream, target: Target<'_, E
 /// Returns the three streams of a command, in the order stdin, stdout, stderr.
 pub(crate) fn streams_to<E: Numbered, H>(
     trace: &[&Entry],
-    found: &Found<'_, E, H>,
+    found: &Surroundings<'_, E, H>,
 ) -> [Stdio<Source>; 3]
     ensures { map (stream_of origin_of) result
         ≡ streams_to (entry_views trace.now) E.number_of (found_of found.now) }

@@ -2,7 +2,7 @@
 //! and the numbers of ends.
 ghost use Rattle.std.specs.Prelude.{◌≡◌, [], ◌∷◌, map, Some, slice_get, slice_index};
 ghost use Rattle.duct_system.specs.EntryView.{entry_view};
-ghost use Rattle.duct_system.specs.Ledger.{got_by};
+ghost use Rattle.duct_system.specs.Ledger.{opened_by};
 ghost use Rattle.duct_system.specs.SpecView.{pair_text};
 ghost use Rattle.duct_start.specs.Asked.{end_at};
 ghost use Rattle.duct_start.specs.Follows.{pairs_in, text_in};
@@ -74,7 +74,7 @@ pub fn second_end(trace: &[&Entry], place: usize) -> u64
 
 /// Returns the number of the first end that an entry's request returned, or 0.
 fn first_of(entry: &Entry) -> u64
-    ensures { result ≡ slice_index (got_by (entry_view entry.now)) 0 }
+    ensures { result ≡ slice_index (opened_by (entry_view entry.now)) 0 }
 {
     match entry {
         Entry::Pipe(Ok((reader, _))) => *reader,
@@ -88,7 +88,7 @@ fn first_of(entry: &Entry) -> u64
 
 /// Returns the number of the second end that an entry's request returned, or 0.
 fn second_of(entry: &Entry) -> u64
-    ensures { result ≡ slice_index (got_by (entry_view entry.now)) 1 }
+    ensures { result ≡ slice_index (opened_by (entry_view entry.now)) 1 }
 {
     match entry {
         Entry::Pipe(Ok((_, writer))) => *writer,

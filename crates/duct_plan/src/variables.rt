@@ -6,7 +6,7 @@ ghost use Rattle.duct_system.specs.SpecView.{AreOrdered, pair_text, said_of, var
 ghost use Rattle.duct_plan.specs.Found.{change_of};
 ghost use Rattle.duct_plan.specs.Variables.{AreFound, Changes};
 
-use crate::found::Change;
+use crate::found::VariableChange;
 use duct_base::names::EnvNameString;
 use std::alloc::{AllocError, Global};
 use std::collections::BTreeMap;
@@ -16,7 +16,7 @@ use std::collections::BTreeMap;
 pub(crate) fn variables(
     alloc: Global,
     pairs: &[(String, String)],
-    changes: &[Change<'_>],
+    changes: &[VariableChange<'_>],
 ) -> Result<BTreeMap<EnvNameString, String>, AllocError>
     ensures { IfOk result
         (λ vars. AreFound (map pair_text pairs.now) (map change_of changes.now)
@@ -52,7 +52,7 @@ fn said(
 /// Returns the variables after a change.
 fn changed(
     alloc: Global,
-    change: Change<'_>,
+    change: VariableChange<'_>,
     vars: BTreeMap<EnvNameString, String>,
 ) -> Result<BTreeMap<EnvNameString, String>, AllocError>
     ensures { IfOk result
@@ -61,16 +61,16 @@ fn changed(
 {
     let mut vars = vars;
     match change {
-        Change::Sets(name, value) => {
+        VariableChange::Sets(name, value) => {
             let name = EnvNameString::from(String::from_str(alloc, name)?);
             vars.insert(name, String::from_str(alloc, value)?)?;
             Ok(vars)
         }
-        Change::Removes(name) => {
+        VariableChange::Removes(name) => {
             vars.retain(|other, _| !other.is(name));
             Ok(vars)
         }
-        Change::Replaces(whole) => {
+        VariableChange::Replaces(whole) => {
             let vars = copied(whole)?;
             Ok(vars)
         }

@@ -1,17 +1,17 @@
 //! The path from a command to the root of its tree.
 ghost use Rattle.std.specs.Prelude.{◌≡◌, ◌∷◌, IfOk};
-ghost use Rattle.duct_start.specs.Path.{place_of, step_of};
+ghost use Rattle.duct_start.specs.Path.{segment_place, step_of};
 ghost use Rattle.duct_plan.specs.Step.{IsStep};
 ghost use Rattle.duct_plan.specs.Way.{crumb_of};
 
-use crate::step::{Opening, Step, Turn, at_stdin, at_stdout, modifier_step};
+use crate::step::{NodeStep, Opening, Turn, at_stdin, at_stdout, modifier_step};
 use duct::tree::Modifier;
 use std::alloc::{AllocError, Global};
 
 /// One node around a command, with its place in the plan. A path to the root is a slice of these,
 /// the nearest first.
 #[derive_where(Clone, Copy)]
-pub(crate) enum Crumb<'t, E, H> {
+pub(crate) enum PathSegment<'t, E, H> {
     /// A pipe, reached from its left side.
     LeftOf(usize),
     /// A pipe, reached from its right side.
@@ -23,35 +23,35 @@ pub(crate) enum Crumb<'t, E, H> {
 }
 
 /// Returns the place of a node.
-pub(crate) fn place_of<E, H>(crumb: &Crumb<'_, E, H>) -> usize
-    ensures { result ≡ place_of (crumb_of crumb.now) }
+pub(crate) fn segment_place<E, H>(crumb: &PathSegment<'_, E, H>) -> usize
+    ensures { result ≡ segment_place (crumb_of crumb.now) }
 {
     match crumb {
-        Crumb::LeftOf(place) => *place,
-        Crumb::RightOf(place) => *place,
-        Crumb::Within(place, _) => *place,
-        Crumb::Captured(place) => *place,
+        PathSegment::LeftOf(place) => *place,
+        PathSegment::RightOf(place) => *place,
+        PathSegment::Within(place, _) => *place,
+        PathSegment::Captured(place) => *place,
     }
 }
 
 /// Returns what a node does.
-pub(crate) fn step_of<'t, E, H>(crumb: &Crumb<'t, E, H>) -> Step<'t, E, H>
+pub(crate) fn step_of<'t, E, H>(crumb: &PathSegment<'t, E, H>) -> NodeStep<'t, E, H>
     ensures { IsStep (step_of (crumb_of crumb.now)) result }
 {
     match crumb {
-        Crumb::LeftOf(_) => at_stdout(Opening::Nothing, Turn::Writes),
-        Crumb::RightOf(_) => at_stdin(Opening::Nothing, Turn::Reads),
-        Crumb::Within(_, modifier) => modifier_step(modifier),
-        Crumb::Captured(_) => at_stdout(Opening::CapturesOut, Turn::Writes),
+        PathSegment::LeftOf(_) => at_stdout(Opening::Nothing, Turn::Writes),
+        PathSegment::RightOf(_) => at_stdin(Opening::Nothing, Turn::Reads),
+        PathSegment::Within(_, modifier) => modifier_step(modifier),
+        PathSegment::Captured(_) => at_stdout(Opening::CapturesOut, Turn::Writes),
     }
 }
 
 /// Returns the path from inside a node: that node, followed by the path from the node itself.
 pub(crate) fn below<'t, E, H>(
     alloc: Global,
-    crumb: Crumb<'t, E, H>,
-    up: &[Crumb<'t, E, H>],
-) -> Result<Vec<Crumb<'t, E, H>>, AllocError>
+    crumb: PathSegment<'t, E, H>,
+    up: &[PathSegment<'t, E, H>],
+) -> Result<Vec<PathSegment<'t, E, H>>, AllocError>
     ensures { IfOk result (λ way. way.items ≡ crumb.entry ∷ up.now) }
 {
     let mut way = Vec::new(alloc);

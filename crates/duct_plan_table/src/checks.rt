@@ -4,14 +4,18 @@ use duct::{Entry, Error};
 use duct_follows::causes::{answers_last_fault, has_cause};
 use duct_follows::follows::{follows, follows_whole};
 use duct_follows::untold::Untold;
-use duct_table::stop::Stop;
+use duct_table::stop::TableError;
 use duct_table::words::{fault, first_word};
 use std::alloc::Global;
 
 /// Returns `whole` if a journal follows the whole plan, `prefix` if it follows the plan as far as
 /// the journal goes, and else `neither`. Returns `no memory` if this can't be decided because a
 /// hook fails with `OutOfMemory`. Fails only on allocation failure.
-pub fn followed(alloc: Global, plan: &TestPlan, entries: &[Entry]) -> Result<&'static str, Stop> {
+pub fn followed(
+    alloc: Global,
+    plan: &TestPlan,
+    entries: &[Entry],
+) -> Result<&'static str, TableError> {
     match told(alloc, plan, entries) {
         Ok(told) => Ok(told),
         Err(Untold::HookOutOfMemory) => Ok("no memory"),
@@ -37,18 +41,18 @@ pub fn is_caused(
     plan: &TestPlan,
     entries: &[Entry],
     text: &str,
-) -> Result<bool, Stop> {
+) -> Result<bool, TableError> {
     has_cause(alloc, plan, entries, &error(text)?).map_err(stopped)
 }
 
 /// Returns whether the error of this text is the fault of the journal's last entry that is no
 /// close. Returns true if there is no such fault. Fails if the text names no error.
-pub fn is_last(entries: &[Entry], text: &str) -> Result<bool, Stop> {
+pub fn is_last(entries: &[Entry], text: &str) -> Result<bool, TableError> {
     Ok(answers_last_fault(entries, &error(text)?))
 }
 
 /// The error of a text: `system Other`, `hook Other`, `hook_end 1`, `not_utf8` or `memory`.
-fn error(text: &str) -> Result<Error, Stop> {
+fn error(text: &str) -> Result<Error, TableError> {
     let (sort, rest) = first_word(text);
     match sort {
         "system" => Ok(Error::System(fault(rest)?)),
@@ -56,14 +60,14 @@ fn error(text: &str) -> Result<Error, Stop> {
         "hook_end" => Ok(Error::HookEnd(rest.parse::<usize>()?)),
         "not_utf8" => Ok(Error::NotUtf8),
         "memory" => Ok(Error::Memory),
-        _ => Err(Stop::Text("no such error")),
+        _ => Err(TableError::Text("no such error")),
     }
 }
 
-/// Turns the reason why a check has no result into a `Stop`.
-pub fn stopped(untold: Untold) -> Stop {
+/// Turns the reason why a check has no result into a `TableError`.
+pub fn stopped(untold: Untold) -> TableError {
     match untold {
-        Untold::HookOutOfMemory => Stop::Text("a hook found no memory"),
-        Untold::Memory => Stop::Error(Error::Memory),
+        Untold::HookOutOfMemory => TableError::Text("a hook found no memory"),
+        Untold::Memory => TableError::Error(Error::Memory),
     }
 }

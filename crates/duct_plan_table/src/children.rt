@@ -12,7 +12,7 @@ use duct_plan::asked::{AskedError, Wired, asked};
 use duct_plan::items::Item;
 use duct_script::system::ScriptEnd;
 use duct_table::expressions::Tree;
-use duct_table::stop::Stop;
+use duct_table::stop::TableError;
 use std::alloc::{AllocError, Global};
 use std::sync::Arc;
 
@@ -31,7 +31,7 @@ pub fn asked_text(
     plan: &TestPlan,
     entries: &[Entry],
     look: Look,
-) -> Result<String, Stop> {
+) -> Result<String, TableError> {
     let traced = trace(alloc, entries)?;
     let mut text = String::new(alloc);
     for command in 0..plan.items.len() {
@@ -50,7 +50,7 @@ fn push_command(
     trace: &[&Entry],
     command: usize,
     look: Look,
-) -> Result<bool, Stop> {
+) -> Result<bool, TableError> {
     match asked(alloc, plan, trace, command).map_err(stopped)? {
         Some(asked) => {
             push_asked(text, &asked, look)?;
@@ -87,7 +87,7 @@ fn push_variables(text: &mut String, spec: &CommandSpec) -> Result<(), Error> {
 
 /// Returns for each of the first four commands: `yes` if something is asked for it, `no` if the
 /// plan has no such command, and `early` if the trace ends before its item.
-pub fn known_text(alloc: Global, plan: &TestPlan, entries: &[Entry]) -> Result<String, Stop> {
+pub fn known_text(alloc: Global, plan: &TestPlan, entries: &[Entry]) -> Result<String, TableError> {
     let traced = trace(alloc, entries)?;
     let mut text = String::new(alloc);
     for command in 0..4 {
@@ -102,12 +102,12 @@ fn push_known(
     plan: &TestPlan,
     trace: &[&Entry],
     command: usize,
-) -> Result<(), Stop> {
+) -> Result<(), TableError> {
     let known = match asked(alloc, plan, trace, command) {
         Ok(Some(_)) => "yes",
         Ok(None) => "no",
         Err(AskedError::TraceTooShort) => "early",
-        Err(AskedError::Memory) => return Err(Stop::Text("out of memory")),
+        Err(AskedError::Memory) => return Err(TableError::Text("out of memory")),
     };
     if !text.is_empty() {
         text.push(' ')?;
@@ -118,7 +118,7 @@ fn push_known(
 
 /// Returns the words that the first command's child gets after its hooks ran, or the text of the
 /// error with which a hook stops the start.
-pub fn child_text(alloc: Global, plan: &TestPlan, entries: &[Entry]) -> Result<String, Stop> {
+pub fn child_text(alloc: Global, plan: &TestPlan, entries: &[Entry]) -> Result<String, TableError> {
     match wired_first(alloc, plan, entries)? {
         Ok(after) => Ok(joined(alloc, after.spec.words())?),
         Err(error) => Ok(format!(in alloc; "{error}")?),
@@ -130,11 +130,11 @@ fn wired_first(
     alloc: Global,
     plan: &TestPlan,
     entries: &[Entry],
-) -> Result<Result<Wired, Error>, Stop> {
+) -> Result<Result<Wired, Error>, TableError> {
     let found = first_found(plan).ok_or("no command")?;
     match asked_first(alloc, plan, entries)? {
         Some(asked) => Ok(wired(asked, found.hooks.as_slice())),
-        None => Err(Stop::Text("no command")),
+        None => Err(TableError::Text("no command")),
     }
 }
 
@@ -149,7 +149,11 @@ fn first_found<'p, 't>(plan: &'p TestPlan<'t>) -> Option<&'p TestFound<'t>> {
 }
 
 /// Returns what is asked for the first command.
-fn asked_first(alloc: Global, plan: &TestPlan, entries: &[Entry]) -> Result<Option<Wired>, Stop> {
+fn asked_first(
+    alloc: Global,
+    plan: &TestPlan,
+    entries: &[Entry],
+) -> Result<Option<Wired>, TableError> {
     let traced = trace(alloc, entries)?;
     asked(alloc, plan, traced.as_slice(), 0).map_err(stopped)
 }
@@ -168,7 +172,7 @@ fn joined(alloc: Global, words: &[String]) -> Result<String, AllocError> {
 
 /// Returns the message if the only command of an expression exits with code 1. The command may be
 /// inside one node.
-pub fn message_text(alloc: Global, tree: &Tree<ScriptEnd>) -> Result<String, Stop> {
+pub fn message_text(alloc: Global, tree: &Tree<ScriptEnd>) -> Result<String, TableError> {
     let drains = Drains {
         out: false,
         err: false,
@@ -178,31 +182,31 @@ pub fn message_text(alloc: Global, tree: &Tree<ScriptEnd>) -> Result<String, Sto
     message(alloc, core.step(Event::Conclude))
 }
 
-fn message(alloc: Global, reply: Reply) -> Result<String, Stop> {
+fn message(alloc: Global, reply: Reply) -> Result<String, TableError> {
     match reply {
         Reply::Failed(text) => Ok(String::from_str(alloc, text.as_str())?),
-        _ => Err(Stop::Text("no failure")),
+        _ => Err(TableError::Text("no failure")),
     }
 }
 
-fn shape(tree: &Tree<ScriptEnd>) -> Result<Shape, Stop> {
+fn shape(tree: &Tree<ScriptEnd>) -> Result<Shape, TableError> {
     let Node::Io(_, inner) = tree.root() else {
         return shape_of(tree.root());
     };
     shape_of(inner)
 }
 
-fn shape_of<E, H>(node: &Node<E, H>) -> Result<Shape, Stop> {
+fn shape_of<E, H>(node: &Node<E, H>) -> Result<Shape, TableError> {
     match node {
         Node::Cmd(words) => Ok(Shape::Command(Arc::try_clone(words)?)),
-        Node::Pipe(_, _) | Node::Io(_, _) => Err(Stop::Text("no command")),
+        Node::Pipe(_, _) | Node::Io(_, _) => Err(TableError::Text("no command")),
     }
 }
 
-/// Turns the reason why it isn't known what is asked for a command into a `Stop`.
-fn stopped(error: AskedError) -> Stop {
+/// Turns the reason why it isn't known what is asked for a command into a `TableError`.
+fn stopped(error: AskedError) -> TableError {
     match error {
-        AskedError::TraceTooShort => Stop::Text("the trace is too short"),
-        AskedError::Memory => Stop::Error(Error::Memory),
+        AskedError::TraceTooShort => TableError::Text("the trace is too short"),
+        AskedError::Memory => TableError::Error(Error::Memory),
     }
 }

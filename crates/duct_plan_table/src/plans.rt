@@ -46,7 +46,7 @@ use duct_script::system::ScriptEnd;
 use duct_table::expressions::{Tree, written};
 use duct_table::journals::journal;
 use duct_table::scenes::Scene;
-use duct_table::stop::Stop;
+use duct_table::stop::TableError;
 use duct_table::table::Table;
 use duct_table::told::{lent_text, pool_text, trace_text};
 use duct_table::words::owned_pairs;
@@ -83,7 +83,7 @@ impl<'t> Plans<'t> {
     }
 
     /// Returns what the line of this key is compared with.
-    fn found(&mut self, key: &str, text: &str) -> Result<String, Stop> {
+    fn found(&mut self, key: &str, text: &str) -> Result<String, TableError> {
         let row = self.row;
         if is_of_start(key) {
             self.is_started = true;
@@ -96,7 +96,7 @@ impl<'t> Plans<'t> {
 }
 
 impl<'t> Table<'t> for Plans<'t> {
-    fn line(&mut self, key: &'t str, text: &'t str) -> Result<Option<String>, Stop> {
+    fn line(&mut self, key: &'t str, text: &'t str) -> Result<Option<String>, TableError> {
         match key {
             "expression" => self.row = begun(text, Way::Launched),
             "reader" => self.row = begun(text, Way::Read),
@@ -117,7 +117,7 @@ impl<'t> Table<'t> for Plans<'t> {
     }
 
     /// Starts the expression of the row, unless a line did, so that the checks of every start run.
-    fn end(&mut self) -> Result<(), Stop> {
+    fn end(&mut self) -> Result<(), TableError> {
         let row = self.row;
         let is_over = row.expression.is_empty() || self.is_started;
         *self = Plans::new(self.alloc);
@@ -148,7 +148,7 @@ fn is_of_start(key: &str) -> bool {
 }
 
 /// Returns what a line about that start is compared with.
-fn start_text(alloc: Global, start: &Start, key: &str, text: &str) -> Result<String, Stop> {
+fn start_text(alloc: Global, start: &Start, key: &str, text: &str) -> Result<String, TableError> {
     let entries = start.bench.sys.journal();
     match key {
         "trace" => Ok(trace_text(alloc, entries)?),
@@ -161,7 +161,12 @@ fn start_text(alloc: Global, start: &Start, key: &str, text: &str) -> Result<Str
 }
 
 /// Returns what a line about a tree is compared with.
-fn tree_text(alloc: Global, row: Row, tree: &Tree<ScriptEnd>, key: &str) -> Result<String, Stop> {
+fn tree_text(
+    alloc: Global,
+    row: Row,
+    tree: &Tree<ScriptEnd>,
+    key: &str,
+) -> Result<String, TableError> {
     if key == "message" {
         return message_text(alloc, tree);
     }
@@ -170,7 +175,7 @@ fn tree_text(alloc: Global, row: Row, tree: &Tree<ScriptEnd>, key: &str) -> Resu
 }
 
 /// Returns what a line about a plan is compared with.
-fn of_plan(alloc: Global, row: Row, plan: &TestPlan, key: &str) -> Result<String, Stop> {
+fn of_plan(alloc: Global, row: Row, plan: &TestPlan, key: &str) -> Result<String, TableError> {
     match key {
         "plan" => Ok(plan_text(alloc, plan)?),
         "items" => Ok(items_text(alloc, plan)?),
@@ -187,19 +192,19 @@ fn of_plan(alloc: Global, row: Row, plan: &TestPlan, key: &str) -> Result<String
 }
 
 /// Returns whether the journal of a text follows the plan.
-fn of_journal(alloc: Global, plan: &TestPlan, text: &str) -> Result<String, Stop> {
+fn of_journal(alloc: Global, plan: &TestPlan, text: &str) -> Result<String, TableError> {
     let entries = journal(alloc, text)?;
     said(alloc, followed(alloc, plan, entries.as_slice())?)
 }
 
 /// Returns whether the journal of a start of this expression follows the plan.
-fn of_start(alloc: Global, plan: &TestPlan, expression: &str) -> Result<String, Stop> {
+fn of_start(alloc: Global, plan: &TestPlan, expression: &str) -> Result<String, TableError> {
     let start = started(alloc, expression, Way::Launched, Scene::plain())?;
     said(alloc, followed(alloc, plan, start.bench.sys.journal())?)
 }
 
 /// Returns what a line about the entries of a start is compared with.
-fn of_entries(alloc: Global, row: Row, plan: &TestPlan, key: &str) -> Result<String, Stop> {
+fn of_entries(alloc: Global, row: Row, plan: &TestPlan, key: &str) -> Result<String, TableError> {
     let entries = match row.journal {
         Some(text) => journal(alloc, text)?,
         None => entries(alloc, plan, row.scene.parent)?,
@@ -213,7 +218,7 @@ fn entries_text(
     plan: &TestPlan,
     entries: &[Entry],
     key: &str,
-) -> Result<String, Stop> {
+) -> Result<String, TableError> {
     match key {
         "given" => asked_text(alloc, plan, entries, Look::Streams),
         "starts" => asked_text(alloc, plan, entries, Look::Folder),
@@ -222,15 +227,15 @@ fn entries_text(
         "child" => child_text(alloc, plan, entries),
         "cause" => yes_or_no(alloc, is_caused(alloc, plan, entries, row.error)?),
         "last" => yes_or_no(alloc, is_last(entries, row.error)?),
-        _ => Err(Stop::Text("no such key")),
+        _ => Err(TableError::Text("no such key")),
     }
 }
 
-fn yes_or_no(alloc: Global, holds: bool) -> Result<String, Stop> {
+fn yes_or_no(alloc: Global, holds: bool) -> Result<String, TableError> {
     said(alloc, if holds { "yes" } else { "no" })
 }
 
-fn said(alloc: Global, said: &str) -> Result<String, Stop> {
+fn said(alloc: Global, said: &str) -> Result<String, TableError> {
     Ok(String::from_str(alloc, said)?)
 }
 
@@ -246,7 +251,7 @@ fn variables(
     parent: &str,
     plan: &TestPlan,
     entries: &[Entry],
-) -> Result<String, Stop> {
+) -> Result<String, TableError> {
     let pairs = owned_pairs(alloc, parent)?;
     let find = Find::Variables(NAMES, pairs.as_slice());
     let found = found_text(alloc, plan, find)?;
@@ -254,7 +259,7 @@ fn variables(
     agreed(alloc, found, given.as_str())
 }
 
-fn agreed(alloc: Global, found: String, given: &str) -> Result<String, Stop> {
+fn agreed(alloc: Global, found: String, given: &str) -> Result<String, TableError> {
     if found.as_str() == given {
         return Ok(found);
     }

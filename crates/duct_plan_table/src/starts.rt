@@ -4,7 +4,7 @@ use crate::texts::TestPlan;
 use duct::tree::{Modifier, Node};
 use duct::{Entry, Error, Numbered, Place, Running, System};
 use duct_follows::causes::{answers_last_fault, has_cause};
-use duct_plain::checker::{got, is_balanced, spent, trace};
+use duct_plain::checker::{closed_numbers, is_balanced, opened_numbers, trace};
 use duct_plan::items::Item;
 use duct_plan::plan::{plan, plan_of_reader};
 use duct_script::calls::{Call, CallLog};
@@ -14,7 +14,7 @@ use duct_script::requests::Sort;
 use duct_script::system::{Script, ScriptEnd};
 use duct_table::expressions::{Tree, written};
 use duct_table::scenes::{Bench, CALLS, FIRST, Scene, bench_of};
-use duct_table::stop::Stop;
+use duct_table::stop::TableError;
 use duct_table::told::noted_text;
 use std::alloc::{AllocError, Global};
 use std::slice;
@@ -80,7 +80,12 @@ pub fn planned(
 
 /// Starts the expression of a text over the system and the pool of a scene. Fails if the start does
 /// what no start may do, if the text or the scene is malformed, and on allocation failure.
-pub fn started(alloc: Global, expression: &str, way: Way, scene: Scene) -> Result<Start, Stop> {
+pub fn started(
+    alloc: Global,
+    expression: &str,
+    way: Way,
+    scene: Scene,
+) -> Result<Start, TableError> {
     let bench = bench_of(alloc, scene)?;
     let tree = written(alloc, Some(&bench.calls), expression)?;
     let start = started_tree(alloc, &tree, way, bench)?;
@@ -105,7 +110,7 @@ pub fn started_tree(
     tree: &Tree<ScriptEnd>,
     way: Way,
     bench: Bench,
-) -> Result<Start, Stop> {
+) -> Result<Start, TableError> {
     let start = launched(alloc, bench, tree, way)?;
     is_right(alloc, tree, &start)?;
     Ok(start)
@@ -255,7 +260,7 @@ fn runs_in(alloc: Global, entries: &[Entry]) -> Result<Runs, AllocError> {
 }
 
 /// Fails if a start did what no start may do.
-fn is_right(alloc: Global, tree: &Tree<ScriptEnd>, start: &Start) -> Result<(), Stop> {
+fn is_right(alloc: Global, tree: &Tree<ScriptEnd>, start: &Start) -> Result<(), TableError> {
     let entries = start.bench.sys.journal();
     let bound = deepest(tree.root()).saturating_mul(2).saturating_add(12);
     right(start.calls.1 <= CALLS as u64, "the log was too short")?;
@@ -269,29 +274,29 @@ fn is_right(alloc: Global, tree: &Tree<ScriptEnd>, start: &Start) -> Result<(), 
 }
 
 /// Fails unless the journal follows the plan and the start returned what fits this.
-fn is_right_by(alloc: Global, plan: &TestPlan, start: &Start) -> Result<(), Stop> {
+fn is_right_by(alloc: Global, plan: &TestPlan, start: &Start) -> Result<(), TableError> {
     let entries = start.bench.sys.journal();
     match followed(alloc, plan, entries)? {
         "whole" => is_right_answer(alloc, start, &runs_in(alloc, entries)?),
         "prefix" => is_right_refusal(alloc, plan, start, &runs_in(alloc, entries)?),
         "no memory" => Ok(()),
-        _ => Err(Stop::Text("the journal of the start does not follow")),
+        _ => Err(TableError::Text("the journal of the start does not follow")),
     }
 }
 
-fn right(holds: bool, otherwise: &'static str) -> Result<(), Stop> {
+fn right(holds: bool, otherwise: &'static str) -> Result<(), TableError> {
     if holds {
         Ok(())
     } else {
-        Err(Stop::from(otherwise))
+        Err(TableError::from(otherwise))
     }
 }
 
 /// Checks that a start that followed the whole plan returned what it started. No child was polled
 /// or given to the pool, except for those of a handle.
-fn is_right_answer(alloc: Global, start: &Start, runs: &Runs) -> Result<(), Stop> {
+fn is_right_answer(alloc: Global, start: &Start, runs: &Runs) -> Result<(), TableError> {
     let Ok(told) = &start.answer else {
-        return Err(Stop::Text("the whole plan was refused"));
+        return Err(TableError::Text("the whole plan was refused"));
     };
     if start.way.is_handle() {
         right(
@@ -306,7 +311,7 @@ fn is_right_answer(alloc: Global, start: &Start, runs: &Runs) -> Result<(), Stop
 
 /// Checks that each of these children was polled once and given to the pool, and no other one of
 /// the start.
-fn are_given(alloc: Global, start: &Start, children: &[u64]) -> Result<(), Stop> {
+fn are_given(alloc: Global, start: &Start, children: &[u64]) -> Result<(), TableError> {
     right(
         polled(alloc, start)?.as_slice() == children,
         "the children of the start were not asked so often as they are given to the pool",
@@ -326,9 +331,9 @@ fn is_right_refusal(
     plan: &TestPlan,
     start: &Start,
     runs: &Runs,
-) -> Result<(), Stop> {
+) -> Result<(), TableError> {
     let Err(error) = &start.answer else {
-        return Err(Stop::Text("less than the whole plan was started"));
+        return Err(TableError::Text("less than the whole plan was started"));
     };
     right(
         is_still_after(start, error),
@@ -414,8 +419,8 @@ fn most_held(alloc: Global, entries: &[Entry]) -> Result<usize, AllocError> {
 
 /// Returns how many ends are held after these entries, if `before` ends were held before them.
 fn held_after(alloc: Global, before: usize, entries: &[Entry]) -> Result<usize, AllocError> {
-    let got = got(alloc, entries)?.len();
-    let spent = spent(alloc, entries)?.len();
+    let got = opened_numbers(alloc, entries)?.len();
+    let spent = closed_numbers(alloc, entries)?.len();
     Ok(before.saturating_add(got).saturating_sub(spent))
 }
 

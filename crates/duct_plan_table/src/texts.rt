@@ -1,7 +1,7 @@
 //! Texts for plans, and for what the look-up from a command finds.
 use crate::streams::push_target;
 use duct::Numbered;
-use duct_plan::found::{Found, variable};
+use duct_plan::found::{Surroundings, variable};
 use duct_plan::items::{Item, Plan};
 use duct_script::hook::ScriptHook;
 use duct_script::system::ScriptEnd;
@@ -15,7 +15,7 @@ pub type TestPlan<'t> = Plan<'t, ScriptEnd, ScriptHook>;
 pub type TestItem<'t> = Item<'t, ScriptEnd, ScriptHook>;
 
 /// What the look-up from a command of such a plan finds.
-pub type TestFound<'t> = Found<'t, ScriptEnd, ScriptHook>;
+pub type TestFound<'t> = Surroundings<'t, ScriptEnd, ScriptHook>;
 
 /// Returns the items of a plan, and then the places of its capture pipes.
 pub fn plan_text(alloc: Global, plan: &TestPlan) -> Result<String, AllocError> {

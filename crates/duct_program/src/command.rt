@@ -5,7 +5,7 @@ ghost use Rattle.duct_program.specs.CommandView.{command_view};
 ghost use Rattle.duct_program.specs.Parsed.{ParsesAs};
 
 use crate::usage::Usage;
-use duct_system::spec::Stream;
+use duct_base::spec::Stream;
 use std::alloc::Global;
 
 /// A stream of a command that is read from or written to a file.

@@ -4,7 +4,7 @@ ghost use Rattle.std.specs.Prelude.{◌≡◌, ◌⊎◌, Ok, Err, map, string_b
 ghost use Rattle.duct_system.specs.Trace.{segment};
 ghost use Rattle.duct_start.specs.Plan.{plan_of_reader};
 ghost use Rattle.duct_start.specs.Start.{StartSucceeds, StartRefused};
-ghost use Rattle.duct.specs.Ended.{WasRead};
+ghost use Rattle.duct.specs.RunResults.{ReadReturns};
 ghost use Rattle.duct_program.specs.Answered.{IfUsage, IfRefused, Means, line_of};
 ghost use Rattle.duct_program.specs.Parsed.{RefusesAs};
 
@@ -32,7 +32,7 @@ pub fn answer<S: System, H: Hook + Drop>(
         Means (line_of S.End.number_of H.allows (map string_bytes args.now))
         (λ tree. let old = S.journal_view sys.old in let new = S.journal_view sys.new in
         StartSucceeds H.allows S.End.number_of tree (plan_of_reader tree) old new
-        × WasRead S.Child.may_answer S.Feed.may_say S.Drain.may_say tree S.may_read
+        × ReadReturns S.Child.may_answer S.Feed.may_say S.Drain.may_say tree S.may_read
         S.Reader.remaining (is_some (plan_of_reader tree).err) (segment old.entries new.entries)
         (Ok text))) }
     ensures err { IfErr result (λ failure. IfRefused failure (λ e.
@@ -41,7 +41,7 @@ pub fn answer<S: System, H: Hook + Drop>(
         StartRefused H.allows H.refuses S.End.number_of tree
         (plan_of_reader tree) old new e
         ⊎ (StartSucceeds H.allows S.End.number_of tree (plan_of_reader tree) old new
-        × WasRead S.Child.may_answer S.Feed.may_say S.Drain.may_say tree S.may_read
+        × ReadReturns S.Child.may_answer S.Feed.may_say S.Drain.may_say tree S.may_read
         S.Reader.remaining (is_some (plan_of_reader tree).err) (segment old.entries new.entries)
         (Err e))))) }
 {

@@ -6,7 +6,7 @@ ghost use Rattle.duct_system.specs.declared.system.Fault.{Fault};
 ghost use Rattle.duct_system.specs.declared.system.Order.TheVariants.{Kill};
 ghost use Rattle.duct_status.specs.ShapeView.{shape_view};
 ghost use Rattle.duct_running.specs.Answered.{IsAnswer};
-ghost use Rattle.duct_running.specs.Told.{OneRuns};
+ghost use Rattle.duct_running.specs.Allowed.{OneRuns};
 ghost use Rattle.duct_handle.specs.Obeyed.{IsObeyed};
 ghost use Rattle.duct_reader.specs.Reads.{ClosesAs, KnowsOutput, ReadsAs};
 

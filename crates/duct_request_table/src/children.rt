@@ -2,7 +2,7 @@
 //! ended and gives its exit status.
 use crate::say::{say, tell};
 use duct_base::system::{Child, ExitStatus};
-use duct_table::stop::Stop;
+use duct_table::stop::TableError;
 use std::rt::Clock;
 use std::thread;
 use std::time::Duration;
@@ -16,7 +16,7 @@ pub fn order<C: Child>(
     key: &str,
     text: &str,
     said: &mut String,
-) -> Result<(), Stop> {
+) -> Result<(), TableError> {
     match key {
         "poll" => tell(said, &child.poll()),
         "kill" => tell(said, &child.kill()),
@@ -26,26 +26,26 @@ pub fn order<C: Child>(
 }
 
 /// Waits until a child has ended. Its number and its id have to stay the same.
-fn end<C: Child>(rt: &impl Clock, child: &mut C, said: &mut String) -> Result<(), Stop> {
+fn end<C: Child>(rt: &impl Clock, child: &mut C, said: &mut String) -> Result<(), TableError> {
     let names = (child.number(), child.id());
     let status = ending(rt, child)?;
     let are_kept = (child.number(), child.id()) == names;
     if are_kept {
         say(said, &status)
     } else {
-        Err(Stop::Text("the child has other names"))
+        Err(TableError::Text("the child has other names"))
     }
 }
 
 /// Polls a child until it has ended, and returns its exit status. Blocks the thread: it polls at
 /// most 3000 times, and sleeps 10 milliseconds between two polls. Fails at the first poll that
 /// returns a fault, or if the child is still running in the end.
-pub fn ending<C: Child>(rt: &impl Clock, child: &mut C) -> Result<ExitStatus, Stop> {
+pub fn ending<C: Child>(rt: &impl Clock, child: &mut C) -> Result<ExitStatus, TableError> {
     for _ in 0..3000 {
         if let Some(ending) = child.poll()? {
             return Ok(ending);
         }
         thread::sleep(rt, Duration::from_millis(10));
     }
-    Err(Stop::Text("the child goes on"))
+    Err(TableError::Text("the child goes on"))
 }

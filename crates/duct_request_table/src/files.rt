@@ -2,14 +2,14 @@
 //! `make_folder: f`, `remove_folder: f`, `remove: f`, and `clean: f`, which removes a file if it is
 //! there.
 use crate::machine::Real;
-use duct_table::stop::Stop;
+use duct_table::stop::TableError;
 use duct_table::words::first_word;
 use std::fs;
 use std::fs::Permissions;
 use std::os::unix::fs::PermissionsExt;
 
 /// Makes the change of this key. Fails if there is no such key, or if the change fails.
-pub fn arrange<R: Real>(rt: &R, key: &str, text: &str) -> Result<(), Stop> {
+pub fn arrange<R: Real>(rt: &R, key: &str, text: &str) -> Result<(), TableError> {
     let (path, more) = first_word(text);
     let done = match key {
         "write" => fs::write(rt, path, more.replace(rt.alloc(), "{feed}", "\n")?),
@@ -21,16 +21,16 @@ pub fn arrange<R: Real>(rt: &R, key: &str, text: &str) -> Result<(), Stop> {
             let _ = fs::remove_file(rt, path);
             Ok(())
         }
-        _ => return Err(Stop::Text("no such key")),
+        _ => return Err(TableError::Text("no such key")),
     };
     Ok(done?)
 }
 
 /// The mode that a listing shows like this.
-fn mode(shown: &str) -> Result<u32, Stop> {
+fn mode(shown: &str) -> Result<u32, TableError> {
     match shown {
         "rw-r--r--" => Ok(0o644),
         "rwxr-xr-x" => Ok(0o755),
-        _ => Err(Stop::Text("no such mode")),
+        _ => Err(TableError::Text("no such mode")),
     }
 }

@@ -19,7 +19,7 @@ use duct_base::system::{Fault, Kind, Numbered, Stdio, System};
 use duct_host::child::Child;
 use duct_host::end::End;
 use duct_host::host::Host;
-use duct_table::stop::Stop;
+use duct_table::stop::TableError;
 use duct_table::waits::heard;
 use duct_table::words::side;
 use std::alloc::Global;
@@ -47,7 +47,7 @@ impl<R: Real> Requests<R> {
     }
 
     /// Keeps a new end, and appends its number.
-    fn keep(&mut self, end: End, said: &mut String) -> Result<(), Stop>
+    fn keep(&mut self, end: End, said: &mut String) -> Result<(), TableError>
         requires { vec_len self.old.ends + 1 ≤ self.old.system.room }
     {
         let number = end.number();
@@ -64,7 +64,7 @@ impl<R: Real> Requests<R> {
         key: &str,
         text: &str,
         said: &mut String,
-    ) -> Result<bool, Stop> {
+    ) -> Result<bool, TableError> {
         match key {
             "environment" => self.environment(said)?,
             "pipe" => self.pipe(said)?,
@@ -83,12 +83,12 @@ impl<R: Real> Requests<R> {
         Ok(true)
     }
 
-    fn environment(&mut self, said: &mut String) -> Result<(), Stop> {
+    fn environment(&mut self, said: &mut String) -> Result<(), TableError> {
         let count = self.system.environment().map(|pairs| pairs.len());
         tell(said, &count)
     }
 
-    fn pipe(&mut self, said: &mut String) -> Result<(), Stop> {
+    fn pipe(&mut self, said: &mut String) -> Result<(), TableError> {
         self.ends.reserve(2)?;
         match self.system.pipe() {
             Ok((read, write)) => {
@@ -101,21 +101,21 @@ impl<R: Real> Requests<R> {
         }
     }
 
-    fn open_read(&mut self, path: &str, said: &mut String) -> Result<(), Stop> {
+    fn open_read(&mut self, path: &str, said: &mut String) -> Result<(), TableError> {
         match self.system.open_read(path) {
             Ok(end) => self.keep(end, said),
             Err(fault) => say(said, &fault.kind),
         }
     }
 
-    fn create(&mut self, path: &str, said: &mut String) -> Result<(), Stop> {
+    fn create(&mut self, path: &str, said: &mut String) -> Result<(), TableError> {
         match self.system.create(path) {
             Ok(end) => self.keep(end, said),
             Err(fault) => say(said, &fault.kind),
         }
     }
 
-    fn parent(&mut self, name: &str, said: &mut String) -> Result<(), Stop> {
+    fn parent(&mut self, name: &str, said: &mut String) -> Result<(), TableError> {
         let side = side(name)?;
         match self.system.parent(side) {
             Ok(end) => self.keep(end, said),
@@ -123,7 +123,7 @@ impl<R: Real> Requests<R> {
         }
     }
 
-    fn duplicate(&mut self, number: &str, said: &mut String) -> Result<(), Stop> {
+    fn duplicate(&mut self, number: &str, said: &mut String) -> Result<(), TableError> {
         let end = taken(&mut self.ends, number)?;
         let made = self.system.duplicate(&end)?;
         self.ends.push(end)?;
@@ -132,7 +132,7 @@ impl<R: Real> Requests<R> {
 
     /// Requests a duplicate of this end. Appends its number, or the kind of the fault. Fails on an
     /// allocation failure.
-    pub fn duplicate_of(&mut self, end: &End, said: &mut String) -> Result<(), Stop> {
+    pub fn duplicate_of(&mut self, end: &End, said: &mut String) -> Result<(), TableError> {
         match self.system.duplicate(end) {
             Ok(made) => self.keep(made, said),
             Err(fault) => say(said, &fault.kind),
@@ -140,7 +140,7 @@ impl<R: Real> Requests<R> {
     }
 
     /// Starts a worker that writes `xyz`, waits for it, and appends its result.
-    fn feed(&mut self, rt: &impl Clock, number: &str, said: &mut String) -> Result<(), Stop> {
+    fn feed(&mut self, rt: &impl Clock, number: &str, said: &mut String) -> Result<(), TableError> {
         let bytes = Arc::new(self.alloc, Vec::from_slice(self.alloc, b"xyz")?)?;
         let end = taken(&mut self.ends, number)?;
         match self.system.start_feed(end, bytes) {
@@ -150,7 +150,12 @@ impl<R: Real> Requests<R> {
     }
 
     /// Starts a worker that reads, waits for it, and appends its result, with the bytes as text.
-    fn drain(&mut self, rt: &impl Clock, number: &str, said: &mut String) -> Result<(), Stop> {
+    fn drain(
+        &mut self,
+        rt: &impl Clock,
+        number: &str,
+        said: &mut String,
+    ) -> Result<(), TableError> {
         let end = taken(&mut self.ends, number)?;
         let heard = match self.system.start_drain(end) {
             Ok(mut worker) => heard(rt, &mut worker)?,
@@ -162,13 +167,13 @@ impl<R: Real> Requests<R> {
         }
     }
 
-    fn close(&mut self, number: &str) -> Result<(), Stop> {
+    fn close(&mut self, number: &str) -> Result<(), TableError> {
         let end = taken(&mut self.ends, number)?;
         self.system.close(end);
         Ok(())
     }
 
-    fn read(&mut self, key: &str, number: &str, said: &mut String) -> Result<(), Stop> {
+    fn read(&mut self, key: &str, number: &str, said: &mut String) -> Result<(), TableError> {
         let end = taken(&mut self.ends, number)?;
         let reader = self.system.reader(end);
         match key {
@@ -182,7 +187,7 @@ impl<R: Real> Requests<R> {
     }
 
     /// Reads an end to EOF and returns the text. Fails if there is no such end, or if a read fails.
-    pub fn text(&mut self, number: &str) -> Result<String, Stop> {
+    pub fn text(&mut self, number: &str) -> Result<String, TableError> {
         let end = taken(&mut self.ends, number)?;
         text_of(self.alloc, self.system.reader(end))
     }
@@ -190,26 +195,30 @@ impl<R: Real> Requests<R> {
     /// Starts a child with these streams, each `inherit`, `null` or the number of an end. Returns
     /// the child, or the fault if the request is refused. Fails if a stream is malformed or there
     /// is no such end.
-    pub fn spawn(&mut self, spec: CommandSpec, io: &str) -> Result<Result<Child<R>, Fault>, Stop> {
+    pub fn spawn(
+        &mut self,
+        spec: CommandSpec,
+        io: &str,
+    ) -> Result<Result<Child<R>, Fault>, TableError> {
         let io = streams(&mut self.ends, io)?;
         Ok(self.system.spawn(spec, io))
     }
 }
 
-fn text_of<R: Read + Drop>(alloc: Global, mut reader: R) -> Result<String, Stop> {
+fn text_of<R: Read + Drop>(alloc: Global, mut reader: R) -> Result<String, TableError> {
     let mut text = String::new(alloc);
     reader.read_to_string(&mut text)?;
     Ok(text)
 }
 
 /// Fails unless the next bytes are the line `ready`.
-fn ready<R: Read + Drop>(mut reader: R) -> Result<(), Stop> {
+fn ready<R: Read + Drop>(mut reader: R) -> Result<(), TableError> {
     let mut line = [0u8; 6];
     reader.read_exact(&mut line)?;
     if &line == b"ready\n" {
         Ok(())
     } else {
-        Err(Stop::Text("the child is not ready"))
+        Err(TableError::Text("the child is not ready"))
     }
 }
 
@@ -222,7 +231,7 @@ fn refused<R: Read + Drop>(mut reader: R) -> Option<Kind> {
     }
 }
 
-fn tell_text(said: &mut String, key: &str, text: &str) -> Result<(), Stop> {
+fn tell_text(said: &mut String, key: &str, text: &str) -> Result<(), TableError> {
     if key == "stars" {
         let is_starry = text.bytes().all(|byte| byte == b'*');
         say(said, &(text.len(), is_starry))
@@ -232,7 +241,7 @@ fn tell_text(said: &mut String, key: &str, text: &str) -> Result<(), Stop> {
 }
 
 /// Appends bytes as text, or their number if they are not UTF-8.
-fn tell_bytes(said: &mut String, bytes: &[u8]) -> Result<(), Stop> {
+fn tell_bytes(said: &mut String, bytes: &[u8]) -> Result<(), TableError> {
     match str::from_utf8(bytes) {
         Ok(text) => say(said, &text),
         Err(_) => say(said, &bytes.len()),
@@ -241,19 +250,19 @@ fn tell_bytes(said: &mut String, bytes: &[u8]) -> Result<(), Stop> {
 
 /// Removes the end with this number from a list and returns it. Fails, with the list unchanged, if
 /// the number is malformed or there is no such end.
-pub fn taken<E: Numbered>(ends: &mut Vec<E>, number: &str) -> Result<E, Stop>
+pub fn taken<E: Numbered>(ends: &mut Vec<E>, number: &str) -> Result<E, TableError>
     ensures taken { OnOk result (vec_len ends.old ≡ vec_len ends.new + 1) }
     ensures left { OnErr result (vec_len ends.old ≡ vec_len ends.new) }
 {
     let number = number.parse::<u64>()?;
     match ends.iter().position(|end| end.number() == number) {
         Some(place) if place < ends.len() => Ok(ends.swap_remove(place)),
-        _ => Err(Stop::Text("there is no such end")),
+        _ => Err(TableError::Text("there is no such end")),
     }
 }
 
 /// Reads a stream: `inherit`, `null`, or an end by its number, which is removed from a list.
-fn stream<E: Numbered>(ends: &mut Vec<E>, word: Option<&str>) -> Result<Stdio<E>, Stop>
+fn stream<E: Numbered>(ends: &mut Vec<E>, word: Option<&str>) -> Result<Stdio<E>, TableError>
     ensures taken { IfOk result (λ made.
         vec_len ends.old ≡ vec_len ends.new + length (ends_of (made ∷ []))) }
     ensures left { OnErr result (vec_len ends.old ≡ vec_len ends.new) }
@@ -262,12 +271,12 @@ fn stream<E: Numbered>(ends: &mut Vec<E>, word: Option<&str>) -> Result<Stdio<E>
         Some("inherit") => Ok(Stdio::Inherit),
         Some("null") => Ok(Stdio::Null),
         Some(number) => Ok(Stdio::End(taken(ends, number)?)),
-        None => Err(Stop::Text("a stream is missing")),
+        None => Err(TableError::Text("a stream is missing")),
     }
 }
 
 /// Reads three streams, whose ends are removed from a list.
-fn streams<E: Numbered>(ends: &mut Vec<E>, io: &str) -> Result<[Stdio<E>; 3], Stop>
+fn streams<E: Numbered>(ends: &mut Vec<E>, io: &str) -> Result<[Stdio<E>; 3], TableError>
     ensures taken { IfOk result
         (λ made. vec_len ends.old ≡ vec_len ends.new + length (ends_of made)) }
     ensures left { vec_len ends.new ≤ vec_len ends.old }

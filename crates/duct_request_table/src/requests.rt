@@ -25,7 +25,7 @@ use duct_base::system::{Child, Numbered, System};
 use duct_host::child;
 use duct_host::end::End;
 use duct_host::host::Host;
-use duct_table::stop::Stop;
+use duct_table::stop::TableError;
 use duct_table::table::Table;
 use std::fs::File;
 use std::io;
@@ -60,7 +60,7 @@ impl<R: Real> HostRequests<R> {
 }
 
 impl<'t, R: Real> Table<'t> for HostRequests<R> {
-    fn line(&mut self, key: &'t str, text: &'t str) -> Result<Option<String>, Stop> {
+    fn line(&mut self, key: &'t str, text: &'t str) -> Result<Option<String>, TableError> {
         if self.row.is_none() {
             self.row = Some(Row::new(&self.rt)?);
         }
@@ -70,7 +70,7 @@ impl<'t, R: Real> Table<'t> for HostRequests<R> {
         }
     }
 
-    fn end(&mut self) -> Result<(), Stop> {
+    fn end(&mut self) -> Result<(), TableError> {
         let Some(row) = self.row.take() else {
             return Ok(());
         };
@@ -79,13 +79,13 @@ impl<'t, R: Real> Table<'t> for HostRequests<R> {
         if open_descriptors(&self.rt)? == opened {
             Ok(())
         } else {
-            Err(Stop::Text("descriptors stay open"))
+            Err(TableError::Text("descriptors stay open"))
         }
     }
 }
 
 impl<R: Real> Row<R> {
-    fn new(rt: &R) -> Result<Row<R>, Stop> {
+    fn new(rt: &R) -> Result<Row<R>, TableError> {
         let alloc = rt.alloc();
         let opened = open_descriptors(rt)?;
         let own = rt.clone()?;
@@ -102,7 +102,7 @@ impl<R: Real> Row<R> {
         })
     }
 
-    fn line(&mut self, key: &str, text: &str) -> Result<Option<String>, Stop> {
+    fn line(&mut self, key: &str, text: &str) -> Result<Option<String>, TableError> {
         let alloc = self.rt.alloc();
         if key == "says" {
             return Ok(Some(replace(&mut self.said, String::new(alloc))));
@@ -112,7 +112,7 @@ impl<R: Real> Row<R> {
         Ok(None)
     }
 
-    fn call(&mut self, key: &str, text: &str) -> Result<(), Stop> {
+    fn call(&mut self, key: &str, text: &str) -> Result<(), TableError> {
         match key {
             "spawn" => self.spawn(text),
             "folder" => set(&mut self.folder, text),
@@ -129,21 +129,21 @@ impl<R: Real> Row<R> {
         }
     }
 
-    fn ask(&mut self, key: &str, text: &str) -> Result<(), Stop> {
+    fn ask(&mut self, key: &str, text: &str) -> Result<(), TableError> {
         if self.held.ask(&self.rt, key, text, &mut self.said)? {
             return Ok(());
         }
         arrange(&self.rt, key, text)
     }
 
-    fn order(&mut self, key: &str, text: &str) -> Result<(), Stop> {
+    fn order(&mut self, key: &str, text: &str) -> Result<(), TableError> {
         match &mut self.child {
             Some(child) => order(&self.rt, child, key, text, &mut self.said),
-            None => Err(Stop::Text("there is no child")),
+            None => Err(TableError::Text("there is no child")),
         }
     }
 
-    fn spawn(&mut self, text: &str) -> Result<(), Stop> {
+    fn spawn(&mut self, text: &str) -> Result<(), TableError> {
         let (io, words) = words_of(text);
         let spec = spec(
             self.rt.alloc(),
@@ -161,19 +161,19 @@ impl<R: Real> Row<R> {
         }
     }
 
-    fn read_id(&mut self, number: &str) -> Result<(), Stop> {
+    fn read_id(&mut self, number: &str) -> Result<(), TableError> {
         let text = self.held.text(number)?;
         let found = id_in(text.as_str());
         let id = self.child.as_ref().map(|child| child.id());
         say(&mut self.said, &(id.is_some() && found == id))
     }
 
-    fn tell_opened(&mut self) -> Result<(), Stop> {
+    fn tell_opened(&mut self) -> Result<(), TableError> {
         let more = open_descriptors(&self.rt)?.checked_sub(self.opened);
         say(&mut self.said, &more)
     }
 
-    fn adopt_pipe(&mut self, text: &str) -> Result<(), Stop> {
+    fn adopt_pipe(&mut self, text: &str) -> Result<(), TableError> {
         let (reader, mut writer) = io::pipe(&self.rt)?;
         writer.write_all(text.as_bytes())?;
         let read = self.held.system.adopt_reader(reader)?;
@@ -182,27 +182,27 @@ impl<R: Real> Row<R> {
         self.keep_adopted(write)
     }
 
-    fn adopt_file(&mut self, path: &str) -> Result<(), Stop> {
+    fn adopt_file(&mut self, path: &str) -> Result<(), TableError> {
         let file = File::open(&self.rt, path)?;
         let end = self.held.system.adopt_file(file)?;
         self.keep_adopted(end)
     }
 
-    fn keep_adopted(&mut self, end: End) -> Result<(), Stop> {
+    fn keep_adopted(&mut self, end: End) -> Result<(), TableError> {
         let number = end.number();
         self.adopted.push(end)?;
         say(&mut self.said, &number)
     }
 
     /// Requests a duplicate of an adopted end.
-    fn lend(&mut self, number: &str) -> Result<(), Stop> {
+    fn lend(&mut self, number: &str) -> Result<(), TableError> {
         let end = taken(&mut self.adopted, number)?;
         self.held.duplicate_of(&end, &mut self.said)?;
         Ok(self.adopted.push(end)?)
     }
 }
 
-fn set(text: &mut String, value: &str) -> Result<(), Stop> {
+fn set(text: &mut String, value: &str) -> Result<(), TableError> {
     text.clear();
     Ok(text.push_str(value)?)
 }

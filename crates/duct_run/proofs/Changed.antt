@@ -14,7 +14,7 @@ use Rattle.duct_system.specs.Name.{is_same_name, name_cmp}
 use Rattle.duct_system.specs.SpecView.{Vars, AreOrdered, pair_text, said_of, spelled, var_view, variable_in}
 use Rattle.duct_system.proofs.Entries.{insert_var, are_ordered}
 use Rattle.duct_system.proofs.Variables.{name_equiv, name_ties, none_there, same_at, variable_in-with, said_of-more}
-use Rattle.duct_start.specs.Found.{Change, Sets, Removes, Replaces, variable}
+use Rattle.duct_start.specs.Surroundings.{VariableChange, Sets, Removes, Replaces, variable}
 
 -- a look-up of a name in these variables finds what these pairs have for it
 abbrev pub FindsSaid : {Z : Type 0} → List (List ℕ × String Z) → Vars → Type 0
@@ -123,7 +123,7 @@ module _ {Z : Type 0} (es new : List (List ℕ × String Z)) where
       ∙ variable_in-remove_entry name k (map var_view es) ordered
 
 -- what is found after some changes decides what is found from them on
-pub found_behind : (pairs : Vars) (changes some other : List Change)
+pub found_behind : (pairs : Vars) (changes some other : List VariableChange)
     → ((name : List ℕ) → variable pairs some name ≡ variable pairs other name)
     → (name : List ℕ)
     → variable pairs (changes ++ some) name ≡ variable pairs (changes ++ other) name

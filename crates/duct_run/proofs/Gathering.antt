@@ -6,15 +6,15 @@ use Rattle.std.specs.declared.string.String.{String}
 use Rattle.std.proofs.Common.{Global, ◌≡◌, refl, ap, sym, ◌∙◌, append_assoc}
 use Rattle.std.proofs.lemmas.List.{map-append}
 use Rattle.duct_system.specs.SpecView.{Vars, said_of, var_view, variable_in}
-use Rattle.duct_start.specs.Found.{Change, Replaces, variable}
+use Rattle.duct_start.specs.Surroundings.{VariableChange, Replaces, variable}
 use Rattle.duct_run.specs.Changes.{change_of, changes_of, whole_of}
-use Rattle.duct_run.specs.declared.variables.Change as declared
+use Rattle.duct_run.specs.declared.variables.BorrowedChange as declared
 use Rattle.duct_run.specs.declared.variables.Gathered.{Gathered}
 use Rattle.duct_run.proofs.Changed.{found_behind}
 
 -- one more change is collected
-pub one_more : (some more : List declared.Change) (change : declared.Change)
-    (outer here all : List Change) → more ≡ some ++ change ∷ []
+pub one_more : (some more : List declared.BorrowedChange) (change : declared.BorrowedChange)
+    (outer here all : List VariableChange) → more ≡ some ++ change ∷ []
     → change_of change ∷ outer ≡ here
     → map change_of some ++ here ≡ all → map change_of more ++ outer ≡ all
 one_more some more change outer here all is next so_far =
@@ -22,7 +22,7 @@ one_more some more change outer here all is next so_far =
     ∙ append_assoc (map change_of some) (change_of change ∷ []) outer ∙ ap (λ xs. map change_of some ++ xs) next ∙ so_far
 
 -- the changes outside variables that replace all others are not read
-pub replaced : (some outer here all : List Change) (vars : Vars) → Replaces vars ∷ outer ≡ here
+pub replaced : (some outer here all : List VariableChange) (vars : Vars) → Replaces vars ∷ outer ≡ here
     → some ++ here ≡ all → (pairs : Vars) (name : List ℕ)
     → variable pairs (some ++ Replaces vars ∷ []) name ≡ variable pairs all name
 replaced some outer here all vars next so_far pairs name =
@@ -49,7 +49,7 @@ begun_said gathered vars pairs is said name =
     ∙ ap (λ o. variable pairs (map change_of gathered.changes.items ++ whole_of o) name) (sym is)
 
 -- the furthest remaining change is applied
-pub one_made : (old left : List declared.Change) (change : declared.Change)
+pub one_made : (old left : List declared.BorrowedChange) (change : declared.BorrowedChange)
     (before after pairs : Vars) → old ≡ left ++ change ∷ []
     → ((name : List ℕ)
     → variable_in name after ≡ variable pairs (change_of change ∷ Replaces before ∷ []) name)

@@ -13,49 +13,49 @@ use Rattle.duct_system.specs.Trace.{segment}
 use Rattle.duct_system.specs.declared.error.Error.{Error}
 use Rattle.duct_start.specs.Chain.{Allows, Refuses}
 use Rattle.duct_start.specs.Closes.{Closes}
-use Rattle.duct_start.specs.Commands.{Refused}
-use Rattle.duct_start.specs.Holdings.{Holdings, ends, pair_of}
+use Rattle.duct_start.specs.Commands.{StoppedWithCause}
+use Rattle.duct_start.specs.ResourcesView.{ResourcesView, open_ends, pipe_ends}
 use Rattle.duct_start.specs.Left.{Leaves, LeavesStarted, pool_view}
 use Rattle.duct_start.specs.Plan.{Plan}
-use Rattle.duct_start.specs.Standing.{Course}
+use Rattle.duct_start.specs.RunInvariant.{RunContext}
 use Rattle.duct_start.specs.Start.{StartRefused, ceiling, depth}
 use Rattle.duct_start.specs.Step.{Item}
 use Rattle.duct_start.specs.TreeView.{TreeView}
 use Rattle.duct_start.proofs.Closing.{refused_closed, refused_children, refused_room}
 use Rattle.duct_start.proofs.Counts.{count-append, count-reverse}
 use Rattle.duct_start.proofs.Leaving.{leaves_refused}
-use Rattle.duct_run.specs.HeldEnds.{held_ends}
-use Rattle.duct_run.specs.HeldView.{AreNew, held_view}
-use Rattle.duct_run.specs.declared.held.Held.{Held}
+use Rattle.duct_run.specs.ResourceEnds.{ends_of_resources}
+use Rattle.duct_run.specs.ResourcesView.{AreNew, resources_view}
+use Rattle.duct_run.specs.declared.resources.Resources.{Resources}
 
 module _ {E H C F D V W : Type 0} (allows : Allows H) (refuses : Refuses H) (number_of : E → ℕ) (child : C → ChildView) (feed : F → JobView V) (drain : D → JobView W)
-    (course : Course) (items : List (Item E H)) (now : JournalView) (held : Held E C F D) (error : Error)
-    (run : Refused allows refuses number_of course items now (held_view number_of child feed drain held) error) where
-  abbrev seen : Holdings
-  seen = held_view number_of child feed drain held
+    (course : RunContext) (items : List (Item E H)) (now : JournalView) (held : Resources E C F D) (error : Error)
+    (run : StoppedWithCause allows refuses number_of course items now (resources_view number_of child feed drain held) error) where
+  abbrev seen : ResourcesView
+  seen = resources_view number_of child feed drain held
 
   -- the list of ends to close has the same ends as the view of what is held
-  same_ends : (n : ℕ) → count_of n (held_ends number_of held) ≡ count_of n (ends seen)
+  same_ends : (n : ℕ) → count_of n (ends_of_resources number_of held) ≡ count_of n (open_ends seen)
   same_ends n =
       let places = map number_of held.stack.items in
-      let pairs = pair_of seen.out ++ pair_of seen.err in
+      let pairs = pipe_ends seen.out ++ pipe_ends seen.err in
       omega (arith, count-append n places pairs, count-append n (reverse places) pairs, count-reverse n places)
 
-  as_many : length (held_ends number_of held) ≡ length (ends seen)
+  as_many : length (ends_of_resources number_of held) ≡ length (open_ends seen)
   as_many =
       let places = map number_of held.stack.items in
-      let pairs = pair_of seen.out ++ pair_of seen.err in
+      let pairs = pipe_ends seen.out ++ pipe_ends seen.err in
       omega (arith, length-append places pairs, length-append (reverse places) pairs, length-reverse places)
 
   -- there is room to close all that it held
-  pub room_left : length (held_ends number_of held) ≤ now.room
+  pub room_left : length (ends_of_resources number_of held) ≤ now.room
   room_left = omega (arith, as_many, refused_room allows refuses number_of course items now seen error run)
 
-  module _ (then : JournalView) (closes : Closes (held_ends number_of held) now then) where
+  module _ (then : JournalView) (closes : Closes (ends_of_resources number_of held) now then) where
     pub given_up : (tree : TreeView E H) (plan : Plan E H) → course.base ≡ ceiling number_of tree
         → course.bound ≡ 2 * depth tree + 4 → plan.items ≡ items
         → StartRefused allows refuses number_of tree plan course.old then error
-    given_up tree plan base_is bound_is items_are = refused_closed allows refuses number_of course items now then seen error run (held_ends number_of held) same_ends as_many closes tree plan base_is bound_is items_are
+    given_up tree plan base_is bound_is items_are = refused_closed allows refuses number_of course items now then seen error run (ends_of_resources number_of held) same_ends as_many closes tree plan base_is bound_is items_are
 
     pub left_started : (may : ℕ → Answer → Type 0) (before mid after : PoolView C)
         → AreNew child feed drain held
@@ -66,4 +66,4 @@ module _ {E H C F D V W : Type 0} (allows : Allows H) (refuses : Refuses H) (num
         → LeavesStarted may child (segment course.old.entries then.entries) before after
     left_started may before mid after new swept given fits =
         leaves_refused may child held.children.items (segment course.old.entries then.entries) before mid after swept given
-        (refused_children allows refuses number_of course items now then seen error run (held_ends number_of held) same_ends as_many closes) new.children fits
+        (refused_children allows refuses number_of course items now then seen error run (ends_of_resources number_of held) same_ends as_many closes) new.children fits

@@ -5,17 +5,17 @@ use Rattle.std.proofs.Common.{◌≡◌, ◌∙◌}
 use Rattle.duct_system.specs.SpecView.{SpecView, Vars}
 use Rattle.duct_system.specs.declared.spec.Port.{Port}
 use Rattle.duct_system.specs.declared.spec.Stream.{Stream}
-use Rattle.duct_start.specs.Actions.{Scope, Three, found_by, port_in}
+use Rattle.duct_start.specs.Actions.{Scope, PerStream, surroundings_by, port_in}
 use Rattle.duct_start.specs.Asked.{IsAsked, port_to}
-use Rattle.duct_start.specs.Found.{Target, target_of}
+use Rattle.duct_start.specs.Surroundings.{Target, target_of}
 use Rattle.duct_run.specs.Made.{IsMade}
 
 pub made_is_asked : {E H : Type 0} (pairs : Vars) (program : List ℕ) (scope : Scope E H)
-    (words : List (List ℕ)) (ports : Three Port) (spec : SpecView)
+    (words : List (List ℕ)) (ports : PerStream Port) (spec : SpecView)
     → IsMade pairs program scope words ports spec → (stack : List (Target E))
     → ((stream : Stream)
-    → port_in ports stream ≡ port_to stream (target_of (found_by scope ports stack) stream))
-    → IsAsked pairs program (found_by scope ports stack) words spec
+    → port_in ports stream ≡ port_to stream (target_of (surroundings_by scope ports stack) stream))
+    → IsAsked pairs program (surroundings_by scope ports stack) words spec
 made_is_asked pairs program scope words ports spec made stack ports_fit = record {
   words_are = made.words_are;
   folder_is = made.folder_is;

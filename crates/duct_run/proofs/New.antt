@@ -16,11 +16,11 @@ use Rattle.duct_start.specs.Actions.{State}
 use Rattle.duct_start.specs.Chain.{Allows}
 use Rattle.duct_start.specs.Running.{IsRunning, RunningView}
 use Rattle.duct_start.specs.ShapeOfTree.{shape_of_tree}
-use Rattle.duct_start.specs.Standing.{Books, Course, Stands}
+use Rattle.duct_start.specs.RunInvariant.{LedgerInvariant, RunContext, RunInvariant}
 use Rattle.duct_start.specs.TreeView.{TreeView}
 use Rattle.duct_start.proofs.Whole.{segment_is}
-use Rattle.duct_run.specs.HeldView.{AreNew, held_view}
-use Rattle.duct_run.specs.declared.held.Held.{Held}
+use Rattle.duct_run.specs.ResourcesView.{AreNew, resources_view}
+use Rattle.duct_run.specs.declared.resources.Resources.{Resources}
 
 -- jobs that were never polled are determined by their numbers
 unpolled_all : {J V : Type 0} (job : J → JobView V) (jobs : List J)
@@ -31,7 +31,7 @@ unpolled_all {J} {V} job (j ∷ jobs) all =
     let test = λ (j : J). job j ≡ unpolled_job (job j).number in
     ap (λ (v : JobView V). v ∷ map job jobs) (All-head test j jobs all) ∙ ap (λ (l : List (JobView V)). unpolled_job (job j).number ∷ l) (unpolled_all job jobs (All-tail test j jobs all))
 
-module _ {E H C F D V W : Type 0} (child : C → ChildView) (feed : F → JobView V) (drain : D → JobView W) (number_of : E → ℕ) (tree : TreeView E H) (shape : Shape) (held : Held E C F D)
+module _ {E H C F D V W : Type 0} (child : C → ChildView) (feed : F → JobView V) (drain : D → JobView W) (number_of : E → ℕ) (tree : TreeView E H) (shape : Shape) (held : Resources E C F D)
     (new : AreNew child feed drain held) (seen : shape_view shape ≡ shape_of_tree tree) where
   -- what the run leaves
   abbrev pub run : RunningView C F D
@@ -45,7 +45,7 @@ module _ {E H C F D V W : Type 0} (child : C → ChildView) (feed : F → JobVie
 
   -- by the entries that were added
   pub runs_new : (old now : JournalView) (added : List EntryView)
-      → Books old now added (held_view number_of child feed drain held)
+      → LedgerInvariant old now added (resources_view number_of child feed drain held)
       → IsRunning child feed drain tree (is_some held.output_worker) (is_some held.error_worker)
       added run
   runs_new old now added books =
@@ -63,8 +63,8 @@ module _ {E H C F D V W : Type 0} (child : C → ChildView) (feed : F → JobVie
       }
 
   -- by the journal before and after
-  pub runs_started : (allows : Allows H) (course : Course) (state : State E H) (now : JournalView)
-      → Stands allows number_of course state now (held_view number_of child feed drain held)
+  pub runs_started : (allows : Allows H) (course : RunContext) (state : State E H) (now : JournalView)
+      → RunInvariant allows number_of course state now (resources_view number_of child feed drain held)
       → IsRunning child feed drain tree (is_some held.output_worker) (is_some held.error_worker)
       (segment course.old.entries now.entries) run
   runs_started allows course state now stands =

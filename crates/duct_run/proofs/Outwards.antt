@@ -4,10 +4,10 @@ use Rattle.std.specs.Option.{option_map, option_or}
 use Rattle.std.proofs.Common.{Option, ◌≡◌, ℕ, ◌+◌, ◌-◌, ◌<◌, ◌≤◌, length, get_or, refl, ap, sym, ◌∙◌, arith}
 use Rattle.std.proofs.lemmas.Option.{slice_get-map, slice_get_read}
 use Rattle.duct_start.specs.Actions as plan
-use Rattle.duct_start.specs.Flat.{rooted, scope_within}
-use Rattle.duct_start.specs.Found.{Change}
-use Rattle.duct_start.specs.Listed.{AreOutwards, scope_in}
-use Rattle.duct_start.specs.Step.{said}
+use Rattle.duct_start.specs.Flat.{root_scope, scope_inside}
+use Rattle.duct_start.specs.Surroundings.{VariableChange}
+use Rattle.duct_start.specs.ActionList.{AreOutwards, scope_in}
+use Rattle.duct_start.specs.Step.{step_of_setting}
 use Rattle.duct_start.proofs.ScopeIn.{scope_in_root, scope_in_next}
 use Rattle.duct_run.specs.ScopeView.{scope_view, scopes_view, setting_view}
 use Rattle.duct_run.specs.declared.scope.Scope.{Scope}
@@ -37,36 +37,36 @@ module _ {E H : Type 0} {scopes : List (Scope E H)} {n : ℕ} {here : Scope E H}
 
   -- the scope is its node inside the scope outside
   pub is_next : scope_in (scopes_view scopes) n
-      ≡ scope_within (said (setting_view here.setting)) (scope_in (scopes_view scopes) here.outer)
+      ≡ scope_inside (step_of_setting (setting_view here.setting)) (scope_in (scopes_view scopes) here.outer)
   is_next =
       let next : n - 1 + 1 ≡ n = omega (arith, read.above) in
       sym (ap (λ m. scope_in (scopes_view scopes) m) next)
       ∙ scope_in_next (scopes_view scopes) (n - 1) (scope_view here) read.outwards stands_there
 
   -- the folder is the one that the node sets, or else that of the scope outside
-  pub folder_is : (folder : Option (List ℕ)) → folder ≡ (said (setting_view here.setting)).folder
+  pub folder_is : (folder : Option (List ℕ)) → folder ≡ (step_of_setting (setting_view here.setting)).folder
       → option_or folder (scope_in (scopes_view scopes) here.outer).folder
       ≡ (scope_in (scopes_view scopes) n).folder
   folder_is folder set =
       ap (λ o. option_or o (scope_in (scopes_view scopes) here.outer).folder) set ∙ sym (ap (λ (s : plan.Scope E H). s.folder) is_next)
 
   -- the changes are those of the node, then those of the scope outside
-  pub changes_are : (changes : List Change) → (said (setting_view here.setting)).changes ≡ changes
+  pub changes_are : (changes : List VariableChange) → (step_of_setting (setting_view here.setting)).changes ≡ changes
       → changes ++ (scope_in (scopes_view scopes) here.outer).changes
       ≡ (scope_in (scopes_view scopes) n).changes
-  changes_are changes said =
-      sym (ap (λ (s : plan.Scope E H). s.changes) is_next ∙ ap (λ cs. cs ++ (scope_in (scopes_view scopes) here.outer).changes) said)
+  changes_are changes step_of_setting =
+      sym (ap (λ (s : plan.Scope E H). s.changes) is_next ∙ ap (λ cs. cs ++ (scope_in (scopes_view scopes) here.outer).changes) step_of_setting)
 
   -- the hooks are those of the scope outside, then that of the node
-  pub hooks_are : (hooks : List (H × List E)) → (said (setting_view here.setting)).hooks ≡ hooks
+  pub hooks_are : (hooks : List (H × List E)) → (step_of_setting (setting_view here.setting)).hooks ≡ hooks
       → (scope_in (scopes_view scopes) here.outer).hooks ++ hooks
       ≡ (scope_in (scopes_view scopes) n).hooks
-  hooks_are hooks said =
-      sym (ap (λ (s : plan.Scope E H). s.hooks) is_next ∙ ap (λ hs. (scope_in (scopes_view scopes) here.outer).hooks ++ hs) said)
+  hooks_are hooks step_of_setting =
+      sym (ap (λ (s : plan.Scope E H). s.hooks) is_next ∙ ap (λ hs. (scope_in (scopes_view scopes) here.outer).hooks ++ hs) step_of_setting)
 
 -- the root's scope sets nothing
 pub root_is : {E H : Type 0} (scopes : List (Scope E H)) (n : ℕ) → n ≤ 0
-    → scope_in (scopes_view scopes) n ≡ rooted
+    → scope_in (scopes_view scopes) n ≡ root_scope
 root_is scopes n low =
     let none : n ≡ 0 = omega (arith, low) in
     ap (λ m. scope_in (scopes_view scopes) m) none ∙ scope_in_root (scopes_view scopes)

@@ -16,14 +16,14 @@ use Rattle.duct_system.specs.Streams.{end_of, ends_of, stream_of}
 use Rattle.duct_system.specs.declared.spec.Port.{Port}
 use Rattle.duct_system.specs.declared.system.Stdio.{Stdio}
 use Rattle.duct_system.specs.declared.system.Stdio.TheVariants.{Inherit, Null, End}
-use Rattle.duct_start.specs.Actions.{Action, Three, left_by, level, many}
-use Rattle.duct_start.specs.Commands.{handed, holding, taken_by}
+use Rattle.duct_start.specs.Actions.{Action, PerStream, stack_after_ports, at_depth, port_end_count}
+use Rattle.duct_start.specs.Commands.{stack_with_streams, resources_with_stack, port_streams}
 use Rattle.duct_start.specs.Chain.{Allows}
-use Rattle.duct_start.specs.Holdings.{Holdings}
-use Rattle.duct_start.specs.Standing.{Goes}
+use Rattle.duct_start.specs.ResourcesView.{ResourcesView}
+use Rattle.duct_start.specs.RunInvariant.{ActionSucceeds}
 use Rattle.duct_start.proofs.Changing.{handed_long}
 use Rattle.duct_start.proofs.Wires.{handed_taken}
-use Rattle.duct_run.specs.HeldView.{stack_view}
+use Rattle.duct_run.specs.ResourcesView.{stack_view}
 use Rattle.duct_run.specs.StreamsView.{many_ends, streams_view}
 use Rattle.duct_run.specs.declared.streams.Streams.{Streams}
 
@@ -38,7 +38,7 @@ module _ {E : Type 0} (f : E → ℕ) where
 
   -- the item at an index of the vector is at that depth of the stack
   pub at_depth : (t : List E) (n : ℕ) (x d : E) → n < length t → x ≡ get_or t n d
-      → level (stack_view f t) n ≡ Some (f x)
+      → at_depth (stack_view f t) n ≡ Some (f x)
   at_depth t n x d within is =
       ap (λ l. slice_get l n) (reverse-reverse (map f t)) ∙ slice_get-map f t n ∙ ap (λ o. option_map f o) (slice_get-get_or t n d within) ∙ ap (λ y. Some (f y)) (sym is)
 
@@ -50,17 +50,17 @@ module _ {E : Type 0} (f : E → ℕ) where
 
 -- the same stack in another form
 pub goes_over : {E H : Type 0} (allows : Allows H) (number_of : E → ℕ) (act : Action E H)
-    (now next : JournalView) (held : Holdings) (s t : List ℕ) → t ≡ s
-    → Goes allows number_of act now next held (holding s held)
-    → Goes allows number_of act now next held (holding t held)
-goes_over allows number_of act now next held s t is goes = subst (λ l. Goes allows number_of act now next held (holding l held)) (sym is) goes
+    (now next : JournalView) (held : ResourcesView) (s t : List ℕ) → t ≡ s
+    → ActionSucceeds allows number_of act now next held (resources_with_stack s held)
+    → ActionSucceeds allows number_of act now next held (resources_with_stack t held)
+goes_over allows number_of act now next held s t is goes = subst (λ l. ActionSucceeds allows number_of act now next held (resources_with_stack l held)) (sym is) goes
 
 -- the same holdings in another form
 pub goes_as : {E H : Type 0} (allows : Allows H) (number_of : E → ℕ) (act : Action E H)
-    (now next : JournalView) (held kept other : Holdings) → other ≡ kept
-    → Goes allows number_of act now next held kept
-    → Goes allows number_of act now next held other
-goes_as allows number_of act now next held kept other is goes = subst (λ l. Goes allows number_of act now next held l) (sym is) goes
+    (now next : JournalView) (held kept other : ResourcesView) → other ≡ kept
+    → ActionSucceeds allows number_of act now next held kept
+    → ActionSucceeds allows number_of act now next held other
+goes_as allows number_of act now next held kept other is goes = subst (λ l. ActionSucceeds allows number_of act now next held l) (sym is) goes
 
 -- a property of all items of a list, for the list with one more item
 pub all_pushed : {A : Type 0} (P : A → Type 0) (t u : List A) (x : A) → u ≡ t ++ x ∷ []
@@ -95,12 +95,12 @@ pub many_as : {E : Type 0} (f : E → ℕ) (s : Streams E)
 many_as f s = omega (arith, long_stream f s.input, long_stream f s.output, long_stream f s.error)
 
 -- the ends that three ports take were on the stack
-pub hand_fits : {E : Type 0} (f : E → ℕ) (s : Streams E) (ports : Three Port) (stack : List ℕ)
-    → many ports.input + (many ports.output + many ports.error) ≤ length stack
-    → streams_view f s ≡ taken_by ports stack → many_ends s ≤ length stack
+pub hand_fits : {E : Type 0} (f : E → ℕ) (s : Streams E) (ports : PerStream Port) (stack : List ℕ)
+    → port_end_count ports.input + (port_end_count ports.output + port_end_count ports.error) ≤ length stack
+    → streams_view f s ≡ port_streams ports stack → many_ends s ≤ length stack
 hand_fits f s ports stack full is =
-    let all : length (handed (streams_view f s) (left_by ports stack)) ≡ length stack = ap (λ (t : Three (Stdio ℕ)). length (handed t (left_by ports stack))) is ∙ ap (λ l. length l) (handed_taken ports stack full) in
-    omega (arith, all, handed_long (streams_view f s) (left_by ports stack), many_as f s)
+    let all : length (stack_with_streams (streams_view f s) (stack_after_ports ports stack)) ≡ length stack = ap (λ (t : PerStream (Stdio ℕ)). length (stack_with_streams t (stack_after_ports ports stack))) is ∙ ap (λ l. length l) (handed_taken ports stack full) in
+    omega (arith, all, handed_long (streams_view f s) (stack_after_ports ports stack), many_as f s)
 
 -- the number of ends of a spawn
 pub many_given : {E : Type 0} (f : E → ℕ) (s : Streams E)

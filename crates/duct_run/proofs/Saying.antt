@@ -8,40 +8,40 @@ use Rattle.duct_system.specs.SpecView.{Vars}
 use Rattle.duct_system.specs.declared.error.Error.{Error}
 use Rattle.duct_start.specs.Actions.{Action, advance}
 use Rattle.duct_start.specs.Chain.{Allows, Refuses}
-use Rattle.duct_start.specs.Commands.{GoesSaying, RefusedSaying}
-use Rattle.duct_start.specs.Holdings.{Holdings}
-use Rattle.duct_start.specs.Standing.{Goes, IsHooks, Quits}
+use Rattle.duct_start.specs.Commands.{ActionSucceedsWith, ActionFailsWith}
+use Rattle.duct_start.specs.ResourcesView.{ResourcesView}
+use Rattle.duct_start.specs.RunInvariant.{ActionSucceeds, IsHookError, ActionFails}
 use Rattle.duct_run.specs.Requested.{Performed, Requested}
 use Rattle.duct_run.specs.SystemViews.{SystemViews}
-use Rattle.duct_run.specs.declared.held.Held.{Held}
+use Rattle.duct_run.specs.declared.resources.Resources.{Resources}
 use Rattle.duct_start.proofs.Spawning.{plain_refused}
 
 module _ {E H : Type 0} (allows : Allows H) (number_of : E → ℕ) (pairs : Vars) (act : Action E H)
-    (now next : JournalView) (held kept : Holdings) where
-  pub goes_saying : Goes allows number_of act now next held kept
-      → GoesSaying allows number_of pairs act now next held kept
+    (now next : JournalView) (held kept : ResourcesView) where
+  pub goes_saying : ActionSucceeds allows number_of act now next held kept
+      → ActionSucceedsWith allows number_of pairs act now next held kept
   goes_saying goes = λ course state same. goes course state
 
   pub quits_refused : (refuses : Refuses H) (error : Error)
-      → (IsHooks error → ⊥) × Quits allows number_of act now next held kept error
-      → RefusedSaying allows refuses number_of pairs act now next held kept error
+      → (IsHookError error → ⊥) × ActionFails allows number_of act now next held kept error
+      → ActionFailsWith allows refuses number_of pairs act now next held kept error
   quits_refused refuses error quits = λ course state same ready stands.
       plain_refused allows refuses number_of course (advance state act).plan.items next kept error quits.0 (quits.1 course state ready stands)
 
   pub ok_saying : (answer : Result (Unit {0}) Error)
-      → OnOk answer (Goes allows number_of act now next held kept)
-      → OnOk answer (GoesSaying allows number_of pairs act now next held kept)
+      → OnOk answer (ActionSucceeds allows number_of act now next held kept)
+      → OnOk answer (ActionSucceedsWith allows number_of pairs act now next held kept)
   ok_saying answer ok = on_ok_weaker answer goes_saying ok
 
   pub err_saying : (refuses : Refuses H) (answer : Result (Unit {0}) Error)
-      → IfErr answer (λ e. (IsHooks e → ⊥) × Quits allows number_of act now next held kept e)
-      → IfErr answer (RefusedSaying allows refuses number_of pairs act now next held kept)
+      → IfErr answer (λ e. (IsHookError e → ⊥) × ActionFails allows number_of act now next held kept e)
+      → IfErr answer (ActionFailsWith allows refuses number_of pairs act now next held kept)
   err_saying refuses answer err = IfErr-weaker answer _ _ (quits_refused refuses) err
 
 -- a request is an action that was performed
 pub performed : {S E H C F D V W : Type 0} {views : SystemViews S E C F D V W} {allows : Allows H}
     {refuses : Refuses H} {pairs : Vars} {act : Action E H} {answer : Result (Unit {0}) Error}
-    {sys after : S} {held kept : Held E C F D}
+    {sys after : S} {held kept : Resources E C F D}
     → Requested views allows act answer sys after held kept
     → Performed views allows refuses pairs act answer sys after held kept
 performed {views = views} {allows = allows} {refuses = refuses} {answer = answer} asked = record {

@@ -16,22 +16,22 @@ use Rattle.duct_system.specs.Trace.{trace}
 use Rattle.duct_system.specs.declared.error.Error.{Error}
 use Rattle.duct_system.specs.declared.error.Error.TheVariants.{Memory}
 use Rattle.duct_start.specs.Actions as action
-use Rattle.duct_start.specs.Actions.{Action, ActionOf, AreReady, Scope, State, advance, after, pops}
+use Rattle.duct_start.specs.Actions.{Action, ActionOf, AreReady, Scope, State, advance, after_actions, pop_count}
 use Rattle.duct_start.specs.Causes.{StoppedBy}
 use Rattle.duct_start.specs.Chain.{Allows, Refuses}
-use Rattle.duct_start.specs.Commands.{GoesSaying, Refused, RefusedSaying}
-use Rattle.duct_start.specs.Holdings.{Holdings, ends}
-use Rattle.duct_start.specs.Listed.{IsWithin, resolved, resolved_all}
-use Rattle.duct_start.specs.Standing.{CanDo, Course, IsHooks, IsWantOfMemory, Stands, Stood, GivesUnder, IsEarly}
+use Rattle.duct_start.specs.Commands.{ActionSucceedsWith, StoppedWithCause, ActionFailsWith}
+use Rattle.duct_start.specs.ResourcesView.{ResourcesView, open_ends}
+use Rattle.duct_start.specs.ActionList.{IsWithin, resolved, resolved_all}
+use Rattle.duct_start.specs.RunInvariant.{FindsItsEnds, RunContext, IsHookError, IsAllocationFailure, RunInvariant, ReadyForActions, GivesUnder, IsEarly}
 use Rattle.duct_start.specs.Step.{Item}
 use Rattle.duct_start.proofs.Running.{can_now, memory_now}
 use Rattle.duct_start.proofs.Spawning.{plain_refused}
 use Rattle.duct_start.proofs.Stacks.{get_front}
-use Rattle.duct_start.proofs.Standing.{answers_front}
+use Rattle.duct_start.proofs.RunInvariant.{answers_front}
 use Rattle.duct_run.specs.ActionView.{action_view, actions_view}
-use Rattle.duct_run.specs.HeldView.{AreNew, AreSame, HasSameWorkers, held_view, stack_view}
+use Rattle.duct_run.specs.ResourcesView.{AreNew, AreSame, HasSameWorkers, resources_view, stack_view}
 use Rattle.duct_run.specs.declared.action.Action as declared
-use Rattle.duct_run.specs.declared.held.Held.{Held}
+use Rattle.duct_run.specs.declared.resources.Resources.{Resources}
 use Rattle.duct_start.proofs.Running.{items_grow}
 use Rattle.duct_run.proofs.Pushed.{still}
 
@@ -43,15 +43,15 @@ some_mapped f (Some x) = refl
 
 -- an action pops as many ends in each scope
 pub pops_resolved : {E H : Type 0} (scopes : List (Scope E H)) (act : ActionOf E ℕ)
-    → pops (resolved scopes act) ≡ pops act
+    → pop_count (resolved scopes act) ≡ pop_count act
 pops_resolved scopes (action.open_read path) = refl
 pops_resolved scopes (action.create path) = refl
 pops_resolved scopes action.pipe = refl
 pops_resolved scopes action.input = refl
 pops_resolved scopes (action.capture which) = refl
 pops_resolved scopes (action.duplicate depth) = refl
-pops_resolved scopes (action.tap which) = refl
-pops_resolved scopes (action.lend end) = refl
+pops_resolved scopes (action.duplicate_capture which) = refl
+pops_resolved scopes (action.duplicate_caller_end end) = refl
 pops_resolved scopes (action.parent which) = refl
 pops_resolved scopes action.close = refl
 pops_resolved scopes (action.spawn i words ports) = refl
@@ -81,8 +81,8 @@ within_at {E} count xs i x within is all =
     let there : get_or (actions_view xs) i (action_view x) ≡ action_view x = get_or-map (λ a. action_view a) xs i x (action_view x) within ∙ ap (λ (a : declared.Action E). action_view a) (sym is) in
     subst (λ (a : ActionOf E ℕ). IsWithin count a) there (All-get_or (IsWithin count) (actions_view xs) i (action_view x) low all)
 
-module _ {E C F D V W : Type 0} (end : E → ℕ) (child : C → ChildView) (feed : F → JobView V) (drain : D → JobView W) (old new : Held E C F D) (same : AreSame old new) where
-  held_same : held_view end child feed drain new ≡ held_view end child feed drain old
+module _ {E C F D V W : Type 0} (end : E → ℕ) (child : C → ChildView) (feed : F → JobView V) (drain : D → JobView W) (old new : Resources E C F D) (same : AreSame old new) where
+  held_same : resources_view end child feed drain new ≡ resources_view end child feed drain old
   held_same = λ i. record {
     stack = stack_view end (same.stack i);
     out = option_map (λ pair. (end pair.0, end pair.1)) (same.output i);
@@ -93,11 +93,11 @@ module _ {E C F D V W : Type 0} (end : E → ℕ) (child : C → ChildView) (fee
   }
 
   -- with more room the same is held
-  pub stood_same : {H : Type 0} (allows : Allows H) (course : Course) (goal : State E H)
+  pub stood_same : {H : Type 0} (allows : Allows H) (course : RunContext) (goal : State E H)
       (actions : List (Action E H)) (now : JournalView)
-      → Stood allows end course goal actions now (held_view end child feed drain old)
-      → Stood allows end course goal actions now (held_view end child feed drain new)
-  stood_same allows course goal actions now stood = subst (λ (h : Holdings). Stood allows end course goal actions now h) (sym held_same) stood
+      → ReadyForActions allows end course goal actions now (resources_view end child feed drain old)
+      → ReadyForActions allows end course goal actions now (resources_view end child feed drain new)
+  stood_same allows course goal actions now stood = subst (λ (h : ResourcesView). ReadyForActions allows end course goal actions now h) (sym held_same) stood
 
   pub new_same : AreNew child feed drain old → AreNew child feed drain new
   new_same is = record {
@@ -108,11 +108,11 @@ module _ {E C F D V W : Type 0} (end : E → ℕ) (child : C → ChildView) (fee
   }
 
 -- the workers are the same after one action and after several
-pub workers_same : {E C F D : Type 0} (old new : Held E C F D) → AreSame old new
+pub workers_same : {E C F D : Type 0} (old new : Resources E C F D) → AreSame old new
     → HasSameWorkers old new
 workers_same old new same = record { output_worker = same.output_worker; error_worker = same.error_worker }
 
-module _ {E C F D : Type 0} (one two three : Held E C F D) where
+module _ {E C F D : Type 0} (one two three : Resources E C F D) where
   pub workers_on : HasSameWorkers one two → HasSameWorkers two three → HasSameWorkers one three
   workers_on first second = record {
     output_worker = second.output_worker ∙ first.output_worker;
@@ -126,10 +126,10 @@ module _ {E H : Type 0} (allows : Allows H) (refuses : Refuses H) (number_of : E
   stopped_by_as entries place error None p stays stopped = absurd stopped
   stopped_by_as entries place error (Some x) p stays stopped = subst (λ (q : Option (Item E H)). StoppedBy allows refuses number_of entries place q error) (sym (stays x refl)) stopped
 
-  module _ (course : Course) where
-    refused_more : (items more : List (Item E H)) (now : JournalView) (held : Holdings)
-        (error : Error) → Refused allows refuses number_of course items now held error →
-        Refused allows refuses number_of course (items ++ more) now held error
+  module _ (course : RunContext) where
+    refused_more : (items more : List (Item E H)) (now : JournalView) (held : ResourcesView)
+        (error : Error) → StoppedWithCause allows refuses number_of course items now held error →
+        StoppedWithCause allows refuses number_of course (items ++ more) now held error
     refused_more items more now held error refused =
         let stopped = refused.stopped in
         record {
@@ -147,25 +147,25 @@ module _ {E H : Type 0} (allows : Allows H) (refuses : Refuses H) (number_of : E
 
     -- a run is at its goal when no action is left
     pub stands_done : (goal : State E H) (actions : List (Action E H)) (now : JournalView)
-        (held : Holdings) → actions ≡ []
-        → Stood allows number_of course goal actions now held
-        → Stands allows number_of course goal now held
+        (held : ResourcesView) → actions ≡ []
+        → ReadyForActions allows number_of course goal actions now held
+        → RunInvariant allows number_of course goal now held
     stands_done goal actions now held none stood =
-        let is : stood.state ≡ goal = ap (λ (l : List (Action E H)). after stood.state l) (sym none) ∙ stood.goal_is in
-        subst (λ (s : State E H). Stands allows number_of course s now held) is stood.stands
+        let is : stood.state ≡ goal = ap (λ (l : List (Action E H)). after_actions stood.state l) (sym none) ∙ stood.goal_is in
+        subst (λ (s : State E H). RunInvariant allows number_of course s now held) is stood.stands
 
-    module _ (pairs : Vars) (same : course.pairs ≡ pairs) (goal : State E H) (actions rest : List (Action E H)) (act : Action E H) (now : JournalView) (kept : Holdings)
-        (stood : Stood allows number_of course goal actions now kept) (is : actions ≡ act ∷ rest) where
+    module _ (pairs : Vars) (same : course.pairs ≡ pairs) (goal : State E H) (actions rest : List (Action E H)) (act : Action E H) (now : JournalView) (kept : ResourcesView)
+        (stood : ReadyForActions allows number_of course goal actions now kept) (is : actions ≡ act ∷ rest) where
       ready_here : AreReady number_of course.base course.bound stood.state (act ∷ rest)
       ready_here = subst (λ (l : List (Action E H)). AreReady number_of course.base course.bound stood.state l) is stood.ready
 
-      goal_here : after stood.state (act ∷ rest) ≡ goal
-      goal_here = ap (λ (l : List (Action E H)). after stood.state l) (sym is) ∙ stood.goal_is
+      goal_here : after_actions stood.state (act ∷ rest) ≡ goal
+      goal_here = ap (λ (l : List (Action E H)). after_actions stood.state l) (sym is) ∙ stood.goal_is
 
       -- the action succeeds
-      pub goes_on_saying : (next : JournalView) (other : Holdings)
-          → GoesSaying allows number_of pairs act now next kept other
-          → Stood allows number_of course goal rest next other
+      pub goes_on_saying : (next : JournalView) (other : ResourcesView)
+          → ActionSucceedsWith allows number_of pairs act now next kept other
+          → ReadyForActions allows number_of course goal rest next other
       goes_on_saying next other goes = record {
         state = advance stood.state act;
         stands = goes course stood.state same ready_here.0 stood.stands;
@@ -174,24 +174,24 @@ module _ {E H : Type 0} (allows : Allows H) (refuses : Refuses H) (number_of : E
       }
 
       -- the action fails
-      pub refused_now : (next : JournalView) (other : Holdings) (error : Error)
-          → RefusedSaying allows refuses number_of pairs act now next kept other error
-          → Refused allows refuses number_of course goal.plan.items next other error
+      pub refused_now : (next : JournalView) (other : ResourcesView) (error : Error)
+          → ActionFailsWith allows refuses number_of pairs act now next kept other error
+          → StoppedWithCause allows refuses number_of course goal.plan.items next other error
       refused_now next other error refused =
           let more = items_grow (advance stood.state act) rest in
           let all : (advance stood.state act).plan.items ++ more.0 ≡ goal.plan.items = sym more.1 ∙ ap (λ (x : State E H). x.plan.items) goal_here in
-          subst (λ (l : List (Item E H)). Refused allows refuses number_of course l next other error) all
+          subst (λ (l : List (Item E H)). StoppedWithCause allows refuses number_of course l next other error) all
           (refused_more (advance stood.state act).plan.items more.0 next other error (refused course stood.state same ready_here.0 stood.stands))
 
       -- on allocation failure no request was made
       pub memory_refused : (error : Error) → error ≡ Memory
-          → Refused allows refuses number_of course goal.plan.items now kept error
-      memory_refused error memory = plain_refused allows refuses number_of course goal.plan.items now kept error (λ hooks. subst (λ (e : Error). IsHooks e) memory hooks)
-          (memory_now allows number_of course goal actions rest act now kept stood is now error (still now) (subst (λ (e : Error). IsWantOfMemory e) (sym memory) tt))
+          → StoppedWithCause allows refuses number_of course goal.plan.items now kept error
+      memory_refused error memory = plain_refused allows refuses number_of course goal.plan.items now kept error (λ hooks. subst (λ (e : Error). IsHookError e) memory hooks)
+          (memory_now allows number_of course goal actions rest act now kept stood is now error (still now) (subst (λ (e : Error). IsAllocationFailure e) (sym memory) tt))
 
       -- what the action needs is held, and there is room to give it away
-      pub can_here : (pops act ≤ length kept.stack) × CanDo act kept
+      pub can_here : (pop_count act ≤ length kept.stack) × FindsItsEnds act kept
       can_here = can_now allows number_of course goal actions rest act now kept stood is
 
-      pub room_here : length (ends kept) ≤ now.room
+      pub room_here : length (open_ends kept) ≤ now.room
       room_here = omega (arith, stood.stands.books.room_is)

@@ -3,13 +3,13 @@ use Rattle.std.specs.Prelude.{ℕ, List, map, string_bytes}
 use Rattle.std.specs.Arc.{arc_value}
 use Rattle.duct_system.specs.declared.spec.Port.{Port}
 use Rattle.duct_start.specs.Actions as action
-use Rattle.duct_start.specs.Actions.{ActionOf, Three}
+use Rattle.duct_start.specs.Actions.{ActionOf, PerStream}
 use Rattle.duct_run.specs.declared.action.Action.{Action}
-use Rattle.duct_run.specs.declared.action.Action.TheVariants.{OpenRead, Create, Pipe, Input, Capture, Duplicate, Tap, Lend, Parent, Close, Spawn, Feed}
+use Rattle.duct_run.specs.declared.action.Action.TheVariants.{OpenRead, Create, Pipe, Input, Capture, Duplicate, DuplicateCapture, DuplicateCallerEnd, Parent, Close, Spawn, Feed}
 use Rattle.duct_run.specs.declared.action.Ports.{Ports}
 
 -- the ports of three streams
-abbrev pub ports_view : Ports → Three Port
+abbrev pub ports_view : Ports → PerStream Port
 ports_view ports = record { input = ports.input; output = ports.output; error = ports.error }
 
 -- an action; paths, words and bytes as lists of bytes
@@ -20,8 +20,8 @@ action_view Pipe = action.pipe
 action_view Input = action.input
 action_view (Capture which) = action.capture which
 action_view (Duplicate depth) = action.duplicate depth
-action_view (Tap which) = action.tap which
-action_view (Lend end) = action.lend end.now
+action_view (DuplicateCapture which) = action.duplicate_capture which
+action_view (DuplicateCallerEnd end) = action.duplicate_caller_end end.now
 action_view (Parent which) = action.parent which
 action_view Close = action.close
 action_view (Spawn scope words ports) =

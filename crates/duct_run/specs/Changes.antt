@@ -5,22 +5,23 @@ use Rattle.std.specs.BTreeMap.{BTreeMap}
 use Rattle.std.specs.declared.option.Option.{Option}
 use Rattle.std.specs.declared.string.String.{String}
 use Rattle.duct_system.specs.SpecView.{var_view}
-use Rattle.duct_start.specs.Found as found
-use Rattle.duct_start.specs.Found.{Change, Replaces}
-use Rattle.duct_run.specs.declared.variables.Change as declared
-use Rattle.duct_run.specs.declared.variables.Change.TheVariants.{Sets, Removes}
+use Rattle.duct_start.specs.Surroundings as found
+use Rattle.duct_start.specs.Surroundings.{VariableChange, Replaces}
+use Rattle.duct_run.specs.declared.variables.BorrowedChange as declared
+use Rattle.duct_run.specs.declared.variables.BorrowedChange.TheVariants.{Sets, Removes}
 use Rattle.duct_run.specs.declared.variables.Gathered.{Gathered}
 
 -- a change of one variable
-abbrev pub change_of : declared.Change → Change
+abbrev pub change_of : declared.BorrowedChange → VariableChange
 change_of (Sets name value) = found.Sets name.now value.now
 change_of (Removes name) = found.Removes name.now
 
 -- the variables that replace all others, if a scope sets them
-abbrev pub whole_of : {Z : Type 0} → Option (Bor (BTreeMap (List ℕ) (String Z))) → List Change
+abbrev pub whole_of : {Z : Type 0} → Option (Bor (BTreeMap (List ℕ) (String Z)))
+    → List VariableChange
 whole_of None = []
 whole_of (Some vars) = Replaces (map var_view vars.now.entries) ∷ []
 
 -- all changes, the nearest first
-abbrev pub changes_of : Gathered → List Change
+abbrev pub changes_of : Gathered → List VariableChange
 changes_of gathered = map (λ c. change_of c) gathered.changes.items ++ whole_of gathered.whole

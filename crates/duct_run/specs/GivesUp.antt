@@ -9,23 +9,23 @@ use Rattle.duct_start.specs.Actions.{Action}
 use Rattle.duct_start.specs.Chain.{Allows, Refuses}
 use Rattle.duct_start.specs.Closes.{Closes}
 use Rattle.duct_start.specs.Left.{Leaves, pool_view}
-use Rattle.duct_start.specs.Ran.{Ending, RunRefused}
-use Rattle.duct_run.specs.HeldEnds.{held_ends}
-use Rattle.duct_run.specs.HeldView.{AreNew, held_view}
-use Rattle.duct_run.specs.declared.held.Held.{Held}
+use Rattle.duct_start.specs.RunContract.{PlanTail, ActionsFail}
+use Rattle.duct_run.specs.ResourceEnds.{ends_of_resources}
+use Rattle.duct_run.specs.ResourcesView.{AreNew, resources_view}
+use Rattle.duct_run.specs.declared.resources.Resources.{Resources}
 
 -- the run failed with this error and held this; the pool was swept while it ran, each end was
 -- closed, and each child was given to the pool
 pub record GivesUp {E H C F D V W : Type 0} (allows : Allows H) (refuses : Refuses H)
     (end : E → ℕ) (child : C → ChildView) (feed : F → JobView V) (drain : D → JobView W)
-    (may : ℕ → Answer → Type 0) (ending : Ending E H) (actions : List (Action E H))
+    (may : ℕ → Answer → Type 0) (ending : PlanTail E H) (actions : List (Action E H))
     (old next : JournalView) (before after : PoolView C) (error : Error) : Type 0 where
-  pub held : Held E C F D
+  pub held : Resources E C F D
   pub stopped : JournalView
   pub swept : PoolView C
-  pub refused : RunRefused allows refuses end ending actions old stopped
-      (held_view end child feed drain held) error
+  pub refused : ActionsFail allows refuses end ending actions old stopped
+      (resources_view end child feed drain held) error
   pub new : AreNew child feed drain held
-  pub closes : Closes (held_ends end held) stopped next
+  pub closes : Closes (ends_of_resources end held) stopped next
   pub leaves : Leaves may [] (pool_view child before) (pool_view child swept)
   pub given : IsGiven may child held.children.items swept after

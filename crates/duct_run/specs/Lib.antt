@@ -1,8 +1,8 @@
 pub mod ActionView
 pub mod Changes
 pub mod GivesUp
-pub mod HeldEnds
-pub mod HeldView
+pub mod ResourceEnds
+pub mod ResourcesView
 pub mod Made
 pub mod NameRefused
 pub mod OutputRead

@@ -6,11 +6,11 @@ use Rattle.duct_system.specs.Journal.{JournalView}
 use Rattle.duct_system.specs.SpecView.{SpecView, Vars, AreOrdered, variable_in, port_of}
 use Rattle.duct_system.specs.declared.spec.Port.{Port}
 use Rattle.duct_system.specs.declared.spec.Stream.{Stream}
-use Rattle.duct_start.specs.Actions.{Scope, Three, port_in}
+use Rattle.duct_start.specs.Actions.{Scope, PerStream, port_in}
 use Rattle.duct_start.specs.Asked.{with_program}
 use Rattle.duct_start.specs.Chain.{Allows}
-use Rattle.duct_start.specs.Commands.{Names}
-use Rattle.duct_start.specs.Found.{variable}
+use Rattle.duct_start.specs.Commands.{NameSucceeds}
+use Rattle.duct_start.specs.Surroundings.{variable}
 use Rattle.duct_start.specs.Plan.{program_of}
 
 -- the program of some words: its canonical path where that was asked for, else the first word
@@ -21,7 +21,7 @@ program_text (Some program) words = string_bytes program
 -- the spec has these words with this program, the folder and the variables of the scope, each name
 -- once and in order, and these ports
 pub record IsMade {E H : Type 0} (pairs : Vars) (program : List ℕ) (scope : Scope E H)
-    (words : List (List ℕ)) (ports : Three Port) (spec : SpecView) : Type 0 where
+    (words : List (List ℕ)) (ports : PerStream Port) (spec : SpecView) : Type 0 where
   pub words_are : spec.words ≡ with_program program words
   pub folder_is : spec.folder ≡ scope.folder
   pub vars_are : (name : List ℕ) → variable_in name spec.vars ≡ variable pairs scope.changes name
@@ -30,8 +30,8 @@ pub record IsMade {E H : Type 0} (pairs : Vars) (program : List ℕ) (scope : Sc
 
 -- the spec is made with the canonical path of the program, where that was asked for
 pub record IsPrepared {E H : Type 0} (allows : Allows H) (number_of : E → ℕ) (pairs : Vars)
-    (scope : Scope E H) (words : List (List ℕ)) (ports : Three Port) (now next : JournalView)
+    (scope : Scope E H) (words : List (List ℕ)) (ports : PerStream Port) (now next : JournalView)
     (spec : SpecView) : Type 0 where
   pub program : List ℕ
-  pub names : Names {E = E} {H = H} allows number_of scope words now next program
+  pub names : NameSucceeds {E = E} {H = H} allows number_of scope words now next program
   pub made : IsMade pairs program scope words ports spec

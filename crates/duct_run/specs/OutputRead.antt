@@ -10,7 +10,8 @@ abbrev pub pipe_view : {E : Type 0} → (E → ℕ) → Option (E × E) → Opti
 pipe_view end pipe = option_map (λ ends. (end ends.0, end ends.1)) pipe
 
 -- the write end of this pipe was closed, and then this reader was made of its read end
-pub record IsRead {R : Type 0} (may : ℕ → R → Type 0) (pipe : Option (ℕ × ℕ)) (now next : JournalView)
+pub record IsRead {R : Type 0} (may : ℕ → R → Type 0) (pipe : Option (ℕ × ℕ))
+    (now next : JournalView)
     (reader : R) : Type 0 where
   pub read_end : ℕ
   pub write_end : ℕ

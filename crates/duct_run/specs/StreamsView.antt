@@ -2,11 +2,11 @@
 use Rattle.std.specs.Prelude.{ℕ, ◌+◌, length}
 use Rattle.duct_system.specs.Streams.{end_of, stream_of}
 use Rattle.duct_system.specs.declared.system.Stdio.{Stdio}
-use Rattle.duct_start.specs.Actions.{Three}
+use Rattle.duct_start.specs.Actions.{PerStream}
 use Rattle.duct_run.specs.declared.streams.Streams.{Streams}
 
 -- the three streams, with ends by number
-abbrev pub streams_view : {E : Type 0} → (E → ℕ) → Streams E → Three (Stdio ℕ)
+abbrev pub streams_view : {E : Type 0} → (E → ℕ) → Streams E → PerStream (Stdio ℕ)
 streams_view number_of streams = record {
   input = stream_of number_of streams.input;
   output = stream_of number_of streams.output;

@@ -1,6 +1,6 @@
 //! The actions that a start runs.
-use duct_system::spec::Port;
-use duct_system::system::Side;
+use duct_base::spec::Port;
+use duct_base::system::Side;
 use std::alloc::AllocError;
 use std::sync::Arc;
 
@@ -29,9 +29,9 @@ pub enum Action<'a, E> {
     /// Duplicates the end at this depth of the stack, counted from the bottom.
     Duplicate(usize),
     /// Duplicates the write end of the capture pipe of this stream.
-    Tap(Side),
+    DuplicateCapture(Side),
     /// Duplicates this caller's end.
-    Lend(&'a E),
+    DuplicateCallerEnd(&'a E),
     /// Gets one more end of this stream of the parent.
     Parent(Side),
     /// Closes the end on top.

@@ -3,8 +3,8 @@ ghost use Rattle.std.specs.Prelude.{◌≡◌, ◌≤◌, length, map, string_by
 ghost use Rattle.std.specs.Option.{option_copied, option_map};
 ghost use Rattle.duct_system.specs.SpecView.{pair_text};
 ghost use Rattle.duct_start.specs.Asked.{with_program};
-ghost use Rattle.duct_start.specs.Listed.{AreOutwards, scope_in};
-ghost use Rattle.duct_start.specs.Step.{said};
+ghost use Rattle.duct_start.specs.ActionList.{AreOutwards, scope_in};
+ghost use Rattle.duct_start.specs.Step.{step_of_setting};
 ghost use Rattle.duct_run.specs.ActionView.{ports_view};
 ghost use Rattle.duct_run.specs.Made.{IsMade, program_text};
 ghost use Rattle.duct_run.specs.ScopeView.{setting_view, scopes_view};
@@ -12,8 +12,8 @@ ghost use Rattle.duct_run.specs.ScopeView.{setting_view, scopes_view};
 use crate::action::Ports;
 use crate::scope::{Scope, Setting};
 use crate::variables::variables_in;
-use duct_system::error::Error;
-use duct_system::spec::{CommandSpec, spec_of};
+use duct_base::error::Error;
+use duct_base::spec::{CommandSpec, spec_of};
 use std::alloc::Global;
 
 /// Returns the folder of a command in the scope of this index (0 is the root's): that of the
@@ -36,7 +36,7 @@ pub(crate) fn folder_in<'a, E, H>(scopes: &[Scope<'a, E, H>], scope: usize) -> O
 
 // Returns the folder that a setting sets, if it sets one.
 fn folder_of<'a, E, H>(setting: Setting<'a, E, H>) -> Option<&'a str>
-    ensures { option_copied result ≡ (said (setting_view setting.entry)).folder }
+    ensures { option_copied result ≡ (step_of_setting (setting_view setting.entry)).folder }
 {
     match setting {
         Setting::Dir(folder) => Some(folder),

@@ -1,18 +1,18 @@
 //! Runs the hooks of a command, one after the other.
 ghost use Rattle.std.specs.Prelude.{◌≡◌, ◌≤◌, ◌+◌, ◌∷◌, [], length, map, OnOk, IfErr};
 ghost use Rattle.std.specs.Option.{option_to_list};
-ghost use Rattle.duct_start.specs.Commands.{Alters, Breaks};
-ghost use Rattle.duct_start.specs.Listed.{AreOutwards, scope_in};
-ghost use Rattle.duct_start.specs.Step.{said};
+ghost use Rattle.duct_start.specs.Commands.{HooksSucceed, HooksFail};
+ghost use Rattle.duct_start.specs.ActionList.{AreOutwards, scope_in};
+ghost use Rattle.duct_start.specs.Step.{step_of_setting};
 ghost use Rattle.duct_run.specs.ScopeView.{scopes_view, setting_view};
 ghost use Rattle.duct_run.specs.StreamsView.{many_ends, streams_view};
 
-use crate::places::{find, missing};
+use crate::places::{find, missing_place};
 use crate::scope::{Scope, Setting};
 use crate::streams::{Streams, settle};
-use duct_system::error::Error;
-use duct_system::spec::{CommandSpec, Hook, Stream};
-use duct_system::system::System;
+use duct_base::error::Error;
+use duct_base::spec::{CommandSpec, Hook, Stream};
+use duct_base::system::System;
 
 // Runs one hook on the spec, then sets the streams according to the ports of the new spec. A place
 // that the spec names is looked up among the hook's ends.
@@ -24,10 +24,10 @@ fn change<S: System, H: Hook>(
     streams: &mut Streams<S::End>,
 ) -> Result<(), Error>
     requires room { many_ends streams.old ≤ (S.journal_view sys.old).room }
-    ensures ok { OnOk result (Alters H.allows S.End.number_of ((hook.now, ends.now) ∷ [])
+    ensures ok { OnOk result (HooksSucceed H.allows S.End.number_of ((hook.now, ends.now) ∷ [])
         (S.journal_view sys.old) (S.journal_view sys.new) spec.old spec.new
         (streams_view S.End.number_of streams.old) (streams_view S.End.number_of streams.new)) }
-    ensures err { IfErr result (Breaks H.allows H.refuses S.End.number_of
+    ensures err { IfErr result (HooksFail H.allows H.refuses S.End.number_of
         ((hook.now, ends.now) ∷ []) (S.journal_view sys.old) (S.journal_view sys.new) spec.old
         (streams_view S.End.number_of streams.old) (streams_view S.End.number_of streams.new)) }
     ensures left { OnOk result (many_ends streams.new + (S.journal_view sys.old).room
@@ -36,7 +36,7 @@ fn change<S: System, H: Hook>(
     if let Err(fault) = hook.change(spec) {
         return Err(Error::Hook(fault));
     }
-    if let Some(place) = missing(ends.len(), spec) {
+    if let Some(place) = missing_place(ends.len(), spec) {
         return Err(Error::HookEnd(place));
     }
     settle::<S, H>(sys, ends, spec.port(Stream::In), &mut streams.input)?;
@@ -57,11 +57,11 @@ pub(crate) fn change_all<S: System, H: Hook>(
     requires within { scope ≤ length scopes.now }
     requires outwards { AreOutwards (scopes_view scopes.now) }
     requires room { many_ends streams.old ≤ (S.journal_view sys.old).room }
-    ensures ok { OnOk result (Alters H.allows S.End.number_of
+    ensures ok { OnOk result (HooksSucceed H.allows S.End.number_of
         (scope_in (scopes_view scopes.now) scope).hooks (S.journal_view sys.old)
         (S.journal_view sys.new) spec.old spec.new (streams_view S.End.number_of streams.old)
         (streams_view S.End.number_of streams.new)) }
-    ensures err { IfErr result (Breaks H.allows H.refuses S.End.number_of
+    ensures err { IfErr result (HooksFail H.allows H.refuses S.End.number_of
         (scope_in (scopes_view scopes.now) scope).hooks (S.journal_view sys.old)
         (S.journal_view sys.new) spec.old (streams_view S.End.number_of streams.old)
         (streams_view S.End.number_of streams.new)) }
@@ -81,7 +81,7 @@ pub(crate) fn change_all<S: System, H: Hook>(
 
 // Returns the hook of a setting and the hook's ends, if the setting is a hook.
 fn hook_of<'a, E, H>(setting: Setting<'a, E, H>) -> Option<(&'a H, &'a [E])>
-    ensures { (said (setting_view setting.entry)).hooks
+    ensures { (step_of_setting (setting_view setting.entry)).hooks
         ≡ map (λ pair. (pair.0.now, pair.1.now)) (option_to_list result) }
 {
     match setting {

@@ -5,31 +5,31 @@ ghost use Rattle.std.specs.Prelude.{◌≡◌, ◌≤◌, ◌+◌, ◌++◌, len
 ghost use Rattle.duct_system.specs.SpecView.{pair_text};
 ghost use Rattle.duct_system.specs.Streams.{end_of, stream_of};
 ghost use Rattle.duct_start.specs.Actions as action;
-ghost use Rattle.duct_start.specs.Actions.{left_by, less, many};
-ghost use Rattle.duct_start.specs.Commands.{Names, RefusedSaying, handed, taken, taken_by};
-ghost use Rattle.duct_start.specs.Holdings.{Holdings, ends};
-ghost use Rattle.duct_start.specs.Listed.{AreOutwards, scope_in};
+ghost use Rattle.duct_start.specs.Actions.{stack_after_ports, stack_after_port, port_end_count};
+ghost use Rattle.duct_start.specs.Commands.{NameSucceeds, ActionFailsWith, stack_with_streams, port_stream, port_streams};
+ghost use Rattle.duct_start.specs.ResourcesView.{ResourcesView, open_ends};
+ghost use Rattle.duct_start.specs.ActionList.{AreOutwards, scope_in};
 ghost use Rattle.duct_start.specs.Plan.{program_of};
 ghost use Rattle.duct_run.specs.ActionView.{ports_view};
-ghost use Rattle.duct_run.specs.HeldView.{HasRoom, HasSameWorkers, stack_view};
+ghost use Rattle.duct_run.specs.ResourcesView.{HasRoom, HasSameWorkers, stack_view};
 ghost use Rattle.duct_run.specs.Made.{IsPrepared, program_text};
 ghost use Rattle.duct_run.specs.NameRefused.{NameRefused};
-ghost use Rattle.duct_run.specs.Requested.{CommandGoes, CommandStops, IsNew, held_by};
+ghost use Rattle.duct_run.specs.Requested.{CommandSucceeds, CommandFails, IsNew, resources_of};
 ghost use Rattle.duct_run.specs.ScopeView.{scopes_view};
 ghost use Rattle.duct_run.specs.StreamsView.{streams_view};
 
 use crate::action::Ports;
 use crate::asked::{asked_spec, folder_in};
 use crate::change::change_all;
-use crate::held::{Held, top};
+use crate::resources::{Resources, top};
 use crate::scope::Scope;
 use crate::streams::Streams;
 use crate::views::Seen;
+use duct_base::error::Error;
 use duct_base::exe::asks_canonical;
 use duct_base::pool::{Place, Seat, place_new, seat_new};
-use duct_system::error::Error;
-use duct_system::spec::{CommandSpec, Hook, Port};
-use duct_system::system::{Numbered, Stdio, System};
+use duct_base::spec::{CommandSpec, Hook, Port};
+use duct_base::system::{Numbered, Stdio, System};
 
 // Returns the program of a command: the first of its words, or an empty text if it has none.
 fn program_of(words: &[String]) -> &str
@@ -50,11 +50,11 @@ fn canonical<S: System, H: Hook>(
 ) -> Result<Option<String>, Error>
     requires within { scope ≤ length scopes.now }
     requires outwards { AreOutwards (scopes_view scopes.now) }
-    ensures ok { IfOk result (λ name. let texts = map string_bytes words.now in Names {E = S.End} {H
-        = H} H.allows S.End.number_of (scope_in (scopes_view scopes.now) scope) texts
+    ensures ok { IfOk result (λ name. let texts = map string_bytes words.now in NameSucceeds
+        {E = S.End} {H = H} H.allows S.End.number_of (scope_in (scopes_view scopes.now) scope) texts
         (S.journal_view sys.old) (S.journal_view sys.new) (program_text name texts)) }
-    ensures err { IfErr result (NameRefused (scope_in (scopes_view scopes.now) scope) (map
-        string_bytes words.now) (S.journal_view sys.old) (S.journal_view sys.new)) }
+    ensures err { IfErr result (NameRefused (scope_in (scopes_view scopes.now) scope)
+        (map string_bytes words.now) (S.journal_view sys.old) (S.journal_view sys.new)) }
     ensures left { OnOk result ((S.journal_view sys.old).room ≤ (S.journal_view sys.new).room) }
 {
     let program = program_of(words);
@@ -66,12 +66,12 @@ fn canonical<S: System, H: Hook>(
 
 // Returns the stream of a port. A `Given` port pops the end on top of the stack.
 fn take<E: Numbered>(stack: &mut Vec<E>, port: Port) -> Stdio<E>
-    requires { many port ≤ vec_len stack.old }
-    ensures stream { stream_of E.number_of result ≡ taken port (stack_view E.number_of
+    requires { port_end_count port ≤ vec_len stack.old }
+    ensures stream { stream_of E.number_of result ≡ port_stream port (stack_view E.number_of
         stack.old.items) }
-    ensures left { stack_view E.number_of stack.new.items ≡ less port (stack_view E.number_of
-        stack.old.items) }
-    ensures len { vec_len stack.new + many port ≡ vec_len stack.old }
+    ensures left { stack_view E.number_of stack.new.items ≡ stack_after_port port
+        (stack_view E.number_of stack.old.items) }
+    ensures len { vec_len stack.new + port_end_count port ≡ vec_len stack.old }
     ensures capacity { vec_capacity stack.new ≡ vec_capacity stack.old }
 {
     match port {
@@ -83,11 +83,12 @@ fn take<E: Numbered>(stack: &mut Vec<E>, port: Port) -> Stdio<E>
 
 // Returns the streams of three ports. Stderr's end is on top of the stack.
 fn take_all<E: Numbered>(stack: &mut Vec<E>, ports: Ports) -> Streams<E>
-    requires { many ports.input + (many ports.output + many ports.error) ≤ vec_len stack.old }
-    ensures streams { streams_view E.number_of result ≡ taken_by (ports_view ports) (stack_view
-        E.number_of stack.old.items) }
-    ensures left { stack_view E.number_of stack.new.items ≡ left_by (ports_view ports) (stack_view
-        E.number_of stack.old.items) }
+    requires { port_end_count ports.input + (port_end_count ports.output
+        + port_end_count ports.error) ≤ vec_len stack.old }
+    ensures streams { streams_view E.number_of result ≡ port_streams (ports_view ports)
+        (stack_view E.number_of stack.old.items) }
+    ensures left { stack_view E.number_of stack.new.items ≡ stack_after_ports (ports_view ports)
+        (stack_view E.number_of stack.old.items) }
     ensures len { vec_len stack.new ≤ vec_len stack.old }
     ensures capacity { vec_capacity stack.new ≡ vec_capacity stack.old }
 {
@@ -118,8 +119,8 @@ fn put<E: Numbered>(stack: &mut Vec<E>, stream: Stdio<E>)
 // Pushes the ends of three streams back onto the stack, stderr's last.
 fn put_all<E: Numbered>(stack: &mut Vec<E>, streams: Streams<E>)
     requires { vec_len stack.old + 3 ≤ vec_capacity stack.old }
-    ensures { stack_view E.number_of stack.new.items
-        ≡ handed (streams_view E.number_of streams) (stack_view E.number_of stack.old.items) }
+    ensures { stack_view E.number_of stack.new.items ≡ stack_with_streams
+        (streams_view E.number_of streams) (stack_view E.number_of stack.old.items) }
 {
     put(stack, streams.input);
     put(stack, streams.output);
@@ -142,7 +143,7 @@ fn prepared<S: System, H: Hook>(
         (map pair_text pairs.now.items) (scope_in (scopes_view scopes.now) scope)
         (map string_bytes words.now) (ports_view ports) (S.journal_view sys.old)
         (S.journal_view sys.new) made.1) }
-    ensures err { IfErr result (λ error. (held : Holdings) → RefusedSaying H.allows H.refuses
+    ensures err { IfErr result (λ error. (held : ResourcesView) → ActionFailsWith H.allows H.refuses
         S.End.number_of (map pair_text pairs.now.items)
         (action.spawn (scope_in (scopes_view scopes.now) scope) (map string_bytes words.now)
         (ports_view ports)) (S.journal_view sys.old) (S.journal_view sys.new) held held error) }
@@ -164,19 +165,19 @@ pub(crate) fn command<S: System, H: Hook>(
     scope: usize,
     words: &[String],
     ports: Ports,
-    held: &mut Held<S::End, Place<S::Child>, S::Feed, S::Drain>,
+    held: &mut Resources<S::End, Place<S::Child>, S::Feed, S::Drain>,
 ) -> Result<(), Error>
     requires within { scope ≤ length scopes.now }
     requires outwards { AreOutwards (scopes_view scopes.now) }
-    requires full { many ports.input + (many ports.output + many ports.error) ≤ vec_len
-        held.old.stack }
-    requires room { length (ends (held_by ⟦<S as Seen>⟧.views held.old)) ≤ (S.journal_view
-        sys.old).room }
+    requires full { port_end_count ports.input + (port_end_count ports.output
+        + port_end_count ports.error) ≤ vec_len held.old.stack }
+    requires room { length (open_ends (resources_of ⟦<S as Seen>⟧.views held.old))
+        ≤ (S.journal_view sys.old).room }
     requires reserved { HasRoom held.old }
-    ensures ok { OnOk result (CommandGoes ⟦<S as Seen>⟧.views H.allows (map pair_text
+    ensures ok { OnOk result (CommandSucceeds ⟦<S as Seen>⟧.views H.allows (map pair_text
         pairs.now.items) (action.spawn (scope_in (scopes_view scopes.now) scope) (map string_bytes
         words.now) (ports_view ports)) sys.old sys.new held.old held.new) }
-    ensures err { IfErr result (CommandStops ⟦<S as Seen>⟧.views H.allows H.refuses (map pair_text
+    ensures err { IfErr result (CommandFails ⟦<S as Seen>⟧.views H.allows H.refuses (map pair_text
         pairs.now.items) (action.spawn (scope_in (scopes_view scopes.now) scope) (map string_bytes
         words.now) (ports_view ports)) sys.old sys.new held.old held.new) }
     ensures new { IsNew ⟦<S as Seen>⟧.views held.old → IsNew ⟦<S as Seen>⟧.views held.new }

@@ -3,12 +3,12 @@ ghost use Rattle.std.specs.Prelude.{◌≡◌, ◌≤◌, length, map};
 ghost use Rattle.std.specs.Option.{option_map};
 ghost use Rattle.duct_base.specs.Pool.{IsGiven};
 ghost use Rattle.duct_start.specs.Closes.{Closes};
-ghost use Rattle.duct_start.specs.Holdings.{pair_of};
-ghost use Rattle.duct_run.specs.HeldEnds.{held_ends};
+ghost use Rattle.duct_start.specs.ResourcesView.{pipe_ends};
+ghost use Rattle.duct_run.specs.ResourceEnds.{ends_of_resources};
 
-use crate::held::Held;
+use crate::resources::Resources;
 use duct_base::pool::{Place, Pool, pool_take};
-use duct_system::system::{Child, System};
+use duct_base::system::{Child, System};
 
 // Closes each end of a stack, from the bottom to the top.
 fn close_stack<S: System>(sys: &mut S, stack: Vec<S::End>)
@@ -23,9 +23,9 @@ fn close_stack<S: System>(sys: &mut S, stack: Vec<S::End>)
 
 // Closes both ends of a capture pipe, the read end first, if the pipe is open.
 fn close_pair<S: System>(sys: &mut S, pair: Option<(S::End, S::End)>)
-    requires { length (pair_of (option_map (λ p. (S.End.number_of p.0, S.End.number_of p.1)) pair))
-        ≤ (S.journal_view sys.old).room }
-    ensures { Closes (pair_of (option_map (λ p. (S.End.number_of p.0, S.End.number_of p.1)) pair))
+    requires { length (pipe_ends (option_map (λ p. (S.End.number_of p.0, S.End.number_of p.1))
+        pair)) ≤ (S.journal_view sys.old).room }
+    ensures { Closes (pipe_ends (option_map (λ p. (S.End.number_of p.0, S.End.number_of p.1)) pair))
         (S.journal_view sys.old) (S.journal_view sys.new) }
 {
     if let Some((reader, writer)) = pair {
@@ -50,10 +50,11 @@ pub fn give_all<C: Child>(pool: &mut Pool<C>, children: Vec<Place<C>>)
 pub(crate) fn give_up<S: System>(
     sys: &mut S,
     pool: &mut Pool<S::Child>,
-    held: Held<S::End, Place<S::Child>, S::Feed, S::Drain>,
+    held: Resources<S::End, Place<S::Child>, S::Feed, S::Drain>,
 )
-    requires room { length (held_ends S.End.number_of held) ≤ (S.journal_view sys.old).room }
-    ensures closes { Closes (held_ends S.End.number_of held) (S.journal_view sys.old)
+    requires room { length (ends_of_resources S.End.number_of held)
+        ≤ (S.journal_view sys.old).room }
+    ensures closes { Closes (ends_of_resources S.End.number_of held) (S.journal_view sys.old)
         (S.journal_view sys.new) }
     ensures given { IsGiven S.Child.may_answer S.Child.child_view held.children.items
         pool.old pool.new }

@@ -1,14 +1,14 @@
 //! The places that a hook names in a spec: indexes into the hook's ends.
 ghost use Rattle.std.specs.Prelude.{◌≡◌};
-ghost use Rattle.duct_start.specs.Chain.{missing, missing_at, with_found};
+ghost use Rattle.duct_start.specs.Chain.{missing_place, missing_at, with_resolved_port};
 ghost use Rattle.duct_run.specs.Places.{with_places_found};
 
-use duct_system::spec::{CommandSpec, Port, Stream, give};
+use duct_base::spec::{CommandSpec, Port, Stream, give};
 
 /// Returns the first place of a spec that is out of range for this many ends, in the order stdin,
 /// stdout, stderr.
-pub(crate) fn missing(count: usize, spec: &CommandSpec) -> Option<usize>
-    ensures { result ≡ missing count spec.now }
+pub(crate) fn missing_place(count: usize, spec: &CommandSpec) -> Option<usize>
+    ensures { result ≡ missing_place count spec.now }
 {
     missing_at(count, spec.port(Stream::In))
         .or(missing_at(count, spec.port(Stream::Out)))
@@ -36,7 +36,7 @@ pub(crate) fn find(spec: &mut CommandSpec)
 
 // Makes a stream `Given` if it names a place.
 fn find_one(spec: &mut CommandSpec, stream: Stream)
-    ensures { spec.new ≡ with_found stream spec.old }
+    ensures { spec.new ≡ with_resolved_port stream spec.old }
 {
     if let Port::Place(_) = spec.port(stream) {
         give(spec, stream);

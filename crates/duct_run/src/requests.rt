@@ -4,23 +4,23 @@ ghost use Rattle.std.specs.Prelude.{◌≡◌, ◌<◌, ◌≤◌, ◌+◌, leng
 ghost use Rattle.std.specs.Arc.{arc_value};
 ghost use Rattle.duct_system.specs.declared.system.Side.TheVariants as side;
 ghost use Rattle.duct_start.specs.Actions as action;
-ghost use Rattle.duct_start.specs.Holdings.{ends};
-ghost use Rattle.duct_start.specs.Standing.{CanDo};
-ghost use Rattle.duct_run.specs.Requested.{IsNew, RequestGoes, RequestQuits, Requested, held_by};
+ghost use Rattle.duct_start.specs.ResourcesView.{open_ends};
+ghost use Rattle.duct_start.specs.RunInvariant.{FindsItsEnds};
+ghost use Rattle.duct_run.specs.Requested.{IsNew, RequestSucceeds, RequestFails, Requested, resources_of};
 
-use crate::held::{Held, top};
+use crate::resources::{Resources, top};
 use crate::views::Seen;
+use duct_base::error::Error;
 use duct_base::pool::Place;
-use duct_system::error::Error;
-use duct_system::spec::Hook;
-use duct_system::system::{Side, System};
+use duct_base::spec::Hook;
+use duct_base::system::{Side, System};
 use std::sync::Arc;
 
 // Opens a file for reading.
 pub(crate) fn open_read<S: System, H: Hook>(
     sys: &mut S,
     path: &str,
-    held: &mut Held<S::End, Place<S::Child>, S::Feed, S::Drain>,
+    held: &mut Resources<S::End, Place<S::Child>, S::Feed, S::Drain>,
 ) -> Result<(), Error>
     requires reserved { vec_len held.old.stack + 1 ≤ vec_capacity held.old.stack }
     ensures { Requested ⟦<S as Seen>⟧.views H.allows (action.open_read path.now) result sys.old
@@ -35,7 +35,7 @@ pub(crate) fn open_read<S: System, H: Hook>(
 pub(crate) fn create<S: System, H: Hook>(
     sys: &mut S,
     path: &str,
-    held: &mut Held<S::End, Place<S::Child>, S::Feed, S::Drain>,
+    held: &mut Resources<S::End, Place<S::Child>, S::Feed, S::Drain>,
 ) -> Result<(), Error>
     requires reserved { vec_len held.old.stack + 1 ≤ vec_capacity held.old.stack }
     ensures { Requested ⟦<S as Seen>⟧.views H.allows (action.create path.now) result sys.old sys.new
@@ -49,7 +49,7 @@ pub(crate) fn create<S: System, H: Hook>(
 // Opens a pipe and pushes both ends, the write end on top.
 pub(crate) fn open_pipe<S: System, H: Hook>(
     sys: &mut S,
-    held: &mut Held<S::End, Place<S::Child>, S::Feed, S::Drain>,
+    held: &mut Resources<S::End, Place<S::Child>, S::Feed, S::Drain>,
 ) -> Result<(), Error>
     requires reserved { vec_len held.old.stack + 2 ≤ vec_capacity held.old.stack }
     ensures { Requested ⟦<S as Seen>⟧.views H.allows (action.pipe) result sys.old sys.new held.old
@@ -64,7 +64,7 @@ pub(crate) fn open_pipe<S: System, H: Hook>(
 // Opens a pipe and pushes both ends, the read end on top.
 pub(crate) fn open_input<S: System, H: Hook>(
     sys: &mut S,
-    held: &mut Held<S::End, Place<S::Child>, S::Feed, S::Drain>,
+    held: &mut Resources<S::End, Place<S::Child>, S::Feed, S::Drain>,
 ) -> Result<(), Error>
     requires reserved { vec_len held.old.stack + 2 ≤ vec_capacity held.old.stack }
     ensures { Requested ⟦<S as Seen>⟧.views H.allows (action.input) result sys.old sys.new held.old
@@ -80,7 +80,7 @@ pub(crate) fn open_input<S: System, H: Hook>(
 pub(crate) fn duplicate<S: System, H: Hook>(
     sys: &mut S,
     depth: usize,
-    held: &mut Held<S::End, Place<S::Child>, S::Feed, S::Drain>,
+    held: &mut Resources<S::End, Place<S::Child>, S::Feed, S::Drain>,
 ) -> Result<(), Error>
     requires reserved { vec_len held.old.stack + 1 ≤ vec_capacity held.old.stack }
     requires within { depth < length held.old.stack.items }
@@ -93,14 +93,14 @@ pub(crate) fn duplicate<S: System, H: Hook>(
 }
 
 // Duplicates a caller's end.
-pub(crate) fn lend<S: System, H: Hook>(
+pub(crate) fn duplicate_caller_end<S: System, H: Hook>(
     sys: &mut S,
     end: &S::End,
-    held: &mut Held<S::End, Place<S::Child>, S::Feed, S::Drain>,
+    held: &mut Resources<S::End, Place<S::Child>, S::Feed, S::Drain>,
 ) -> Result<(), Error>
     requires reserved { vec_len held.old.stack + 1 ≤ vec_capacity held.old.stack }
-    ensures { Requested ⟦<S as Seen>⟧.views H.allows (action.lend end.now) result sys.old sys.new
-        held.old held.new }
+    ensures { Requested ⟦<S as Seen>⟧.views H.allows (action.duplicate_caller_end end.now) result
+        sys.old sys.new held.old held.new }
 {
     let made = sys.duplicate(end)?;
     held.stack.push_reserved(made);
@@ -111,7 +111,7 @@ pub(crate) fn lend<S: System, H: Hook>(
 pub(crate) fn parent<S: System, H: Hook>(
     sys: &mut S,
     side: Side,
-    held: &mut Held<S::End, Place<S::Child>, S::Feed, S::Drain>,
+    held: &mut Resources<S::End, Place<S::Child>, S::Feed, S::Drain>,
 ) -> Result<(), Error>
     requires reserved { vec_len held.old.stack + 1 ≤ vec_capacity held.old.stack }
     ensures { Requested ⟦<S as Seen>⟧.views H.allows (action.parent side) result sys.old sys.new
@@ -125,7 +125,7 @@ pub(crate) fn parent<S: System, H: Hook>(
 // Closes the end on top.
 pub(crate) fn close<S: System, H: Hook>(
     sys: &mut S,
-    held: &mut Held<S::End, Place<S::Child>, S::Feed, S::Drain>,
+    held: &mut Resources<S::End, Place<S::Child>, S::Feed, S::Drain>,
 )
     requires full { 1 ≤ vec_len held.old.stack }
     requires room { 0 < (S.journal_view sys.old).room }
@@ -139,7 +139,7 @@ pub(crate) fn close<S: System, H: Hook>(
 // Opens stdout's capture pipe, unless it is open.
 pub(crate) fn capture_out<S: System, H: Hook>(
     sys: &mut S,
-    held: &mut Held<S::End, Place<S::Child>, S::Feed, S::Drain>,
+    held: &mut Resources<S::End, Place<S::Child>, S::Feed, S::Drain>,
 ) -> Result<(), Error>
     ensures { Requested ⟦<S as Seen>⟧.views H.allows (action.capture side.Out) result sys.old
         sys.new held.old held.new }
@@ -155,14 +155,14 @@ pub(crate) fn capture_out<S: System, H: Hook>(
 }
 
 // Duplicates the write end of stdout's capture pipe.
-pub(crate) fn tap_out<S: System, H: Hook>(
+pub(crate) fn duplicate_output_capture<S: System, H: Hook>(
     sys: &mut S,
-    held: &mut Held<S::End, Place<S::Child>, S::Feed, S::Drain>,
+    held: &mut Resources<S::End, Place<S::Child>, S::Feed, S::Drain>,
 ) -> Result<(), Error>
     requires reserved { vec_len held.old.stack + 1 ≤ vec_capacity held.old.stack }
     requires open { IsSome held.old.output }
-    ensures { Requested ⟦<S as Seen>⟧.views H.allows (action.tap side.Out) result sys.old sys.new
-        held.old held.new }
+    ensures { Requested ⟦<S as Seen>⟧.views H.allows (action.duplicate_capture side.Out) result
+        sys.old sys.new held.old held.new }
 {
     let end = match &held.output {
         Some((_, writer)) => sys.duplicate(writer)?,
@@ -175,7 +175,7 @@ pub(crate) fn tap_out<S: System, H: Hook>(
 // Opens stderr's capture pipe, unless it is open.
 pub(crate) fn capture_err<S: System, H: Hook>(
     sys: &mut S,
-    held: &mut Held<S::End, Place<S::Child>, S::Feed, S::Drain>,
+    held: &mut Resources<S::End, Place<S::Child>, S::Feed, S::Drain>,
 ) -> Result<(), Error>
     ensures { Requested ⟦<S as Seen>⟧.views H.allows (action.capture side.Err) result sys.old
         sys.new held.old held.new }
@@ -191,14 +191,14 @@ pub(crate) fn capture_err<S: System, H: Hook>(
 }
 
 // Duplicates the write end of stderr's capture pipe.
-pub(crate) fn tap_err<S: System, H: Hook>(
+pub(crate) fn duplicate_error_capture<S: System, H: Hook>(
     sys: &mut S,
-    held: &mut Held<S::End, Place<S::Child>, S::Feed, S::Drain>,
+    held: &mut Resources<S::End, Place<S::Child>, S::Feed, S::Drain>,
 ) -> Result<(), Error>
     requires reserved { vec_len held.old.stack + 1 ≤ vec_capacity held.old.stack }
     requires open { IsSome held.old.error }
-    ensures { Requested ⟦<S as Seen>⟧.views H.allows (action.tap side.Err) result sys.old sys.new
-        held.old held.new }
+    ensures { Requested ⟦<S as Seen>⟧.views H.allows (action.duplicate_capture side.Err) result
+        sys.old sys.new held.old held.new }
 {
     let end = match &held.error {
         Some((_, writer)) => sys.duplicate(writer)?,
@@ -212,7 +212,7 @@ pub(crate) fn tap_err<S: System, H: Hook>(
 pub(crate) fn capture<S: System, H: Hook>(
     sys: &mut S,
     side: Side,
-    held: &mut Held<S::End, Place<S::Child>, S::Feed, S::Drain>,
+    held: &mut Resources<S::End, Place<S::Child>, S::Feed, S::Drain>,
 ) -> Result<(), Error>
     ensures { Requested ⟦<S as Seen>⟧.views H.allows (action.capture side) result sys.old sys.new
         held.old held.new }
@@ -224,20 +224,20 @@ pub(crate) fn capture<S: System, H: Hook>(
 }
 
 // Duplicates the write end of the capture pipe of a stream.
-pub(crate) fn tap<S: System, H: Hook>(
+pub(crate) fn duplicate_capture<S: System, H: Hook>(
     sys: &mut S,
     side: Side,
-    held: &mut Held<S::End, Place<S::Child>, S::Feed, S::Drain>,
+    held: &mut Resources<S::End, Place<S::Child>, S::Feed, S::Drain>,
 ) -> Result<(), Error>
     requires reserved { vec_len held.old.stack + 1 ≤ vec_capacity held.old.stack }
-    requires open { CanDo {E = S.End} {H = H} (action.tap side) (held_by ⟦<S as Seen>⟧.views
-        held.old) }
-    ensures { Requested ⟦<S as Seen>⟧.views H.allows (action.tap side) result sys.old sys.new
-        held.old held.new }
+    requires open { FindsItsEnds {E = S.End} {H = H} (action.duplicate_capture side)
+        (resources_of ⟦<S as Seen>⟧.views held.old) }
+    ensures { Requested ⟦<S as Seen>⟧.views H.allows (action.duplicate_capture side) result sys.old
+        sys.new held.old held.new }
 {
     match side {
-        Side::Out => tap_out::<S, H>(sys, held),
-        Side::Err => tap_err::<S, H>(sys, held),
+        Side::Out => duplicate_output_capture::<S, H>(sys, held),
+        Side::Err => duplicate_error_capture::<S, H>(sys, held),
     }
 }
 
@@ -245,7 +245,7 @@ pub(crate) fn tap<S: System, H: Hook>(
 pub(crate) fn feed<S: System, H: Hook>(
     sys: &mut S,
     bytes: &Arc<Vec<u8>>,
-    held: &mut Held<S::End, Place<S::Child>, S::Feed, S::Drain>,
+    held: &mut Resources<S::End, Place<S::Child>, S::Feed, S::Drain>,
 ) -> Result<(), Error>
     requires full { 1 ≤ vec_len held.old.stack }
     requires room { 0 < (S.journal_view sys.old).room }
@@ -263,15 +263,15 @@ pub(crate) fn feed<S: System, H: Hook>(
 // If stdout's capture pipe is open, closes its write end and starts the worker of its read end.
 pub(crate) fn finish_out<S: System, H: Hook>(
     sys: &mut S,
-    held: &mut Held<S::End, Place<S::Child>, S::Feed, S::Drain>,
+    held: &mut Resources<S::End, Place<S::Child>, S::Feed, S::Drain>,
 ) -> Result<(), Error>
-    requires room { length (ends (held_by ⟦<S as Seen>⟧.views held.old)) ≤ (S.journal_view
-        sys.old).room }
+    requires room { length (open_ends (resources_of ⟦<S as Seen>⟧.views held.old))
+        ≤ (S.journal_view sys.old).room }
     requires first { held.old.output_worker ≡ None }
     requires last { held.old.error_worker ≡ None }
-    ensures ok { OnOk result (RequestGoes ⟦<S as Seen>⟧.views H.allows (action.finish side.Out)
+    ensures ok { OnOk result (RequestSucceeds ⟦<S as Seen>⟧.views H.allows (action.finish side.Out)
         sys.old sys.new held.old held.new) }
-    ensures err { IfErr result (RequestQuits ⟦<S as Seen>⟧.views H.allows (action.finish side.Out)
+    ensures err { IfErr result (RequestFails ⟦<S as Seen>⟧.views H.allows (action.finish side.Out)
         sys.old sys.new held.old held.new) }
     ensures new { IsNew ⟦<S as Seen>⟧.views held.old → IsNew ⟦<S as Seen>⟧.views held.new }
     ensures last { held.new.error_worker ≡ held.old.error_worker }
@@ -289,14 +289,14 @@ pub(crate) fn finish_out<S: System, H: Hook>(
 // If stderr's capture pipe is open, closes its write end and starts the worker of its read end.
 pub(crate) fn finish_err<S: System, H: Hook>(
     sys: &mut S,
-    held: &mut Held<S::End, Place<S::Child>, S::Feed, S::Drain>,
+    held: &mut Resources<S::End, Place<S::Child>, S::Feed, S::Drain>,
 ) -> Result<(), Error>
-    requires room { length (ends (held_by ⟦<S as Seen>⟧.views held.old)) ≤ (S.journal_view
-        sys.old).room }
+    requires room { length (open_ends (resources_of ⟦<S as Seen>⟧.views held.old))
+        ≤ (S.journal_view sys.old).room }
     requires last { held.old.error_worker ≡ None }
-    ensures ok { OnOk result (RequestGoes ⟦<S as Seen>⟧.views H.allows (action.finish side.Err)
+    ensures ok { OnOk result (RequestSucceeds ⟦<S as Seen>⟧.views H.allows (action.finish side.Err)
         sys.old sys.new held.old held.new) }
-    ensures err { IfErr result (RequestQuits ⟦<S as Seen>⟧.views H.allows (action.finish side.Err)
+    ensures err { IfErr result (RequestFails ⟦<S as Seen>⟧.views H.allows (action.finish side.Err)
         sys.old sys.new held.old held.new) }
     ensures new { IsNew ⟦<S as Seen>⟧.views held.old → IsNew ⟦<S as Seen>⟧.views held.new }
     ensures first { held.new.output_worker ≡ held.old.output_worker }

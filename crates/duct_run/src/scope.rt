@@ -1,6 +1,6 @@
 //! What is set around the commands of a start besides their streams: a list of scopes, each with
 //! the index of the scope outside it.
-use duct_system::names::EnvNameString;
+use duct_base::names::EnvNameString;
 use std::alloc::AllocError;
 use std::collections::BTreeMap;
 

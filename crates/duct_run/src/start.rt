@@ -1,26 +1,26 @@
 //! A start: it runs its actions, and where one of them fails it gives up what it holds.
 ghost use Rattle.std.specs.Prelude.{◌≡◌, ◌≤◌, All, length, is_some, true, None, OnOk, IfOk, IfErr, IsSome};
 ghost use Rattle.duct_system.specs.Trace.{segment};
-ghost use Rattle.duct_start.specs.Holdings.{empty};
-ghost use Rattle.duct_start.specs.Listed.{AreOutwards, IsWithin, resolved_all};
-ghost use Rattle.duct_start.specs.Ran.{HavePipes, MadeReader, OpensOut, SomeLeads, drained, drained_and_read, nothing_more};
+ghost use Rattle.duct_start.specs.ResourcesView.{empty_resources};
+ghost use Rattle.duct_start.specs.ActionList.{AreOutwards, IsWithin, resolved_all};
+ghost use Rattle.duct_start.specs.RunContract.{HavePipes, MadeReader, OpenOutputCapture, LeadToSomePlan, drain_tail, drain_and_reader_tail, no_tail};
 ghost use Rattle.duct_run.specs.ActionView.{actions_view};
-ghost use Rattle.duct_run.specs.HeldView.{HasSameWorkers};
+ghost use Rattle.duct_run.specs.ResourcesView.{HasSameWorkers};
 ghost use Rattle.duct_run.specs.OutputRead.{IsRead, pipe_view};
-ghost use Rattle.duct_run.specs.Requested.{GivesUpBy, IsNew, PoolLeaves, RunStops, RunsBy, held_by};
+ghost use Rattle.duct_run.specs.Requested.{RunGivesUp, IsNew, PoolLeaves, RunFails, RunSucceeds, resources_of};
 ghost use Rattle.duct_run.specs.ScopeView.{all_scopes, scopes_view};
 
 use crate::action::Action;
 use crate::ending::give_up;
-use crate::held::Held;
 use crate::requests::{finish_err, finish_out};
+use crate::resources::Resources;
 use crate::run::perform_all;
 use crate::scope::Scope;
 use crate::views::Seen;
+use duct_base::error::Error;
 use duct_base::pool::{Place, Pool};
-use duct_system::error::Error;
-use duct_system::spec::Hook;
-use duct_system::system::System;
+use duct_base::spec::Hook;
+use duct_base::system::System;
 
 // Asks for the environment, then performs the actions.
 fn run_actions<S: System, H: Hook>(
@@ -28,17 +28,19 @@ fn run_actions<S: System, H: Hook>(
     pool: &mut Pool<S::Child>,
     scopes: &[Scope<'_, S::End, H>],
     actions: &[Action<'_, S::End>],
-    held: &mut Held<S::End, Place<S::Child>, S::Feed, S::Drain>,
+    held: &mut Resources<S::End, Place<S::Child>, S::Feed, S::Drain>,
 ) -> Result<(), Error>
     requires outwards { AreOutwards (scopes_view scopes.now) }
     requires within { All (IsWithin (length scopes.now)) (actions_view actions.now) }
-    requires begun { held_by ⟦<S as Seen>⟧.views held.old ≡ empty }
-    requires leads { SomeLeads S.End.number_of (resolved_all (all_scopes scopes.now) (actions_view
-        actions.now)) }
-    ensures ok { OnOk result (RunsBy ⟦<S as Seen>⟧.views H.allows nothing_more (resolved_all
-        (all_scopes scopes.now) (actions_view actions.now)) sys.old sys.new held.new) }
-    ensures err { IfErr result (RunStops ⟦<S as Seen>⟧.views H.allows H.refuses nothing_more
-        (resolved_all (all_scopes scopes.now) (actions_view actions.now)) sys.old sys.new held.new) }
+    requires begun { resources_of ⟦<S as Seen>⟧.views held.old ≡ empty_resources }
+    requires leads { LeadToSomePlan S.End.number_of (resolved_all (all_scopes scopes.now)
+        (actions_view actions.now)) }
+    ensures ok { OnOk result (RunSucceeds ⟦<S as Seen>⟧.views H.allows no_tail
+        (resolved_all (all_scopes scopes.now) (actions_view actions.now)) sys.old sys.new
+        held.new) }
+    ensures err { IfErr result (RunFails ⟦<S as Seen>⟧.views H.allows H.refuses no_tail
+        (resolved_all (all_scopes scopes.now) (actions_view actions.now)) sys.old sys.new
+        held.new) }
     ensures workers { HasSameWorkers held.old held.new }
     ensures new { IsNew ⟦<S as Seen>⟧.views held.old → IsNew ⟦<S as Seen>⟧.views held.new }
     ensures pool { PoolLeaves ⟦<S as Seen>⟧.views pool.old pool.new }
@@ -53,20 +55,22 @@ fn run<S: System, H: Hook>(
     pool: &mut Pool<S::Child>,
     scopes: &[Scope<'_, S::End, H>],
     actions: &[Action<'_, S::End>],
-    held: &mut Held<S::End, Place<S::Child>, S::Feed, S::Drain>,
+    held: &mut Resources<S::End, Place<S::Child>, S::Feed, S::Drain>,
 ) -> Result<(), Error>
     requires outwards { AreOutwards (scopes_view scopes.now) }
     requires within { All (IsWithin (length scopes.now)) (actions_view actions.now) }
-    requires begun { held_by ⟦<S as Seen>⟧.views held.old ≡ empty }
-    requires leads { SomeLeads S.End.number_of (resolved_all (all_scopes scopes.now) (actions_view
-        actions.now)) }
-    ensures ok { OnOk result (RunsBy ⟦<S as Seen>⟧.views H.allows drained (resolved_all (all_scopes
-        scopes.now) (actions_view actions.now)) sys.old sys.new held.new) }
-    ensures err { IfErr result (RunStops ⟦<S as Seen>⟧.views H.allows H.refuses drained
-        (resolved_all (all_scopes scopes.now) (actions_view actions.now)) sys.old sys.new held.new) }
-    ensures workers { OnOk result (HavePipes S.End.number_of (resolved_all (all_scopes scopes.now)
-        (actions_view actions.now)) (is_some held.new.output_worker) (is_some
-        held.new.error_worker)) }
+    requires begun { resources_of ⟦<S as Seen>⟧.views held.old ≡ empty_resources }
+    requires leads { LeadToSomePlan S.End.number_of (resolved_all (all_scopes scopes.now)
+        (actions_view actions.now)) }
+    ensures ok { OnOk result (RunSucceeds ⟦<S as Seen>⟧.views H.allows drain_tail
+        (resolved_all (all_scopes scopes.now) (actions_view actions.now)) sys.old sys.new
+        held.new) }
+    ensures err { IfErr result (RunFails ⟦<S as Seen>⟧.views H.allows H.refuses drain_tail
+        (resolved_all (all_scopes scopes.now) (actions_view actions.now)) sys.old sys.new
+        held.new) }
+    ensures workers { OnOk result (HavePipes S.End.number_of
+        (resolved_all (all_scopes scopes.now) (actions_view actions.now))
+        (is_some held.new.output_worker) (is_some held.new.error_worker)) }
     ensures new { IsNew ⟦<S as Seen>⟧.views held.old → IsNew ⟦<S as Seen>⟧.views held.new }
     ensures pool { PoolLeaves ⟦<S as Seen>⟧.views pool.old pool.new }
 {
@@ -99,21 +103,23 @@ fn run_reader<S: System, H: Hook>(
     pool: &mut Pool<S::Child>,
     scopes: &[Scope<'_, S::End, H>],
     actions: &[Action<'_, S::End>],
-    held: &mut Held<S::End, Place<S::Child>, S::Feed, S::Drain>,
+    held: &mut Resources<S::End, Place<S::Child>, S::Feed, S::Drain>,
 ) -> Result<S::Reader, Error>
     requires outwards { AreOutwards (scopes_view scopes.now) }
     requires within { All (IsWithin (length scopes.now)) (actions_view actions.now) }
-    requires begun { held_by ⟦<S as Seen>⟧.views held.old ≡ empty }
-    requires leads { SomeLeads S.End.number_of (resolved_all (all_scopes scopes.now) (actions_view
-        actions.now)) }
-    requires opens { OpensOut S.End.number_of (resolved_all (all_scopes scopes.now) (actions_view
-        actions.now)) }
-    ensures ok { OnOk result (RunsBy ⟦<S as Seen>⟧.views H.allows drained_and_read (resolved_all
-        (all_scopes scopes.now) (actions_view actions.now)) sys.old sys.new held.new) }
+    requires begun { resources_of ⟦<S as Seen>⟧.views held.old ≡ empty_resources }
+    requires leads { LeadToSomePlan S.End.number_of (resolved_all (all_scopes scopes.now)
+        (actions_view actions.now)) }
+    requires opens { OpenOutputCapture S.End.number_of (resolved_all (all_scopes scopes.now)
+        (actions_view actions.now)) }
+    ensures ok { OnOk result (RunSucceeds ⟦<S as Seen>⟧.views H.allows drain_and_reader_tail
+        (resolved_all (all_scopes scopes.now) (actions_view actions.now)) sys.old sys.new
+        held.new) }
     ensures reader { IfOk result (MadeReader S.may_read (segment (S.journal_view sys.old).entries
         (S.journal_view sys.new).entries)) }
-    ensures err { IfErr result (RunStops ⟦<S as Seen>⟧.views H.allows H.refuses drained_and_read
-        (resolved_all (all_scopes scopes.now) (actions_view actions.now)) sys.old sys.new held.new) }
+    ensures err { IfErr result (RunFails ⟦<S as Seen>⟧.views H.allows H.refuses
+        drain_and_reader_tail (resolved_all (all_scopes scopes.now) (actions_view actions.now))
+        sys.old sys.new held.new) }
     ensures output { OnOk result (held.new.output_worker ≡ None) }
     ensures workers { OnOk result (HavePipes S.End.number_of (resolved_all (all_scopes scopes.now)
         (actions_view actions.now)) true (is_some held.new.error_worker)) }
@@ -137,22 +143,22 @@ pub fn start<S: System, H: Hook>(
     pool: &mut Pool<S::Child>,
     scopes: &[Scope<'_, S::End, H>],
     actions: &[Action<'_, S::End>],
-    held: Held<S::End, Place<S::Child>, S::Feed, S::Drain>,
-) -> Result<Held<S::End, Place<S::Child>, S::Feed, S::Drain>, Error>
+    held: Resources<S::End, Place<S::Child>, S::Feed, S::Drain>,
+) -> Result<Resources<S::End, Place<S::Child>, S::Feed, S::Drain>, Error>
     requires outwards { AreOutwards (scopes_view scopes.now) }
     requires within { All (IsWithin (length scopes.now)) (actions_view actions.now) }
-    requires begun { held_by ⟦<S as Seen>⟧.views held ≡ empty }
+    requires begun { resources_of ⟦<S as Seen>⟧.views held ≡ empty_resources }
     requires new { IsNew ⟦<S as Seen>⟧.views held }
-    requires leads { SomeLeads S.End.number_of (resolved_all (all_scopes scopes.now) (actions_view
-        actions.now)) }
-    ensures ok { IfOk result (λ kept. RunsBy ⟦<S as Seen>⟧.views H.allows drained (resolved_all
-        (all_scopes scopes.now) (actions_view actions.now)) sys.old sys.new kept) }
+    requires leads { LeadToSomePlan S.End.number_of (resolved_all (all_scopes scopes.now)
+        (actions_view actions.now)) }
+    ensures ok { IfOk result (λ kept. RunSucceeds ⟦<S as Seen>⟧.views H.allows drain_tail
+        (resolved_all (all_scopes scopes.now) (actions_view actions.now)) sys.old sys.new kept) }
     ensures kept { IfOk result (λ kept. IsNew ⟦<S as Seen>⟧.views kept) }
-    ensures workers { IfOk result (λ kept. HavePipes S.End.number_of (resolved_all (all_scopes
-        scopes.now) (actions_view actions.now)) (is_some kept.output_worker) (is_some
-        kept.error_worker)) }
+    ensures workers { IfOk result (λ kept. HavePipes S.End.number_of
+        (resolved_all (all_scopes scopes.now) (actions_view actions.now))
+        (is_some kept.output_worker) (is_some kept.error_worker)) }
     ensures swept { OnOk result (PoolLeaves ⟦<S as Seen>⟧.views pool.old pool.new) }
-    ensures err { IfErr result (GivesUpBy ⟦<S as Seen>⟧.views H.allows H.refuses drained
+    ensures err { IfErr result (RunGivesUp ⟦<S as Seen>⟧.views H.allows H.refuses drain_tail
         (resolved_all (all_scopes scopes.now) (actions_view actions.now)) sys.old sys.new pool.old
         pool.new) }
 {
@@ -176,28 +182,35 @@ pub fn start_reader<S: System, H: Hook>(
     pool: &mut Pool<S::Child>,
     scopes: &[Scope<'_, S::End, H>],
     actions: &[Action<'_, S::End>],
-    held: Held<S::End, Place<S::Child>, S::Feed, S::Drain>,
-) -> Result<(Held<S::End, Place<S::Child>, S::Feed, S::Drain>, S::Reader), Error>
+    held: Resources<S::End, Place<S::Child>, S::Feed, S::Drain>,
+) -> Result<
+    (
+        Resources<S::End, Place<S::Child>, S::Feed, S::Drain>,
+        S::Reader,
+    ),
+    Error,
+>
     requires outwards { AreOutwards (scopes_view scopes.now) }
     requires within { All (IsWithin (length scopes.now)) (actions_view actions.now) }
-    requires begun { held_by ⟦<S as Seen>⟧.views held ≡ empty }
+    requires begun { resources_of ⟦<S as Seen>⟧.views held ≡ empty_resources }
     requires new { IsNew ⟦<S as Seen>⟧.views held }
-    requires leads { SomeLeads S.End.number_of (resolved_all (all_scopes scopes.now) (actions_view
-        actions.now)) }
-    requires opens { OpensOut S.End.number_of (resolved_all (all_scopes scopes.now) (actions_view
-        actions.now)) }
-    ensures ok { IfOk result (λ made. RunsBy ⟦<S as Seen>⟧.views H.allows drained_and_read
+    requires leads { LeadToSomePlan S.End.number_of (resolved_all (all_scopes scopes.now)
+        (actions_view actions.now)) }
+    requires opens { OpenOutputCapture S.End.number_of (resolved_all (all_scopes scopes.now)
+        (actions_view actions.now)) }
+    ensures ok { IfOk result (λ made. RunSucceeds ⟦<S as Seen>⟧.views H.allows drain_and_reader_tail
         (resolved_all (all_scopes scopes.now) (actions_view actions.now)) sys.old sys.new made.0) }
-    ensures reader { IfOk result (λ made. MadeReader S.may_read (segment (S.journal_view
-        sys.old).entries (S.journal_view sys.new).entries) made.1) }
+    ensures reader { IfOk result (λ made. MadeReader S.may_read
+        (segment (S.journal_view sys.old).entries (S.journal_view sys.new).entries) made.1) }
     ensures kept { IfOk result (λ made. IsNew ⟦<S as Seen>⟧.views made.0) }
     ensures output { IfOk result (λ made. made.0.output_worker ≡ None) }
-    ensures workers { IfOk result (λ made. HavePipes S.End.number_of (resolved_all (all_scopes
-        scopes.now) (actions_view actions.now)) true (is_some made.0.error_worker)) }
+    ensures workers { IfOk result (λ made. HavePipes S.End.number_of
+        (resolved_all (all_scopes scopes.now) (actions_view actions.now)) true
+        (is_some made.0.error_worker)) }
     ensures swept { OnOk result (PoolLeaves ⟦<S as Seen>⟧.views pool.old pool.new) }
-    ensures err { IfErr result (GivesUpBy ⟦<S as Seen>⟧.views H.allows H.refuses drained_and_read
-        (resolved_all (all_scopes scopes.now) (actions_view actions.now)) sys.old sys.new pool.old
-        pool.new) }
+    ensures err { IfErr result (RunGivesUp ⟦<S as Seen>⟧.views H.allows H.refuses
+        drain_and_reader_tail (resolved_all (all_scopes scopes.now) (actions_view actions.now))
+        sys.old sys.new pool.old pool.new) }
 {
     let mut held = held;
     match run_reader(sys, pool, scopes, actions, &mut held) {

@@ -2,11 +2,11 @@
 ghost use Rattle.std.specs.Prelude.{◌≡◌, ◌≤◌, ◌+◌, length, None, OnOk, OnErr, IfErr};
 ghost use Rattle.duct_system.specs.Streams.{end_of, stream_of};
 ghost use Rattle.duct_start.specs.Chain.{missing_at};
-ghost use Rattle.duct_start.specs.Commands.{LetsGo, Settles, Unsettled};
+ghost use Rattle.duct_start.specs.Commands.{CloseSucceeds, SettleSucceeds, SettleFails};
 
-use duct_system::error::Error;
-use duct_system::spec::{Hook, Port};
-use duct_system::system::{Stdio, System};
+use duct_base::error::Error;
+use duct_base::spec::{Hook, Port};
+use duct_base::system::{Stdio, System};
 use std::mem::replace;
 
 /// The three streams of a command.
@@ -20,8 +20,8 @@ pub struct Streams<E> {
 // Closes the end of a stream, if it has one.
 pub(crate) fn let_go<S: System, H: Hook>(sys: &mut S, stream: Stdio<S::End>)
     requires room { length (end_of stream) ≤ (S.journal_view sys.old).room }
-    ensures goes { LetsGo {E = S.End} {H = H} H.allows S.End.number_of (S.journal_view sys.old)
-        (S.journal_view sys.new) (stream_of S.End.number_of stream) }
+    ensures goes { CloseSucceeds {E = S.End} {H = H} H.allows S.End.number_of
+        (S.journal_view sys.old) (S.journal_view sys.new) (stream_of S.End.number_of stream) }
     ensures left { (S.journal_view sys.old).room
         ≤ (S.journal_view sys.new).room + length (end_of stream) }
 {
@@ -42,10 +42,11 @@ pub(crate) fn settle<S: System, H: Hook>(
 ) -> Result<(), Error>
     requires place { missing_at (length ends.now) port ≡ None }
     requires room { length (end_of stream.old) ≤ (S.journal_view sys.old).room }
-    ensures ok { OnOk result (Settles {E = S.End} {H = H} H.allows S.End.number_of ends.now port
-        (S.journal_view sys.old) (S.journal_view sys.new) (stream_of S.End.number_of stream.old)
+    ensures ok { OnOk result (SettleSucceeds {E = S.End}
+        {H = H} H.allows S.End.number_of ends.now port (S.journal_view sys.old)
+        (S.journal_view sys.new) (stream_of S.End.number_of stream.old)
         (stream_of S.End.number_of stream.new)) }
-    ensures err { IfErr result (Unsettled {E = S.End} {H = H} H.allows S.End.number_of ends.now
+    ensures err { IfErr result (SettleFails {E = S.End} {H = H} H.allows S.End.number_of ends.now
         (S.journal_view sys.old) (S.journal_view sys.new)) }
     ensures left { OnOk result (length (end_of stream.new) + (S.journal_view sys.old).room
         ≤ (S.journal_view sys.new).room + length (end_of stream.old)) }

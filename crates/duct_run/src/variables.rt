@@ -1,20 +1,20 @@
 //! The environment variables of a command.
 ghost use Rattle.std.specs.Prelude.{ℕ, ◌≡◌, ◌≤◌, ◌∷◌, [], List, length, map, IfOk, IsOkUnless};
 ghost use Rattle.duct_system.specs.SpecView.{AreOrdered, Vars, pair_text, said_of, var_view, variable_in};
-ghost use Rattle.duct_start.specs.Found.{Replaces, variable};
-ghost use Rattle.duct_start.specs.Listed.{AreOutwards, scope_in};
+ghost use Rattle.duct_start.specs.Surroundings.{Replaces, variable};
+ghost use Rattle.duct_start.specs.ActionList.{AreOutwards, scope_in};
 ghost use Rattle.duct_run.specs.Changes.{change_of, changes_of};
 ghost use Rattle.duct_run.specs.ScopeView.{scopes_view};
 
 use crate::scope::{Scope, Setting};
-use duct_system::error::Error;
-use duct_system::names::EnvNameString;
+use duct_base::error::Error;
+use duct_base::names::EnvNameString;
 use std::alloc::Global;
 use std::collections::BTreeMap;
 
 // A scope's change of one variable.
 #[derive(Clone, Copy)]
-enum Change<'a> {
+enum BorrowedChange<'a> {
     Sets(&'a EnvNameString, &'a str),
     Removes(&'a EnvNameString),
 }
@@ -23,7 +23,7 @@ enum Change<'a> {
 #[derive(Drop)]
 struct Gathered<'a> {
     // The changes of single variables, the nearest scope's first.
-    changes: Vec<Change<'a>>,
+    changes: Vec<BorrowedChange<'a>>,
     // The variables of the nearest scope that replaces all variables, if there is one.
     whole: Option<&'a BTreeMap<EnvNameString, String>>,
 }
@@ -76,8 +76,8 @@ fn changes_in<'a, E, H>(
     while inner > 0 {
         let here = scopes[inner - 1];
         match here.setting {
-            Setting::Env(name, value) => changes.push(Change::Sets(name, value))?,
-            Setting::EnvRemove(name) => changes.push(Change::Removes(name))?,
+            Setting::Env(name, value) => changes.push(BorrowedChange::Sets(name, value))?,
+            Setting::EnvRemove(name) => changes.push(BorrowedChange::Removes(name))?,
             Setting::FullEnv(vars) => {
                 return Ok(Gathered {
                     changes,
@@ -124,7 +124,7 @@ fn copied(vars: &BTreeMap<EnvNameString, String>) -> Result<BTreeMap<EnvNameStri
 // Applies a change to the variables.
 fn changed(
     alloc: Global,
-    change: Change<'_>,
+    change: BorrowedChange<'_>,
     mut vars: BTreeMap<EnvNameString, String>,
 ) -> Result<BTreeMap<EnvNameString, String>, Error>
     requires { AreOrdered (map var_view vars.entries) }
@@ -136,11 +136,11 @@ fn changed(
     ensures memory { IsOkUnless result Error.Memory }
 {
     match change {
-        Change::Sets(name, value) => {
+        BorrowedChange::Sets(name, value) => {
             vars.insert(name.clone()?, String::from_str(alloc, value)?)?;
             Ok(vars)
         }
-        Change::Removes(name) => {
+        BorrowedChange::Removes(name) => {
             vars.remove(name);
             Ok(vars)
         }

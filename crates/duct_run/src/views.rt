@@ -5,7 +5,7 @@ ghost use Rattle.std.specs.declared.vec.Vec.{Vec};
 ghost use Rattle.std.specs.Prelude.{ℕ};
 ghost use Rattle.duct_run.specs.SystemViews.{SystemViews};
 
-use duct_system::system::System;
+use duct_base::system::System;
 
 /// Every `System` has this trait, and no bound names it. Under the bound `S: System` a clause
 /// writes `⟦<S as Seen>⟧.views`.

@@ -21,7 +21,7 @@ use Rattle.duct_status.specs.declared.status.Word.{Word}
 use Rattle.duct_status.specs.declared.status.Word.TheVariants as word
 use Rattle.duct_running.specs.Polled.{AllAsked, AllPolled, AskedIfDue, Gives, IsOutcome, IsPolled, IsThereAndPolled, PolledWhere, WhileRuns}
 use Rattle.duct_running.specs.Stored.{Bytes, stored_latest, stored_word}
-use Rattle.duct_running.specs.Told.{OneRuns, SomeSays}
+use Rattle.duct_running.specs.Allowed.{OneRuns, SomeSays}
 
 -- a poll returns nothing yet only where the outcome waits
 waits_for : (o : OutcomeView) (t : Endings) (reply : ReplyView) → AnswersOutcome o t reply

@@ -13,7 +13,7 @@ use Rattle.duct_status.specs.ShapeView.{ShapeView}
 use Rattle.duct_running.specs.NumbersView.{NumbersView}
 use Rattle.duct_running.specs.Polled.{Gives, Polled}
 use Rattle.duct_running.specs.Stored.{Bytes, stored_latest}
-use Rattle.duct_running.specs.Told.{AreTold}
+use Rattle.duct_running.specs.Allowed.{AnswersAllowed}
 
 -- there are children and workers of these numbers, each stores results that one of its number may
 -- return, and the reply is the outcome of these results in a tree of this shape
@@ -28,7 +28,7 @@ pub record Concluded (answer : ℕ → Answer → Type 0) (feed : ℕ → Said (
   pub feeds_are : map (λ f. f.number) feeds ≡ numbers.feeds
   pub output_is : option_map (λ d. d.number) output ≡ numbers.output
   pub error_is : option_map (λ d. d.number) error ≡ numbers.error
-  pub told : ∥ AreTold answer feed drain children feeds output error ∥₁
+  pub told : ∥ AnswersAllowed answer feed drain children feeds output error ∥₁
   pub concludes : Concludes shape (stored_latest children feeds output error) reply
 
 -- some children and workers of these numbers store results that they may return, and the reply is

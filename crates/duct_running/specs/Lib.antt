@@ -1,8 +1,8 @@
 pub mod Answered
-pub mod Holds
+pub mod RunningInvariant
 pub mod NumbersView
 pub mod Ordered
 pub mod Polled
 pub mod Stays
 pub mod Stored
-pub mod Told
+pub mod Allowed

@@ -10,7 +10,7 @@ ghost use Rattle.duct_status.specs.ShapeView.{command_count, input_count, shape_
 ghost use Rattle.duct_running.specs.Polled.{IsConclusion, Gives, IsOutcome, AskedIfDue, AllAsked, PolledIfRuns, AllPolled, PolledWhere, ChangedAt};
 ghost use Rattle.duct_running.specs.Stored.{AreUnasked, word_of, stored_in};
 ghost use Rattle.duct_running.specs.NumbersView.{numbers_in};
-ghost use Rattle.duct_running.specs.Told.{AreTold, OneRuns};
+ghost use Rattle.duct_running.specs.Allowed.{AnswersAllowed, OneRuns};
 
 mod orders;
 
@@ -43,7 +43,7 @@ impl<S: System> Model for Running<S> {
     ghost use Rattle.duct_status.specs.CoreView.{latest_in, shape_in};
     ghost use Rattle.duct_status.specs.contracts.status.Shape as shape;
     ghost use Rattle.duct_start.specs.Running.{RunningView};
-    ghost use Rattle.duct_running.specs.Holds.{Holds};
+    ghost use Rattle.duct_running.specs.RunningInvariant.{RunningInvariant};
 
     ghost Value = { RunningView S.Child S.Feed S.Drain };
 
@@ -57,7 +57,7 @@ impl<S: System> Model for Running<S> {
       error = r.error;
     } };
 
-    ghost invariant = { λ r. Holds S.Child.child_view S.Feed.job_view S.Drain.job_view
+    ghost invariant = { λ r. RunningInvariant S.Child.child_view S.Feed.job_view S.Drain.job_view
         S.Child.may_answer S.Feed.may_say S.Drain.may_say (shape_in r.core) (latest_in r.core)
         r.ids.items r.children.items r.feeds.items r.output r.error r.room };
 }
@@ -86,7 +86,7 @@ fn note_ids<C: Child>(ids: &mut Vec<u32>, children: &[Place<C>])
 
 /// The room that a `Running` needs besides what a start gets.
 #[derive(Drop)]
-pub struct Room<D> {
+pub struct RunningBuffers<D> {
     /// Empty, with room for the ids of the children.
     pub ids: Vec<u32>,
     /// Empty, with room for the capture workers.
@@ -103,7 +103,7 @@ pub fn running_of<S: System>(
     feeds: Vec<S::Feed>,
     output: Option<S::Drain>,
     error: Option<S::Drain>,
-    room: Room<S::Drain>,
+    room: RunningBuffers<S::Drain>,
 ) -> Running<S>
     requires silent { latest_in core
         ≡ latest_told (shape_in core) (record { out = is_some output; err = is_some error }) [] }
@@ -124,7 +124,7 @@ pub fn running_of<S: System>(
       error = error;
     } }
 {
-    let Room { mut ids, drains } = room;
+    let RunningBuffers { mut ids, drains } = room;
     note_ids(&mut ids, &children);
     Running {
         core,
@@ -156,8 +156,8 @@ impl<S: System> Running<S> {
 
     /// Does nothing. Its contract says that each result which a child or a worker stores is one
     /// that a child or a worker of its number may return.
-    pub fn are_told(&self)
-        ensures { ∥ AreTold S.Child.may_answer S.Feed.may_say S.Drain.may_say
+    pub fn answers_allowed(&self)
+        ensures { ∥ AnswersAllowed S.Child.may_answer S.Feed.may_say S.Drain.may_say
             (map S.Child.child_view self.now.children) (map S.Feed.job_view self.now.feeds)
             (option_map S.Drain.job_view self.now.output)
             (option_map S.Drain.job_view self.now.error) ∥₁ }

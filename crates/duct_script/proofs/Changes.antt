@@ -6,8 +6,8 @@ use Rattle.duct_system.specs.declared.spec.Stream.TheVariants.{In, Out, Err}
 use Rattle.duct_system.specs.SpecView.{SpecView, GivesNothing}
 use Rattle.duct_script.specs.declared.hook.Target.{Target}
 use Rattle.duct_script.specs.declared.hook.Target.TheVariants.{Inherit, Null, Place}
-use Rattle.duct_script.specs.declared.hook.Change.{Change}
-use Rattle.duct_script.specs.declared.hook.Change.TheVariants.{Word, Var, NoVar, NoVars, Folder, Port}
+use Rattle.duct_script.specs.declared.hook.SpecChange.{SpecChange}
+use Rattle.duct_script.specs.declared.hook.SpecChange.TheVariants.{Word, Var, NoVar, NoVars, Folder, Port}
 use Rattle.duct_script.specs.Change.{port_to, with_port, changed_by, changed}
 
 -- no target becomes the port `Given`
@@ -37,7 +37,7 @@ same_ports before after input output error Out is = cc
 same_ports before after input output error Err is = cc
 
 -- one change gives no stream an end
-change_gives_nothing : (change : Change) (spec : SpecView)
+change_gives_nothing : (change : SpecChange) (spec : SpecView)
     → GivesNothing spec (changed_by change spec)
 change_gives_nothing (Word word) spec = same_ports spec (changed_by (Word word) spec) refl refl refl
 change_gives_nothing (Var name value) spec = same_ports spec (changed_by (Var name value) spec) refl refl refl
@@ -47,7 +47,7 @@ change_gives_nothing (Folder folder) spec = same_ports spec (changed_by (Folder 
 change_gives_nothing (Port stream to) spec = with_port_gives_nothing stream to spec
 
 -- a list of changes gives no stream an end
-pub changes_give_nothing : (changes : List Change) (spec : SpecView)
+pub changes_give_nothing : (changes : List SpecChange) (spec : SpecView)
     → GivesNothing spec (changed changes spec)
 changes_give_nothing [] spec = λ stream is. is
 changes_give_nothing (first ∷ rest) spec =

@@ -10,8 +10,8 @@ use Rattle.duct_system.specs.declared.system.Fault.{Fault}
 use Rattle.duct_system.specs.SpecView.{SpecView, with_var, without_var}
 use Rattle.duct_script.specs.declared.hook.Target.{Target}
 use Rattle.duct_script.specs.declared.hook.Target.TheVariants as target
-use Rattle.duct_script.specs.declared.hook.Change.{Change}
-use Rattle.duct_script.specs.declared.hook.Change.TheVariants as change
+use Rattle.duct_script.specs.declared.hook.SpecChange.{SpecChange}
+use Rattle.duct_script.specs.declared.hook.SpecChange.TheVariants as change
 use Rattle.duct_script.specs.declared.hook.HookAnswer.{HookAnswer}
 use Rattle.duct_script.specs.declared.hook.HookAnswer.TheVariants.{Obey, Refuse, RefuseWord}
 
@@ -28,7 +28,7 @@ with_port Out to spec = record spec { output = to }
 with_port Err to spec = record spec { error = to }
 
 -- the spec after one change
-abbrev pub changed_by : Change → SpecView → SpecView
+abbrev pub changed_by : SpecChange → SpecView → SpecView
 changed_by (change.Word word) spec = record spec { words = spec.words ++ string_bytes word ∷ [] }
 changed_by (change.Var name value) spec =
     record spec { vars = with_var (string_bytes name) (string_bytes value) spec.vars }
@@ -39,7 +39,7 @@ changed_by (change.Folder folder) spec = record spec { folder = Some (string_byt
 changed_by (change.Port stream to) spec = with_port stream (port_to to) spec
 
 -- the spec after all changes, in order
-abbrev pub changed : List Change → SpecView → SpecView
+abbrev pub changed : List SpecChange → SpecView → SpecView
 changed [] spec = spec
 changed (first ∷ rest) spec = changed rest (changed_by first spec)
 

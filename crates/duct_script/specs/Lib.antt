@@ -1,5 +1,5 @@
 pub mod Answers
-pub mod Change
+pub mod SpecChange
 pub mod Next
 pub mod Obeying
 pub mod Paths

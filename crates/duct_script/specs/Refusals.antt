@@ -47,7 +47,8 @@ count_after sort requests = one_more (slice_index requests.of_sort (place_of sor
 -- the fault that is set for the next request, if that is of this sort
 abbrev pub next_fault : Sort → Requests → Option Fault
 next_fault sort requests =
-    fault_for (place_of sort) (one_more requests.asked) (count_after sort requests) requests.refusals.items
+    fault_for (place_of sort) (one_more requests.asked) (count_after sort requests)
+    requests.refusals.items
 
 -- the requests after one more of this sort is counted
 abbrev pub with_request : Sort → Requests → Requests

@@ -26,7 +26,7 @@ pub enum Target {
 
 /// One change of a spec.
 #[derive(Debug, PartialEq, Eq, Drop)]
-pub enum Change {
+pub enum SpecChange {
     /// Adds an argument at the end.
     Word(String),
     /// Sets a variable: its name, then its value.
@@ -58,7 +58,7 @@ pub enum HookAnswer {
 #[derive(Drop)]
 pub struct ScriptHook {
     /// The changes that it makes, in order.
-    pub changes: Vec<Change>,
+    pub changes: Vec<SpecChange>,
     /// What it returns after the changes.
     pub answer: HookAnswer,
     /// Its label in the log.
@@ -138,7 +138,7 @@ fn contains(words: &[String], word: &str) -> bool
 }
 
 /// Makes all changes, in order. Fails only with `OutOfMemory`.
-fn make_all(changes: &[Change], spec: &mut CommandSpec) -> Result<(), Fault>
+fn make_all(changes: &[SpecChange], spec: &mut CommandSpec) -> Result<(), Fault>
     ensures ok { OnOk result (spec.new ≡ changed changes.now spec.old) }
     ensures given { OnOk result (GivesNothing spec.old spec.new) }
     ensures err { IfErr result (λ fault. fault.kind ≡ OutOfMemory) }
@@ -152,17 +152,17 @@ fn make_all(changes: &[Change], spec: &mut CommandSpec) -> Result<(), Fault>
 }
 
 /// Makes a change. Fails only on allocation failure; the spec is then unchanged.
-fn make(change: &Change, spec: &mut CommandSpec) -> Result<(), Error>
+fn make(change: &SpecChange, spec: &mut CommandSpec) -> Result<(), Error>
     ensures ok { OnOk result (spec.new ≡ changed_by change.now spec.old) }
     ensures err { OnErr result (spec.new ≡ spec.old) }
 {
     match change {
-        Change::Word(word) => spec.arg(word.as_str())?,
-        Change::Var(name, value) => spec.env(name.as_str(), value.as_str())?,
-        Change::NoVar(name) => spec.env_remove(name.as_str()),
-        Change::NoVars => spec.env_clear(),
-        Change::Folder(folder) => spec.current_dir(folder.as_str())?,
-        Change::Port(stream, target) => redirect(spec, *stream, port(*target)),
+        SpecChange::Word(word) => spec.arg(word.as_str())?,
+        SpecChange::Var(name, value) => spec.env(name.as_str(), value.as_str())?,
+        SpecChange::NoVar(name) => spec.env_remove(name.as_str()),
+        SpecChange::NoVars => spec.env_clear(),
+        SpecChange::Folder(folder) => spec.current_dir(folder.as_str())?,
+        SpecChange::Port(stream, target) => redirect(spec, *stream, port(*target)),
     }
     Ok(())
 }

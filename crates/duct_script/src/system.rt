@@ -441,8 +441,8 @@ impl Script {
           requests = with_request Drain self.old.requests;
           drains = self.new.drains;
         }) }
-        ensures unchanged { OnErr result (self.new
-            ≡ record self.old { requests = with_request Drain self.old.requests }) }
+        ensures unchanged { OnErr result (self.new ≡ record self.old
+            { requests = with_request Drain self.old.requests }) }
     {
         if let Some(fault) = self.ask(Sort::Drain) {
             return Err(fault);

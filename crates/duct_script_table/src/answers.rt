@@ -6,7 +6,7 @@ use duct_script::child::ScriptChild;
 use duct_script::job::{ScriptDrain, ScriptFeed};
 use duct_script::reader::ScriptReader;
 use duct_script::system::Script;
-use duct_table::stop::Stop;
+use duct_table::stop::TableError;
 use std::alloc::{AllocError, Global};
 use std::collections::BTreeMap;
 use std::io::Read;
@@ -27,7 +27,7 @@ pub fn push_polls(
     sys: &mut Script,
     times: u32,
     text: &mut String,
-) -> Result<(), Stop> {
+) -> Result<(), TableError> {
     let mut child = start(alloc, sys)?;
     for _ in 0..times {
         push_poll(&child.poll(), text)?;
@@ -52,7 +52,7 @@ fn push_poll(
 /// whether the last one succeeded, and its count of polls. Checks that an order that fails to
 /// allocate is neither kept nor noted in the log. Fails if that does not hold, if the child can't
 /// be started, or on an allocation failure.
-pub fn push_orders(alloc: Global, sys: &mut Script, text: &mut String) -> Result<(), Stop> {
+pub fn push_orders(alloc: Global, sys: &mut Script, text: &mut String) -> Result<(), TableError> {
     let log = Arc::new(alloc, CallLog::new(alloc, 8)?)?;
     sys.note_in(Arc::try_clone(&log)?);
     let mut child = start(alloc, sys)?;
@@ -60,10 +60,10 @@ pub fn push_orders(alloc: Global, sys: &mut Script, text: &mut String) -> Result
     let refused = given.iter().filter(|answer| is_memory(answer)).count();
     let asked = log.noted().saturating_sub(1) as usize;
     if asked != child.orders().len() || asked.saturating_add(refused) != given.len() {
-        return Err(Stop::Text("other orders are kept or asked"));
+        return Err(TableError::Text("other orders are kept or asked"));
     }
     if refused > 0 {
-        return Err(Stop::from(Fault::new(Kind::OutOfMemory)));
+        return Err(TableError::from(Fault::new(Kind::OutOfMemory)));
     }
     Ok(push_kept(&child, given[3].is_ok(), text)?)
 }
@@ -81,7 +81,7 @@ fn push_kept(child: &ScriptChild, last: bool, text: &mut String) -> Result<(), A
 
 /// Starts a feed of a file, and polls it three times. Appends the results, its count of polls and
 /// its number. Fails if the file or the feed is refused, or on an allocation failure.
-pub fn push_feed(alloc: Global, sys: &mut Script, text: &mut String) -> Result<(), Stop> {
+pub fn push_feed(alloc: Global, sys: &mut Script, text: &mut String) -> Result<(), TableError> {
     let bytes = Arc::new(alloc, Vec::new(alloc))?;
     let end = sys.open_read("f")?;
     let mut feed = sys.start_feed(end, bytes)?;
@@ -100,7 +100,7 @@ fn poll_feed(feed: &mut ScriptFeed, text: &mut String) -> Result<(), AllocError>
 }
 
 /// Does the same with a drain of a file.
-pub fn push_drain(sys: &mut Script, text: &mut String) -> Result<(), Stop> {
+pub fn push_drain(sys: &mut Script, text: &mut String) -> Result<(), TableError> {
     let end = sys.open_read("f")?;
     let mut drain = sys.start_drain(end)?;
     Ok(poll_drain(&mut drain, text)?)
@@ -129,7 +129,7 @@ fn push_drained(said: &Said<Arc<Vec<u8>>>, text: &mut String) -> Result<(), Allo
 /// Reads a file into buffers of these lengths, each of at most four bytes. Appends the bytes or the
 /// kind of the error of each read. Fails if the file is refused, if a length is not a number, or on
 /// an allocation failure.
-pub fn push_reads(sys: &mut Script, lengths: &str, text: &mut String) -> Result<(), Stop> {
+pub fn push_reads(sys: &mut Script, lengths: &str, text: &mut String) -> Result<(), TableError> {
     let end = sys.open_read("f")?;
     let mut reader = sys.reader(end);
     for length in lengths.split(' ') {

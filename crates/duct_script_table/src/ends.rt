@@ -2,7 +2,7 @@
 use duct_base::spec::{Port, spec_of};
 use duct_base::system::{Fault, Numbered, Stdio, System};
 use duct_script::system::{Script, ScriptEnd};
-use duct_table::stop::Stop;
+use duct_table::stop::TableError;
 use std::alloc::{AllocError, Global};
 use std::collections::BTreeMap;
 use std::sync::Arc;
@@ -61,7 +61,7 @@ pub fn spawn(
     sys: &mut Script,
     ends: &mut Vec<ScriptEnd>,
     text: &str,
-) -> Result<Option<Fault>, Stop> {
+) -> Result<Option<Fault>, TableError> {
     let mut words = Vec::new(alloc);
     words.push(String::from_str(alloc, "a")?)?;
     words.push(String::from_str(alloc, "b")?)?;
@@ -75,7 +75,7 @@ pub fn spawn(
     Ok(sys.spawn(spec, io).err())
 }
 
-fn streams(ends: &mut Vec<ScriptEnd>, text: &str) -> Result<[Stdio<ScriptEnd>; 3], Stop> {
+fn streams(ends: &mut Vec<ScriptEnd>, text: &str) -> Result<[Stdio<ScriptEnd>; 3], TableError> {
     let mut words = text.split(' ');
     let input = stream(ends, words.next())?;
     let output = stream(ends, words.next())?;
@@ -83,21 +83,21 @@ fn streams(ends: &mut Vec<ScriptEnd>, text: &str) -> Result<[Stdio<ScriptEnd>; 3
     Ok([input, output, error])
 }
 
-fn stream(ends: &mut Vec<ScriptEnd>, word: Option<&str>) -> Result<Stdio<ScriptEnd>, Stop> {
+fn stream(ends: &mut Vec<ScriptEnd>, word: Option<&str>) -> Result<Stdio<ScriptEnd>, TableError> {
     match word {
         Some("inherit") => Ok(Stdio::Inherit),
         Some("null") => Ok(Stdio::Null),
         Some(number) => Ok(taken(ends, number.parse()?).map_or(Stdio::Null, Stdio::End)),
-        None => Err(Stop::Text("no stream")),
+        None => Err(TableError::Text("no stream")),
     }
 }
 
 /// Requests the reader of this end, and returns its number. Fails if the journal has no room.
-pub fn read(sys: &mut Script, end: ScriptEnd) -> Result<u64, Stop> {
+pub fn read(sys: &mut Script, end: ScriptEnd) -> Result<u64, TableError> {
     if sys.room() > 0 {
         return Ok(sys.reader(end).number());
     }
-    Err(Stop::Text("no room"))
+    Err(TableError::Text("no room"))
 }
 
 /// Makes a request that takes this end: `feed`, `drain`, or `close` for any other name. Returns the
@@ -107,10 +107,10 @@ pub fn give(
     sys: &mut Script,
     request: &str,
     end: ScriptEnd,
-) -> Result<Option<Fault>, Stop> {
+) -> Result<Option<Fault>, TableError> {
     let bytes = Arc::new(alloc, Vec::from_slice(alloc, b"xyz")?)?;
     if sys.room() == 0 {
-        return Err(Stop::Text("no room"));
+        return Err(TableError::Text("no room"));
     }
     match request {
         "feed" => Ok(sys.start_feed(end, bytes).err()),

@@ -31,7 +31,7 @@ use duct_script::requests::Sort;
 use duct_script::system::{Script, ScriptEnd};
 use duct_script::text::Words;
 use duct_table::scenes::{order_answers, set_children};
-use duct_table::stop::Stop;
+use duct_table::stop::TableError;
 use duct_table::table::Table;
 use duct_table::words::{fault, first_word, side};
 use duct_table::workers::{set_drains, set_feeds};
@@ -54,7 +54,7 @@ impl Scripts {
 }
 
 impl<'t> Table<'t> for Scripts {
-    fn line(&mut self, key: &'t str, text: &'t str) -> Result<Option<String>, Stop> {
+    fn line(&mut self, key: &'t str, text: &'t str) -> Result<Option<String>, TableError> {
         if self.bench.is_none() {
             self.bench = Some(Bench::new(self.alloc)?);
         }
@@ -64,11 +64,11 @@ impl<'t> Table<'t> for Scripts {
                 Ok(None)
             }
             Some(bench) => Ok(Some(bench.found(key, text)?)),
-            None => Err(Stop::Text("no system")),
+            None => Err(TableError::Text("no system")),
         }
     }
 
-    fn end(&mut self) -> Result<(), Stop> {
+    fn end(&mut self) -> Result<(), TableError> {
         self.bench = None;
         Ok(())
     }
@@ -84,7 +84,7 @@ struct Bench {
 }
 
 impl Bench {
-    fn new(alloc: Global) -> Result<Bench, Stop> {
+    fn new(alloc: Global) -> Result<Bench, TableError> {
         Ok(Bench {
             alloc,
             sys: Script::new(alloc)?,
@@ -94,7 +94,7 @@ impl Bench {
     }
 
     /// The text that is found for a line with this key.
-    fn found(&mut self, key: &str, wanted: &str) -> Result<String, Stop> {
+    fn found(&mut self, key: &str, wanted: &str) -> Result<String, TableError> {
         let mut text = String::new(self.alloc);
         match first_word(key) {
             ("says", _) => self.push_answers(wanted, &mut text)?,
@@ -104,12 +104,12 @@ impl Bench {
             ("fed", _) => push_feed(self.alloc, &mut self.sys, &mut text)?,
             ("drained", _) => push_drain(&mut self.sys, &mut text)?,
             ("reads", lengths) => push_reads(&mut self.sys, lengths, &mut text)?,
-            _ => return Err(Stop::Text("no such key")),
+            _ => return Err(TableError::Text("no such key")),
         }
         Ok(text)
     }
 
-    fn push_answers(&self, wanted: &str, text: &mut String) -> Result<(), Stop> {
+    fn push_answers(&self, wanted: &str, text: &mut String) -> Result<(), TableError> {
         refusal(self.answers.as_str(), wanted)?;
         text.push_str(self.answers.as_str())?;
         text.push_str("| held")?;
@@ -123,21 +123,21 @@ impl Bench {
         Ok(())
     }
 
-    fn push_journal(&self, text: &mut String) -> Result<(), Stop> {
+    fn push_journal(&self, text: &mut String) -> Result<(), TableError> {
         for entry in self.sys.journal() {
             write!(text, "{}; ", Words(entry))?;
         }
         Ok(())
     }
 
-    fn ask_all(&mut self, text: &str) -> Result<(), Stop> {
+    fn ask_all(&mut self, text: &str) -> Result<(), TableError> {
         for ask in text.split(';') {
             self.ask(ask.trim())?;
         }
         Ok(())
     }
 
-    fn ask(&mut self, ask: &str) -> Result<(), Stop> {
+    fn ask(&mut self, ask: &str) -> Result<(), TableError> {
         let (word, rest) = first_word(ask);
         let answer = match word {
             "environment" => self.sys.environment().err(),
@@ -154,7 +154,7 @@ impl Bench {
     }
 
     /// Notes a result: `ok`, or the kind of the fault.
-    fn note(&mut self, answer: Option<Fault>) -> Result<(), Stop> {
+    fn note(&mut self, answer: Option<Fault>) -> Result<(), TableError> {
         match answer {
             None => self.answers.push_str("ok ")?,
             Some(fault) => write!(self.answers, "{:?} ", fault.kind)?,
@@ -163,7 +163,7 @@ impl Bench {
     }
 
     /// Requests one end, and keeps it.
-    fn get(&mut self, word: &str, rest: &str) -> Result<(), Stop> {
+    fn get(&mut self, word: &str, rest: &str) -> Result<(), TableError> {
         let got = match word {
             "open_read" => self.sys.open_read(rest),
             "create" => self.sys.create(rest),
@@ -184,7 +184,7 @@ impl Bench {
     }
 
     /// Makes a request that takes one end.
-    fn spend(&mut self, word: &str, number: u64) -> Result<(), Stop> {
+    fn spend(&mut self, word: &str, number: u64) -> Result<(), TableError> {
         let Some(end) = taken(&mut self.ends, number) else {
             return Ok(());
         };
@@ -202,15 +202,15 @@ impl Bench {
 
 /// Fails if an allocation failed and the row wants each result to be `ok`: with the allocation
 /// failure, or with a text if some other result isn't `ok`.
-fn refusal(answers: &str, wanted: &str) -> Result<(), Stop> {
+fn refusal(answers: &str, wanted: &str) -> Result<(), TableError> {
     let (wanted, _) = wanted.split_once('|').unwrap_or((wanted, ""));
     if !answers.contains(REFUSED) || wanted.contains(REFUSED) || !are_ok(wanted) {
         return Ok(());
     }
     if are_ok(answers) {
-        return Err(Stop::from(Fault::new(Kind::OutOfMemory)));
+        return Err(TableError::from(Fault::new(Kind::OutOfMemory)));
     }
-    Err(Stop::Text("another answer"))
+    Err(TableError::Text("another answer"))
 }
 
 /// The result of a request for an allocation failure.
@@ -226,7 +226,7 @@ fn are_ok(answers: &str) -> bool {
 }
 
 /// Sets what the system returns, or clears its journal.
-fn set(alloc: Global, sys: &mut Script, word: &str, rest: &str) -> Result<(), Stop> {
+fn set(alloc: Global, sys: &mut Script, word: &str, rest: &str) -> Result<(), TableError> {
     let (first, second) = first_word(rest);
     match word {
         "variable" => sys.variable(first, second)?,
@@ -246,29 +246,29 @@ fn set(alloc: Global, sys: &mut Script, word: &str, rest: &str) -> Result<(), St
 }
 
 /// The sort of request with this name.
-fn sort(name: &str) -> Result<Sort, Stop> {
+fn sort(name: &str) -> Result<Sort, TableError> {
     match name {
         "pipe" => Ok(Sort::Pipe),
         "spawn" => Ok(Sort::Spawn),
         "close" => Ok(Sort::Close),
-        _ => Err(Stop::Text("no such request")),
+        _ => Err(TableError::Text("no such request")),
     }
 }
 
 /// Sets the results of the next child, feed, drain or reader.
-fn set_lists(alloc: Global, sys: &mut Script, word: &str, rest: &str) -> Result<(), Stop> {
+fn set_lists(alloc: Global, sys: &mut Script, word: &str, rest: &str) -> Result<(), TableError> {
     match word {
         "child" => set_children(alloc, sys, rest),
         "orders" => set_orders(alloc, sys, rest),
         "feeds" => set_feeds(alloc, sys, rest),
         "drains" => set_drains(alloc, sys, rest),
         "bytes" => set_bytes(alloc, sys, rest),
-        _ => Err(Stop::Text("no such request")),
+        _ => Err(TableError::Text("no such request")),
     }
 }
 
 /// Sets the results of the next child's kills and of its signals.
-fn set_orders(alloc: Global, sys: &mut Script, rest: &str) -> Result<(), Stop> {
+fn set_orders(alloc: Global, sys: &mut Script, rest: &str) -> Result<(), TableError> {
     let (kills, signals) = first_word(rest);
     let mut script = ChildScript::running(alloc);
     script.kills = Answers::of(order_answers(alloc, kills)?);
@@ -277,7 +277,7 @@ fn set_orders(alloc: Global, sys: &mut Script, rest: &str) -> Result<(), Stop> {
 }
 
 /// Sets the bytes of the next reader, and the steps of its reads.
-fn set_bytes(alloc: Global, sys: &mut Script, rest: &str) -> Result<(), Stop> {
+fn set_bytes(alloc: Global, sys: &mut Script, rest: &str) -> Result<(), TableError> {
     let (bytes, steps) = first_word(rest);
     let mut script = ReaderScript::empty(alloc);
     script.bytes = Vec::from_slice(alloc, bytes.as_bytes())?;
@@ -285,7 +285,7 @@ fn set_bytes(alloc: Global, sys: &mut Script, rest: &str) -> Result<(), Stop> {
     Ok(sys.bytes(script)?)
 }
 
-fn read_steps(alloc: Global, words: &str) -> Result<VecDeque<ReadStep>, Stop> {
+fn read_steps(alloc: Global, words: &str) -> Result<VecDeque<ReadStep>, TableError> {
     let mut steps = VecDeque::new(alloc);
     for word in words.split(',') {
         steps.push_back(match word {

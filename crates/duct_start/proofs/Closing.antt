@@ -10,26 +10,26 @@ use Rattle.std.specs.Prelude.{false, map, not, slice_get, take, Some, None}
 use Rattle.std.specs.declared.option.Option.{Option}
 use Rattle.duct_system.specs.EntryView.{EntryView, Environment, Pipe, OpenRead, Create, Duplicate, Parent, Canonicalize, Spawn, Feed, Drain, Reader, Close}
 use Rattle.duct_system.specs.Journal.{JournalView}
-use Rattle.duct_system.specs.Ledger.{IsBalanced, got, spent, held, count_of}
+use Rattle.duct_system.specs.Ledger.{IsBalanced, opened_numbers, closed_numbers, open_count, count_of}
 use Rattle.duct_system.specs.Started.{children_in, child_by}
 use Rattle.duct_system.specs.Trace.{segment, trace, is_close, IsClean, fault_of, StopsAtFault}
 use Rattle.duct_system.specs.declared.error.Error.{Error}
 use Rattle.duct_system.specs.declared.error.Error.TheVariants.{System, Checked, NotUtf8, Hook, HookEnd, Deadline, Memory}
 use Rattle.duct_system.specs.declared.system.Fault.{Fault}
-use Rattle.duct_start.specs.Causes.{HasCause, AnswersLastFault, StoppedBy, asked_in, last_fault, MayAnswer}
+use Rattle.duct_start.specs.Causes.{HasCause, ReturnsLastFault, StoppedBy, asked_in, last_fault, MayFailWith}
 use Rattle.duct_start.specs.Chain.{Allows, Refuses}
 use Rattle.duct_start.specs.Closes.{Closes}
-use Rattle.duct_start.specs.Commands.{Refused}
+use Rattle.duct_start.specs.Commands.{StoppedWithCause}
 use Rattle.duct_start.specs.Follows.{AsksPlan, Follows}
-use Rattle.duct_start.specs.Holdings.{Holdings, ends}
+use Rattle.duct_start.specs.ResourcesView.{ResourcesView, open_ends}
 use Rattle.duct_start.specs.Plan.{Plan}
-use Rattle.duct_start.specs.Standing.{AnswersUnder, Course, Ended, HeldFew, IsEarly, IsHooks, IsLater, IsWantOfMemory, unasked, hooked, refused}
-use Rattle.duct_start.specs.Start.{AreEarlier, GotNew, HoldsFew, StartRefused, ceiling, depth}
+use Rattle.duct_start.specs.RunInvariant.{AnswersUnder, RunContext, StopReason, OpenEndsWithin, IsEarly, IsHookError, IsLater, IsAllocationFailure, unasked, hooked, refused}
+use Rattle.duct_start.specs.Start.{AreEarlier, GotNew, KeepsFewOpen, StartRefused, ceiling, depth}
 use Rattle.duct_start.specs.Step.{Item}
 use Rattle.duct_start.specs.TreeView.{TreeView}
 use Rattle.duct_start.proofs.Ceiling.{ceiling_low}
 use Rattle.duct_start.proofs.Ending.{ended_stops}
-use Rattle.duct_start.proofs.Origins.{got-append, spent-append, trace-append, count_got-append, count_spent-append}
+use Rattle.duct_start.proofs.Origins.{opened_numbers-append, closed_numbers-append, trace-append, count_got-append, count_spent-append}
 use Rattle.duct_start.proofs.Sources.{exactly_answered, plan_asked}
 use Rattle.duct_start.proofs.Whole.{segment_is, grows_by_added}
 
@@ -39,11 +39,11 @@ closes_trace : (numbers : List ℕ) → trace (map Close numbers) ≡ []
 closes_trace [] = refl
 closes_trace (n ∷ numbers) = closes_trace numbers
 
-closes_got : (numbers : List ℕ) → got (map Close numbers) ≡ []
+closes_got : (numbers : List ℕ) → opened_numbers (map Close numbers) ≡ []
 closes_got [] = refl
 closes_got (n ∷ numbers) = closes_got numbers
 
-closes_spent : (numbers : List ℕ) → spent (map Close numbers) ≡ numbers
+closes_spent : (numbers : List ℕ) → closed_numbers (map Close numbers) ≡ numbers
 closes_spent [] = refl
 closes_spent (n ∷ numbers) = ap (λ (l : List ℕ). n ∷ l) (closes_spent numbers)
 
@@ -55,7 +55,7 @@ closes_long : (numbers : List ℕ) → length (map Close numbers) ≡ length num
 closes_long [] = refl
 closes_long (n ∷ numbers) = ap suc (closes_long numbers)
 
-closes_taken : (count : ℕ) (numbers : List ℕ) → got (take count (map Close numbers)) ≡ []
+closes_taken : (count : ℕ) (numbers : List ℕ) → opened_numbers (take count (map Close numbers)) ≡ []
 closes_taken zero numbers = refl
 closes_taken (suc count) [] = refl
 closes_taken (suc count) (n ∷ numbers) = closes_taken count numbers
@@ -74,13 +74,13 @@ module _ (added : List EntryView) (numbers : List ℕ) where
   closed_fault = ap (λ (l : List EntryView). option_and_then fault_of (slice_get l (length l - 1))) closed_asked
 
   -- closes keep the bound on the ends that are held
-  closed_few : (bound : ℕ) → HeldFew bound added → HeldFew bound closed
+  closed_few : (bound : ℕ) → OpenEndsWithin bound added → OpenEndsWithin bound closed
   closed_few bound few = λ count. elim (cases_lt (length added) count) [
     | inl lt ↦ past (count - length added) count (omega (arith, lt))
     | inr le ↦ let same = ap (λ l. held l) (take-append-le count added (map Close numbers) le) in omega (arith, few count, same)
   ]
     where
-      past : (more count : ℕ) → count ≡ length added + more → held (take count closed) ≤ bound + 8
+      past : (more count : ℕ) → count ≡ length added + more → open_count (take count closed) ≤ bound + 8
       past more count is =
           let front : take count closed ≡ added ++ take more (map Close numbers) = ap (λ (k : ℕ). take k closed) is ∙ take-append-add added (map Close numbers) more in
           let rest = take more (map Close numbers) in
@@ -89,12 +89,12 @@ module _ (added : List EntryView) (numbers : List ℕ) where
             arith,
             few (length added),
             whole,
-            ap (λ (l : List EntryView). length (got l)) front,
-            ap (λ (l : List EntryView). length (spent l)) front,
-            ap (λ (l : List ℕ). length l) (got-append added rest),
-            ap (λ (l : List ℕ). length l) (spent-append added rest),
-            length-append (got added) (got rest),
-            length-append (spent added) (spent rest),
+            ap (λ (l : List EntryView). length (opened_numbers l)) front,
+            ap (λ (l : List EntryView). length (closed_numbers l)) front,
+            ap (λ (l : List ℕ). length l) (opened_numbers-append added rest),
+            ap (λ (l : List ℕ). length l) (closed_numbers-append added rest),
+            length-append (opened_numbers added) (opened_numbers rest),
+            length-append (closed_numbers added) (closed_numbers rest),
             ap (λ (l : List ℕ). length l) (closes_taken more numbers),
           )
 
@@ -164,8 +164,8 @@ last_is front entry fault is =
     ∙ ap (λ (k : ℕ). option_and_then fault_of (slice_get (asked_in front ++ entry ∷ []) k)) index
     ∙ ap (λ (o : Option EntryView). option_and_then fault_of o) (last_of (asked_in front) entry) ∙ is
 
-ended_answers : (added : List EntryView) (error : Error) → Ended added error
-    → AnswersLastFault added error
+ended_answers : (added : List EntryView) (error : Error) → StopReason added error
+    → ReturnsLastFault added error
 ended_answers added error (unasked clean un) = λ fault is. absurd (no_fault (last_fault added) fault (clean_asked added (length (asked_in added) - 1) clean) is)
 ended_answers added error (hooked clean hooks) = λ fault is. absurd (no_fault (last_fault added) fault (clean_asked added (length (asked_in added) - 1) clean) is)
 ended_answers added error (refused front entry fault clean is) = λ other last. ap System (some_is fault other (sym (last_is front entry fault is) ∙ last))
@@ -176,7 +176,7 @@ module _ {E H : Type 0} (allows : Allows H) (refuses : Refuses H) (number_of : E
   abbrev Caused : Error → Type 0
   Caused error = HasCause allows refuses number_of plan entries error
 
-  cause_unasked : (error : Error) → IsWantOfMemory error → Caused error
+  cause_unasked : (error : Error) → IsAllocationFailure error → Caused error
   cause_unasked (System fault) un = inl un
   cause_unasked (Checked text) un = absurd un
   cause_unasked NotUtf8 un = absurd un
@@ -185,8 +185,8 @@ module _ {E H : Type 0} (allows : Allows H) (refuses : Refuses H) (number_of : E
   cause_unasked Deadline un = absurd un
   cause_unasked Memory un = tt
 
-  cause_hooked : (error : Error) → IsHooks error
-      → (IsHooks error → StoppedBy allows refuses number_of (trace entries) (length (trace entries)) (slice_get plan.items (length (trace entries))) error) → Caused error
+  cause_hooked : (error : Error) → IsHookError error
+      → (IsHookError error → StoppedBy allows refuses number_of (trace entries) (length (trace entries)) (slice_get plan.items (length (trace entries))) error) → Caused error
   cause_hooked (System fault) is cause = absurd is
   cause_hooked (Checked text) is cause = absurd is
   cause_hooked NotUtf8 is cause = absurd is
@@ -195,18 +195,18 @@ module _ {E H : Type 0} (allows : Allows H) (refuses : Refuses H) (number_of : E
   cause_hooked Deadline is cause = absurd is
   cause_hooked Memory is cause = absurd is
 
-  cause_ended : (added : List EntryView) (error : Error) → Ended added error
+  cause_ended : (added : List EntryView) (error : Error) → StopReason added error
       → last_fault entries ≡ last_fault added
-      → (IsHooks error → StoppedBy allows refuses number_of (trace entries) (length (trace entries)) (slice_get plan.items (length (trace entries))) error) → Caused error
+      → (IsHookError error → StoppedBy allows refuses number_of (trace entries) (length (trace entries)) (slice_get plan.items (length (trace entries))) error) → Caused error
   cause_ended added error (unasked clean un) same cause = cause_unasked error un
   cause_ended added error (hooked clean is) same cause = cause_hooked error is cause
   cause_ended added error (refused front entry fault clean is) same cause = inr (same ∙ last_is front entry fault is)
 
-may_answer : (entries added : List EntryView) (error : Error) → Ended added error
-    → last_fault entries ≡ last_fault added → MayAnswer entries error
+may_answer : (entries added : List EntryView) (error : Error) → StopReason added error
+    → last_fault entries ≡ last_fault added → MayFailWith entries error
 may_answer entries added error (unasked clean un) same = by error un
   where
-    by : (error : Error) → IsWantOfMemory error → MayAnswer entries error
+    by : (error : Error) → IsAllocationFailure error → MayFailWith entries error
     by (System fault) un = inl un
     by (Checked text) un = absurd un
     by NotUtf8 un = absurd un
@@ -216,7 +216,7 @@ may_answer entries added error (unasked clean un) same = by error un
     by Memory un = tt
 may_answer entries added error (hooked clean is) same = by error is
   where
-    by : (error : Error) → IsHooks error → MayAnswer entries error
+    by : (error : Error) → IsHookError error → MayFailWith entries error
     by (System fault) is = absurd is
     by (Checked text) is = absurd is
     by NotUtf8 is = absurd is
@@ -228,10 +228,10 @@ may_answer entries added error (refused front entry fault clean is) same = inr (
 
 -- a start that failed, by its run and the closes after it
 
-module _ {E H : Type 0} (allows : Allows H) (refuses : Refuses H) (number_of : E → ℕ) (tree : TreeView E H) (plan : Plan E H) (course : Course) (items : List (Item E H)) (now then : JournalView)
-    (held : Holdings) (error : Error) (run : Refused allows refuses number_of course items now held error) (numbers : List ℕ)
+module _ {E H : Type 0} (allows : Allows H) (refuses : Refuses H) (number_of : E → ℕ) (tree : TreeView E H) (plan : Plan E H) (course : RunContext) (items : List (Item E H)) (now then : JournalView)
+    (held : ResourcesView) (error : Error) (run : StoppedWithCause allows refuses number_of course items now held error) (numbers : List ℕ)
     (base_is : course.base ≡ ceiling number_of tree) (bound_is : course.bound ≡ 2 * depth tree + 4) (items_are : plan.items ≡ items)
-    (same : (n : ℕ) → count_of n numbers ≡ count_of n (ends held)) (many : length numbers ≡ length (ends held))
+    (same : (n : ℕ) → count_of n numbers ≡ count_of n (open_ends held)) (many : length numbers ≡ length (open_ends held))
     (entries_are : then.entries ≡ now.entries ++ map Close numbers) (counted : then.added ≡ now.added + length numbers) (next : now.next ≤ then.next) (room : now.room ≤ then.room + length numbers) where
   abbrev first : List EntryView
   first = run.stopped.added
@@ -287,15 +287,15 @@ module _ {E H : Type 0} (allows : Allows H) (refuses : Refuses H) (number_of : E
             (omega (arith, counted, books.counted, length-append first (map Close numbers), closes_long numbers))
             (omega (arith, next, books.next_grows)) (omega (arith, room, many, books.room_is));
         stops = subst StopsAtFault segment_same (ended_stops first error numbers run.stopped.ended);
-        reason = subst (λ (l : List EntryView). MayAnswer l error) segment_same (may_answer all first error run.stopped.ended (closed_fault first numbers));
+        reason = subst (λ (l : List EntryView). MayFailWith l error) segment_same (may_answer all first error run.stopped.ended (closed_fault first numbers));
         asks = subst (λ (l : List EntryView). AsksPlan allows number_of plan l) segment_same all_asked;
         follows = λ earlier. subst (λ (l : List EntryView). Follows allows number_of plan l) segment_same (all_follow earlier);
         cause = subst (λ (l : List EntryView). HasCause allows refuses number_of plan l error) segment_same all_caused;
-        last_fault = subst (λ (l : List EntryView). AnswersLastFault l error) segment_same (λ fault is. ended_answers first error run.stopped.ended fault (sym (closed_fault first numbers) ∙ is));
+        last_fault = subst (λ (l : List EntryView). ReturnsLastFault l error) segment_same (λ fault is. ended_answers first error run.stopped.ended fault (sym (closed_fault first numbers) ∙ is));
         balanced = subst IsBalanced segment_same all_balanced;
         got_new = subst (λ (l : List EntryView). GotNew course.old l) segment_same
             (λ n lt. omega (arith, count_got-append n first (map Close numbers), ap (λ (l : List ℕ). count_of n l) (closes_got numbers), books.above n lt));
-        few = subst (λ (l : List EntryView). HoldsFew tree l) segment_same (λ count. omega (arith, bound_is, closed_few first numbers course.bound run.stopped.few count));
+        few = subst (λ (l : List EntryView). KeepsFewOpen tree l) segment_same (λ count. omega (arith, bound_is, closed_few first numbers course.bound run.stopped.few count));
       }
 
 closes_children : (numbers : List ℕ) → children_in (map Close numbers) ≡ []
@@ -304,15 +304,15 @@ closes_children (n ∷ numbers) = closes_children numbers
 
 -- there is room to close all that is held
 pub refused_room : {E H : Type 0} (allows : Allows H) (refuses : Refuses H) (number_of : E → ℕ)
-    (course : Course) (items : List (Item E H)) (now : JournalView) (held : Holdings)
-    (error : Error) → Refused allows refuses number_of course items now held error
-    → length (ends held) ≤ now.room
+    (course : RunContext) (items : List (Item E H)) (now : JournalView) (held : ResourcesView)
+    (error : Error) → StoppedWithCause allows refuses number_of course items now held error
+    → length (open_ends held) ≤ now.room
 refused_room allows refuses number_of course items now held error run = omega (arith, run.stopped.books.room_is)
 
 -- the same, where all ends that were held were closed in some order
-module _ {E H : Type 0} (allows : Allows H) (refuses : Refuses H) (number_of : E → ℕ) (course : Course) (items : List (Item E H)) (now then : JournalView) (held : Holdings) (error : Error)
-    (run : Refused allows refuses number_of course items now held error) (numbers : List ℕ)
-    (same : (n : ℕ) → count_of n numbers ≡ count_of n (ends held)) (many : length numbers ≡ length (ends held)) (closes : Closes numbers now then) where
+module _ {E H : Type 0} (allows : Allows H) (refuses : Refuses H) (number_of : E → ℕ) (course : RunContext) (items : List (Item E H)) (now then : JournalView) (held : ResourcesView) (error : Error)
+    (run : StoppedWithCause allows refuses number_of course items now held error) (numbers : List ℕ)
+    (same : (n : ℕ) → count_of n numbers ≡ count_of n (open_ends held)) (many : length numbers ≡ length (open_ends held)) (closes : Closes numbers now then) where
   pub refused_closed : (tree : TreeView E H) (plan : Plan E H)
       → course.base ≡ ceiling number_of tree → course.bound ≡ 2 * depth tree + 4
       → plan.items ≡ items

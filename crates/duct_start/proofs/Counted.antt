@@ -16,20 +16,20 @@ use Rattle.duct_system.specs.declared.system.Side.{Side}
 use Rattle.duct_system.specs.declared.system.Side.TheVariants as side
 use Rattle.duct_status.specs.ShapeView.{ShapeView, command_count, input_count}
 use Rattle.duct_start.specs.Actions as action
-use Rattle.duct_start.specs.Actions.{Action, ActionOf, NoneFinishes, Scope, State, Three, advance, after, capture_at, captures_in, found_by, is_capture, with_plan}
+use Rattle.duct_start.specs.Actions.{Action, ActionOf, NoneFinishes, Scope, State, PerStream, advance, after_actions, capture_place, captures_in, surroundings_by, is_capture, with_plan}
 use Rattle.duct_start.specs.Chain.{Allows}
-use Rattle.duct_start.specs.Flat.{Wire, parents, nothing, slot, captured, lent, fetches, inputs, outputs, flat, flat_of, deeper, ports_at, rooted, outside, scope_if, wires_in, wrapped}
-use Rattle.duct_start.specs.Found.{Found}
-use Rattle.duct_start.specs.Holdings.{Holdings}
-use Rattle.duct_start.specs.Listed.{listed_of, resolved, resolved_all, scopes_from}
+use Rattle.duct_start.specs.Flat.{StreamSource, parents, nothing, slot, captured, lent, source_actions, with_input, with_output, actions_of_subtree, actions_of, depth_inside, ports_at, root_scope, root_sources, scope_if, sources_inside, actions_around}
+use Rattle.duct_start.specs.Surroundings.{Surroundings}
+use Rattle.duct_start.specs.ResourcesView.{ResourcesView}
+use Rattle.duct_start.specs.ActionList.{list_of, resolved, resolved_all, scopes_from}
 use Rattle.duct_start.specs.Kinds.{Kind, of_spawn, of_feed, of_other, entry_kind, item_kind, spawns, feeds, spawns_asked, feeds_asked}
 use Rattle.duct_start.specs.Path.{Path, left_of, right_of, within}
-use Rattle.duct_start.specs.Plan.{Plan, asks, begun, commanded, drains, is_canonical, opened, place_for, planned, plan_of, plan_of_reader, reads}
+use Rattle.duct_start.specs.Plan.{Plan, with_item, initial_plan, with_command, with_drain, is_canonical, with_opening, place_for, plan_of_subtree, plan_of, plan_of_reader, with_reader}
 use Rattle.duct_start.specs.ShapeOfTree.{shape_around, shape_of_tree}
-use Rattle.duct_start.specs.Standing.{Course, Stands}
-use Rattle.duct_start.specs.Lookup.{found_on}
+use Rattle.duct_start.specs.RunInvariant.{RunContext, RunInvariant}
+use Rattle.duct_start.specs.Lookup.{surroundings_on}
 use Rattle.duct_start.specs.Start.{ceiling}
-use Rattle.duct_start.specs.Row.{Obtains, opens_nothing, opens_input, opens_read, opens_create, opens_capture, row}
+use Rattle.duct_start.specs.Row.{RowOpening, opens_nothing, opens_input, opens_read, opens_create, opens_capture, row}
 use Rattle.duct_start.specs.Step.{Item, AskPipe, opening_of, step}
 use Rattle.duct_start.specs.TreeView.{ModifierView, TreeView, command, pipe, around, stdin_bytes, unchecked, stdout_capture}
 use Rattle.duct_start.proofs.Ceiling.{ends_below}
@@ -53,9 +53,9 @@ feeds_counted (Feed number bytes (std.Err fault) ∷ added) clean = absurd (cc)
 feeds_counted (entry ∷ added) clean = feeds_counted added clean.1
 
 -- a run holds as many children as the plan has spawns, and as many feed workers as it has feeds
-pub counted : {E H : Type 0} (allows : Allows H) (number_of : E → ℕ) (course : Course)
-    (state : State E H) (now : JournalView) (held : Holdings)
-    → Stands allows number_of course state now held
+pub counted : {E H : Type 0} (allows : Allows H) (number_of : E → ℕ) (course : RunContext)
+    (state : State E H) (now : JournalView) (held : ResourcesView)
+    → RunInvariant allows number_of course state now held
     → (length held.children ≡ spawns_asked state.plan.items)
     × (length held.feeds ≡ feeds_asked state.plan.items)
 counted allows number_of course state now held stands = (
@@ -75,8 +75,8 @@ feeds-append (of_feed ∷ xs) ys = omega (arith, feeds-append xs ys)
 feeds-append (of_spawn ∷ xs) ys = feeds-append xs ys
 feeds-append (of_other ∷ xs) ys = feeds-append xs ys
 
-none_fetches : {E : Type 0} (K : Type 0) (wire : Wire E) (stream : Stream)
-    → NoneFinishes (fetches {E = E} {K = K} wire stream)
+none_fetches : {E : Type 0} (K : Type 0) (wire : StreamSource E) (stream : Stream)
+    → NoneFinishes (source_actions {E = E} {K = K} wire stream)
 none_fetches K nothing stream = tt
 none_fetches K (slot depth) stream = tt
 none_fetches K (captured which) stream = tt
@@ -114,13 +114,13 @@ module _ {E H : Type 0} where
   adds_if None p q adds = adds
   adds_if (Some place) p q adds = adds_none p.items
 
-  adds_command : (b : Bool) (found : Found E H) (words : List (List ℕ)) (items : List (Item E H))
+  adds_command : (b : Bool) (found : Surroundings E H) (words : List (List ℕ)) (items : List (Item E H))
       → AddsKinds 1 0 items (items ++ items_if b found words)
   adds_command true found words items = adds_items items (items_if true found words)
   adds_command false found words items = adds_items items (items_if false found words)
 
-  adds_opening : (opens : Obtains) (plan : Plan E H)
-      → AddsKinds 0 0 plan.items (opened (opening_of opens) plan).items
+  adds_opening : (opens : RowOpening) (plan : Plan E H)
+      → AddsKinds 0 0 plan.items (with_opening (opening_of opens) plan).items
   adds_opening opens_nothing plan = adds_none plan.items
   adds_opening (opens_input bytes) plan = adds_items plan.items _
   adds_opening (opens_read path) plan = adds_items plan.items _
@@ -148,65 +148,65 @@ module _ {E H : Type 0} where
 
   adds_tree : (up : Path E H) (tree : TreeView E H) (plan : Plan E H)
       → AddsKinds (command_count (shape_of_tree tree))
-      (input_count (shape_of_tree tree)) plan.items (planned up tree plan).items
+      (input_count (shape_of_tree tree)) plan.items (plan_of_subtree up tree plan).items
   adds_tree up (command words) plan =
-      let found = found_on up in
+      let found = surroundings_on up in
       adds_as refl refl (ap (λ (p : Plan E H). p.items) (commanded_is found words plan)) (adds_command (is_canonical found words) found words plan.items)
   adds_tree up (pipe left right) plan =
       let place = length plan.items in
-      let first = planned (left_of place ∷ up) left (asks AskPipe plan) in
+      let first = plan_of_subtree (left_of place ∷ up) left (with_item AskPipe plan) in
       adds_as (omega arith) (omega arith) refl
-      (adds_on (adds_items plan.items (AskPipe ∷ [])) (adds_on (adds_tree (left_of place ∷ up) left (asks AskPipe plan)) (adds_tree (right_of place ∷ up) right first)))
+      (adds_on (adds_items plan.items (AskPipe ∷ [])) (adds_on (adds_tree (left_of place ∷ up) left (with_item AskPipe plan)) (adds_tree (right_of place ∷ up) right first)))
   adds_tree up (around modifier inner) plan =
       let place = place_for (step modifier).opening plan in
-      let before = opened (step modifier).opening plan in
-      let inside = planned (within place modifier ∷ up) inner before in
+      let before = with_opening (step modifier).opening plan in
+      let inside = plan_of_subtree (within place modifier ∷ up) inner before in
       let closing = (step modifier).closing place in
       let shape = shape_of_tree inner in
       adds_as (omega (arith, closes_none modifier place shape)) (omega (arith, closes_feeds modifier place shape)) refl
       (adds_on (adds_opening (row modifier).opens plan) (adds_on (adds_tree (within place modifier ∷ up) inner before) (adds_items inside.items closing)))
 
-  adds_drains : (o : Option ℕ) (plan : Plan E H) → AddsKinds 0 0 plan.items (drains o plan).items
+  adds_drains : (o : Option ℕ) (plan : Plan E H) → AddsKinds 0 0 plan.items (with_drain o plan).items
   adds_drains None plan = adds_none plan.items
   adds_drains (Some place) plan = adds_items plan.items _
 
-  adds_reads : (o : Option ℕ) (plan : Plan E H) → AddsKinds 0 0 plan.items (reads o plan).items
+  adds_reads : (o : Option ℕ) (plan : Plan E H) → AddsKinds 0 0 plan.items (with_reader o plan).items
   adds_reads None plan = adds_none plan.items
   adds_reads (Some place) plan = adds_items plan.items _
 
   -- the plan after a tree starts a child for each command, and a feed worker for each input
   pub planned_counts : (tree : TreeView E H)
-      → (spawns_asked (planned [] tree begun).items ≡ command_count (shape_of_tree tree))
-      × (feeds_asked (planned [] tree begun).items ≡ input_count (shape_of_tree tree))
-  planned_counts tree = let adds = adds_tree [] tree begun in (omega (arith, adds.spawns), omega (arith, adds.feeds))
+      → (spawns_asked (plan_of_subtree [] tree initial_plan).items ≡ command_count (shape_of_tree tree))
+      × (feeds_asked (plan_of_subtree [] tree initial_plan).items ≡ input_count (shape_of_tree tree))
+  planned_counts tree = let adds = adds_tree [] tree initial_plan in (omega (arith, adds.spawns), omega (arith, adds.feeds))
 
   -- a run that has made all requests of a tree's plan holds a child for each command and a feed
   -- worker for each input
-  pub started_counts : (allows : Allows H) (number_of : E → ℕ) (course : Course) (state : State E H)
-      (now : JournalView) (held : Holdings) (tree : TreeView E H)
-      → Stands allows number_of course state now held → state.plan.items ≡ (plan_of tree).items
+  pub started_counts : (allows : Allows H) (number_of : E → ℕ) (course : RunContext) (state : State E H)
+      (now : JournalView) (held : ResourcesView) (tree : TreeView E H)
+      → RunInvariant allows number_of course state now held → state.plan.items ≡ (plan_of tree).items
       → (length held.children ≡ command_count (shape_of_tree tree))
       × (length held.feeds ≡ input_count (shape_of_tree tree))
   started_counts allows number_of course state now held tree stands is =
-      let plan = planned [] tree begun in
+      let plan = plan_of_subtree [] tree initial_plan in
       let all = counted allows number_of course state now held stands in
       let out = adds_drains plan.out plan in
-      let err = adds_drains plan.err (drains plan.out plan) in
+      let err = adds_drains plan.err (with_drain plan.out plan) in
       let here = planned_counts tree in
       (omega (arith, all.0, ap (λ l. spawns_asked l) is, out.spawns, err.spawns, here.0), omega (arith, all.1, ap (λ l. feeds_asked l) is, out.feeds, err.feeds, here.1))
 
   -- so does a run that has made all requests of the plan of a reader's start
-  pub reader_counts : (allows : Allows H) (number_of : E → ℕ) (course : Course) (state : State E H)
-      (now : JournalView) (held : Holdings) (tree : TreeView E H)
-      → Stands allows number_of course state now held
+  pub reader_counts : (allows : Allows H) (number_of : E → ℕ) (course : RunContext) (state : State E H)
+      (now : JournalView) (held : ResourcesView) (tree : TreeView E H)
+      → RunInvariant allows number_of course state now held
       → state.plan.items ≡ (plan_of_reader tree).items
       → (length held.children ≡ command_count (shape_of_tree tree))
       × (length held.feeds ≡ input_count (shape_of_tree tree))
   reader_counts allows number_of course state now held tree stands is =
-      let plan = planned [] (around stdout_capture tree) begun in
+      let plan = plan_of_subtree [] (around stdout_capture tree) initial_plan in
       let all = counted allows number_of course state now held stands in
       let err = adds_drains plan.err plan in
-      let out = adds_reads plan.out (drains plan.err plan) in
+      let out = adds_reads plan.out (with_drain plan.err plan) in
       let here = planned_counts (around stdout_capture tree) in
       (omega (arith, all.0, ap (λ l. spawns_asked l) is, out.spawns, err.spawns, here.0), omega (arith, all.1, ap (λ l. feeds_asked l) is, out.feeds, err.feeds, here.1))
 
@@ -224,20 +224,20 @@ module _ {E H : Type 0} where
       → is_some (f (if b then p else q)) ≡ (is_some (f p) || false)
   opens_other f b p q same = ap (λ o. is_some o) (if_of f b p q (sym same) ∙ same) ∙ sym (or-false (is_some (f p)))
 
-  opens_spawn : (f : Plan E H → Option ℕ) (found : Found E H) (words : List (List ℕ))
+  opens_spawn : (f : Plan E H → Option ℕ) (found : Surroundings E H) (words : List (List ℕ))
       (plan : Plan E H) → ((items : List (Item E H)) → f (with_items items plan) ≡ f plan) →
-      is_some (f (commanded found words plan)) ≡ (is_some (f plan) || false)
+      is_some (f (with_command found words plan)) ≡ (is_some (f plan) || false)
   opens_spawn f found words plan same = ap (λ p. is_some (f p)) (commanded_is found words plan) ∙ ap (λ o. is_some o) (same (items_of found words)) ∙ sym (or-false (is_some (f plan)))
 
   -- a capture pipe is open after one action exactly if it was open before or the action opens it
   action_opens : (which : Side) (state : State E H) (act : Action E H) → NoneFinishes (act ∷ []) →
-      is_some (capture_at which (advance state act).plan) ≡ (is_some (capture_at which state.plan) || is_capture which act)
+      is_some (capture_place which (advance state act).plan) ≡ (is_some (capture_place which state.plan) || is_capture which act)
   action_opens side.Out state (action.capture side.Out) none = opens_there (λ p. p.out) state.plan.out state.plan _ refl refl
   action_opens side.Err state (action.capture side.Err) none = opens_there (λ p. p.err) state.plan.err state.plan _ refl refl
   action_opens side.Out state (action.capture side.Err) none = opens_other (λ p. p.out) (is_some state.plan.err) state.plan _ refl
   action_opens side.Err state (action.capture side.Out) none = opens_other (λ p. p.err) (is_some state.plan.out) state.plan _ refl
-  action_opens side.Out state (action.spawn scope words ports) none = opens_spawn (λ p. p.out) (found_by scope ports state.stack) words state.plan (λ items. refl)
-  action_opens side.Err state (action.spawn scope words ports) none = opens_spawn (λ p. p.err) (found_by scope ports state.stack) words state.plan (λ items. refl)
+  action_opens side.Out state (action.spawn scope words ports) none = opens_spawn (λ p. p.out) (surroundings_by scope ports state.stack) words state.plan (λ items. refl)
+  action_opens side.Err state (action.spawn scope words ports) none = opens_spawn (λ p. p.err) (surroundings_by scope ports state.stack) words state.plan (λ items. refl)
   action_opens which state (action.finish other) none = absurd none
   action_opens side.Out state (action.parent side.Out) none = sym (or-false (is_some state.plan.out))
   action_opens side.Out state (action.parent side.Err) none = sym (or-false (is_some state.plan.out))
@@ -259,13 +259,13 @@ module _ {E H : Type 0} where
   -- a capture pipe is open after some actions exactly if it was open before or one of them opens it
   pub actions_open : (which : Side) (state : State E H) (actions : List (Action E H))
       → NoneFinishes actions
-      → is_some (capture_at which (after state actions).plan)
-      ≡ (is_some (capture_at which state.plan) || captures_in which actions)
-  actions_open which state [] none = sym (or-false (is_some (capture_at which state.plan)))
+      → is_some (capture_place which (after_actions state actions).plan)
+      ≡ (is_some (capture_place which state.plan) || captures_in which actions)
+  actions_open which state [] none = sym (or-false (is_some (capture_place which state.plan)))
   actions_open which state (act ∷ actions) none =
       actions_open which (advance state act) actions (none_rest act actions none)
       ∙ ap (λ b. b || captures_in which actions) (action_opens which state act (none_first act actions none))
-      ∙ or_assoc (is_some (capture_at which state.plan)) (is_capture which act) (captures_in which actions)
+      ∙ or_assoc (is_some (capture_place which state.plan)) (is_capture which act) (captures_in which actions)
 
   resolved_same : (which : Side) (scopes : List (Scope E H)) (act : ActionOf E ℕ)
       → is_capture which (resolved scopes act) ≡ is_capture which act
@@ -288,54 +288,54 @@ module _ {E H : Type 0} where
   none_append (action.finish which ∷ xs) ys none more = absurd none
   none_append (act ∷ xs) ys none more = none_append xs ys none more
 
-  none_wrapped : (opens : Obtains) (inside : List (Action E H)) → NoneFinishes inside
-      → NoneFinishes (wrapped opens inside)
+  none_wrapped : (opens : RowOpening) (inside : List (Action E H)) → NoneFinishes inside
+      → NoneFinishes (actions_around opens inside)
   none_wrapped opens_nothing inside none = none
   none_wrapped (opens_input bytes) inside none = none_append inside (action.close ∷ action.feed bytes ∷ []) none tt
   none_wrapped (opens_read path) inside none = none_append inside (action.close ∷ []) none tt
   none_wrapped (opens_create path) inside none = none_append inside (action.close ∷ []) none tt
   none_wrapped (opens_capture which) inside none = none
 
-  none_flat : (tree : TreeView E H) (s : Scope E H) (w : Three (Wire E)) (n : ℕ)
-      → NoneFinishes (flat s w tree n)
+  none_flat : (tree : TreeView E H) (s : Scope E H) (w : PerStream (StreamSource E)) (n : ℕ)
+      → NoneFinishes (actions_of_subtree s w tree n)
   none_flat (command words) s w n =
-      let input : List (Action E H) = fetches w.input In in
-      let output : List (Action E H) = fetches w.output Out in
-      let error : List (Action E H) = fetches w.error Err in
+      let input : List (Action E H) = source_actions w.input In in
+      let output : List (Action E H) = source_actions w.output Out in
+      let error : List (Action E H) = source_actions w.error Err in
       let last : List (Action E H) = action.spawn s words (ports_at w) ∷ [] in
       none_append input (output ++ (error ++ last)) (none_fetches (Scope E H) w.input In)
       (none_append output (error ++ last) (none_fetches (Scope E H) w.output Out) (none_append error last (none_fetches (Scope E H) w.error Err) tt))
   none_flat (pipe left right) s w n =
-      let up = outputs (slot (n + 1)) w in
-      let down = inputs (slot n) w in
-      let first : List (Action E H) = flat s up left (n + 2) in
-      let second : List (Action E H) = flat s down right (n + 1) in
+      let up = with_output (slot (n + 1)) w in
+      let down = with_input (slot n) w in
+      let first : List (Action E H) = actions_of_subtree s up left (n + 2) in
+      let second : List (Action E H) = actions_of_subtree s down right (n + 1) in
       none_append first (action.close ∷ (second ++ action.close ∷ [])) (none_flat left s up (n + 2)) (none_append second (action.close ∷ []) (none_flat right s down (n + 1)) tt)
   none_flat (around modifier inner) s w n =
       let r = row modifier in
-      none_wrapped r.opens _ (none_flat inner (scope_if r.says s) (wires_in r n w) (deeper r.opens n))
+      none_wrapped r.opens _ (none_flat inner (scope_if r.says s) (sources_inside r n w) (depth_inside r.opens n))
 
   -- the actions of a tree finish no capture pipe
-  pub flat_none : (tree : TreeView E H) → NoneFinishes (flat_of tree)
-  flat_none tree = none_flat tree rooted outside 0
+  pub flat_none : (tree : TreeView E H) → NoneFinishes (actions_of tree)
+  flat_none tree = none_flat tree root_scope root_sources 0
 
   -- a capture pipe is open after a tree exactly if the actions of the tree open it
   pub flat_captures : (which : Side) (tree : TreeView E H)
-      → is_some (capture_at which (planned [] tree begun)) ≡ captures_in which (flat_of tree)
+      → is_some (capture_place which (plan_of_subtree [] tree initial_plan)) ≡ captures_in which (actions_of tree)
   flat_captures which tree =
       let number_of : E → ℕ = λ end. 0 in
       let leads = tree_leads number_of (ceiling number_of tree) tree (ends_below number_of tree) in
-      ap (λ (state : State E H). is_some (capture_at which state.plan)) (sym leads.is) ∙ actions_open which (with_plan begun) (flat_of tree) (flat_none tree)
-      ∙ ap (λ b. b || captures_in which (flat_of tree)) (none_begun which)
+      ap (λ (state : State E H). is_some (capture_place which state.plan)) (sym leads.is) ∙ actions_open which (with_plan initial_plan) (actions_of tree) (flat_none tree)
+      ∙ ap (λ b. b || captures_in which (actions_of tree)) (none_begun which)
     where
-      none_begun : (which : Side) → is_some (capture_at which (begun {E = E} {H = H})) ≡ false
+      none_begun : (which : Side) → is_some (capture_place which (initial_plan {E = E} {H = H})) ≡ false
       none_begun side.Out = refl
       none_begun side.Err = refl
 
   -- the same for its actions with scopes by index
   pub list_captures : (which : Side) (tree : TreeView E H)
-      → is_some (capture_at which (planned [] tree begun))
-      ≡ captures_in which (listed_of tree).actions
+      → is_some (capture_place which (plan_of_subtree [] tree initial_plan))
+      ≡ captures_in which (list_of tree).actions
   list_captures which tree =
-      let scopes = scopes_from (rooted ∷ []) (listed_of tree).scopes in
-      flat_captures which tree ∙ ap (λ l. captures_in which l) (sym (list_resolves tree)) ∙ resolved_captures which scopes (listed_of tree).actions
+      let scopes = scopes_from (root_scope ∷ []) (list_of tree).scopes in
+      flat_captures which tree ∙ ap (λ l. captures_in which l) (sym (list_resolves tree)) ∙ resolved_captures which scopes (list_of tree).actions

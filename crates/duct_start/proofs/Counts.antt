@@ -6,7 +6,7 @@ use Rattle.std.proofs.lemmas.List.{reverse-append}
 use Rattle.std.proofs.lemmas.Bool.Decides.{nat_tests}
 use Rattle.std.specs.Prelude.{◌==◌, true, false, reverse}
 use Rattle.duct_system.specs.Ledger.{count_of}
-use Rattle.duct_start.specs.Standing.{AreFresh}
+use Rattle.duct_start.specs.RunInvariant.{AreFresh}
 
 -- two counts add up to at most 1, if each is at most 1 and one of them is 0
 pub once_of : (next n a b : ℕ) → a ≤ 1 → b ≤ 1 → (next ≤ n → a ≡ 0) → (n < next → b ≡ 0) → a + b ≤ 1

@@ -7,7 +7,7 @@ use Rattle.duct_system.specs.EntryView.{EntryView, Close}
 use Rattle.duct_system.specs.Trace.{IsClean, StopsAtFault, OnlyCloses, fault_of}
 use Rattle.duct_system.specs.declared.error.Error.{Error}
 use Rattle.duct_system.specs.declared.system.Fault.{Fault}
-use Rattle.duct_start.specs.Standing.{Ended, unasked, hooked, refused}
+use Rattle.duct_start.specs.RunInvariant.{StopReason, unasked, hooked, refused}
 
 if_none : (o : Option Fault) (P : Fault → Type 0) → o ≡ None → IfSome o P
 if_none None P is = tt
@@ -31,7 +31,7 @@ clean_stop (x ∷ xs) rest clean stops = (if_none (fault_of x) (λ fault. OnlyCl
 
 -- after the request that was refused there are only closes
 pub ended_stops : (added : List EntryView) (error : Error) (numbers : List ℕ)
-    → Ended added error → StopsAtFault (added ++ map Close numbers)
+    → StopReason added error → StopsAtFault (added ++ map Close numbers)
 ended_stops added error numbers (unasked clean un) = clean_stop added (map Close numbers) clean (closes_stop numbers)
 ended_stops added error numbers (hooked clean is) = clean_stop added (map Close numbers) clean (closes_stop numbers)
 ended_stops added error numbers (refused front entry fault clean is) =

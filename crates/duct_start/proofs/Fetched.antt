@@ -8,10 +8,10 @@ use Rattle.duct_system.specs.declared.system.Side.TheVariants as side
 use Rattle.duct_system.specs.declared.spec.Stream.{Stream}
 use Rattle.duct_system.specs.declared.spec.Stream.TheVariants.{In, Out, Err}
 use Rattle.duct_start.specs.Actions as action
-use Rattle.duct_start.specs.Actions.{Action, Scope, State, Three, Leads, advance, port_in, level, given, less, many, left_by, found_by}
-use Rattle.duct_start.specs.Flat.{Wire, fetches, port_at, ports_at, commands, WireIs, is_stdin, is_in, is_out, is_err, is_nothing, is_slot, is_captured, is_lent, IsGot, WiresFit}
-use Rattle.duct_start.specs.Found.{Found, Target, Parents, Nothing, ReaderAt, WriterAt, FileAt, Lends, target_of}
-use Rattle.duct_start.specs.Plan.{Plan, commanded}
+use Rattle.duct_start.specs.Actions.{Action, Scope, State, PerStream, Leads, advance, port_in, at_depth, stream_target, stack_after_port, port_end_count, stack_after_ports, surroundings_by}
+use Rattle.duct_start.specs.Flat.{StreamSource, source_actions, port_at, ports_at, command_actions, SourceLeadsTo, is_stdin, is_in, is_out, is_err, is_nothing, is_slot, is_captured, is_lent, IsGot, SourcesFit}
+use Rattle.duct_start.specs.Surroundings.{Surroundings, Target, Parents, Nothing, ReaderAt, WriterAt, FileAt, Lends, target_of}
+use Rattle.duct_start.specs.Plan.{Plan, with_command}
 use Rattle.duct_start.proofs.Keeping.{Keeps, keeps_same}
 use Rattle.duct_start.proofs.Stacks.{level_under, level_within, leads_none, leads_one, leads_append}
 
@@ -20,20 +20,20 @@ abbrev pub put : {A : Type 0} → Port → A → List A → List A
 put port.Given x stack = x ∷ stack
 put p x stack = stack
 
-less_is : {A : Type 0} (p : Port) (x : A) (stack : List A) → less p (put p x stack) ≡ stack
+less_is : {A : Type 0} (p : Port) (x : A) (stack : List A) → stack_after_port p (put p x stack) ≡ stack
 less_is port.Inherit x stack = refl
 less_is port.Null x stack = refl
 less_is port.Given x stack = refl
 less_is (port.Place place) x stack = refl
 
 long_is : {A : Type 0} (p : Port) (x : A) (stack : List A)
-    → length (put p x stack) ≡ many p + length stack
+    → length (put p x stack) ≡ port_end_count p + length stack
 long_is port.Inherit x stack = omega arith
 long_is port.Null x stack = omega arith
 long_is port.Given x stack = omega arith
 long_is (port.Place place) x stack = omega arith
 
-few : (p : Port) → many p ≤ 1
+few : (p : Port) → port_end_count p ≤ 1
 few port.Inherit = omega arith
 few port.Null = omega arith
 few port.Given = omega arith
@@ -42,7 +42,7 @@ few (port.Place place) = omega arith
 -- the next state keeps what a wire may lead to: the ends at their depths, and the open capture
 -- pipes
 pub record Grows {E H : Type 0} (state next : State E H) : Type 0 where
-  pub levels : (n : ℕ) (x : Target E) → level state.stack n ≡ Some x → level next.stack n ≡ Some x
+  pub levels : (n : ℕ) (x : Target E) → at_depth state.stack n ≡ Some x → at_depth next.stack n ≡ Some x
   pub keeps : Keeps state.plan next.plan
 
 module _ {E H : Type 0} where
@@ -92,7 +92,7 @@ port_got s (Parents stream) got = absurd got
 port_got s Nothing got = absurd got
 port_got s (Lends end) got = absurd got
 
-three_ports : {E H : Type 0} (ports : Three Port) (found : Found E H)
+three_ports : {E H : Type 0} (ports : PerStream Port) (found : Surroundings E H)
     → ports.input ≡ port_to In found.input → ports.output ≡ port_to Out found.output →
     ports.error ≡ port_to Err found.error → (stream : Stream) → port_in ports stream ≡ port_to stream (target_of found stream)
 three_ports ports found input output error In = input
@@ -100,8 +100,8 @@ three_ports ports found input output error Out = output
 three_ports ports found input output error Err = error
 
 module _ {E H : Type 0} (number_of : E → ℕ) (base : ℕ) where
-  wire_grows : (state next : State E H) (b : Bool) (w : Wire E) (t : Target E) → Grows state next
-      → WireIs number_of base state b w t → WireIs number_of base next b w t
+  wire_grows : (state next : State E H) (b : Bool) (w : StreamSource E) (t : Target E) → Grows state next
+      → SourceLeadsTo number_of base state b w t → SourceLeadsTo number_of base next b w t
   wire_grows state next b w t grows is_in = is_in
   wire_grows state next b w t grows is_out = is_out
   wire_grows state next b w t grows is_err = is_err
@@ -111,9 +111,9 @@ module _ {E H : Type 0} (number_of : E → ℕ) (base : ℕ) where
   wire_grows state next b w t grows (is_captured c side.Err place is) = is_captured c side.Err place (grows.keeps.err place is)
   wire_grows state next b w t grows (is_lent c end is) = is_lent c end is
 
-  pub fits_grow : (state next : State E H) (scope : Scope E H) (wires : Three (Wire E))
-      (found : Found E H) → Grows state next → WiresFit number_of base state scope wires found
-      → WiresFit number_of base next scope wires found
+  pub fits_grow : (state next : State E H) (scope : Scope E H) (wires : PerStream (StreamSource E))
+      (found : Surroundings E H) → Grows state next → SourcesFit number_of base state scope wires found
+      → SourcesFit number_of base next scope wires found
   fits_grow state next scope wires found grows fits = record {
     folder = fits.folder;
     changes = fits.changes;
@@ -126,33 +126,33 @@ module _ {E H : Type 0} (number_of : E → ℕ) (base : ℕ) where
 
   -- the end that a stream is wired to is fetched, the stream has the port of where it goes, and by
   -- that port it goes there
-  record IsFetched (bound : ℕ) (state : State E H) (s : Stream) (w : Wire E) (t : Target E) : Type 0 where
-    leads : Leads number_of base bound state (fetches w s) (record { stack = put (port_at w s) t state.stack; plan = state.plan })
+  record IsFetched (bound : ℕ) (state : State E H) (s : Stream) (w : StreamSource E) (t : Target E) : Type 0 where
+    leads : Leads number_of base bound state (source_actions w s) (record { stack = put (port_at w s) t state.stack; plan = state.plan })
     port_is : port_at w s ≡ port_to s t
-    goes : (stack : List (Target E)) → given s (port_at w s) (put (port_at w s) t stack) ≡ t
+    goes : (stack : List (Target E)) → stream_target s (port_at w s) (put (port_at w s) t stack) ≡ t
 
   module _ (bound : ℕ) where
     -- one action fetches the end by pushing it
-    by_one : (state : State E H) (s : Stream) (w : Wire E) (t : Target E) (x : Action E H)
-        → fetches {E = E} {K = Scope E H} w s ≡ x ∷ [] → port_at w s ≡ port.Given
+    by_one : (state : State E H) (s : Stream) (w : StreamSource E) (t : Target E) (x : Action E H)
+        → source_actions {E = E} {K = Scope E H} w s ≡ x ∷ [] → port_at w s ≡ port.Given
         → port_to s t ≡ port.Given →
-        action.pops x ≡ 0 → action.Needs number_of base bound state x → advance state x ≡ action.pushes t state → length state.stack + 1 ≤ bound → IsFetched bound state s w t
+        action.pop_count x ≡ 0 → action.Needs number_of base bound state x → advance state x ≡ action.with_end t state → length state.stack + 1 ≤ bound → IsFetched bound state s w t
     by_one state s w t x one port_is goes_is none needs is low = record {
-      leads = subst (λ (p : Port). Leads number_of base bound state (fetches w s) (record { stack = put p t state.stack; plan = state.plan })) (sym port_is)
-          (subst (λ (l : List (Action E H)). Leads number_of base bound state l (action.pushes t state)) (sym one) (leads_one number_of base bound state x _ none needs is (omega (arith, low))));
+      leads = subst (λ (p : Port). Leads number_of base bound state (source_actions w s) (record { stack = put p t state.stack; plan = state.plan })) (sym port_is)
+          (subst (λ (l : List (Action E H)). Leads number_of base bound state l (action.with_end t state)) (sym one) (leads_one number_of base bound state x _ none needs is (omega (arith, low))));
       port_is = port_is ∙ sym goes_is;
-      goes = λ stack. ap (λ p. given s p (put p t stack)) port_is;
+      goes = λ stack. ap (λ p. stream_target s p (put p t stack)) port_is;
     }
 
-    fetched : (state : State E H) (s : Stream) (b : Bool) (w : Wire E) (t : Target E)
-        → is_stdin s ≡ b → WireIs number_of base state b w t → length state.stack + 1 ≤ bound →
+    fetched : (state : State E H) (s : Stream) (b : Bool) (w : StreamSource E) (t : Target E)
+        → is_stdin s ≡ b → SourceLeadsTo number_of base state b w t → length state.stack + 1 ≤ bound →
         IsFetched bound state s w t
     fetched state s b w t which (is_nothing c) low = record { leads = leads_none number_of base bound state; port_is = sym (port_nothing E s); goes = λ stack. refl }
     fetched state s b w t which (is_slot c n x got is) low =
-        by_one state s w t (action.duplicate n) refl refl (port_got s t got) refl (level_within state.stack x n is) (ap (λ o. action.pushes (unwrap_or o Nothing) state) is) low
+        by_one state s w t (action.duplicate n) refl refl (port_got s t got) refl (level_within state.stack x n is) (ap (λ o. action.with_end (unwrap_or o Nothing) state) is) low
     fetched state s b w t which (is_captured c capture place is) low =
-        by_one state s w t (action.tap capture) refl refl (port_got s t tt) refl (subst IsSome (sym is) refl) (ap (λ o. action.pushes (WriterAt (unwrap_or o 0)) state) is) low
-    fetched state s b w t which (is_lent c end is) low = by_one state s w t (action.lend end) refl refl (port_lent s end) refl is refl low
+        by_one state s w t (action.duplicate_capture capture) refl refl (port_got s t tt) refl (subst IsSome (sym is) refl) (ap (λ o. action.with_end (WriterAt (unwrap_or o 0)) state) is) low
+    fetched state s b w t which (is_lent c end is) low = by_one state s w t (action.duplicate_caller_end end) refl refl (port_lent s end) refl is refl low
     fetched state In b w t which is_in low = record { leads = leads_none number_of base bound state; port_is = refl; goes = λ stack. refl }
     fetched state In b w t which is_out low = absurd (cc)
     fetched state In b w t which is_err low = absurd (cc)
@@ -164,11 +164,11 @@ module _ {E H : Type 0} (number_of : E → ℕ) (base : ℕ) where
     fetched state Err b w t which is_err low = record { leads = leads_none number_of base bound state; port_is = refl; goes = λ stack. refl }
 
     -- the actions of a command lead to its items, and leave the stack as it was
-    pub command_leads : (state : State E H) (scope : Scope E H) (wires : Three (Wire E))
-        (found : Found E H) (words : List (List ℕ)) →
-        WiresFit number_of base state scope wires found → length state.stack + 3 < bound →
-        Leads number_of base bound state (commands scope wires words)
-        (record { stack = state.stack; plan = commanded found words state.plan })
+    pub command_leads : (state : State E H) (scope : Scope E H) (wires : PerStream (StreamSource E))
+        (found : Surroundings E H) (words : List (List ℕ)) →
+        SourcesFit number_of base state scope wires found → length state.stack + 3 < bound →
+        Leads number_of base bound state (command_actions scope wires words)
+        (record { stack = state.stack; plan = with_command found words state.plan })
     command_leads state scope wires found words fits low =
         let pi = port_at wires.input In in
         let po = port_at wires.output Out in
@@ -187,19 +187,19 @@ module _ {E H : Type 0} (number_of : E → ℕ) (base : ℕ) where
         let i = fetched state In true wires.input found.input refl fits.input (omega (arith, low)) in
         let o = fetched st1 Out false wires.output found.output refl fits1.output (omega (arith, low, li, fi)) in
         let e = fetched st2 Err false wires.error found.error refl fits2.error (omega (arith, low, li, lo, fi, fo)) in
-        let ae : less pe st3.stack ≡ st2.stack = less_is pe found.error st2.stack in
-        let ao : less po st2.stack ≡ st1.stack = less_is po found.output st1.stack in
-        let ai : less pi st1.stack ≡ state.stack = less_is pi found.input state.stack in
-        let left : left_by (ports_at wires) st3.stack ≡ state.stack = ap (λ l. less pi (less po l)) ae ∙ ap (less pi) ao ∙ ai in
+        let ae : stack_after_port pe st3.stack ≡ st2.stack = less_is pe found.error st2.stack in
+        let ao : stack_after_port po st2.stack ≡ st1.stack = less_is po found.output st1.stack in
+        let ai : stack_after_port pi st1.stack ≡ state.stack = less_is pi found.input state.stack in
+        let left : stack_after_ports (ports_at wires) st3.stack ≡ state.stack = ap (λ l. stack_after_port pi (stack_after_port po l)) ae ∙ ap (stack_after_port pi) ao ∙ ai in
         let folder = sym fits.folder in
         let changes = sym fits.changes in
         let hooks = sym fits.hooks in
-        let input = ap (λ l. given In pi (less po l)) ae ∙ ap (given In pi) ao ∙ i.goes state.stack in
-        let output = ap (given Out po) ae ∙ o.goes st1.stack in
-        let all : found_by scope (ports_at wires) st3.stack ≡ found =
+        let input = ap (λ l. stream_target In pi (stack_after_port po l)) ae ∙ ap (stream_target In pi) ao ∙ i.goes state.stack in
+        let output = ap (stream_target Out po) ae ∙ o.goes st1.stack in
+        let all : surroundings_by scope (ports_at wires) st3.stack ≡ found =
         λ j. record { folder = folder j; changes = changes j; input = input j; output = output j; error = e.goes st2.stack j; hooks = hooks j } in
-        let next : State E H = record { stack = state.stack; plan = commanded found words state.plan } in
-        let is : advance st3 (action.spawn scope words (ports_at wires)) ≡ next = λ j. record { stack = left j; plan = commanded (all j) words state.plan } in
+        let next : State E H = record { stack = state.stack; plan = with_command found words state.plan } in
+        let is : advance st3 (action.spawn scope words (ports_at wires)) ≡ next = λ j. record { stack = left j; plan = with_command (all j) words state.plan } in
         let ports : (stream : Stream) → port_in (ports_at wires) stream ≡ port_to stream (target_of found stream) =
         three_ports (ports_at wires) found i.port_is o.port_is e.port_is in
         let spawns : Leads number_of base bound st3 (action.spawn scope words (ports_at wires) ∷ []) next = record {

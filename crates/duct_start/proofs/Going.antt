@@ -7,7 +7,7 @@ use Rattle.std.specs.declared.option.Option.{Option}
 use Rattle.std.specs.declared.result.Result.{Result}
 use Rattle.duct_system.specs.EntryView.{EntryView, Pipe, OpenRead, Create, Duplicate, Parent, Feed, Close}
 use Rattle.duct_system.specs.Journal.{JournalView, Adds, AddsNothing, Asks, GetsEnd, GetsEnds, GivesEnds, IsRefused}
-use Rattle.duct_system.specs.Ledger.{got_by, spent_by, count_of}
+use Rattle.duct_system.specs.Ledger.{opened_by, closed_by, count_of}
 use Rattle.duct_system.specs.Origin.{Opened, origin, origin_before}
 use Rattle.duct_system.specs.Started.{child_by, feed_by, drain_by}
 use Rattle.duct_system.specs.Trace.{trace, fault_of, is_traced}
@@ -18,23 +18,23 @@ use Rattle.duct_system.specs.declared.system.Fault.{Fault}
 use Rattle.duct_system.specs.declared.system.Side.{Side}
 use Rattle.duct_system.specs.declared.system.Side.TheVariants as side
 use Rattle.duct_start.specs.Actions as action
-use Rattle.duct_start.specs.Actions.{Action, State, IsReady, IsWriter, advance, level, place_of}
+use Rattle.duct_start.specs.Actions.{Action, State, IsReady, IsWriter, advance, at_depth, pipe_place}
 use Rattle.duct_start.specs.Asked.{end_at}
 use Rattle.duct_start.specs.Chain.{Allows}
-use Rattle.duct_start.specs.Commands.{holding}
+use Rattle.duct_start.specs.Commands.{resources_with_stack}
 use Rattle.duct_start.specs.Sources.{Pairwise}
-use Rattle.duct_start.specs.Found.{Target, Parents, Nothing, ReaderAt, WriterAt, FileAt, Lends}
-use Rattle.duct_start.specs.Holdings.{Holdings, ends, pair_of}
+use Rattle.duct_start.specs.Surroundings.{Target, Parents, Nothing, ReaderAt, WriterAt, FileAt, Lends}
+use Rattle.duct_start.specs.ResourcesView.{ResourcesView, open_ends, pipe_ends}
 use Rattle.duct_start.specs.Kinds.{entry_kind, item_kind}
-use Rattle.duct_start.specs.Standing.{AnswersUnder, AreFresh, Course, IsEarly, IsFrom, IsLater, IsShaped, IsPair, Sourced, Stands, IsWantOfMemory, Goes, Quits}
+use Rattle.duct_start.specs.RunInvariant.{AnswersUnder, AreFresh, RunContext, IsEarly, IsFrom, IsLater, IsShaped, IsPair, HasOrigins, RunInvariant, IsAllocationFailure, ActionSucceeds, ActionFails}
 use Rattle.duct_start.specs.Step.{Item, AskPipe, AskOpenRead, AskCreate, AskFeed}
 use Rattle.duct_start.proofs.Counts.{fresh_one, fresh_two, fresh_none, is_itself, other_than, count_other, count_same, count-cons, count-append, count-reverse}
 use Rattle.duct_start.proofs.Origins.{later_more, origin_stays, origin-more, origin_lent, end_at_seam}
 use Rattle.duct_start.proofs.Sources.{duplicate_first, duplicated, pair_level, pair_popped, surely}
-use Rattle.duct_start.proofs.Standing.{Changes, as_many, stands_more, stops_more, stops_unasked, sources_now, few_now, few_of}
+use Rattle.duct_start.proofs.RunInvariant.{Changes, as_many, stands_more, stops_more, stops_unasked, sources_now, few_now, few_of}
 
 -- what is held, with these ends pushed onto the stack
-abbrev pub on : List ℕ → Holdings → Holdings
+abbrev pub on : List ℕ → ResourcesView → ResourcesView
 on tops held = record held { stack = tops ++ held.stack }
 
 pub adds_as : (entry : EntryView) (a b c d : ℕ) (now next : JournalView)
@@ -48,7 +48,7 @@ adds_as entry a b c d now next adds more less = record {
 
 -- as many ends are pushed onto the one stack as onto the other
 pushed_shape : {E H : Type 0} (numbers : List ℕ) (targets : List (Target E))
-    (asked : List (Item E H)) (st : State E H) (held : Holdings) → length numbers ≡ length targets
+    (asked : List (Item E H)) (st : State E H) (held : ResourcesView) → length numbers ≡ length targets
     → IsShaped st held →
     IsShaped (record { stack = targets ++ st.stack; plan = record { items = st.plan.items ++ asked; out = st.plan.out; err = st.plan.err } }) (on numbers held)
 pushed_shape numbers targets asked st held same shaped =
@@ -60,7 +60,7 @@ less_long n rest [] is = absurd (omega (arith, is))
 less_long n rest (x ∷ stack) is = omega (arith, is)
 
 -- one end is popped from both stacks
-popped_shape : {E H : Type 0} (n : ℕ) (rest : List ℕ) (then st : State E H) (kept held : Holdings)
+popped_shape : {E H : Type 0} (n : ℕ) (rest : List ℕ) (then st : State E H) (kept held : ResourcesView)
     → held.stack ≡ n ∷ rest → kept.stack ≡ rest → then.stack ≡ drop 1 st.stack →
     kept.out ≡ held.out → kept.err ≡ held.err → then.plan.out ≡ st.plan.out → then.plan.err ≡ st.plan.err → IsShaped st held → IsShaped then kept
 popped_shape n rest then st kept held is kept_is then_is out err plan_out plan_err shaped = record {
@@ -71,14 +71,14 @@ popped_shape n rest then st kept held is kept_is then_is out err plan_out plan_e
 
 -- an entry that started nothing
 pub plain_changes : (entry : EntryView) (count given : ℕ) (now next : JournalView)
-    (held : Holdings) (stack : List ℕ) (out err : Option (ℕ × ℕ)) →
-    Adds entry count given now next → length (got_by entry) ≡ count
-    → length (spent_by entry) ≡ given → AreFresh now.next next.next (got_by entry)
+    (held : ResourcesView) (stack : List ℕ) (out err : Option (ℕ × ℕ)) →
+    Adds entry count given now next → length (opened_by entry) ≡ count
+    → length (closed_by entry) ≡ given → AreFresh now.next next.next (opened_by entry)
     → child_by entry ≡ [] → feed_by entry ≡ [] → drain_by entry ≡ [] →
     let kept = record held { stack = stack; out = out; err = err } in
-    ((n : ℕ) → count_of n (got_by entry) + count_of n (ends held)
-    ≡ count_of n (spent_by entry) + count_of n (ends kept))
-    → length (got_by entry) + length (ends held) ≡ length (spent_by entry) + length (ends kept)
+    ((n : ℕ) → count_of n (opened_by entry) + count_of n (open_ends held)
+    ≡ count_of n (closed_by entry) + count_of n (open_ends kept))
+    → length (opened_by entry) + length (open_ends held) ≡ length (closed_by entry) + length (open_ends kept)
     → Changes entry now next held kept
 plain_changes entry count given now next held stack out err adds many less fresh no_child no_feed no_drain even long = record {
   adds = adds_as entry count given _ _ now next adds many less;
@@ -91,8 +91,8 @@ plain_changes entry count given now next held stack out err adds many less fresh
 }
 
 -- an entry that did not change what is held
-pub none_changes : (entry : EntryView) (now next : JournalView) (held : Holdings) →
-    Asks entry now next → got_by entry ≡ [] → spent_by entry ≡ [] → child_by entry ≡ []
+pub none_changes : (entry : EntryView) (now next : JournalView) (held : ResourcesView) →
+    Asks entry now next → opened_by entry ≡ [] → closed_by entry ≡ [] → child_by entry ≡ []
     → feed_by entry ≡ [] → drain_by entry ≡ [] → Changes entry now next held held
 none_changes entry now next held asks no_end none no_child no_feed no_drain =
     let g = ap (λ (l : List ℕ). length l) no_end in
@@ -102,20 +102,20 @@ none_changes entry now next held asks no_end none no_child no_feed no_drain =
     (λ n. omega (arith, ap (λ (l : List ℕ). count_of n l) no_end, ap (λ (l : List ℕ). count_of n l) none)) (omega (arith, g, s))
 
 -- an entry that got one end, which is pushed
-push_changes : (entry : EntryView) (n : ℕ) (now next : JournalView) (held : Holdings)
-    → GetsEnd entry n now next → got_by entry ≡ n ∷ [] → spent_by entry ≡ [] → child_by entry ≡ [] →
+push_changes : (entry : EntryView) (n : ℕ) (now next : JournalView) (held : ResourcesView)
+    → GetsEnd entry n now next → opened_by entry ≡ n ∷ [] → closed_by entry ≡ [] → child_by entry ≡ [] →
     feed_by entry ≡ [] → drain_by entry ≡ [] → Changes entry now next held (on (n ∷ []) held)
 push_changes entry n now next held gets got none no_child no_feed no_drain =
     let g = ap (λ (l : List ℕ). length l) got in
     let s = ap (λ (l : List ℕ). length l) none in
     plain_changes entry 1 0 now next held (n ∷ held.stack) held.out held.err gets.0 g s
     (subst (λ (l : List ℕ). AreFresh now.next next.next l) (sym got) (fresh_one now.next next.next n gets.1.after_old gets.1.below_new)) no_child no_feed no_drain
-    (λ m. omega (arith, ap (λ (l : List ℕ). count_of m l) got, ap (λ (l : List ℕ). count_of m l) none, count-cons m n (ends held))) (omega (arith, g, s))
+    (λ m. omega (arith, ap (λ (l : List ℕ). count_of m l) got, ap (λ (l : List ℕ). count_of m l) none, count-cons m n (open_ends held))) (omega (arith, g, s))
 
 -- the origin of an end that an entry opened, whatever entries come later
-pub opened_here : (course : Course) (added more : List EntryView) (entry : EntryView)
+pub opened_here : (course : RunContext) (added more : List EntryView) (entry : EntryView)
     (n next which : ℕ) → n < next → IsLater course next more → is_traced entry ≡ true
-    → origin_before (entry ∷ reverse added) n ≡ Opened n → slice_index (got_by entry) which ≡ n
+    → origin_before (entry ∷ reverse added) n ≡ Opened n → slice_index (opened_by entry) which ≡ n
     → (place : ℕ) → length (trace added) ≡ place
     → origin ((added ++ entry ∷ []) ++ more) n
     ≡ Opened (end_at (trace ((added ++ entry ∷ []) ++ more)) place which)
@@ -129,7 +129,7 @@ get_counts (x ∷ xs) zero m is = let same : x ≡ m = cc in omega (arith, count
 get_counts (x ∷ xs) (suc d) m is = omega (arith, count-cons m x xs, get_counts xs d m is)
 
 -- the end at a depth of the stack is held
-level_counts : (stack : List ℕ) (d m : ℕ) → level stack d ≡ Some m → 1 ≤ count_of m stack
+level_counts : (stack : List ℕ) (d m : ℕ) → at_depth stack d ≡ Some m → 1 ≤ count_of m stack
 level_counts stack d m is = omega (arith, get_counts (reverse stack) d m is, count-reverse m stack)
 
 pair_writes : (L : List EntryView) (o : Option ℕ) (r w : ℕ) → IsPair L o (Some (r, w))
@@ -140,20 +140,20 @@ pair_writes L (Some place) r w is = is.1
 fed_top : {E : Type 0} (early : Type 0) (number_of : E → ℕ) (L : List EntryView) (n : ℕ)
     (rest : List ℕ) (stack : List (Target E)) → IsWriter stack
     → Pairwise (IsFrom early number_of L) (n ∷ rest) stack
-    → origin L n ≡ Opened (end_at (trace L) (place_of stack) 1)
+    → origin L n ≡ Opened (end_at (trace L) (pipe_place stack) 1)
 fed_top early number_of L n rest (WriterAt place ∷ stack) writer is = is.0.0
 fed_top early number_of L n rest stack writer is = absurd writer
 
 -- an entry that spent the end on top of the stack
 pub pop_changes : (entry : EntryView) (n : ℕ) (rest children feeds drains : List ℕ)
-    (now next : JournalView) (held : Holdings) → GivesEnds entry 1 now next
-    → got_by entry ≡ [] → spent_by entry ≡ n ∷ [] → held.stack ≡ n ∷ rest
+    (now next : JournalView) (held : ResourcesView) → GivesEnds entry 1 now next
+    → opened_by entry ≡ [] → closed_by entry ≡ n ∷ [] → held.stack ≡ n ∷ rest
     → children ≡ held.children ++ child_by entry → feeds ≡ held.feeds ++ feed_by entry
     → drains ≡ held.drains ++ drain_by entry
     → Changes entry now next held
     (record { stack = rest; out = held.out; err = held.err; children = children; feeds = feeds; drains = drains })
 pop_changes entry n rest children feeds drains now next held gives none spent is c f d =
-    let others = pair_of held.out ++ pair_of held.err in
+    let others = pipe_ends held.out ++ pipe_ends held.err in
     let g = ap (λ (l : List ℕ). length l) none in
     let s = ap (λ (l : List ℕ). length l) spent in
     record {
@@ -168,20 +168,20 @@ pop_changes entry n rest children feeds drains now next held gives none spent is
 
 module _ {E H : Type 0} (allows : Allows H) (number_of : E → ℕ) where
   -- an action whose request got one end
-  got_goes : (act : Action E H) (asked : State E H → List (Item E H)) (x : State E H → Target E)
-      (entry : EntryView) (n : ℕ) (now next : JournalView) (held : Holdings) →
+  got_succeeds : (act : Action E H) (asked : State E H → List (Item E H)) (x : State E H → Target E)
+      (entry : EntryView) (n : ℕ) (now next : JournalView) (held : ResourcesView) →
       ((st : State E H) → advance st act ≡ record { stack = x st ∷ st.stack; plan = record { items = st.plan.items ++ asked st; out = st.plan.out; err = st.plan.err } }) →
-      GetsEnd entry n now next → got_by entry ≡ n ∷ [] → spent_by entry ≡ [] → child_by entry ≡ [] → feed_by entry ≡ [] → drain_by entry ≡ [] → fault_of entry ≡ None →
+      GetsEnd entry n now next → opened_by entry ≡ n ∷ [] → closed_by entry ≡ [] → child_by entry ≡ [] → feed_by entry ≡ [] → drain_by entry ≡ [] → fault_of entry ≡ None →
       ((st : State E H) → map entry_kind (trace (entry ∷ [])) ≡ map item_kind (asked st)) →
-      ((course : Course) (st : State E H) (L : List EntryView) → AnswersUnder course allows number_of L (length st.plan.items) (asked st) (trace (entry ∷ []))) →
-      ((course : Course) (st : State E H) → IsReady number_of course.base course.bound st act → (stands : Stands allows number_of course st now held) → (more : List EntryView) → IsLater course next.next more →
-      Sourced (IsEarly course) number_of ((stands.added ++ entry ∷ []) ++ more) st held →
+      ((course : RunContext) (st : State E H) (L : List EntryView) → AnswersUnder course allows number_of L (length st.plan.items) (asked st) (trace (entry ∷ []))) →
+      ((course : RunContext) (st : State E H) → IsReady number_of course.base course.bound st act → (stands : RunInvariant allows number_of course st now held) → (more : List EntryView) → IsLater course next.next more →
+      HasOrigins (IsEarly course) number_of ((stands.added ++ entry ∷ []) ++ more) st held →
       IsFrom (IsEarly course) number_of ((stands.added ++ entry ∷ []) ++ more) n (x st)) →
-      Goes allows number_of act now next held (on (n ∷ []) held)
-  got_goes act asked x entry n now next held is gets got none no_child no_feed no_drain clean many matches source = λ course st ready stands.
+      ActionSucceeds allows number_of act now next held (on (n ∷ []) held)
+  got_succeeds act asked x entry n now next held is gets got none no_child no_feed no_drain clean many matches source = λ course st ready stands.
       let then_st : State E H = record { stack = x st ∷ st.stack; plan = record { items = st.plan.items ++ asked st; out = st.plan.out; err = st.plan.err } } in
       let ch = push_changes entry n now next held gets got none no_child no_feed no_drain in
-      subst (λ (s : State E H). Stands allows number_of course s next (on (n ∷ []) held)) (sym (is st))
+      subst (λ (s : State E H). RunInvariant allows number_of course s next (on (n ∷ []) held)) (sym (is st))
       (stands_more allows number_of course st then_st (asked st) now next held (on (n ∷ []) held) entry stands refl ch
       (few_of course.bound (on (n ∷ []) held) (omega (arith, stands.shaped.stack, ready.low, ap (λ (s : State E H). length s.stack) (is st)))) (pushed_shape (n ∷ []) (x st ∷ []) (asked st) st held refl stands.shaped) clean (many st)
       (λ more later. matches course st ((stands.added ++ entry ∷ []) ++ more))
@@ -189,40 +189,40 @@ module _ {E H : Type 0} (allows : Allows H) (number_of : E → ℕ) where
       let s = sources_now allows number_of course st then_st (asked st) now next held (on (n ∷ []) held) entry stands refl ch more later in
       record { stack = (source course st ready stands more later s, s.stack); out = s.out; err = s.err }))
 
-  pub open_read_goes : (path : List ℕ) (n : ℕ) (now next : JournalView) (held : Holdings)
+  pub open_read_succeeds : (path : List ℕ) (n : ℕ) (now next : JournalView) (held : ResourcesView)
       → GetsEnd (OpenRead path (Ok n)) n now next
-      → Goes allows number_of (action.open_read path) now next held (on (n ∷ []) held)
-  open_read_goes path n now next held gets =
-      got_goes (action.open_read path) (λ st. AskOpenRead path ∷ []) (λ st. FileAt (length st.plan.items)) (OpenRead path (Ok n)) n now next held (λ st. refl) gets refl refl refl refl refl refl (λ st. refl) (λ course st L. (refl, tt))
+      → ActionSucceeds allows number_of (action.open_read path) now next held (on (n ∷ []) held)
+  open_read_succeeds path n now next held gets =
+      got_succeeds (action.open_read path) (λ st. AskOpenRead path ∷ []) (λ st. FileAt (length st.plan.items)) (OpenRead path (Ok n)) n now next held (λ st. refl) gets refl refl refl refl refl refl (λ st. refl) (λ course st L. (refl, tt))
       (λ course st ready stands more later s. surely (IsEarly course) (opened_here course stands.added more (OpenRead path (Ok n)) n next.next 0 gets.1.below_new later refl (rw is_itself refl) refl (length st.plan.items) (as_many stands)))
 
-  pub create_goes : (path : List ℕ) (n : ℕ) (now next : JournalView) (held : Holdings)
+  pub create_succeeds : (path : List ℕ) (n : ℕ) (now next : JournalView) (held : ResourcesView)
       → GetsEnd (Create path (Ok n)) n now next
-      → Goes allows number_of (action.create path) now next held (on (n ∷ []) held)
-  create_goes path n now next held gets =
-      got_goes (action.create path) (λ st. AskCreate path ∷ []) (λ st. FileAt (length st.plan.items)) (Create path (Ok n)) n now next held (λ st. refl) gets refl refl refl refl refl refl (λ st. refl) (λ course st L. (refl, tt))
+      → ActionSucceeds allows number_of (action.create path) now next held (on (n ∷ []) held)
+  create_succeeds path n now next held gets =
+      got_succeeds (action.create path) (λ st. AskCreate path ∷ []) (λ st. FileAt (length st.plan.items)) (Create path (Ok n)) n now next held (λ st. refl) gets refl refl refl refl refl refl (λ st. refl) (λ course st L. (refl, tt))
       (λ course st ready stands more later s. surely (IsEarly course) (opened_here course stands.added more (Create path (Ok n)) n next.next 0 gets.1.below_new later refl (rw is_itself refl) refl (length st.plan.items) (as_many stands)))
 
   same_plan : (x : Target E) (st : State E H)
-      → action.pushes x st ≡ record { stack = x ∷ st.stack; plan = record { items = st.plan.items ++ []; out = st.plan.out; err = st.plan.err } }
+      → action.with_end x st ≡ record { stack = x ∷ st.stack; plan = record { items = st.plan.items ++ []; out = st.plan.out; err = st.plan.err } }
   same_plan x st = ap (λ (l : List (Item E H)). record { stack = x ∷ st.stack; plan = record { items = l; out = st.plan.out; err = st.plan.err } }) (sym (append-nil st.plan.items))
 
-  pub parent_goes : (which : Side) (n : ℕ) (now next : JournalView) (held : Holdings)
+  pub parent_succeeds : (which : Side) (n : ℕ) (now next : JournalView) (held : ResourcesView)
       → GetsEnd (Parent which (Ok n)) n now next
-      → Goes allows number_of (action.parent which) now next held (on (n ∷ []) held)
-  parent_goes side.Out n now next held gets =
-      got_goes (action.parent side.Out) (λ st. []) (λ st. Parents stream.Out) (Parent side.Out (Ok n)) n now next held (λ st. same_plan (Parents stream.Out) st) gets refl refl refl refl refl refl (λ st. refl) (λ course st L. tt)
+      → ActionSucceeds allows number_of (action.parent which) now next held (on (n ∷ []) held)
+  parent_succeeds side.Out n now next held gets =
+      got_succeeds (action.parent side.Out) (λ st. []) (λ st. Parents stream.Out) (Parent side.Out (Ok n)) n now next held (λ st. same_plan (Parents stream.Out) st) gets refl refl refl refl refl refl (λ st. refl) (λ course st L. tt)
       (λ course st ready stands more later s. surely (IsEarly course) (origin_stays n (stands.added ++ Parent side.Out (Ok n) ∷ []) more (later.fresh n gets.1.below_new) ∙ origin-more n stands.added (Parent side.Out (Ok n)) ∙ rw is_itself refl))
-  parent_goes side.Err n now next held gets =
-      got_goes (action.parent side.Err) (λ st. []) (λ st. Parents stream.Err) (Parent side.Err (Ok n)) n now next held (λ st. same_plan (Parents stream.Err) st) gets refl refl refl refl refl refl (λ st. refl) (λ course st L. tt)
+  parent_succeeds side.Err n now next held gets =
+      got_succeeds (action.parent side.Err) (λ st. []) (λ st. Parents stream.Err) (Parent side.Err (Ok n)) n now next held (λ st. same_plan (Parents stream.Err) st) gets refl refl refl refl refl refl (λ st. refl) (λ course st L. tt)
       (λ course st ready stands more later s. surely (IsEarly course) (origin_stays n (stands.added ++ Parent side.Err (Ok n) ∷ []) more (later.fresh n gets.1.below_new) ∙ origin-more n stands.added (Parent side.Err (Ok n)) ∙ rw is_itself refl))
 
-  pub lend_goes : (end : E) (n : ℕ) (now next : JournalView) (held : Holdings)
+  pub lend_succeeds : (end : E) (n : ℕ) (now next : JournalView) (held : ResourcesView)
       → GetsEnd (Duplicate (number_of end) (Ok n)) n now next
-      → Goes allows number_of (action.lend end) now next held (on (n ∷ []) held)
-  lend_goes end n now next held gets =
+      → ActionSucceeds allows number_of (action.duplicate_caller_end end) now next held (on (n ∷ []) held)
+  lend_succeeds end n now next held gets =
       let entry = Duplicate (number_of end) (Ok n) in
-      got_goes (action.lend end) (λ st. []) (λ st. Lends end) entry n now next held (λ st. same_plan (Lends end) st) gets refl refl refl refl refl refl (λ st. refl) (λ course st L. tt)
+      got_succeeds (action.duplicate_caller_end end) (λ st. []) (λ st. Lends end) entry n now next held (λ st. same_plan (Lends end) st) gets refl refl refl refl refl refl (λ st. refl) (λ course st L. tt)
       (λ course st ready stands more later s. (
         duplicate_first stands.added more (number_of end) n,
         λ early. origin_stays n (stands.added ++ entry ∷ []) more (later.fresh n gets.1.below_new) ∙ origin-more n stands.added entry
@@ -230,15 +230,15 @@ module _ {E H : Type 0} (allows : Allows H) (number_of : E → ℕ) where
       ))
 
   -- an action that duplicates an end that is held
-  dup_goes : (act : Action E H) (x : State E H → Target E) (m n : ℕ) (now next : JournalView)
-      (held : Holdings) → ((st : State E H) → advance st act ≡ action.pushes (x st) st)
-      → 1 ≤ count_of m (ends held) →
-      ((course : Course) (st : State E H) → IsReady number_of course.base course.bound st act → (L : List EntryView) → Sourced (IsEarly course) number_of L st held → IsFrom (IsEarly course) number_of L m (x st)) →
-      GetsEnd (Duplicate m (Ok n)) n now next → Goes allows number_of act now next held (on (n ∷ []) held)
-  dup_goes act x m n now next held is here from gets =
+  dup_succeeds : (act : Action E H) (x : State E H → Target E) (m n : ℕ) (now next : JournalView)
+      (held : ResourcesView) → ((st : State E H) → advance st act ≡ action.with_end (x st) st)
+      → 1 ≤ count_of m (open_ends held) →
+      ((course : RunContext) (st : State E H) → IsReady number_of course.base course.bound st act → (L : List EntryView) → HasOrigins (IsEarly course) number_of L st held → IsFrom (IsEarly course) number_of L m (x st)) →
+      GetsEnd (Duplicate m (Ok n)) n now next → ActionSucceeds allows number_of act now next held (on (n ∷ []) held)
+  dup_succeeds act x m n now next held is here from gets =
       let entry = Duplicate m (Ok n) in
       let fresh = fresh_one now.next next.next n gets.1.after_old gets.1.below_new in
-      got_goes act (λ st. []) x entry n now next held (λ st. is st ∙ same_plan (x st) st) gets refl refl refl refl refl refl (λ st. refl) (λ course st L. tt)
+      got_succeeds act (λ st. []) x entry n now next held (λ st. is st ∙ same_plan (x st) st) gets refl refl refl refl refl refl (λ st. refl) (λ course st L. tt)
       (λ course st ready stands more later sourced.
       let L = (stands.added ++ entry ∷ []) ++ more in
       let below : m < now.next = elim (cases_lt m now.next) [ inl lt ↦ lt | inr le ↦ absurd (omega (arith, here, stands.books.even m, stands.books.below m le)) ] in
@@ -247,47 +247,47 @@ module _ {E H : Type 0} (allows : Allows H) (number_of : E → ℕ) where
       ap (λ (l : List EntryView). origin l m) (append_assoc stands.added (entry ∷ []) more) ∙ origin_stays m stands.added (entry ∷ more) ((later_more course now.next next.next entry more fresh later).fresh m below) in
       duplicated (IsEarly course) number_of stands.added more m n (x st) (dup ∙ sym lent) (from course st ready (stands.added ++ []) (stands.sources [] (record { fresh = λ k lt. refl }))) (from course st ready L sourced))
 
-  pub duplicate_goes : (depth m n : ℕ) (now next : JournalView) (held : Holdings)
-      → level held.stack depth ≡ Some m → GetsEnd (Duplicate m (Ok n)) n now next
-      → Goes allows number_of (action.duplicate depth) now next held (on (n ∷ []) held)
-  duplicate_goes depth m n now next held at_level gets =
-      dup_goes (action.duplicate depth) (λ st. unwrap_or (level st.stack depth) Nothing) m n now next held (λ st. refl)
-      (omega (arith, count-append m held.stack (pair_of held.out ++ pair_of held.err), level_counts held.stack depth m at_level))
+  pub duplicate_succeeds : (depth m n : ℕ) (now next : JournalView) (held : ResourcesView)
+      → at_depth held.stack depth ≡ Some m → GetsEnd (Duplicate m (Ok n)) n now next
+      → ActionSucceeds allows number_of (action.duplicate depth) now next held (on (n ∷ []) held)
+  duplicate_succeeds depth m n now next held at_level gets =
+      dup_succeeds (action.duplicate depth) (λ st. unwrap_or (at_depth st.stack depth) Nothing) m n now next held (λ st. refl)
+      (omega (arith, count-append m held.stack (pipe_ends held.out ++ pipe_ends held.err), level_counts held.stack depth m at_level))
       (λ course st ready L s. pair_level (IsFrom (IsEarly course) number_of L) held.stack st.stack depth m Nothing s.stack at_level)
       gets
 
-  pub tap_out_goes : (r w n : ℕ) (now next : JournalView) (held : Holdings)
+  pub tap_out_succeeds : (r w n : ℕ) (now next : JournalView) (held : ResourcesView)
       → held.out ≡ Some (r, w) → GetsEnd (Duplicate w (Ok n)) n now next
-      → Goes allows number_of (action.tap side.Out) now next held (on (n ∷ []) held)
-  tap_out_goes r w n now next held is gets =
-      dup_goes (action.tap side.Out) (λ st. WriterAt (unwrap_or st.plan.out 0)) w n now next held (λ st. refl)
-      (omega (arith, count-append w held.stack (pair_of held.out ++ pair_of held.err), count-append w (pair_of held.out) (pair_of held.err), ap (λ o. count_of w (pair_of o)) is, count-cons w r (w ∷ []), count_same w))
+      → ActionSucceeds allows number_of (action.duplicate_capture side.Out) now next held (on (n ∷ []) held)
+  tap_out_succeeds r w n now next held is gets =
+      dup_succeeds (action.duplicate_capture side.Out) (λ st. WriterAt (unwrap_or st.plan.out 0)) w n now next held (λ st. refl)
+      (omega (arith, count-append w held.stack (pipe_ends held.out ++ pipe_ends held.err), count-append w (pipe_ends held.out) (pipe_ends held.err), ap (λ o. count_of w (pipe_ends o)) is, count-cons w r (w ∷ []), count_same w))
       (λ course st ready L s. surely (IsEarly course) (pair_writes L st.plan.out r w (subst (λ o. IsPair L st.plan.out o) is s.out))) gets
 
-  pub tap_err_goes : (r w n : ℕ) (now next : JournalView) (held : Holdings)
+  pub tap_err_succeeds : (r w n : ℕ) (now next : JournalView) (held : ResourcesView)
       → held.err ≡ Some (r, w) → GetsEnd (Duplicate w (Ok n)) n now next
-      → Goes allows number_of (action.tap side.Err) now next held (on (n ∷ []) held)
-  tap_err_goes r w n now next held is gets =
-      dup_goes (action.tap side.Err) (λ st. WriterAt (unwrap_or st.plan.err 0)) w n now next held (λ st. refl)
-      (omega (arith, count-append w held.stack (pair_of held.out ++ pair_of held.err), count-append w (pair_of held.out) (pair_of held.err), ap (λ o. count_of w (pair_of o)) is, count-cons w r (w ∷ []), count_same w))
+      → ActionSucceeds allows number_of (action.duplicate_capture side.Err) now next held (on (n ∷ []) held)
+  tap_err_succeeds r w n now next held is gets =
+      dup_succeeds (action.duplicate_capture side.Err) (λ st. WriterAt (unwrap_or st.plan.err 0)) w n now next held (λ st. refl)
+      (omega (arith, count-append w held.stack (pipe_ends held.out ++ pipe_ends held.err), count-append w (pipe_ends held.out) (pipe_ends held.err), ap (λ o. count_of w (pipe_ends o)) is, count-cons w r (w ∷ []), count_same w))
       (λ course st ready L s. surely (IsEarly course) (pair_writes L st.plan.err r w (subst (λ o. IsPair L st.plan.err o) is s.err))) gets
 
   -- an action that opens a pipe, with either end on top
-  two_goes : (act : Action E H) (a b n m : ℕ) (x y : State E H → Target E) (now next : JournalView)
-      (held : Holdings) →
+  two_succeeds : (act : Action E H) (a b n m : ℕ) (x y : State E H → Target E) (now next : JournalView)
+      (held : ResourcesView) →
       ((st : State E H) → advance st act ≡ record { stack = x st ∷ y st ∷ st.stack; plan = record { items = st.plan.items ++ AskPipe ∷ []; out = st.plan.out; err = st.plan.err } }) →
       ((k : ℕ) → count_of k (a ∷ b ∷ []) ≡ count_of k (n ∷ m ∷ [])) →
       ((early : Type 0) (st : State E H) (L : List EntryView) → (origin L n ≡ Opened (end_at (trace L) (length st.plan.items) 0)) → (origin L m ≡ Opened (end_at (trace L) (length st.plan.items) 1)) →
       IsFrom early number_of L a (x st) × IsFrom early number_of L b (y st)) →
-      GetsEnds (Pipe (Ok (n, m))) n m now next → Goes allows number_of act now next held (on (a ∷ b ∷ []) held)
-  two_goes act a b n m x y now next held is same from gets = λ course st ready stands.
+      GetsEnds (Pipe (Ok (n, m))) n m now next → ActionSucceeds allows number_of act now next held (on (a ∷ b ∷ []) held)
+  two_succeeds act a b n m x y now next held is same from gets = λ course st ready stands.
       let then_st : State E H = record { stack = x st ∷ y st ∷ st.stack; plan = record { items = st.plan.items ++ AskPipe ∷ []; out = st.plan.out; err = st.plan.err } } in
       let l = Pipe (Ok (n, m)) in
       let ch : Changes l now next held (on (a ∷ b ∷ []) held) = plain_changes l 2 0 now next held (a ∷ b ∷ held.stack) held.out held.err gets.0 refl refl
       (fresh_two now.next next.next n m gets.1.after_old gets.1.below_new gets.2.after_old gets.2.below_new gets.3) refl refl refl
-      (λ k. omega (arith, same k, count-append k (a ∷ b ∷ []) (ends held))) (omega arith) in
+      (λ k. omega (arith, same k, count-append k (a ∷ b ∷ []) (open_ends held))) (omega arith) in
       let other : m ≢ n = λ is. gets.3 (sym is) in
-      subst (λ (z : State E H). Stands allows number_of course z next (on (a ∷ b ∷ []) held)) (sym (is st))
+      subst (λ (z : State E H). RunInvariant allows number_of course z next (on (a ∷ b ∷ []) held)) (sym (is st))
       (stands_more allows number_of course st then_st (AskPipe ∷ []) now next held (on (a ∷ b ∷ []) held) l stands refl ch
       (few_of course.bound (on (a ∷ b ∷ []) held) (omega (arith, stands.shaped.stack, ready.low, ap (λ (s : State E H). length s.stack) (is st)))) (pushed_shape (a ∷ b ∷ []) (x st ∷ y st ∷ []) (AskPipe ∷ []) st held refl stands.shaped) refl refl (λ more later. (tt, tt))
       (λ more later.
@@ -298,125 +298,125 @@ module _ {E H : Type 0} (allows : Allows H) (number_of : E → ℕ) where
       let both = from (IsEarly course) st L r w in
       record { stack = (both.0, (both.1, z.stack)); out = z.out; err = z.err }))
 
-  pub pipe_goes : (n m : ℕ) (now next : JournalView) (held : Holdings)
+  pub pipe_succeeds : (n m : ℕ) (now next : JournalView) (held : ResourcesView)
       → GetsEnds (Pipe (Ok (n, m))) n m now next
-      → Goes allows number_of action.pipe now next held (on (m ∷ n ∷ []) held)
-  pipe_goes n m now next held gets =
-      two_goes action.pipe m n n m (λ st. WriterAt (length st.plan.items)) (λ st. ReaderAt (length st.plan.items)) now next held (λ st. refl)
+      → ActionSucceeds allows number_of action.pipe now next held (on (m ∷ n ∷ []) held)
+  pipe_succeeds n m now next held gets =
+      two_succeeds action.pipe m n n m (λ st. WriterAt (length st.plan.items)) (λ st. ReaderAt (length st.plan.items)) now next held (λ st. refl)
       (λ k. omega (arith, count-cons k m (n ∷ []), count-cons k n (m ∷ []))) (λ early st L r w. (surely early w, surely early r)) gets
 
-  pub input_goes : (n m : ℕ) (now next : JournalView) (held : Holdings)
+  pub input_succeeds : (n m : ℕ) (now next : JournalView) (held : ResourcesView)
       → GetsEnds (Pipe (Ok (n, m))) n m now next
-      → Goes allows number_of action.input now next held (on (n ∷ m ∷ []) held)
-  input_goes n m now next held gets =
-      two_goes action.input n m n m (λ st. ReaderAt (length st.plan.items)) (λ st. WriterAt (length st.plan.items)) now next held (λ st. refl)
+      → ActionSucceeds allows number_of action.input now next held (on (n ∷ m ∷ []) held)
+  input_succeeds n m now next held gets =
+      two_succeeds action.input n m n m (λ st. ReaderAt (length st.plan.items)) (λ st. WriterAt (length st.plan.items)) now next held (λ st. refl)
       (λ k. refl) (λ early st L r w. (surely early r, surely early w)) gets
 
-  pub close_goes : (n : ℕ) (rest : List ℕ) (now next : JournalView) (held : Holdings)
+  pub close_succeeds : (n : ℕ) (rest : List ℕ) (now next : JournalView) (held : ResourcesView)
       → held.stack ≡ n ∷ rest → GivesEnds (Close n) 1 now next
-      → Goes allows number_of action.close now next held (holding rest held)
-  close_goes n rest now next held is gives = λ course st ready stands.
-      let ch : Changes (Close n) now next held (holding rest held) =
+      → ActionSucceeds allows number_of action.close now next held (resources_with_stack rest held)
+  close_succeeds n rest now next held is gives = λ course st ready stands.
+      let ch : Changes (Close n) now next held (resources_with_stack rest held) =
       pop_changes (Close n) n rest held.children held.feeds held.drains now next held gives refl refl is (sym (append-nil held.children)) (sym (append-nil held.feeds)) (sym (append-nil held.drains)) in
       let items = sym (append-nil st.plan.items) in
-      stands_more allows number_of course st (advance st action.close) [] now next held (holding rest held) (Close n) stands items ch
-      (omega (arith, few_now allows number_of course st now held stands, ap (λ (l : List ℕ). length (l ++ (pair_of held.out ++ pair_of held.err))) is)) (popped_shape n rest (advance st action.close) st (holding rest held) held is refl refl refl refl refl refl stands.shaped) refl refl (λ more later. tt)
+      stands_more allows number_of course st (advance st action.close) [] now next held (resources_with_stack rest held) (Close n) stands items ch
+      (omega (arith, few_now allows number_of course st now held stands, ap (λ (l : List ℕ). length (l ++ (pipe_ends held.out ++ pipe_ends held.err))) is)) (popped_shape n rest (advance st action.close) st (resources_with_stack rest held) held is refl refl refl refl refl refl stands.shaped) refl refl (λ more later. tt)
       (λ more later.
-      let s = sources_now allows number_of course st (advance st action.close) [] now next held (holding rest held) (Close n) stands items ch more later in
+      let s = sources_now allows number_of course st (advance st action.close) [] now next held (resources_with_stack rest held) (Close n) stands items ch more later in
       let L = (stands.added ++ Close n ∷ []) ++ more in
       record { stack = pair_popped (IsFrom (IsEarly course) number_of L) n rest st.stack (subst (λ (l : List ℕ). Pairwise (IsFrom (IsEarly course) number_of L) l st.stack) is s.stack); out = s.out; err = s.err })
 
-  module _ (n : ℕ) (rest bytes : List ℕ) (now next : JournalView) (held : Holdings) (is : held.stack ≡ n ∷ rest) where
-    fed : (answer : Result (Unit {0}) Fault) (kept : Holdings) (course : Course) (st : State E H)
+  module _ (n : ℕ) (rest bytes : List ℕ) (now next : JournalView) (held : ResourcesView) (is : held.stack ≡ n ∷ rest) where
+    fed : (answer : Result (Unit {0}) Fault) (kept : ResourcesView) (course : RunContext) (st : State E H)
         → IsReady number_of course.base course.bound st (action.feed bytes)
-        → (stands : Stands allows number_of course st now held) →
+        → (stands : RunInvariant allows number_of course st now held) →
         (ch : Changes (Feed n bytes answer) now next held kept) → (more : List EntryView) → IsLater course next.next more →
-        let L = (stands.added ++ Feed n bytes answer ∷ []) ++ more in origin L n ≡ Opened (end_at (trace L) (place_of st.stack) 1)
+        let L = (stands.added ++ Feed n bytes answer ∷ []) ++ more in origin L n ≡ Opened (end_at (trace L) (pipe_place st.stack) 1)
     fed answer kept course st ready stands ch more later =
         let L = (stands.added ++ Feed n bytes answer ∷ []) ++ more in
-        let s = sources_now allows number_of course st (advance st (action.feed bytes)) (AskFeed (place_of st.stack) bytes ∷ []) now next held kept (Feed n bytes answer) stands refl ch more later in
+        let s = sources_now allows number_of course st (advance st (action.feed bytes)) (AskFeed (pipe_place st.stack) bytes ∷ []) now next held kept (Feed n bytes answer) stands refl ch more later in
         fed_top (IsEarly course) number_of L n rest st.stack ready.needs (subst (λ (l : List ℕ). Pairwise (IsFrom (IsEarly course) number_of L) l st.stack) is s.stack)
 
-    pub feed_goes : GivesEnds (Feed n bytes (Ok tt)) 1 now next
-        → Goes allows number_of (action.feed bytes) now next held
+    pub feed_succeeds : GivesEnds (Feed n bytes (Ok tt)) 1 now next
+        → ActionSucceeds allows number_of (action.feed bytes) now next held
         (record held { stack = rest; feeds = held.feeds ++ n ∷ [] })
-    feed_goes gives = λ course st ready stands.
+    feed_succeeds gives = λ course st ready stands.
         let entry = Feed n bytes (Ok tt) in
-        let kept : Holdings = record held { stack = rest; feeds = held.feeds ++ n ∷ [] } in
+        let kept : ResourcesView = record held { stack = rest; feeds = held.feeds ++ n ∷ [] } in
         let ch : Changes entry now next held kept = pop_changes entry n rest held.children kept.feeds held.drains now next held gives refl refl is (sym (append-nil held.children)) refl (sym (append-nil held.drains)) in
-        stands_more allows number_of course st (advance st (action.feed bytes)) (AskFeed (place_of st.stack) bytes ∷ []) now next held kept entry stands refl ch
-        (omega (arith, few_now allows number_of course st now held stands, ap (λ (l : List ℕ). length (l ++ (pair_of held.out ++ pair_of held.err))) is)) (popped_shape n rest (advance st (action.feed bytes)) st kept held is refl refl refl refl refl refl stands.shaped) refl refl
+        stands_more allows number_of course st (advance st (action.feed bytes)) (AskFeed (pipe_place st.stack) bytes ∷ []) now next held kept entry stands refl ch
+        (omega (arith, few_now allows number_of course st now held stands, ap (λ (l : List ℕ). length (l ++ (pipe_ends held.out ++ pipe_ends held.err))) is)) (popped_shape n rest (advance st (action.feed bytes)) st kept held is refl refl refl refl refl refl stands.shaped) refl refl
         (λ more later. ((refl, fed (Ok tt) kept course st ready stands ch more later), tt))
         (λ more later.
         let L = (stands.added ++ entry ∷ []) ++ more in
-        let s = sources_now allows number_of course st (advance st (action.feed bytes)) (AskFeed (place_of st.stack) bytes ∷ []) now next held kept entry stands refl ch more later in
+        let s = sources_now allows number_of course st (advance st (action.feed bytes)) (AskFeed (pipe_place st.stack) bytes ∷ []) now next held kept entry stands refl ch more later in
         record { stack = pair_popped (IsFrom (IsEarly course) number_of L) n rest st.stack (subst (λ (l : List ℕ). Pairwise (IsFrom (IsEarly course) number_of L) l st.stack) is s.stack); out = s.out; err = s.err })
 
-    pub feed_quits : (fault : Fault) → GivesEnds (Feed n bytes (Err fault)) 1 now next
-        → Quits allows number_of (action.feed bytes) now next held (holding rest held) (System fault)
-    feed_quits fault gives = λ course st ready stands.
+    pub feed_fails : (fault : Fault) → GivesEnds (Feed n bytes (Err fault)) 1 now next
+        → ActionFails allows number_of (action.feed bytes) now next held (resources_with_stack rest held) (System fault)
+    feed_fails fault gives = λ course st ready stands.
         let entry = Feed n bytes (Err fault) in
-        let ch : Changes entry now next held (holding rest held) =
+        let ch : Changes entry now next held (resources_with_stack rest held) =
         pop_changes entry n rest held.children held.feeds held.drains now next held gives refl refl is (sym (append-nil held.children)) (sym (append-nil held.feeds)) (sym (append-nil held.drains)) in
-        stops_more allows number_of course st (advance st (action.feed bytes)) (AskFeed (place_of st.stack) bytes ∷ []) now next held (holding rest held) entry stands refl ch
-        (omega (arith, few_now allows number_of course st now held stands, ap (λ (l : List ℕ). length (l ++ (pair_of held.out ++ pair_of held.err))) is)) fault refl
-        (λ more later. ((refl, fed (Err fault) (holding rest held) course st ready stands ch more later), tt))
+        stops_more allows number_of course st (advance st (action.feed bytes)) (AskFeed (pipe_place st.stack) bytes ∷ []) now next held (resources_with_stack rest held) entry stands refl ch
+        (omega (arith, few_now allows number_of course st now held stands, ap (λ (l : List ℕ). length (l ++ (pipe_ends held.out ++ pipe_ends held.err))) is)) fault refl
+        (λ more later. ((refl, fed (Err fault) (resources_with_stack rest held) course st ready stands ch more later), tt))
 
   -- an allocation failed before the action made a request
-  pub memory_quits : (act : Action E H) (asked : State E H → List (Item E H))
-      (now next : JournalView) (held : Holdings) (error : Error) →
+  pub memory_fails : (act : Action E H) (asked : State E H → List (Item E H))
+      (now next : JournalView) (held : ResourcesView) (error : Error) →
       ((st : State E H) → (advance st act).plan.items ≡ st.plan.items ++ asked st)
-      → AddsNothing now next → IsWantOfMemory error
-      → Quits allows number_of act now next held held error
-  memory_quits act asked now next held error items nothing un = λ course st ready stands.
+      → AddsNothing now next → IsAllocationFailure error
+      → ActionFails allows number_of act now next held held error
+  memory_fails act asked now next held error items nothing un = λ course st ready stands.
       stops_unasked allows number_of course st (advance st act).plan.items (asked st) now next held error stands (items st) nothing un
 
   -- a request that was given no end was refused, with or without its entry
   pub quits_none : (act : Action E H) (asked : State E H → List (Item E H)) (entry : EntryView)
-      (fault : Fault) (now next : JournalView) (held : Holdings)
+      (fault : Fault) (now next : JournalView) (held : ResourcesView)
       → ((st : State E H) → (advance st act).plan.items ≡ st.plan.items ++ asked st)
-      → IsRefused entry 0 fault now next → fault_of entry ≡ Some fault → got_by entry ≡ []
-      → spent_by entry ≡ [] → child_by entry ≡ [] → feed_by entry ≡ [] → drain_by entry ≡ []
-      → ((course : Course) (st : State E H) (L : List EntryView)
+      → IsRefused entry 0 fault now next → fault_of entry ≡ Some fault → opened_by entry ≡ []
+      → closed_by entry ≡ [] → child_by entry ≡ [] → feed_by entry ≡ [] → drain_by entry ≡ []
+      → ((course : RunContext) (st : State E H) (L : List EntryView)
       → AnswersUnder course allows number_of L (length st.plan.items) (asked st) (trace (entry ∷ [])))
-      → Quits allows number_of act now next held held (System fault)
+      → ActionFails allows number_of act now next held held (System fault)
   quits_none act asked entry fault now next held items (inl adds) refuses no_end none no_child no_feed no_drain matches = λ course st ready stands.
       stops_more allows number_of course st (advance st act) (asked st) now next held held entry stands (items st)
       (none_changes entry now next held adds no_end none no_child no_feed no_drain) (few_now allows number_of course st now held stands) fault refuses (λ more later. matches course st ((stands.added ++ entry ∷ []) ++ more))
   quits_none act asked entry fault now next held items (inr nothing) refuses no_end none no_child no_feed no_drain matches =
-      memory_quits act asked now next held (System fault) items nothing.1 nothing.2
+      memory_fails act asked now next held (System fault) items nothing.1 nothing.2
 
   -- the refusals of requests that are given no end
-  module _ (fault : Fault) (now next : JournalView) (held : Holdings) where
-    pub open_read_quits : (path : List ℕ) → IsRefused (OpenRead path (Err fault)) 0 fault now next
-        → Quits allows number_of (action.open_read path) now next held held (System fault)
-    open_read_quits path refused =
+  module _ (fault : Fault) (now next : JournalView) (held : ResourcesView) where
+    pub open_read_fails : (path : List ℕ) → IsRefused (OpenRead path (Err fault)) 0 fault now next
+        → ActionFails allows number_of (action.open_read path) now next held held (System fault)
+    open_read_fails path refused =
         quits_none (action.open_read path) (λ st. AskOpenRead path ∷ []) (OpenRead path (Err fault)) fault now next held (λ st. refl) refused refl refl refl refl refl refl (λ course st L. (refl, tt))
 
-    pub create_quits : (path : List ℕ) → IsRefused (Create path (Err fault)) 0 fault now next
-        → Quits allows number_of (action.create path) now next held held (System fault)
-    create_quits path refused =
+    pub create_fails : (path : List ℕ) → IsRefused (Create path (Err fault)) 0 fault now next
+        → ActionFails allows number_of (action.create path) now next held held (System fault)
+    create_fails path refused =
         quits_none (action.create path) (λ st. AskCreate path ∷ []) (Create path (Err fault)) fault now next held (λ st. refl) refused refl refl refl refl refl refl (λ course st L. (refl, tt))
 
-    pub pipe_quits : IsRefused (Pipe (Err fault)) 0 fault now next
-        → Quits allows number_of action.pipe now next held held (System fault)
-    pipe_quits refused = quits_none action.pipe (λ st. AskPipe ∷ []) (Pipe (Err fault)) fault now next held (λ st. refl) refused refl refl refl refl refl refl (λ course st L. (tt, tt))
+    pub pipe_fails : IsRefused (Pipe (Err fault)) 0 fault now next
+        → ActionFails allows number_of action.pipe now next held held (System fault)
+    pipe_fails refused = quits_none action.pipe (λ st. AskPipe ∷ []) (Pipe (Err fault)) fault now next held (λ st. refl) refused refl refl refl refl refl refl (λ course st L. (tt, tt))
 
-    pub input_quits : IsRefused (Pipe (Err fault)) 0 fault now next
-        → Quits allows number_of action.input now next held held (System fault)
-    input_quits refused = quits_none action.input (λ st. AskPipe ∷ []) (Pipe (Err fault)) fault now next held (λ st. refl) refused refl refl refl refl refl refl (λ course st L. (tt, tt))
+    pub input_fails : IsRefused (Pipe (Err fault)) 0 fault now next
+        → ActionFails allows number_of action.input now next held held (System fault)
+    input_fails refused = quits_none action.input (λ st. AskPipe ∷ []) (Pipe (Err fault)) fault now next held (λ st. refl) refused refl refl refl refl refl refl (λ course st L. (tt, tt))
 
-    pub parent_quits : (which : Side) → IsRefused (Parent which (Err fault)) 0 fault now next
-        → Quits allows number_of (action.parent which) now next held held (System fault)
-    parent_quits side.Out refused =
+    pub parent_fails : (which : Side) → IsRefused (Parent which (Err fault)) 0 fault now next
+        → ActionFails allows number_of (action.parent which) now next held held (System fault)
+    parent_fails side.Out refused =
         quits_none (action.parent side.Out) (λ st. []) (Parent side.Out (Err fault)) fault now next held (λ st. sym (append-nil st.plan.items)) refused refl refl refl refl refl refl (λ course st L. tt)
-    parent_quits side.Err refused =
+    parent_fails side.Err refused =
         quits_none (action.parent side.Err) (λ st. []) (Parent side.Err (Err fault)) fault now next held (λ st. sym (append-nil st.plan.items)) refused refl refl refl refl refl refl (λ course st L. tt)
 
     -- the refusal of a request for a duplicate, of any end
-    pub duplicate_quits : (act : Action E H) (m : ℕ)
+    pub duplicate_fails : (act : Action E H) (m : ℕ)
         → ((st : State E H) → (advance st act).plan.items ≡ st.plan.items)
         → IsRefused (Duplicate m (Err fault)) 0 fault now next
-        → Quits allows number_of act now next held held (System fault)
-    duplicate_quits act m same refused =
+        → ActionFails allows number_of act now next held held (System fault)
+    duplicate_fails act m same refused =
         quits_none act (λ st. []) (Duplicate m (Err fault)) fault now next held (λ st. same st ∙ sym (append-nil st.plan.items)) refused refl refl refl refl refl refl (λ course st L. tt)

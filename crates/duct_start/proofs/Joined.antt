@@ -8,23 +8,23 @@ use Rattle.std.proofs.lemmas.List.Elements.{All-append, All-nil, All-cons, All-h
 use Rattle.duct_system.specs.declared.spec.Stream.TheVariants.{In, Out, Err}
 use Rattle.duct_system.specs.declared.system.Side.TheVariants as side
 use Rattle.duct_start.specs.Actions as action
-use Rattle.duct_start.specs.Actions.{Action, Scope, State, Three, IsReady, AreBelow, Leads, advance, with_plan}
-use Rattle.duct_start.specs.Flat.{Wire, slot, deeper, flat, flat_of, opened_wire, scope_if, rooted, outside, inputs, outputs, wired, wires_in, wrapped, WireIs, is_in, is_out, is_err, is_nothing, is_slot, is_captured, is_lent, WiresFit}
-use Rattle.duct_start.specs.Found.{Found, Target, ReaderAt, WriterAt, FileAt, plain, target_of}
-use Rattle.duct_start.specs.Lookup.{turned}
+use Rattle.duct_start.specs.Actions.{Action, Scope, State, PerStream, IsReady, AreBelow, Leads, advance, with_plan}
+use Rattle.duct_start.specs.Flat.{StreamSource, slot, depth_inside, actions_of_subtree, actions_of, opened_source, scope_if, root_scope, root_sources, with_input, with_output, source_inside, sources_inside, actions_around, SourceLeadsTo, is_in, is_out, is_err, is_nothing, is_slot, is_captured, is_lent, SourcesFit}
+use Rattle.duct_start.specs.Surroundings.{Surroundings, Target, ReaderAt, WriterAt, FileAt, root_surroundings, target_of}
+use Rattle.duct_start.specs.Lookup.{resolved_turn}
 use Rattle.std.specs.Option.{option_or}
-use Rattle.duct_start.specs.Inward.{found_within, walked}
-use Rattle.duct_start.specs.Plan.{Plan, asks, closed, begun, opened, place_for, planned}
-use Rattle.duct_start.specs.Start.{depth, ends_in, modifier_ends, opens_depth, said_ends, way_ends}
-use Rattle.duct_start.specs.Row.{Obtains, Says, Way, opens_nothing, opens_input, opens_read, opens_create, opens_capture, as_outside, to_nothing, to_lent, to_opened, says_folder, says_change, says_hook, row}
-use Rattle.duct_start.specs.Step.{Item, AskPipe, closing_of, end_of, opening_of, said, said_if, turn_of, AskFeed, AskOpenRead, AskCreate, left_step, right_step, step}
+use Rattle.duct_start.specs.Inward.{surroundings_within, plan_inward}
+use Rattle.duct_start.specs.Plan.{Plan, with_item, with_closing, initial_plan, with_opening, place_for, plan_of_subtree}
+use Rattle.duct_start.specs.Start.{depth, ends_in, modifier_ends, opens_depth, said_ends, route_ends}
+use Rattle.duct_start.specs.Row.{RowOpening, SettingView, Route, opens_nothing, opens_input, opens_read, opens_create, opens_capture, as_outside, to_nothing, to_lent, to_opened, says_folder, says_change, says_hook, row}
+use Rattle.duct_start.specs.Step.{Item, AskPipe, closing_of, opened_target, opening_of, step_of_setting, step_if_setting, turn_of, AskFeed, AskOpenRead, AskCreate, left_step, right_step, step}
 use Rattle.duct_start.specs.TreeView.{ModifierView, TreeView, command, pipe, around, stdin_bytes}
 use Rattle.duct_start.proofs.Inward.{joined}
 use Rattle.duct_start.proofs.Keeping.{keeps, keeps_same, keeps_out, keeps_err, out_opens, err_opens}
 use Rattle.duct_start.proofs.Stacks.{level_top, leads_none, leads_cons, leads_append}
 use Rattle.duct_start.proofs.Fetched.{Grows, grows_by, grows_on, grows_plan, fits_grow, command_leads}
 
-closed_none : {E H : Type 0} (p : Plan E H) → closed [] p ≡ p
+closed_none : {E H : Type 0} (p : Plan E H) → with_closing [] p ≡ p
 closed_none p = λ i. record { items = append-nil p.items i; out = p.out; err = p.err }
 
 module _ {E : Type 0} (P : E → Type 0) where
@@ -38,7 +38,7 @@ module _ {E : Type 0} (P : E → Type 0) where
 
 module _ {E : Type 0} where
   -- the stack inside a node that opens this at this place
-  abbrev stack_in : Obtains → ℕ → List (Target E) → List (Target E)
+  abbrev stack_in : RowOpening → ℕ → List (Target E) → List (Target E)
   stack_in opens_nothing place stack = stack
   stack_in (opens_input bytes) place stack = ReaderAt place ∷ WriterAt place ∷ stack
   stack_in (opens_read path) place stack = FileAt place ∷ stack
@@ -46,21 +46,21 @@ module _ {E : Type 0} where
   stack_in (opens_capture which) place stack = stack
 
   -- stdin follows no other stream, and no other stream follows it
-  abbrev IsWay : Bool → Way E → Type 0
+  abbrev IsWay : Bool → Route E → Type 0
   IsWay true (as_outside Out) = ⊥
   IsWay true (as_outside Err) = ⊥
   IsWay false (as_outside In) = ⊥
   IsWay b way = Unit {0}
 
-  length_in : (opens : Obtains) (place : ℕ) (stack : List (Target E)) (n : ℕ) → n ≡ length stack
-      → deeper opens n ≡ length (stack_in opens place stack)
+  length_in : (opens : RowOpening) (place : ℕ) (stack : List (Target E)) (n : ℕ) → n ≡ length stack
+      → depth_inside opens n ≡ length (stack_in opens place stack)
   length_in opens_nothing place stack n is = is
   length_in (opens_input bytes) place stack n is = omega (arith, is)
   length_in (opens_read path) place stack n is = omega (arith, is)
   length_in (opens_create path) place stack n is = omega (arith, is)
   length_in (opens_capture which) place stack n is = is
 
-deep : (opens : Obtains) (n : ℕ) → deeper opens n ≤ n + 2 * opens_depth opens
+deep : (opens : RowOpening) (n : ℕ) → depth_inside opens n ≤ n + 2 * opens_depth opens
 deep opens_nothing n = omega arith
 deep (opens_input bytes) n = omega arith
 deep (opens_read path) n = omega arith
@@ -78,7 +78,7 @@ module _ {E H : Type 0} (number_of : E → ℕ) (base bound : ℕ) where
   at_st stack p = record { stack = stack; plan = p }
 
   -- an action that pops nothing
-  easy : (state : State E H) (x : Action E H) → action.pops x ≡ 0
+  easy : (state : State E H) (x : Action E H) → action.pop_count x ≡ 0
       → action.Needs number_of base bound state x → length (advance state x).stack ≤ bound
       → IsReady number_of base bound state x
   easy state x none needs low = record { full = omega (arith, none); needs = needs; low = low }
@@ -93,15 +93,15 @@ module _ {E H : Type 0} (number_of : E → ℕ) (base bound : ℕ) where
 
   unclosed : (state : State E H) (actions : List (Action E H)) (stack : List (Target E))
       (p : Plan E H) → Leads number_of base bound state actions (at_st stack p) →
-      Leads number_of base bound state actions (at_st stack (closed [] p))
+      Leads number_of base bound state actions (at_st stack (with_closing [] p))
   unclosed state actions stack p leads = subst (λ (q : Plan E H). Leads number_of base bound state actions (at_st stack q)) (sym (closed_none p)) leads
 
   -- a file that is on the stack while the inner actions are performed
   held_leads : (get : Action E H) (item : Item E H) (x : Target E) (inside : List (Action E H))
       (stack : List (Target E)) (p q : Plan E H) →
-      action.pops get ≡ 0 → action.Needs number_of base bound (at_st stack p) get → advance (at_st stack p) get ≡ at_st (x ∷ stack) (asks item p) → length stack + 1 ≤ bound →
-      Leads number_of base bound (at_st (x ∷ stack) (asks item p)) inside (at_st (x ∷ stack) q) →
-      Leads number_of base bound (at_st stack p) (get ∷ (inside ++ action.close ∷ [])) (at_st stack (closed [] q))
+      action.pop_count get ≡ 0 → action.Needs number_of base bound (at_st stack p) get → advance (at_st stack p) get ≡ at_st (x ∷ stack) (with_item item p) → length stack + 1 ≤ bound →
+      Leads number_of base bound (at_st (x ∷ stack) (with_item item p)) inside (at_st (x ∷ stack) q) →
+      Leads number_of base bound (at_st stack p) (get ∷ (inside ++ action.close ∷ [])) (at_st stack (with_closing [] q))
   held_leads get item x inside stack p q none needs is low leads =
       let all = leads_append number_of base bound _ _ _ inside (action.close ∷ []) leads (close_leads x stack q (omega (arith, low))) in
       unclosed _ _ stack q
@@ -109,11 +109,11 @@ module _ {E H : Type 0} (number_of : E → ℕ) (base bound : ℕ) where
       (subst (λ (s : State E H). Leads number_of base bound s (inside ++ action.close ∷ []) (at_st stack q)) (sym is) all))
 
   -- other wires, inside a node that sets no folder, variables or hooks
-  rewired : (state : State E H) (s : Scope E H) (w more : Three (Wire E)) (found inner : Found E H)
-      → WiresFit number_of base state s w found →
+  rewired : (state : State E H) (s : Scope E H) (w more : PerStream (StreamSource E)) (found inner : Surroundings E H)
+      → SourcesFit number_of base state s w found →
       inner.folder ≡ found.folder → inner.changes ≡ found.changes → inner.hooks ≡ found.hooks ++ [] →
-      WireIs number_of base state true more.input inner.input → WireIs number_of base state false more.output inner.output → WireIs number_of base state false more.error inner.error →
-      WiresFit number_of base state s more inner
+      SourceLeadsTo number_of base state true more.input inner.input → SourceLeadsTo number_of base state false more.output inner.output → SourceLeadsTo number_of base state false more.error inner.error →
+      SourcesFit number_of base state s more inner
   rewired state s w more found inner fits folder changes hooks input output error = record {
     folder = folder ∙ fits.folder;
     changes = changes ∙ fits.changes;
@@ -125,13 +125,13 @@ module _ {E H : Type 0} (number_of : E → ℕ) (base bound : ℕ) where
   }
 
   -- what was on the stack is still there inside the node
-  opens_grow : (opens : Obtains) (stack : List (Target E)) (p : Plan E H)
+  opens_grow : (opens : RowOpening) (stack : List (Target E)) (p : Plan E H)
       → Grows (at_st stack p)
-      (at_st (stack_in opens (place_for (opening_of {E = E} {H = H} opens) p) stack) (opened (opening_of opens) p))
+      (at_st (stack_in opens (place_for (opening_of {E = E} {H = H} opens) p) stack) (with_opening (opening_of opens) p))
   opens_grow opens_nothing stack p = grows_plan stack p p (keeps_same p p refl refl)
   opens_grow (opens_input bytes) stack p =
       let k = length p.items in
-      let p1 = asks AskPipe p in
+      let p1 = with_item AskPipe p in
       grows_on (grows_by stack (WriterAt k) p p1 (keeps_same p p1 refl refl)) (grows_by (WriterAt k ∷ stack) (ReaderAt k) p1 p1 (keeps_same p1 p1 refl refl))
   opens_grow (opens_read path) stack p = grows_by stack (FileAt (length p.items)) p _ (keeps_same p _ refl refl)
   opens_grow (opens_create path) stack p = grows_by stack (FileAt (length p.items)) p _ (keeps_same p _ refl refl)
@@ -139,11 +139,11 @@ module _ {E H : Type 0} (number_of : E → ℕ) (base bound : ℕ) where
   opens_grow (opens_capture side.Err) stack p = grows_plan stack p _ (keeps_err p)
 
   -- the wire to what a node opens leads there
-  opened_fits : (b : Bool) (opens : Obtains) (stack : List (Target E)) (p : Plan E H) (n : ℕ)
+  opened_fits : (b : Bool) (opens : RowOpening) (stack : List (Target E)) (p : Plan E H) (n : ℕ)
       → n ≡ length stack
-      → WireIs number_of base
-      (at_st (stack_in opens (place_for (opening_of {E = E} {H = H} opens) p) stack) (opened (opening_of opens) p))
-      b (opened_wire opens n) (end_of opens (place_for (opening_of {E = E} {H = H} opens) p))
+      → SourceLeadsTo number_of base
+      (at_st (stack_in opens (place_for (opening_of {E = E} {H = H} opens) p) stack) (with_opening (opening_of opens) p))
+      b (opened_source opens n) (opened_target opens (place_for (opening_of {E = E} {H = H} opens) p))
   opened_fits b opens_nothing stack p n is = is_nothing b
   opened_fits b (opens_input bytes) stack p n is =
       let k = length p.items in
@@ -154,24 +154,24 @@ module _ {E H : Type 0} (number_of : E → ℕ) (base bound : ℕ) where
   opened_fits b (opens_capture side.Err) stack p n is = is_captured b side.Err (unwrap_or p.err (length p.items)) (err_opens p)
 
   -- the wire of a stream inside a node leads to where the stream goes there
-  wire_fits : (b : Bool) (way : Way E) (state : State E H) (s : Scope E H) (w : Three (Wire E))
-      (found : Found E H) (opened : Wire E) (opens : Obtains) (place : ℕ) → IsWay b way
-      → All (λ end. number_of end < base) (way_ends way)
-      → WiresFit number_of base state s w found
-      → WireIs number_of base state b opened (end_of opens place)
-      → WireIs number_of base state b (wired way opened w) (turned (turn_of opens place way) (target_of found))
-  wire_fits true (as_outside In) state s w found opened opens place law below fits there = fits.input
-  wire_fits true (as_outside Out) state s w found opened opens place law below fits there = absurd law
-  wire_fits true (as_outside Err) state s w found opened opens place law below fits there = absurd law
-  wire_fits false (as_outside In) state s w found opened opens place law below fits there = absurd law
-  wire_fits false (as_outside Out) state s w found opened opens place law below fits there = fits.output
-  wire_fits false (as_outside Err) state s w found opened opens place law below fits there = fits.error
-  wire_fits b to_nothing state s w found opened opens place law below fits there = is_nothing b
-  wire_fits b (to_lent end) state s w found opened opens place law below fits there = is_lent b end (All-head (λ end. number_of end < base) end [] below)
-  wire_fits b to_opened state s w found opened opens place law below fits there = there
+  wire_fits : (b : Bool) (way : Route E) (state : State E H) (s : Scope E H) (w : PerStream (StreamSource E))
+      (found : Surroundings E H) (source : StreamSource E) (opens : RowOpening) (place : ℕ) → IsWay b way
+      → All (λ end. number_of end < base) (route_ends way)
+      → SourcesFit number_of base state s w found
+      → SourceLeadsTo number_of base state b source (opened_target opens place)
+      → SourceLeadsTo number_of base state b (source_inside way source w) (resolved_turn (turn_of opens place way) (target_of found))
+  wire_fits true (as_outside In) state s w found source opens place law below fits there = fits.input
+  wire_fits true (as_outside Out) state s w found source opens place law below fits there = absurd law
+  wire_fits true (as_outside Err) state s w found source opens place law below fits there = absurd law
+  wire_fits false (as_outside In) state s w found source opens place law below fits there = absurd law
+  wire_fits false (as_outside Out) state s w found source opens place law below fits there = fits.output
+  wire_fits false (as_outside Err) state s w found source opens place law below fits there = fits.error
+  wire_fits b to_nothing state s w found source opens place law below fits there = is_nothing b
+  wire_fits b (to_lent end) state s w found source opens place law below fits there = is_lent b end (All-head (λ end. number_of end < base) end [] below)
+  wire_fits b to_opened state s w found source opens place law below fits there = there
 
-  hooks_below : (says : Option (Says E H)) → All (λ end. number_of end < base) (said_ends says)
-      → AreBelow number_of base (said_if says).hooks
+  hooks_below : (says : Option (SettingView E H)) → All (λ end. number_of end < base) (said_ends says)
+      → AreBelow number_of base (step_if_setting says).hooks
   hooks_below None below = All-nil _
   hooks_below (Some (says_folder path)) below = All-nil _
   hooks_below (Some (says_change change)) below = All-nil _
@@ -179,46 +179,46 @@ module _ {E H : Type 0} (number_of : E → ℕ) (base bound : ℕ) where
       All-cons (λ pair. All (λ end. number_of end < base) pair.1) (hook, ends) [] below (All-nil (λ pair. All (λ end. number_of end < base) pair.1))
 
   -- these wires fit inside a node that sets this
-  scope_fits : (says : Option (Says E H)) (state : State E H) (s : Scope E H)
-      (w more : Three (Wire E)) (found : Found E H) (input output error : Target E)
-      → WiresFit number_of base state s w found → AreBelow number_of base (said_if says).hooks
-      → WireIs number_of base state true more.input input
-      → WireIs number_of base state false more.output output
-      → WireIs number_of base state false more.error error
-      → WiresFit number_of base state (scope_if says s) more (record {
-        folder = option_or (said_if says).folder found.folder;
-        changes = (said_if says).changes ++ found.changes;
+  scope_fits : (says : Option (SettingView E H)) (state : State E H) (s : Scope E H)
+      (w more : PerStream (StreamSource E)) (found : Surroundings E H) (input output error : Target E)
+      → SourcesFit number_of base state s w found → AreBelow number_of base (step_if_setting says).hooks
+      → SourceLeadsTo number_of base state true more.input input
+      → SourceLeadsTo number_of base state false more.output output
+      → SourceLeadsTo number_of base state false more.error error
+      → SourcesFit number_of base state (scope_if says s) more (record {
+        folder = option_or (step_if_setting says).folder found.folder;
+        changes = (step_if_setting says).changes ++ found.changes;
         input = input;
         output = output;
         error = error;
-        hooks = found.hooks ++ (said_if says).hooks;
+        hooks = found.hooks ++ (step_if_setting says).hooks;
       })
   scope_fits None state s w more found input output error fits below one two three =
       rewired state s w more found _ fits refl refl refl one two three
   scope_fits (Some says) state s w more found input output error fits below one two three = record {
-    folder = ap (option_or (said says).folder) fits.folder;
-    changes = ap (λ changes. (said says).changes ++ changes) fits.changes;
-    hooks = ap (λ hooks. hooks ++ (said says).hooks) fits.hooks;
+    folder = ap (option_or (step_of_setting says).folder) fits.folder;
+    changes = ap (λ changes. (step_of_setting says).changes ++ changes) fits.changes;
+    hooks = ap (λ hooks. hooks ++ (step_of_setting says).hooks) fits.hooks;
     input = one;
     output = two;
     error = three;
-    below = All-append (λ hook. All (λ end. number_of end < base) hook.1) s.hooks (said says).hooks fits.below below;
+    below = All-append (λ hook. All (λ end. number_of end < base) hook.1) s.hooks (step_of_setting says).hooks fits.below below;
   }
 
   -- the actions of a node around those of its inner expression
-  wraps : (opens : Obtains) (stack : List (Target E)) (p q : Plan E H) (inside : List (Action E H))
+  wraps : (opens : RowOpening) (stack : List (Target E)) (p q : Plan E H) (inside : List (Action E H))
       (n : ℕ) → n ≡ length stack → n + 3 ≤ bound
       → Leads number_of base bound
-      (at_st (stack_in opens (place_for (opening_of {E = E} {H = H} opens) p) stack) (opened (opening_of opens) p)) inside
+      (at_st (stack_in opens (place_for (opening_of {E = E} {H = H} opens) p) stack) (with_opening (opening_of opens) p)) inside
       (at_st (stack_in opens (place_for (opening_of {E = E} {H = H} opens) p) stack) q)
-      → Leads number_of base bound (at_st stack p) (wrapped opens inside)
-      (at_st stack (closed (closing_of opens (place_for (opening_of {E = E} {H = H} opens) p)) q))
+      → Leads number_of base bound (at_st stack p) (actions_around opens inside)
+      (at_st stack (with_closing (closing_of opens (place_for (opening_of {E = E} {H = H} opens) p)) q))
   wraps opens_nothing stack p q inside n is low leads = unclosed _ _ stack q leads
   wraps (opens_input bytes) stack p q inside n is low leads =
       let k = length p.items in
       let r : Target E = ReaderAt k in
       let x : Target E = WriterAt k in
-      let q1 = asks (AskFeed k bytes) q in
+      let q1 = with_item (AskFeed k bytes) q in
       leads_cons number_of base bound (at_st stack p) (at_st stack q1) action.input _ (easy (at_st stack p) action.input refl tt (omega (arith, is, low)))
       (leads_append number_of base bound _ (at_st (r ∷ x ∷ stack) q) _ _ _ leads
       (leads_cons number_of base bound _ (at_st stack q1) action.close _ (close_ready r (x ∷ stack) q (omega (arith, is, low)))
@@ -232,30 +232,30 @@ module _ {E H : Type 0} (number_of : E → ℕ) (base bound : ℕ) where
   wraps (opens_capture side.Err) stack p q inside n is low leads =
       unclosed _ _ stack q (leads_cons number_of base bound (at_st stack p) _ (action.capture side.Err) _ (easy (at_st stack p) (action.capture side.Err) refl tt (omega (arith, is, low))) leads)
 
-  pub flat_leads : (tree : TreeView E H) (s : Scope E H) (w : Three (Wire E)) (found : Found E H)
+  pub flat_leads : (tree : TreeView E H) (s : Scope E H) (w : PerStream (StreamSource E)) (found : Surroundings E H)
       (stack : List (Target E)) (p : Plan E H) (n : ℕ) → n ≡ length stack
       → All (λ end. number_of end < base) (ends_in tree)
-      → WiresFit number_of base (record { stack = stack; plan = p }) s w found
+      → SourcesFit number_of base (record { stack = stack; plan = p }) s w found
       → n + (2 * depth tree + 3) < bound
-      → Leads number_of base bound (record { stack = stack; plan = p }) (flat s w tree n)
-      (record { stack = stack; plan = walked found tree p })
+      → Leads number_of base bound (record { stack = stack; plan = p }) (actions_of_subtree s w tree n)
+      (record { stack = stack; plan = plan_inward found tree p })
   flat_leads (command words) s w found stack p n is older fits low = command_leads number_of base bound (at_st stack p) s w found words fits (omega (arith, is, low))
   flat_leads (pipe left right) s w found stack p n is older fits low =
       let k = length p.items in
       let r : Target E = ReaderAt k in
       let x : Target E = WriterAt k in
-      let p1 = asks AskPipe p in
-      let found1 = found_within left_step k found in
-      let found2 = found_within right_step k found in
-      let p2 = walked found1 left p1 in
-      let p3 = walked found2 right p2 in
+      let p1 = with_item AskPipe p in
+      let found1 = surroundings_within left_step k found in
+      let found2 = surroundings_within right_step k found in
+      let p2 = plan_inward found1 left p1 in
+      let p3 = plan_inward found2 right p2 in
       let g0 : Grows (at_st stack p) (at_st (r ∷ stack) p1) = grows_by stack r p p1 (keeps_same p p1 refl refl) in
       let g1 : Grows (at_st stack p) (at_st (x ∷ r ∷ stack) p1) = grows_on g0 (grows_by (r ∷ stack) x p1 p1 (keeps_same p1 p1 refl refl)) in
       let g2 : Grows (at_st stack p) (at_st (r ∷ stack) p2) = grows_on g0 (grows_plan (r ∷ stack) p1 p2 (keeps left found1 p1)) in
       let fits1 = fits_grow number_of base (at_st stack p) (at_st (x ∷ r ∷ stack) p1) s w found g1 fits in
       let fits2 = fits_grow number_of base (at_st stack p) (at_st (r ∷ stack) p2) s w found g2 fits in
-      let up = rewired (at_st (x ∷ r ∷ stack) p1) s w (outputs (slot (n + 1)) w) found found1 fits1 refl refl refl fits1.input (is_slot false (n + 1) x tt (level_top (r ∷ stack) x (n + 1) (omega (arith, is)))) fits1.error in
-      let down = rewired (at_st (r ∷ stack) p2) s w (inputs (slot n) w) found found2 fits2 refl refl refl (is_slot true n r tt (level_top stack r n is)) fits2.output fits2.error in
+      let up = rewired (at_st (x ∷ r ∷ stack) p1) s w (with_output (slot (n + 1)) w) found found1 fits1 refl refl refl fits1.input (is_slot false (n + 1) x tt (level_top (r ∷ stack) x (n + 1) (omega (arith, is)))) fits1.error in
+      let down = rewired (at_st (r ∷ stack) p2) s w (with_input (slot n) w) found found2 fits2 refl refl refl (is_slot true n r tt (level_top stack r n is)) fits2.output fits2.error in
       leads_cons number_of base bound (at_st stack p) (at_st stack p3) action.pipe _ (easy (at_st stack p) action.pipe refl tt (omega (arith, is, low)))
       (leads_append number_of base bound _ (at_st (x ∷ r ∷ stack) p2) _ _ _
       (flat_leads left s _ found1 (x ∷ r ∷ stack) p1 (n + 2) (omega (arith, is)) (all_front (λ end. number_of end < base) (ends_in left) (ends_in right) older) up (omega (arith, is, low)))
@@ -267,31 +267,31 @@ module _ {E H : Type 0} (number_of : E → ℕ) (base bound : ℕ) where
       let r = row modifier in
       let law = lawful modifier in
       let place = place_for (opening_of {E = E} {H = H} r.opens) p in
-      let p1 = opened (opening_of r.opens) p in
+      let p1 = with_opening (opening_of r.opens) p in
       let tops = stack_in r.opens place stack in
-      let found1 = found_within (step modifier) place found in
+      let found1 = surroundings_within (step modifier) place found in
       let Below : E → Type 0 = λ end. number_of end < base in
       let here = all_front Below (modifier_ends modifier) (ends_in inner) older in
-      let other = all_back Below (way_ends r.input) _ here in
-      let last = all_back Below (way_ends r.output) _ other in
+      let other = all_back Below (route_ends r.input) _ here in
+      let last = all_back Below (route_ends r.output) _ other in
       let fits1 = fits_grow number_of base (at_st stack p) (at_st tops p1) s w found (opens_grow r.opens stack p) fits in
-      let input = wire_fits true r.input (at_st tops p1) s w found (opened_wire r.opens n) r.opens place law.0 (all_front Below (way_ends r.input) _ here) fits1 (opened_fits true r.opens stack p n is) in
-      let output = wire_fits false r.output (at_st tops p1) s w found (opened_wire r.opens n) r.opens place law.1 (all_front Below (way_ends r.output) _ other) fits1 (opened_fits false r.opens stack p n is) in
-      let error = wire_fits false r.error (at_st tops p1) s w found (opened_wire r.opens n) r.opens place law.2 (all_front Below (way_ends r.error) _ last) fits1 (opened_fits false r.opens stack p n is) in
-      let fit = scope_fits r.says (at_st tops p1) s w (wires_in r n w) found _ _ _ fits1 (hooks_below r.says (all_back Below (way_ends r.error) _ last)) input output error in
-      wraps r.opens stack p (walked found1 inner p1) _ n is (omega (arith, low))
-      (flat_leads inner (scope_if r.says s) (wires_in r n w) found1 tops p1 (deeper r.opens n) (length_in r.opens place stack n is)
+      let input = wire_fits true r.input (at_st tops p1) s w found (opened_source r.opens n) r.opens place law.0 (all_front Below (route_ends r.input) _ here) fits1 (opened_fits true r.opens stack p n is) in
+      let output = wire_fits false r.output (at_st tops p1) s w found (opened_source r.opens n) r.opens place law.1 (all_front Below (route_ends r.output) _ other) fits1 (opened_fits false r.opens stack p n is) in
+      let error = wire_fits false r.error (at_st tops p1) s w found (opened_source r.opens n) r.opens place law.2 (all_front Below (route_ends r.error) _ last) fits1 (opened_fits false r.opens stack p n is) in
+      let fit = scope_fits r.says (at_st tops p1) s w (sources_inside r n w) found _ _ _ fits1 (hooks_below r.says (all_back Below (route_ends r.error) _ last)) input output error in
+      wraps r.opens stack p (plan_inward found1 inner p1) _ n is (omega (arith, low))
+      (flat_leads inner (scope_if r.says s) (sources_inside r n w) found1 tops p1 (depth_inside r.opens n) (length_in r.opens place stack n is)
       (all_back Below (modifier_ends modifier) (ends_in inner) older) fit (omega (arith, low, deep r.opens n)))
 
 -- the actions of a tree lead to its plan without the last requests for capture pipes, and leave
 -- nothing on the stack, which never holds more than twice the depth of the tree plus four ends
 pub tree_leads : {E H : Type 0} (number_of : E → ℕ) (base : ℕ) (tree : TreeView E H)
     → All (λ end. number_of end < base) (ends_in tree)
-    → Leads number_of base (2 * depth tree + 4) (with_plan begun) (flat_of tree)
-    (with_plan (planned [] tree begun))
+    → Leads number_of base (2 * depth tree + 4) (with_plan initial_plan) (actions_of tree)
+    (with_plan (plan_of_subtree [] tree initial_plan))
 tree_leads {E} {H} number_of base tree older =
     let bound = 2 * depth tree + 4 in
-    let fits : WiresFit {E = E} {H = H} number_of base (with_plan begun) rooted outside plain =
+    let fits : SourcesFit {E = E} {H = H} number_of base (with_plan initial_plan) root_scope root_sources root_surroundings =
     record { folder = refl; changes = refl; hooks = refl; input = is_in; output = is_out; error = is_err; below = All-nil _ } in
-    subst (λ p. Leads number_of base bound (with_plan begun) (flat_of tree) (with_plan p)) (sym (joined tree [] begun))
-    (flat_leads number_of base bound tree rooted outside plain [] begun 0 refl older fits (omega arith))
+    subst (λ p. Leads number_of base bound (with_plan initial_plan) (actions_of tree) (with_plan p)) (sym (joined tree [] initial_plan))
+    (flat_leads number_of base bound tree root_scope root_sources root_surroundings [] initial_plan 0 refl older fits (omega arith))

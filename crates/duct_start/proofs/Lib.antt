@@ -19,7 +19,7 @@ pub mod Launched
 pub mod Leaving
 pub mod Origins
 pub mod Outwards
-pub mod Ran
+pub mod RunContract
 pub mod Reading
 pub mod Resolved
 pub mod Running
@@ -28,7 +28,7 @@ pub mod Settling
 pub mod Sources
 pub mod Spawning
 pub mod Stacks
-pub mod Standing
+pub mod RunInvariant
 pub mod Whole
 pub mod Wires
 pub mod Within

@@ -6,78 +6,78 @@ use Rattle.std.proofs.lemmas.List.Elements.{filter-append}
 use Rattle.std.specs.Prelude.{Ok, reverse, slice_get, slice_index, Some, ◌==◌, true, false}
 use Rattle.std.specs.Option.{option_to_list}
 use Rattle.std.specs.List.{flat_map}
-use Rattle.duct_system.specs.Ledger.{got, got_by, spent, spent_by, count_of}
+use Rattle.duct_system.specs.Ledger.{opened_numbers, opened_by, closed_numbers, closed_by, count_of}
 use Rattle.duct_system.specs.EntryView.{EntryView, Pipe, OpenRead, Create, Duplicate, Parent}
 use Rattle.duct_system.specs.Origin.{Lent, origin, origin_before}
 use Rattle.duct_system.specs.Trace.{trace, is_traced}
 use Rattle.duct_start.specs.Asked.{end_at}
-use Rattle.duct_start.specs.Standing.{AreFresh, Course, IsLater}
+use Rattle.duct_start.specs.RunInvariant.{AreFresh, RunContext, IsLater}
 use Rattle.duct_start.proofs.Counts.{count-append, count-cons, other_than}
 
-pub got-append : (xs ys : List EntryView) → got (xs ++ ys) ≡ got xs ++ got ys
-got-append xs ys = flat_map-append got_by xs ys
+pub opened_numbers-append : (xs ys : List EntryView) → opened_numbers (xs ++ ys) ≡ opened_numbers xs ++ opened_numbers ys
+opened_numbers-append xs ys = flat_map-append opened_by xs ys
 
-pub spent-append : (xs ys : List EntryView) → spent (xs ++ ys) ≡ spent xs ++ spent ys
-spent-append xs ys = flat_map-append spent_by xs ys
+pub closed_numbers-append : (xs ys : List EntryView) → closed_numbers (xs ++ ys) ≡ closed_numbers xs ++ closed_numbers ys
+closed_numbers-append xs ys = flat_map-append closed_by xs ys
 
 pub trace-append : (xs ys : List EntryView) → trace (xs ++ ys) ≡ trace xs ++ trace ys
 trace-append xs ys = filter-append is_traced xs ys
 
 pub count_got-append : (n : ℕ) (xs ys : List EntryView)
-    → count_of n (got (xs ++ ys)) ≡ count_of n (got xs) + count_of n (got ys)
-count_got-append n xs ys = ap (λ (l : List ℕ). count_of n l) (got-append xs ys) ∙ count-append n (got xs) (got ys)
+    → count_of n (opened_numbers (xs ++ ys)) ≡ count_of n (opened_numbers xs) + count_of n (opened_numbers ys)
+count_got-append n xs ys = ap (λ (l : List ℕ). count_of n l) (opened_numbers-append xs ys) ∙ count-append n (opened_numbers xs) (opened_numbers ys)
 
 pub count_spent-append : (n : ℕ) (xs ys : List EntryView)
-    → count_of n (spent (xs ++ ys)) ≡ count_of n (spent xs) + count_of n (spent ys)
-count_spent-append n xs ys = ap (λ (l : List ℕ). count_of n l) (spent-append xs ys) ∙ count-append n (spent xs) (spent ys)
+    → count_of n (closed_numbers (xs ++ ys)) ≡ count_of n (closed_numbers xs) + count_of n (closed_numbers ys)
+count_spent-append n xs ys = ap (λ (l : List ℕ). count_of n l) (closed_numbers-append xs ys) ∙ count-append n (closed_numbers xs) (closed_numbers ys)
 
 pub count_got-reverse : (n : ℕ) (xs : List EntryView)
-    → count_of n (got (reverse xs)) ≡ count_of n (got xs)
+    → count_of n (opened_numbers (reverse xs)) ≡ count_of n (opened_numbers xs)
 count_got-reverse n [] = refl
 count_got-reverse n (x ∷ xs) =
-    let split : count_of n (got (reverse (x ∷ xs))) ≡ count_of n (got (reverse xs ++ x ∷ [])) = ap (λ (l : List EntryView). count_of n (got l)) (reverse-append (x ∷ []) xs) in
+    let split : count_of n (opened_numbers (reverse (x ∷ xs))) ≡ count_of n (opened_numbers (reverse xs ++ x ∷ [])) = ap (λ (l : List EntryView). count_of n (opened_numbers l)) (reverse-append (x ∷ []) xs) in
     omega (arith, split, count_got-append n (reverse xs) (x ∷ []), count_got-append n (x ∷ []) xs, count_got-reverse n xs)
 
 -- a number that none of these entries got has the origin that it had before them
-skip : (n : ℕ) (entries before : List EntryView) → count_of n (got entries) ≡ 0
+skip : (n : ℕ) (entries before : List EntryView) → count_of n (opened_numbers entries) ≡ 0
     → origin_before (entries ++ before) n ≡ origin_before before n
 skip n [] before none = refl
 skip n (Pipe (Ok (reader, writer)) ∷ entries) before none =
-    let r : (n == reader) ≡ false = other_than n reader (omega (arith, count-cons n reader (writer ∷ got entries))) in
-    let w : (n == writer) ≡ false = other_than n writer (omega (arith, count-cons n reader (writer ∷ got entries), count-cons n writer (got entries))) in
-    let rest : count_of n (got entries) ≡ 0 = omega (arith, count-cons n reader (writer ∷ got entries), count-cons n writer (got entries)) in
+    let r : (n == reader) ≡ false = other_than n reader (omega (arith, count-cons n reader (writer ∷ opened_numbers entries))) in
+    let w : (n == writer) ≡ false = other_than n writer (omega (arith, count-cons n reader (writer ∷ opened_numbers entries), count-cons n writer (opened_numbers entries))) in
+    let rest : count_of n (opened_numbers entries) ≡ 0 = omega (arith, count-cons n reader (writer ∷ opened_numbers entries), count-cons n writer (opened_numbers entries)) in
     rw (r, w) (skip n entries before rest)
 skip n (OpenRead path (Ok end) ∷ entries) before none =
-    let r : (n == end) ≡ false = other_than n end (omega (arith, count-cons n end (got entries))) in
-    let rest : count_of n (got entries) ≡ 0 = omega (arith, count-cons n end (got entries)) in
+    let r : (n == end) ≡ false = other_than n end (omega (arith, count-cons n end (opened_numbers entries))) in
+    let rest : count_of n (opened_numbers entries) ≡ 0 = omega (arith, count-cons n end (opened_numbers entries)) in
     rw r (skip n entries before rest)
 skip n (Create path (Ok end) ∷ entries) before none =
-    let r : (n == end) ≡ false = other_than n end (omega (arith, count-cons n end (got entries))) in
-    let rest : count_of n (got entries) ≡ 0 = omega (arith, count-cons n end (got entries)) in
+    let r : (n == end) ≡ false = other_than n end (omega (arith, count-cons n end (opened_numbers entries))) in
+    let rest : count_of n (opened_numbers entries) ≡ 0 = omega (arith, count-cons n end (opened_numbers entries)) in
     rw r (skip n entries before rest)
 skip n (Parent side (Ok end) ∷ entries) before none =
-    let r : (n == end) ≡ false = other_than n end (omega (arith, count-cons n end (got entries))) in
-    let rest : count_of n (got entries) ≡ 0 = omega (arith, count-cons n end (got entries)) in
+    let r : (n == end) ≡ false = other_than n end (omega (arith, count-cons n end (opened_numbers entries))) in
+    let rest : count_of n (opened_numbers entries) ≡ 0 = omega (arith, count-cons n end (opened_numbers entries)) in
     rw r (skip n entries before rest)
 skip n (Duplicate lent (Ok end) ∷ entries) before none =
-    let r : (n == end) ≡ false = other_than n end (omega (arith, count-cons n end (got entries))) in
-    let rest : count_of n (got entries) ≡ 0 = omega (arith, count-cons n end (got entries)) in
+    let r : (n == end) ≡ false = other_than n end (omega (arith, count-cons n end (opened_numbers entries))) in
+    let rest : count_of n (opened_numbers entries) ≡ 0 = omega (arith, count-cons n end (opened_numbers entries)) in
     rw r (skip n entries before rest)
 skip n (entry ∷ entries) before none = skip n entries before none
 
 -- a number that none of these entries got is that of a caller's end
-pub lent_before : (n : ℕ) (entries : List EntryView) → count_of n (got entries) ≡ 0
+pub lent_before : (n : ℕ) (entries : List EntryView) → count_of n (opened_numbers entries) ≡ 0
     → origin_before entries n ≡ Lent n
 lent_before n entries none = ap (λ (l : List EntryView). origin_before l n) (sym (append-nil entries)) ∙ skip n entries [] none
 
 -- a number that is not got later keeps its origin
-pub origin_stays : (n : ℕ) (xs more : List EntryView) → count_of n (got more) ≡ 0
+pub origin_stays : (n : ℕ) (xs more : List EntryView) → count_of n (opened_numbers more) ≡ 0
     → origin (xs ++ more) n ≡ origin xs n
 origin_stays n xs more none =
     ap (λ (l : List EntryView). origin_before l n) (reverse-append xs more) ∙ skip n (reverse more) (reverse xs) (count_got-reverse n more ∙ none)
 
 -- a number that no entry got is that of a caller's end
-pub origin_lent : (n : ℕ) (xs : List EntryView) → count_of n (got xs) ≡ 0 → origin xs n ≡ Lent n
+pub origin_lent : (n : ℕ) (xs : List EntryView) → count_of n (opened_numbers xs) ≡ 0 → origin xs n ≡ Lent n
 origin_lent n xs none = origin_stays n [] xs none
 
 -- the origin just after an entry
@@ -94,21 +94,21 @@ slice_get_seam (x ∷ front) entry rest = slice_get_seam front entry rest
 pub end_at_seam : (xs : List EntryView) (entry : EntryView) (more : List EntryView)
     (which : ℕ) → is_traced entry ≡ true
     → end_at (trace ((xs ++ entry ∷ []) ++ more)) (length (trace xs)) which
-    ≡ slice_index (got_by entry) which
+    ≡ slice_index (opened_by entry) which
 end_at_seam xs entry more which traced =
     let one : trace (entry ∷ []) ≡ entry ∷ [] = rw traced refl in
     let all : trace ((xs ++ entry ∷ []) ++ more) ≡ trace xs ++ entry ∷ trace more =
     trace-append (xs ++ entry ∷ []) more ∙ ap (λ (l : List EntryView). l ++ trace more) (trace-append xs (entry ∷ []) ∙ ap (λ (l : List EntryView). trace xs ++ l) one) ∙ append_assoc (trace xs) (entry ∷ []) (trace more) in
     ap (λ (l : List EntryView). end_at l (length (trace xs)) which) all
-    ∙ ap (λ o. slice_index (flat_map got_by (option_to_list o)) which) (slice_get_seam (trace xs) entry (trace more))
-    ∙ ap (λ (l : List ℕ). slice_index l which) (append-nil (got_by entry))
+    ∙ ap (λ o. slice_index (flat_map opened_by (option_to_list o)) which) (slice_get_seam (trace xs) entry (trace more))
+    ∙ ap (λ (l : List ℕ). slice_index l which) (append-nil (opened_by entry))
 
 -- an entry that got fresh numbers, together with later entries, is later than what came before it
-pub later_more : (course : Course) (next then : ℕ) (entry : EntryView) (more : List EntryView)
-    → AreFresh next then (got_by entry) → IsLater course then more
+pub later_more : (course : RunContext) (next then : ℕ) (entry : EntryView) (more : List EntryView)
+    → AreFresh next then (opened_by entry) → IsLater course then more
     → IsLater course next (entry ∷ more)
 later_more course next then entry more fresh later = record {
   fresh = λ n lt.
       let lt' : n < then = omega (arith, fresh.newer) in
-      omega (arith, count_got-append n (entry ∷ []) more, count_got-append n [] (entry ∷ []), fresh.above n lt, later.fresh n lt', ap (λ (l : List ℕ). count_of n l) (append-nil (got_by entry)));
+      omega (arith, count_got-append n (entry ∷ []) more, count_got-append n [] (entry ∷ []), fresh.above n lt, later.fresh n lt', ap (λ (l : List ℕ). count_of n l) (append-nil (opened_by entry)));
 }

@@ -9,21 +9,21 @@ use Rattle.duct_system.specs.Journal.{JournalView, GivesEnds}
 use Rattle.duct_system.specs.Trace.{segment}
 use Rattle.duct_start.specs.Actions.{Action, State, with_plan}
 use Rattle.duct_start.specs.Chain.{Allows}
-use Rattle.duct_start.specs.Holdings.{Holdings}
-use Rattle.duct_start.specs.Plan.{reads}
-use Rattle.duct_start.specs.Ran.{Ending, MadeReader, Runs, SomeLeads, course_of, read}
-use Rattle.duct_start.specs.Standing.{Course, IsLater, Stands}
+use Rattle.duct_start.specs.ResourcesView.{ResourcesView}
+use Rattle.duct_start.specs.Plan.{with_reader}
+use Rattle.duct_start.specs.RunContract.{PlanTail, MadeReader, ActionsSucceed, LeadToSomePlan, context_of, reader_tail}
+use Rattle.duct_start.specs.RunInvariant.{RunContext, IsLater, RunInvariant}
 use Rattle.duct_start.specs.Step.{Item, AskReader}
 use Rattle.duct_start.proofs.Captured.{closes_out, mid_out, some_place, without_out}
 use Rattle.duct_start.proofs.Going.{pop_changes}
-use Rattle.duct_start.proofs.Standing.{Changes, few_of, sources_now, stands_more}
+use Rattle.duct_start.proofs.RunInvariant.{Changes, few_of, sources_now, stands_more}
 use Rattle.duct_start.proofs.Whole.{segment-added}
 
-module _ {E H : Type 0} (allows : Allows H) (number_of : E → ℕ) (r w : ℕ) (now mid next : JournalView) (held : Holdings) (is : held.out ≡ Some (r, w))
+module _ {E H : Type 0} (allows : Allows H) (number_of : E → ℕ) (r w : ℕ) (now mid next : JournalView) (held : ResourcesView) (is : held.out ≡ Some (r, w))
     (closed : GivesEnds (Close w) 1 now mid) (made : GivesEnds (Reader r) 1 mid next) where
-  reads_on : (course : Course) (st : State E H) → length st.stack ≤ course.bound
-      → Stands allows number_of course st now held
-      → Stands allows number_of course (record { stack = st.stack; plan = read st.plan }) next (without_out [] held)
+  reads_on : (course : RunContext) (st : State E H) → length st.stack ≤ course.bound
+      → RunInvariant allows number_of course st now held
+      → RunInvariant allows number_of course (record { stack = st.stack; plan = reader_tail st.plan }) next (without_out [] held)
   reads_on course st low stands =
       let first = closes_out allows number_of course st r w now mid held is closed low stands in
       let one = mid_out allows number_of st in
@@ -35,20 +35,20 @@ module _ {E H : Type 0} (allows : Allows H) (number_of : E → ℕ) (r w : ℕ) 
       let ch : Changes entry mid next before kept = pop_changes entry r held.stack held.children held.feeds held.drains mid next before made refl refl refl (sym (append-nil held.children)) (sym (append-nil held.feeds)) (sym (append-nil held.drains)) in
       let from = λ (more : List EntryView) (later : IsLater course next.next more). sources_now allows number_of course one then_st asked mid next before kept entry first refl ch more later in
       let open' = some_place st.plan.out (sym stands.shaped.out ∙ ap (λ o. is_some o) is) in
-      let same : then_st ≡ record { stack = st.stack; plan = read st.plan } = ap (λ (o : Option ℕ). record { stack = st.stack; plan = record { items = (reads o st.plan).items; out = None; err = st.plan.err } }) (sym open') in
-      subst (λ (s : State E H). Stands allows number_of course s next kept) same
+      let same : then_st ≡ record { stack = st.stack; plan = reader_tail st.plan } = ap (λ (o : Option ℕ). record { stack = st.stack; plan = record { items = (with_reader o st.plan).items; out = None; err = st.plan.err } }) (sym open') in
+      subst (λ (s : State E H). RunInvariant allows number_of course s next kept) same
       (stands_more allows number_of course one then_st asked mid next before kept entry first refl ch (few_of course.bound kept (omega (arith, stands.shaped.stack, low))) (record { stack = stands.shaped.stack; out = refl; err = stands.shaped.err }) refl refl
       (λ more later. ((from more later).stack.0.0, tt))
       (λ more later. let z = from more later in record { stack = z.stack.1; out = tt; err = z.err }))
 
-  module _ (ending : Ending E H) (actions : List (Action E H)) (old : JournalView) (runs : Runs allows number_of ending actions old now held) where
-    pub run_reads : Runs allows number_of (λ plan. read (ending plan)) actions old next
+  module _ (ending : PlanTail E H) (actions : List (Action E H)) (old : JournalView) (runs : ActionsSucceed allows number_of ending actions old now held) where
+    pub run_reads : ActionsSucceed allows number_of (λ plan. reader_tail (ending plan)) actions old next
         (without_out [] held)
-    run_reads = (runs.0, λ base bound plan leads. reads_on (course_of old base bound runs.0) (with_plan (ending plan)) (omega arith) (runs.1 base bound plan leads))
+    run_reads = (runs.0, λ base bound plan leads. reads_on (context_of old base bound runs.0) (with_plan (ending plan)) (omega arith) (runs.1 base bound plan leads))
 
     -- the request for the reader is the last one
     pub reader_last : {R : Type 0} (may : ℕ → R → Type 0) (reader : R) → may r reader
-        → SomeLeads number_of actions → MadeReader may (segment old.entries next.entries) reader
+        → LeadToSomePlan number_of actions → MadeReader may (segment old.entries next.entries) reader
     reader_last may reader told leads =
         let stands = runs.1 leads.0 leads.1 leads.2 leads.3 in
         let added = stands.added ++ Close w ∷ [] in

@@ -5,39 +5,39 @@ use Rattle.std.specs.Prelude.{Some, None, Ok, Err, is_some, if◌then◌else◌}
 use Rattle.std.specs.declared.option.Option.{Option}
 use Rattle.duct_system.specs.EntryView.{EntryView, Environment}
 use Rattle.duct_system.specs.Journal.{JournalView, AddsNothing, Asks, IsRefused}
-use Rattle.duct_system.specs.Ledger.{got, spent, got_by, spent_by}
+use Rattle.duct_system.specs.Ledger.{opened_numbers, closed_numbers, opened_by, closed_by}
 use Rattle.duct_system.specs.Started.{child_by, feed_by, drain_by}
 use Rattle.duct_system.specs.declared.error.Error.{Error}
 use Rattle.duct_system.specs.declared.error.Error.TheVariants.{System}
 use Rattle.duct_system.specs.declared.system.Fault.{Fault}
 use Rattle.duct_system.specs.declared.system.Side.TheVariants as side
 use Rattle.duct_start.specs.Actions as action
-use Rattle.duct_start.specs.Actions.{Action, State, IsReady, AreReady, after, advance, pops, with_plan}
+use Rattle.duct_start.specs.Actions.{Action, State, IsReady, AreReady, after_actions, advance, pop_count, with_plan}
 use Rattle.duct_start.specs.Chain.{Allows}
-use Rattle.duct_start.specs.Holdings.{Holdings, empty}
-use Rattle.duct_start.specs.Plan.{Plan, begun, drains}
-use Rattle.duct_start.specs.Standing.{Books, Course, HeldFew, IsShaped, Stands, Stood, Stopped, Goes, IsWantOfMemory, CanDo, refused, unasked}
+use Rattle.duct_start.specs.ResourcesView.{ResourcesView, empty_resources}
+use Rattle.duct_start.specs.Plan.{Plan, initial_plan, with_drain}
+use Rattle.duct_start.specs.RunInvariant.{LedgerInvariant, RunContext, OpenEndsWithin, IsShaped, RunInvariant, ReadyForActions, StopInvariant, ActionSucceeds, IsAllocationFailure, FindsItsEnds, refused, unasked}
 use Rattle.duct_start.specs.Step.{Item, AskEnvironment, AskDrain, AskPipe}
 use Rattle.duct_start.proofs.Commanded.{items_of, commanded_is}
 use Rattle.duct_start.proofs.Going.{none_changes}
-use Rattle.duct_start.proofs.Standing.{books_more, stops_unasked}
+use Rattle.duct_start.proofs.RunInvariant.{books_more, stops_unasked}
 
-take_none : (count : ℕ) → length (got (take count [])) ≡ 0
+take_none : (count : ℕ) → length (opened_numbers (take count [])) ≡ 0
 take_none zero = refl
 take_none (suc count) = refl
 
-environment_held : (bound : ℕ) (entry : EntryView) → got_by entry ≡ [] → spent_by entry ≡ []
-    → HeldFew bound (entry ∷ [])
-environment_held bound entry none spent zero = omega arith
-environment_held bound entry none spent (suc count) =
-    omega (arith, take_none count, length-append (got_by entry) (got (take count [])), ap (λ (l : List ℕ). length l) none)
+environment_held : (bound : ℕ) (entry : EntryView) → opened_by entry ≡ [] → closed_by entry ≡ []
+    → OpenEndsWithin bound (entry ∷ [])
+environment_held bound entry none closed_numbers zero = omega arith
+environment_held bound entry none closed_numbers (suc count) =
+    omega (arith, take_none count, length-append (opened_by entry) (opened_numbers (take count [])), ap (λ (l : List ℕ). length l) none)
 
-module _ (course : Course) (now : JournalView) where
-  begun_books : (entry : EntryView) → Asks entry course.old now → got_by entry ≡ []
-      → spent_by entry ≡ [] → child_by entry ≡ [] → feed_by entry ≡ [] → drain_by entry ≡ [] →
-      Books course.old now (entry ∷ []) empty
-  begun_books entry asks none spent no_child no_feed no_drain =
-      books_more course.old course.old now [] entry empty empty (none_changes entry course.old now empty asks none spent no_child no_feed no_drain) (record {
+module _ (course : RunContext) (now : JournalView) where
+  begun_books : (entry : EntryView) → Asks entry course.old now → opened_by entry ≡ []
+      → closed_by entry ≡ [] → child_by entry ≡ [] → feed_by entry ≡ [] → drain_by entry ≡ [] →
+      LedgerInvariant course.old now (entry ∷ []) empty_resources
+  begun_books entry asks none closed_numbers no_child no_feed no_drain =
+      books_more course.old course.old now [] entry empty_resources empty_resources (none_changes entry course.old now empty_resources asks none closed_numbers no_child no_feed no_drain) (record {
         entries_are = sym (append-nil course.old.entries);
         counted = omega arith;
         even = λ n. refl;
@@ -55,7 +55,7 @@ module _ (course : Course) (now : JournalView) where
   module _ {E H : Type 0} (allows : Allows H) (number_of : E → ℕ) where
     -- if the environment was returned
     pub stands_begun : course.front ≡ [] → Asks (Environment (Ok course.pairs)) course.old now
-        → Stands allows number_of course (with_plan begun) now empty
+        → RunInvariant allows number_of course (with_plan initial_plan) now empty_resources
     stands_begun none asks = record {
       added = Environment (Ok course.pairs) ∷ [];
       books = begun_books (Environment (Ok course.pairs)) asks refl refl refl refl refl;
@@ -71,7 +71,7 @@ module _ (course : Course) (now : JournalView) where
 
     -- if no request was made
     pub stopped_unasked : (items : List (Item E H)) (error : Error) → AddsNothing course.old now
-        → IsWantOfMemory error → Stopped allows number_of course items now empty error
+        → IsAllocationFailure error → StopInvariant allows number_of course items now empty_resources error
     stopped_unasked items error nothing un = record {
       added = [];
       books = record {
@@ -96,7 +96,7 @@ module _ (course : Course) (now : JournalView) where
     -- if the request for the environment was refused
     pub stopped_begun : (items : List (Item E H)) (fault : Fault)
         → IsRefused (Environment (Err fault)) 0 fault course.old now
-        → Stopped allows number_of course (AskEnvironment ∷ items) now empty (System fault)
+        → StopInvariant allows number_of course (AskEnvironment ∷ items) now empty_resources (System fault)
     stopped_begun items fault (inl asks) = record {
       added = Environment (Err fault) ∷ [];
       books = begun_books (Environment (Err fault)) asks refl refl refl refl refl;
@@ -107,7 +107,7 @@ module _ (course : Course) (now : JournalView) where
     stopped_begun items fault (inr nothing) = stopped_unasked (AskEnvironment ∷ items) (System fault) nothing.1 nothing.2
 
 drains_grow : {E H : Type 0} (o : Option ℕ) (p : Plan E H)
-    → (more : List (Item E H)) × ((drains o p).items ≡ p.items ++ more)
+    → (more : List (Item E H)) × ((with_drain o p).items ≡ p.items ++ more)
 drains_grow None p = ([], sym (append-nil p.items))
 drains_grow (Some place) p = (AskDrain place ∷ [], refl)
 
@@ -125,55 +125,55 @@ action_grows st action.input = (_, refl)
 action_grows st (action.capture side.Out) = if_grow st.plan.out st.plan _ refl
 action_grows st (action.capture side.Err) = if_grow st.plan.err st.plan _ refl
 action_grows st (action.duplicate depth) = ([], sym (append-nil st.plan.items))
-action_grows st (action.tap which) = ([], sym (append-nil st.plan.items))
-action_grows st (action.lend end) = ([], sym (append-nil st.plan.items))
+action_grows st (action.duplicate_capture which) = ([], sym (append-nil st.plan.items))
+action_grows st (action.duplicate_caller_end end) = ([], sym (append-nil st.plan.items))
 action_grows st (action.parent side.Out) = ([], sym (append-nil st.plan.items))
 action_grows st (action.parent side.Err) = ([], sym (append-nil st.plan.items))
 action_grows st action.close = ([], sym (append-nil st.plan.items))
 action_grows st (action.spawn scope words ports) =
-    let found = action.found_by scope ports st.stack in
+    let found = action.surroundings_by scope ports st.stack in
     (items_of found words, ap (λ p. p.items) (commanded_is found words st.plan))
 action_grows st (action.feed bytes) = (_, refl)
 action_grows st (action.finish side.Out) = drains_grow st.plan.out st.plan
 action_grows st (action.finish side.Err) = drains_grow st.plan.err st.plan
 
 pub items_grow : {E H : Type 0} (st : State E H) (actions : List (Action E H))
-    → (more : List (Item E H)) × ((after st actions).plan.items ≡ st.plan.items ++ more)
+    → (more : List (Item E H)) × ((after_actions st actions).plan.items ≡ st.plan.items ++ more)
 items_grow st [] = ([], sym (append-nil st.plan.items))
 items_grow st (act ∷ actions) =
     let one = action_grows st act in
     let rest = items_grow (advance st act) actions in
     (one.0 ++ rest.0, rest.1 ∙ ap (λ (l : List (Item _ _)). l ++ rest.0) one.1 ∙ append_assoc st.plan.items one.0 rest.0)
 
-module _ {E H : Type 0} (allows : Allows H) (number_of : E → ℕ) (course : Course) where
-  can : (st : State E H) (held : Holdings) (act : Action E H) → IsShaped st held
-      → action.Needs number_of course.base course.bound st act → CanDo act held
+module _ {E H : Type 0} (allows : Allows H) (number_of : E → ℕ) (course : RunContext) where
+  can : (st : State E H) (held : ResourcesView) (act : Action E H) → IsShaped st held
+      → action.Needs number_of course.base course.bound st act → FindsItsEnds act held
   can st held (action.duplicate depth) shaped needs = omega (arith, shaped.stack, needs)
-  can st held (action.tap side.Out) shaped needs = shaped.out ∙ needs
-  can st held (action.tap side.Err) shaped needs = shaped.err ∙ needs
+  can st held (action.duplicate_capture side.Out) shaped needs = shaped.out ∙ needs
+  can st held (action.duplicate_capture side.Err) shaped needs = shaped.err ∙ needs
   can st held act shaped needs = tt
 
   -- a run holds what a ready action needs
-  pub can_do : (st : State E H) (now : JournalView) (held : Holdings) (act : Action E H)
-      → Stands allows number_of course st now held
+  pub can_do : (st : State E H) (now : JournalView) (held : ResourcesView) (act : Action E H)
+      → RunInvariant allows number_of course st now held
       → IsReady number_of course.base course.bound st act
-      → (pops act ≤ length held.stack) × CanDo act held
+      → (pop_count act ≤ length held.stack) × FindsItsEnds act held
   can_do st now held act stands ready = (omega (arith, ready.full, stands.shaped.stack), can st held act stands.shaped ready.needs)
 
-  module _ (goal : State E H) (actions rest : List (Action E H)) (act : Action E H) (now : JournalView) (kept : Holdings) (stood : Stood allows number_of course goal actions now kept)
+  module _ (goal : State E H) (actions rest : List (Action E H)) (act : Action E H) (now : JournalView) (kept : ResourcesView) (stood : ReadyForActions allows number_of course goal actions now kept)
       (is : actions ≡ act ∷ rest) where
     ready_now : AreReady number_of course.base course.bound stood.state (act ∷ rest)
     ready_now = subst (λ (l : List (Action E H)). AreReady number_of course.base course.bound stood.state l) is stood.ready
 
-    goal_now : after stood.state (act ∷ rest) ≡ goal
-    goal_now = ap (λ (l : List (Action E H)). after stood.state l) (sym is) ∙ stood.goal_is
+    goal_now : after_actions stood.state (act ∷ rest) ≡ goal
+    goal_now = ap (λ (l : List (Action E H)). after_actions stood.state l) (sym is) ∙ stood.goal_is
 
-    pub can_now : (pops act ≤ length kept.stack) × CanDo act kept
+    pub can_now : (pop_count act ≤ length kept.stack) × FindsItsEnds act kept
     can_now = can_do stood.state now kept act stood.stands ready_now.0
 
-    pub goes_on : (next : JournalView) (other : Holdings)
-        → Goes allows number_of act now next kept other
-        → Stood allows number_of course goal rest next other
+    pub goes_on : (next : JournalView) (other : ResourcesView)
+        → ActionSucceeds allows number_of act now next kept other
+        → ReadyForActions allows number_of course goal rest next other
     goes_on next other goes = record {
       state = advance stood.state act;
       stands = goes course stood.state ready_now.0 stood.stands;
@@ -181,8 +181,8 @@ module _ {E H : Type 0} (allows : Allows H) (number_of : E → ℕ) (course : Co
       goal_is = goal_now;
     }
 
-    pub memory_now : (next : JournalView) (error : Error) → AddsNothing now next → IsWantOfMemory error
-        → Stopped allows number_of course goal.plan.items next kept error
+    pub memory_now : (next : JournalView) (error : Error) → AddsNothing now next → IsAllocationFailure error
+        → StopInvariant allows number_of course goal.plan.items next kept error
     memory_now next error nothing un =
         let more = items_grow stood.state (act ∷ rest) in
         stops_unasked allows number_of course stood.state goal.plan.items more.0 now next kept error stood.stands

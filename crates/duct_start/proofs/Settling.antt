@@ -17,13 +17,13 @@ use Rattle.duct_system.specs.declared.system.Stdio.{Stdio}
 use Rattle.duct_system.specs.declared.system.Stdio.TheVariants.{Inherit, Null, End}
 use Rattle.duct_start.specs.Actions as action
 use Rattle.duct_start.specs.Actions.{State}
-use Rattle.duct_start.specs.Chain.{Allows, end_of_place, missing_at, settled}
-use Rattle.duct_start.specs.Commands.{IsAlike, LetsGo, Settles, Unsettled, holding, with_stack}
-use Rattle.duct_start.specs.Found.{Target, Lends}
-use Rattle.duct_start.specs.Holdings.{Holdings, ends, pair_of}
-use Rattle.duct_start.specs.Standing.{Course, IsEarly, IsFrom, Stands}
+use Rattle.duct_start.specs.Chain.{Allows, end_of_place, missing_at, stream_after_hook}
+use Rattle.duct_start.specs.Commands.{IsAlike, CloseSucceeds, SettleSucceeds, SettleFails, resources_with_stack, with_stack}
+use Rattle.duct_start.specs.Surroundings.{Target, Lends}
+use Rattle.duct_start.specs.ResourcesView.{ResourcesView, open_ends, pipe_ends}
+use Rattle.duct_start.specs.RunInvariant.{RunContext, IsEarly, IsFrom, RunInvariant}
 use Rattle.duct_start.proofs.Counts.{count-append}
-use Rattle.duct_start.proofs.Going.{close_goes, duplicate_quits, lend_goes}
+use Rattle.duct_start.proofs.Going.{close_succeeds, duplicate_fails, lend_succeeds}
 use Rattle.duct_start.proofs.Sources.{pair_swapped}
 
 -- two equal lists whose parts have the same lengths have the same parts
@@ -50,17 +50,17 @@ split_second (x ∷ xs) (u ∷ us) ys vs same is =
 
 module _ {E H : Type 0} (allows : Allows H) (number_of : E → ℕ) where
   -- two groups of ends on the stack, one after the other, are swapped
-  pub swapped : (course : Course) (state : State E H) (now : JournalView) (held : Holdings)
+  pub swapped : (course : RunContext) (state : State E H) (now : JournalView) (held : ResourcesView)
       (a b c : List ℕ) (x y z : List (Target E)) → length a ≡ length x → length b ≡ length y
-      → Stands allows number_of course (with_stack (x ++ (y ++ z)) state) now
-      (holding (a ++ (b ++ c)) held)
-      → Stands allows number_of course (with_stack (y ++ (x ++ z)) state) now
-      (holding (b ++ (a ++ c)) held)
+      → RunInvariant allows number_of course (with_stack (x ++ (y ++ z)) state) now
+      (resources_with_stack (a ++ (b ++ c)) held)
+      → RunInvariant allows number_of course (with_stack (y ++ (x ++ z)) state) now
+      (resources_with_stack (b ++ (a ++ c)) held)
   swapped course state now held a b c x y z one other stands =
-      let pairs = pair_of held.out ++ pair_of held.err in
-      let same : (n : ℕ) → count_of n (ends (holding (b ++ (a ++ c)) held)) ≡ count_of n (ends (holding (a ++ (b ++ c)) held)) =
+      let pairs = pipe_ends held.out ++ pipe_ends held.err in
+      let same : (n : ℕ) → count_of n (open_ends (resources_with_stack (b ++ (a ++ c)) held)) ≡ count_of n (open_ends (resources_with_stack (a ++ (b ++ c)) held)) =
       λ n. omega (arith, count-append n (a ++ (b ++ c)) pairs, count-append n (b ++ (a ++ c)) pairs, count-append n a (b ++ c), count-append n b c, count-append n b (a ++ c), count-append n a c) in
-      let long : length (ends (holding (b ++ (a ++ c)) held)) ≡ length (ends (holding (a ++ (b ++ c)) held)) =
+      let long : length (open_ends (resources_with_stack (b ++ (a ++ c)) held)) ≡ length (open_ends (resources_with_stack (a ++ (b ++ c)) held)) =
       omega (arith, length-append (a ++ (b ++ c)) pairs, length-append (b ++ (a ++ c)) pairs, length-append a (b ++ c), length-append b c, length-append b (a ++ c), length-append a c) in
       let books = stands.books in
       record {
@@ -95,62 +95,62 @@ module _ {E H : Type 0} (allows : Allows H) (number_of : E → ℕ) where
 
   -- the end of a stream is closed
   pub lets_go : (n : ℕ) (now then : JournalView) → GivesEnds (Close n) 1 now then
-      → LetsGo {E = E} {H = H} allows number_of now then (End n)
+      → CloseSucceeds {E = E} {H = H} allows number_of now then (End n)
   lets_go n now then gives course state held over under above below Inherit alike same stands low = absurd alike
   lets_go n now then gives course state held over under above below Null alike same stands low = absurd alike
   lets_go n now then gives course state held over under above below (End t) alike same stands low =
       let first = swapped course state now held over (n ∷ []) under above (t ∷ []) below same refl stands in
-      close_goes allows number_of n (over ++ under) now then (holding (n ∷ (over ++ under)) held) refl gives course (with_stack (t ∷ (above ++ below)) state)
+      close_succeeds allows number_of n (over ++ under) now then (resources_with_stack (n ∷ (over ++ under)) held) refl gives course (with_stack (t ∷ (above ++ below)) state)
       (record { full = omega arith; needs = tt; low = omega (arith, low, length-append above (t ∷ below), length-append above below) }) first
 
-  lower_at : (base : ℕ) (ends : List E) (place : ℕ) (end : E) → All (λ e. number_of e < base) ends
-      → slice_get ends place ≡ Some end → number_of end < base
+  lower_at : (base : ℕ) (open_ends : List E) (place : ℕ) (end : E) → All (λ e. number_of e < base) open_ends
+      → slice_get open_ends place ≡ Some end → number_of end < base
   lower_at base [] place end all is = cc
-  lower_at base (x ∷ ends) zero end all is = let same : x ≡ end = cc in subst (λ e. number_of e < base) same (All-head (λ e. number_of e < base) x ends all)
-  lower_at base (x ∷ ends) (suc place) end all is = lower_at base ends place end (All-tail (λ e. number_of e < base) x ends all) is
+  lower_at base (x ∷ open_ends) zero end all is = let same : x ≡ end = cc in subst (λ e. number_of e < base) same (All-head (λ e. number_of e < base) x open_ends all)
+  lower_at base (x ∷ open_ends) (suc place) end all is = lower_at base open_ends place end (All-tail (λ e. number_of e < base) x open_ends all) is
 
   -- a stream is changed to one of the hook's ends, by a duplicate of it
-  pub settles_place : (ends : List E) (place n : ℕ) (end : E) (old : Stdio ℕ)
-      (now mid then : JournalView) → slice_get ends place ≡ Some end
+  pub settles_place : (open_ends : List E) (place n : ℕ) (end : E) (old : Stdio ℕ)
+      (now mid then : JournalView) → slice_get open_ends place ≡ Some end
       → GetsEnd (Duplicate (number_of end) (Ok n)) n now mid
-      → LetsGo {E = E} {H = H} allows number_of mid then old
-      → Settles {E = E} {H = H} allows number_of ends (port.Place place) now then old (End n)
-  settles_place ends place n end old now mid then at gets goes = λ course state held over under above below target alike same lower low stands.
+      → CloseSucceeds {E = E} {H = H} allows number_of mid then old
+      → SettleSucceeds {E = E} {H = H} allows number_of open_ends (port.Place place) now then old (End n)
+  settles_place open_ends place n end old now mid then at gets goes = λ course state held over under above below target alike same lower low stands.
       let stack = above ++ (end_of target ++ below) in
-      let ready : action.IsReady number_of course.base course.bound (with_stack stack state) (action.lend end) =
-      record { full = omega arith; needs = lower_at course.base ends place end lower at; low = omega (arith, low) } in
-      let lent = lend_goes allows number_of end n now mid (holding (over ++ (end_of old ++ under)) held) gets course (with_stack stack state) ready stands in
+      let ready : action.IsReady number_of course.base course.bound (with_stack stack state) (action.duplicate_caller_end end) =
+      record { full = omega arith; needs = lower_at course.base open_ends place end lower at; low = omega (arith, low) } in
+      let lent = lend_succeeds allows number_of end n now mid (resources_with_stack (over ++ (end_of old ++ under)) held) gets course (with_stack stack state) ready stands in
       let more : length (n ∷ over) ≡ length (Lends end ∷ above) = omega (arith, same) in
       let le : length (Lends end ∷ stack) ≤ course.bound = omega (arith, low) in
       let left = goes course state held (n ∷ over) under (Lends end ∷ above) below target alike more lent le in
-      let is : End (Lends end) ≡ settled (map Lends ends) (port.Place place) target = sym (ap end_of_place (slice_get-map Lends ends place ∙ ap (λ o. option_map Lends o) at)) in (
+      let is : End (Lends end) ≡ stream_after_hook (map Lends open_ends) (port.Place place) target = sym (ap end_of_place (slice_get-map Lends open_ends place ∙ ap (λ o. option_map Lends o) at)) in (
         subst (λ (t : Stdio (Target E)). IsAlike (End n) t) is tt,
-        subst (λ (t : Stdio (Target E)). Stands allows number_of course (with_stack (above ++ (end_of t ++ below)) state) then (holding (over ++ (n ∷ under)) held)) is
+        subst (λ (t : Stdio (Target E)). RunInvariant allows number_of course (with_stack (above ++ (end_of t ++ below)) state) then (resources_with_stack (over ++ (n ∷ under)) held)) is
             (swapped course state then held (n ∷ []) over under (Lends end ∷ []) above below refl same left),
       )
 
   -- the request for the duplicate was refused
-  pub unsettled : (ends : List E) (place : ℕ) (end : E) (fault : Fault) (now then : JournalView)
-      → slice_get ends place ≡ Some end
+  pub unsettled : (open_ends : List E) (place : ℕ) (end : E) (fault : Fault) (now then : JournalView)
+      → slice_get open_ends place ≡ Some end
       → IsRefused (Duplicate (number_of end) (Err fault)) 0 fault now then
-      → Unsettled {E = E} {H = H} allows number_of ends now then (System fault)
-  unsettled ends place end fault now then at refused = λ course state held stack targets lower low stands. (
+      → SettleFails {E = E} {H = H} allows number_of open_ends now then (System fault)
+  unsettled open_ends place end fault now then at refused = λ course state held stack targets lower low stands. (
     (λ no. no),
-    duplicate_quits allows number_of fault now then (holding stack held) (action.lend end) (number_of end) (λ st. refl) refused course (with_stack targets state)
-        (record { full = omega arith; needs = lower_at course.base ends place end lower at; low = omega (arith, low) }) stands,
+    duplicate_fails allows number_of fault now then (resources_with_stack stack held) (action.duplicate_caller_end end) (number_of end) (λ st. refl) refused course (with_stack targets state)
+        (record { full = omega arith; needs = lower_at course.base open_ends place end lower at; low = omega (arith, low) }) stands,
   )
 
 -- the end at a place that a hook has
-pub end_there : {E : Type 0} (ends : List E) (place : ℕ) (end other : E)
-    → missing_at (length ends) (port.Place place) ≡ None → end ≡ get_or ends place other
-    → slice_get ends place ≡ Some end
-end_there ends place end other there is =
-    let within : place < length ends = grind (arith, nat_tests) in
-    slice_get-get_or ends place other within ∙ ap (λ e. Some e) (sym is)
+pub end_there : {E : Type 0} (open_ends : List E) (place : ℕ) (end other : E)
+    → missing_at (length open_ends) (port.Place place) ≡ None → end ≡ get_or open_ends place other
+    → slice_get open_ends place ≡ Some end
+end_there open_ends place end other there is =
+    let within : place < length open_ends = grind (arith, nat_tests) in
+    slice_get-get_or open_ends place other within ∙ ap (λ e. Some e) (sym is)
 
 -- the same for an equal port
-pub settles_at : {E H : Type 0} (allows : Allows H) (number_of : E → ℕ) (ends : List E) (p q : Port)
+pub settles_at : {E H : Type 0} (allows : Allows H) (number_of : E → ℕ) (open_ends : List E) (p q : Port)
     (now then : JournalView) (old new : Stdio ℕ) → p ≡ q
-    → Settles {E = E} {H = H} allows number_of ends p now then old new
-    → Settles {E = E} {H = H} allows number_of ends q now then old new
-settles_at {E} {H} allows number_of ends p q now then old new is settles = subst (λ (x : Port). Settles {E = E} {H = H} allows number_of ends x now then old new) is settles
+    → SettleSucceeds {E = E} {H = H} allows number_of open_ends p now then old new
+    → SettleSucceeds {E = E} {H = H} allows number_of open_ends q now then old new
+settles_at {E} {H} allows number_of open_ends p q now then old new is settles = subst (λ (x : Port). SettleSucceeds {E = E} {H = H} allows number_of open_ends x now then old new) is settles

@@ -7,12 +7,12 @@ use Rattle.duct_system.specs.EntryView.{EntryView, Spawn, Duplicate}
 use Rattle.duct_system.specs.Origin.{Origin, Opened, origin}
 use Rattle.duct_system.specs.declared.spec.Stream.TheVariants as stream
 use Rattle.duct_system.specs.declared.system.Stdio.{Stdio}
-use Rattle.duct_start.specs.Actions.{level}
+use Rattle.duct_start.specs.Actions.{at_depth}
 use Rattle.duct_start.specs.Chain.{Allows}
 use Rattle.duct_start.specs.Follows.{AnswersBy, AnswersFrom, AnswersFromBy, Gives, GivesExactly}
-use Rattle.duct_start.specs.Found.{Target, Parents, Nothing, ReaderAt, WriterAt, FileAt, Lends}
+use Rattle.duct_start.specs.Surroundings.{Target, Parents, Nothing, ReaderAt, WriterAt, FileAt, Lends}
 use Rattle.duct_start.specs.Sources.{ComesFrom, IsDuplicate, IsDuplicateBefore, IsGivenFrom, Pairwise}
-use Rattle.duct_start.specs.Standing.{AnswersUnder, Course, GivesUnder, HasOrigin, IsEarly, IsFrom}
+use Rattle.duct_start.specs.RunInvariant.{AnswersUnder, RunContext, GivesUnder, HasOrigin, IsEarly, IsFrom}
 use Rattle.duct_start.specs.Step.{Item, AskSpawn}
 
 module _ {A B : Type 0} (R : A → B → Type 0) where
@@ -70,7 +70,7 @@ module _ {A B : Type 0} (R : A → B → Type 0) where
 
   -- the elements at a depth are related
   pub pair_level : (xs : List A) (us : List B) (depth : ℕ) (x : A) (other : B) → Pairwise R xs us
-      → level xs depth ≡ Some x → R x (unwrap_or (level us depth) other)
+      → at_depth xs depth ≡ Some x → R x (unwrap_or (at_depth us depth) other)
   pair_level xs us depth x other pairs is = pair_get (reverse xs) (reverse us) depth x other (pair_reversed xs us pairs) is
 
 -- what holds in any case also holds under a premise
@@ -142,7 +142,7 @@ module _ {E H : Type 0} (one other : Gives) (allows : Allows H) (number_of : E �
   answers_as place [] (entry ∷ entries) all = absurd all
   answers_as place (item ∷ items) (entry ∷ entries) all = (answer_as place item entry all.0, answers_as (place + 1) items entries all.1)
 
-module _ {E H : Type 0} (course : Course) (allows : Allows H) (number_of : E → ℕ) (L : List EntryView) (items : List (Item E H)) (entries : List EntryView) where
+module _ {E H : Type 0} (course : RunContext) (allows : Allows H) (number_of : E → ℕ) (L : List EntryView) (items : List (Item E H)) (entries : List EntryView) where
   -- entries that match some items make their requests
   pub plan_asked : AnswersUnder course allows number_of L 0 items entries
       → AnswersFromBy (λ io wanted. Pairwise (IsGivenFrom L) io wanted) allows number_of L 0 items

@@ -6,7 +6,7 @@ use Rattle.std.specs.declared.result.Result.{Result}
 use Rattle.std.specs.Prelude.{Bool, true, false, Err, Ok, Some, if◌then◌else◌, map, slice_get}
 use Rattle.duct_system.specs.EntryView.{EntryView, Spawn}
 use Rattle.duct_system.specs.Journal.{JournalView, GivesEnds, IsRefused}
-use Rattle.duct_system.specs.Ledger.{count_of, spent_by}
+use Rattle.duct_system.specs.Ledger.{count_of, closed_by}
 use Rattle.duct_system.specs.Origin.{origin}
 use Rattle.duct_system.specs.SpecView.{SpecView}
 use Rattle.duct_system.specs.Started.{child_by}
@@ -21,17 +21,17 @@ use Rattle.duct_system.specs.declared.system.Fault.{Fault}
 use Rattle.duct_system.specs.declared.system.Stdio.{Stdio}
 use Rattle.duct_system.specs.declared.system.Stdio.TheVariants.{Inherit, Null, End}
 use Rattle.duct_start.specs.Actions as action
-use Rattle.duct_start.specs.Actions.{Scope, State, Three, left_by, many, found_by}
+use Rattle.duct_start.specs.Actions.{Scope, State, PerStream, stack_after_ports, port_end_count, surroundings_by}
 use Rattle.duct_start.specs.Asked.{IsAsked}
 use Rattle.duct_start.specs.Causes.{StoppedBy}
-use Rattle.duct_start.specs.Chain.{Allows, Refuses, Chain, ChainStops, WiredTo, lent}
-use Rattle.duct_start.specs.Commands.{AreAlike, Halts, IsAlike, Refused, Staged, handed, holding, is_named, lends, named, program_in, streams_in, taken_by, with_stack}
+use Rattle.duct_start.specs.Chain.{Allows, Refuses, HooksChange, HooksStop, SpecWithStreams, hooks_by_origin}
+use Rattle.duct_start.specs.Commands.{AreAlike, StopsAmongHooks, IsAlike, StoppedWithCause, HooksInvariant, stack_with_streams, resources_with_stack, asks_canonical_path, hooks_by_target, after_canonical_path, program_in, streams_in, port_streams, with_stack}
 use Rattle.duct_start.specs.Follows.{IsAskedAt, IsSpawnedBy, pairs_in, program_at, text_in}
-use Rattle.duct_start.specs.Found.{Found, Target, Parents, Nothing, ReaderAt, WriterAt, FileAt, Lends}
-use Rattle.duct_start.specs.Holdings.{Holdings, pair_of}
-use Rattle.duct_start.specs.Plan.{Plan, asks, program_of}
+use Rattle.duct_start.specs.Surroundings.{Surroundings, Target, Parents, Nothing, ReaderAt, WriterAt, FileAt, Lends}
+use Rattle.duct_start.specs.ResourcesView.{ResourcesView, pipe_ends}
+use Rattle.duct_start.specs.Plan.{Plan, with_item, program_of}
 use Rattle.duct_start.specs.Sources.{IsGivenFrom, Pairwise}
-use Rattle.duct_start.specs.Standing.{Course, GivesUnder, IsEarly, IsFrom, IsHooks, IsLater, Sourced, Stands, Stopped, hooked, origin_to}
+use Rattle.duct_start.specs.RunInvariant.{RunContext, GivesUnder, IsEarly, IsFrom, IsHookError, IsLater, HasOrigins, RunInvariant, StopInvariant, hooked, origin_to}
 use Rattle.duct_start.specs.Step.{Item, AskCanonicalize, AskSpawn}
 use Rattle.duct_start.proofs.Chained.{chain_as, chain_stops_as, lends_lent, wired_as}
 use Rattle.duct_start.proofs.Changing.{alike_long, handed_long}
@@ -40,7 +40,7 @@ use Rattle.duct_start.proofs.Going.{adds_as}
 use Rattle.duct_start.proofs.Origins.{trace-append}
 use Rattle.duct_start.proofs.Sources.{known, pair_first, pair_second}
 use Rattle.duct_start.proofs.Stacks.{get_seam}
-use Rattle.duct_start.proofs.Standing.{Changes, as_many, answers_front, few_of, sources_now, stands_more, stops_more, stops_unasked}
+use Rattle.duct_start.proofs.RunInvariant.{Changes, as_many, answers_front, few_of, sources_now, stands_more, stops_more, stops_unasked}
 use Rattle.duct_start.proofs.Wires.{origin_of, streams_taken}
 
 -- the elements of a prefix keep their indices
@@ -51,10 +51,10 @@ get_within (x ∷ xs) ys zero low = refl
 get_within (x ∷ xs) ys (suc n) low = get_within xs ys n (omega (arith, low))
 
 -- a run in which these entries were added first
-abbrev pub onwards : Course → List EntryView → Course
+abbrev pub onwards : RunContext → List EntryView → RunContext
 onwards course front = record course { front = front }
 
-module _ {E H : Type 0} (allows : Allows H) (number_of : E → ℕ) (course : Course) (front : List EntryView) where
+module _ {E H : Type 0} (allows : Allows H) (number_of : E → ℕ) (course : RunContext) (front : List EntryView) where
   later_as : (next : ℕ) (more : List EntryView) → IsLater course next more
       → IsLater (onwards course front) next more
   later_as next more later = record { fresh = later.fresh }
@@ -63,9 +63,9 @@ module _ {E H : Type 0} (allows : Allows H) (number_of : E → ℕ) (course : Co
       → IsLater course next more
   later_back next more later = record { fresh = later.fresh }
 
-  pub stands_onwards : (state : State E H) (now : JournalView) (held : Holdings)
-      (stands : Stands allows number_of course state now held) → stands.added ≡ front
-      → Stands allows number_of (onwards course front) state now held
+  pub stands_onwards : (state : State E H) (now : JournalView) (held : ResourcesView)
+      (stands : RunInvariant allows number_of course state now held) → stands.added ≡ front
+      → RunInvariant allows number_of (onwards course front) state now held
   stands_onwards state now held stands is = record {
     added = stands.added;
     books = stands.books;
@@ -84,9 +84,9 @@ module _ {E H : Type 0} (allows : Allows H) (number_of : E → ℕ) (course : Co
         → (l : List EntryView) × (added ≡ course.front ++ l)
     begins_back added later is = (from.0 ++ later, is ∙ ap (λ l. l ++ later) from.1 ∙ append_assoc course.front from.0 later)
 
-    pub stands_back : (state : State E H) (now : JournalView) (held : Holdings)
-        → Stands allows number_of (onwards course front) state now held
-        → Stands allows number_of course state now held
+    pub stands_back : (state : State E H) (now : JournalView) (held : ResourcesView)
+        → RunInvariant allows number_of (onwards course front) state now held
+        → RunInvariant allows number_of course state now held
     stands_back state now held stands = record {
       added = stands.added;
       books = stands.books;
@@ -100,9 +100,9 @@ module _ {E H : Type 0} (allows : Allows H) (number_of : E → ℕ) (course : Co
       clean = stands.clean;
     }
 
-  pub stopped_back : (items : List (Item E H)) (now : JournalView) (held : Holdings) (e : Error)
-      → Stopped allows number_of (onwards course front) items now held e
-      → Stopped allows number_of course items now held e
+  pub stopped_back : (items : List (Item E H)) (now : JournalView) (held : ResourcesView) (e : Error)
+      → StopInvariant allows number_of (onwards course front) items now held e
+      → StopInvariant allows number_of course items now held e
   stopped_back items now held e stopped = record {
     added = stopped.added;
     books = stopped.books;
@@ -148,9 +148,9 @@ module _ {E : Type 0} (early : Type 0) (number_of : E → ℕ) where
   alike_origin L (End n) (End t) alike is = let there = known early L n (origin_to (trace L) number_of t) is.0 in (there.0, λ e. ap End (there.1 e))
 
   -- three streams, and the ends below them, come from where they should
-  pub alike_origins : (L : List EntryView) (s : Three (Stdio ℕ)) (t : Three (Stdio (Target E)))
+  pub alike_origins : (L : List EntryView) (s : PerStream (Stdio ℕ)) (t : PerStream (Stdio (Target E)))
       (numbers : List ℕ) (targets : List (Target E)) → AreAlike s t
-      → Pairwise (IsFrom early number_of L) (handed s numbers) (handed t targets)
+      → Pairwise (IsFrom early number_of L) (stack_with_streams s numbers) (stack_with_streams t targets)
       → GivesUnder early L (s.input ∷ s.output ∷ s.error ∷ [])
       (map (stream_of (origin_of (trace L) number_of)) (t.input ∷ t.output ∷ t.error ∷ []))
       × Pairwise (IsFrom early number_of L) numbers targets
@@ -164,22 +164,22 @@ module _ {E : Type 0} (early : Type 0) (number_of : E → ℕ) where
       (((i.0, (o.0, (e.0, tt))), λ early. λ j. i.1 early j ∷ o.1 early j ∷ e.1 early j ∷ []), pair_second R (end_of s.input) numbers (end_of t.input) targets (alike_long s.input t.input alike.input) two)
 
 -- what the entry of a spawn changes in what is held
-spawn_changes : (spec : SpecView) (s : Three (Stdio ℕ)) (answer : Result ℕ Fault) (count : ℕ)
-    (now next : JournalView) (low : Holdings) (children : List ℕ) →
+spawn_changes : (spec : SpecView) (s : PerStream (Stdio ℕ)) (answer : Result ℕ Fault) (count : ℕ)
+    (now next : JournalView) (low : ResourcesView) (children : List ℕ) →
     let entry = Spawn spec (s.input ∷ s.output ∷ s.error ∷ []) answer in
-    GivesEnds entry count now next → count ≡ length (spent_by entry) → children ≡ low.children ++ child_by entry →
-    Changes entry now next (holding (handed s low.stack) low) (record low { children = children })
-spawn_changes spec s answer count now next low children gives many started =
+    GivesEnds entry count now next → count ≡ length (closed_by entry) → children ≡ low.children ++ child_by entry →
+    Changes entry now next (resources_with_stack (stack_with_streams s low.stack) low) (record low { children = children })
+spawn_changes spec s answer count now next low children gives port_end_count started =
     let entry = Spawn spec (s.input ∷ s.output ∷ s.error ∷ []) answer in
-    let pairs = pair_of low.out ++ pair_of low.err in
+    let pairs = pipe_ends low.out ++ pipe_ends low.err in
     let i = end_of s.input in
     let o = end_of s.output in
     let e = end_of s.error in
     record {
-      adds = adds_as entry 0 count 0 (length (spent_by entry)) now next gives refl (sym many);
+      adds = adds_as entry 0 count 0 (length (closed_by entry)) now next gives refl (sym port_end_count);
       fresh = fresh_none now.next next.next gives.next_grows;
-      even = λ n. omega (arith, count-append n (handed s low.stack) pairs, count-append n low.stack pairs, count-append n e (o ++ (i ++ low.stack)), count-append n o (i ++ low.stack), count-append n i low.stack, count-append n i (o ++ (e ++ [])), count-append n o (e ++ []), ap (λ l. count_of n l) (append-nil e));
-      long = omega (arith, length-append (handed s low.stack) pairs, length-append low.stack pairs, length-append e (o ++ (i ++ low.stack)), length-append o (i ++ low.stack), length-append i low.stack, length-append i (o ++ (e ++ [])), length-append o (e ++ []), ap (λ l. length l) (append-nil e));
+      even = λ n. omega (arith, count-append n (stack_with_streams s low.stack) pairs, count-append n low.stack pairs, count-append n e (o ++ (i ++ low.stack)), count-append n o (i ++ low.stack), count-append n i low.stack, count-append n i (o ++ (e ++ [])), count-append n o (e ++ []), ap (λ l. count_of n l) (append-nil e));
+      long = omega (arith, length-append (stack_with_streams s low.stack) pairs, length-append low.stack pairs, length-append e (o ++ (i ++ low.stack)), length-append o (i ++ low.stack), length-append i low.stack, length-append i (o ++ (e ++ [])), length-append o (e ++ []), ap (λ l. length l) (append-nil e));
       children_are = started;
       feeds_are = sym (append-nil low.feeds);
       drains_are = sym (append-nil low.drains);
@@ -190,19 +190,19 @@ spawn_changes spec s answer count now next low children gives many started =
 program_there : (b : Bool) (entries rest : List EntryView) (words : List (List ℕ)) (place : ℕ)
     → length entries ≡ place → (b ≡ true → 0 < place) →
     (if b then text_in (slice_get (entries ++ rest) (place - 1)) else program_of words) ≡ program_in b entries words
-program_there false entries rest words place many positive = refl
-program_there true entries rest words place many positive =
-    let within : place - 1 < length entries = omega (arith, many, positive refl) in
-    ap (λ o. text_in o) (get_within entries rest (place - 1) within) ∙ ap (λ n. text_in (slice_get entries (n - 1))) (sym many)
+program_there false entries rest words place port_end_count positive = refl
+program_there true entries rest words place port_end_count positive =
+    let within : place - 1 < length entries = omega (arith, port_end_count, positive refl) in
+    ap (λ o. text_in o) (get_within entries rest (place - 1) within) ∙ ap (λ n. text_in (slice_get entries (n - 1))) (sym port_end_count)
 
 named_positive : {E H : Type 0} (b : Bool) (p : Plan E H) (item : Item E H) → b ≡ true
-    → 0 < length (if b then asks item p else p).items
+    → 0 < length (if b then with_item item p else p).items
 named_positive false p item is = absurd (cc)
 named_positive true p item is = omega (arith, length-append p.items (item ∷ []))
 
 -- three streams without an end add nothing to a stack
-none_handed : {A : Type 0} (s : Three (Stdio A)) (rest : List A)
-    → length (ends_of (s.input ∷ s.output ∷ s.error ∷ [])) ≡ 0 → handed s rest ≡ rest
+none_handed : {A : Type 0} (s : PerStream (Stdio A)) (rest : List A)
+    → length (ends_of (s.input ∷ s.output ∷ s.error ∷ [])) ≡ 0 → stack_with_streams s rest ≡ rest
 none_handed s rest none =
     let i = end_of s.input in
     let o = end_of s.output in
@@ -217,9 +217,9 @@ none_handed s rest none =
 
 -- a stopped run, with more items that were not reached
 unfoldable pub stopped_front : {E H : Type 0} (allows : Allows H) (number_of : E → ℕ)
-    (course : Course) (items more : List (Item E H)) (now : JournalView) (held : Holdings)
-    (e : Error) → Stopped allows number_of course items now held e
-    → Stopped allows number_of course (items ++ more) now held e
+    (course : RunContext) (items more : List (Item E H)) (now : JournalView) (held : ResourcesView)
+    (e : Error) → StopInvariant allows number_of course items now held e
+    → StopInvariant allows number_of course (items ++ more) now held e
 stopped_front allows number_of course items more now held e stopped = record {
   added = stopped.added;
   books = stopped.books;
@@ -230,72 +230,72 @@ stopped_front allows number_of course items more now held e stopped = record {
 
 -- a run that stopped with an error that is not a hook's
 pub plain_refused : {E H : Type 0} (allows : Allows H) (refuses : Refuses H) (number_of : E → ℕ)
-    (course : Course) (items : List (Item E H)) (now : JournalView) (held : Holdings) (e : Error)
-    → (IsHooks e → ⊥) → Stopped allows number_of course items now held e
-    → Refused allows refuses number_of course items now held e
+    (course : RunContext) (items : List (Item E H)) (now : JournalView) (held : ResourcesView) (e : Error)
+    → (IsHookError e → ⊥) → StopInvariant allows number_of course items now held e
+    → StoppedWithCause allows refuses number_of course items now held e
 plain_refused allows refuses number_of course items now held e plain stopped = record { stopped = stopped; cause = λ is. absurd (plain is) }
 
 -- the error that stops a chain is a hook's
 chain_hooks : {H O : Type 0} (allows : Allows H) (refuses : Refuses H) (hooks : List (H × List O))
-    (before : WiredTo O) (e : Error) → ChainStops allows refuses hooks before e → IsHooks e
+    (before : SpecWithStreams O) (e : Error) → HooksStop allows refuses hooks before e → IsHookError e
 chain_hooks allows refuses [] before e stops = absurd stops
 chain_hooks allows refuses (hook ∷ hooks) before (error.Hook fault) stops = tt
 chain_hooks allows refuses (hook ∷ hooks) before (error.HookEnd place) stops = tt
 chain_hooks allows refuses (hook ∷ hooks) before e (inl stops) = absurd stops
 chain_hooks allows refuses (hook ∷ hooks) before e (inr rest) = chain_hooks allows refuses hooks rest.0 e rest.2
 
-module _ {E H : Type 0} (allows : Allows H) (number_of : E → ℕ) (course : Course) (scope : Scope E H) (words : List (List ℕ)) (ports : Three Port) (state : State E H) (held : Holdings)
-    (asked : SpecView) (program : List ℕ) (front : List EntryView) (full : many ports.input + (many ports.output + many ports.error) ≤ length state.stack)
-    (can : action.CanSpawn number_of course.base course.bound state.stack scope ports) (asked_is : IsAsked course.pairs program (found_by scope ports state.stack) words asked)
-    (long_is : length (trace front) ≡ length (named scope words state).plan.items) (named_is : program_in (is_named scope words) (trace front) words ≡ program)
+module _ {E H : Type 0} (allows : Allows H) (number_of : E → ℕ) (course : RunContext) (scope : Scope E H) (words : List (List ℕ)) (ports : PerStream Port) (state : State E H) (held : ResourcesView)
+    (asked : SpecView) (program : List ℕ) (front : List EntryView) (full : port_end_count ports.input + (port_end_count ports.output + port_end_count ports.error) ≤ length state.stack)
+    (can : action.CanSpawn number_of course.base course.bound state.stack scope ports) (asked_is : IsAsked course.pairs program (surroundings_by scope ports state.stack) words asked)
+    (long_is : length (trace front) ≡ length (after_canonical_path scope words state).plan.items) (named_is : program_in (asks_canonical_path scope words) (trace front) words ≡ program)
     (tops : (L : List EntryView) × (numbers : List ℕ) × Pairwise (IsFrom (IsEarly course) number_of L) numbers state.stack) where
-  abbrev found : Found E H
-  found = found_by scope ports state.stack
+  abbrev found : Surroundings E H
+  found = surroundings_by scope ports state.stack
 
-  abbrev pub before : WiredTo (Target E)
+  abbrev pub before : SpecWithStreams (Target E)
   before =
-      let t = taken_by ports state.stack in
+      let t = port_streams ports state.stack in
       record { spec = asked; input = t.input; output = t.output; error = t.error }
 
   -- the state, and what is held, below the ends of the command
   abbrev pub below : State E H
-  below = with_stack (left_by ports state.stack) (named scope words state)
+  below = with_stack (stack_after_ports ports state.stack) (after_canonical_path scope words state)
 
-  abbrev pub low : Holdings
-  low = holding (left_by ports held.stack) held
+  abbrev pub low : ResourcesView
+  low = resources_with_stack (stack_after_ports ports held.stack) held
 
   asked_at : (L rest : List EntryView) → trace L ≡ trace front ++ rest
       → pairs_in (trace L) ≡ course.pairs →
-      IsAskedAt (trace L) number_of (length (named scope words state).plan.items) found words (wired_as (origin_of (trace L) number_of) before)
+      IsAskedAt (trace L) number_of (length (after_canonical_path scope words state).plan.items) found words (wired_as (origin_of (trace L) number_of) before)
   asked_at L rest is pairs =
       let entries = trace L in
-      let place = length (named scope words state).plan.items in
+      let place = length (after_canonical_path scope words state).plan.items in
       let there : program_at entries place found words ≡ program =
       ap (λ l. program_at l place found words) is
-      ∙ program_there (is_named scope words) (trace front) rest words place long_is (named_positive (is_named scope words) state.plan (AskCanonicalize (program_of words))) ∙ named_is in
+      ∙ program_there (asks_canonical_path scope words) (trace front) rest words place long_is (named_positive (asks_canonical_path scope words) state.plan (AskCanonicalize (program_of words))) ∙ named_is in
       let spec : IsAsked (pairs_in entries) (program_at entries place found words) found words asked =
       subst (λ ps. IsAsked ps (program_at entries place found words) found words asked) (sym pairs) (subst (λ p. IsAsked course.pairs p found words asked) (sym there) asked_is) in
       record { spec_is = spec; streams_are = streams_taken entries number_of scope ports state.stack full can.ports_are (origins_any (IsEarly course) number_of tops.0 entries tops.1 state.stack tops.2) }
 
   -- a command after all of its hooks
-  module _ (now next : JournalView) (spec : SpecView) (s : Three (Stdio ℕ)) (staged : Staged allows number_of (onwards course front) below low before scope.hooks now spec s) where
+  module _ (now next : JournalView) (spec : SpecView) (s : PerStream (Stdio ℕ)) (staged : HooksInvariant allows number_of (onwards course front) below low before scope.hooks now spec s) where
     abbrev entry : Result ℕ Fault → EntryView
     entry answer = Spawn spec (s.input ∷ s.output ∷ s.error ∷ []) answer
 
-    abbrev handed_now : Holdings
-    handed_now = holding (handed s low.stack) low
+    abbrev handed_now : ResourcesView
+    handed_now = resources_with_stack (stack_with_streams s low.stack) low
 
     abbrev begins_with : State E H
-    begins_with = with_stack (handed (streams_in staged.wired) below.stack) below
+    begins_with = with_stack (stack_with_streams (streams_in staged.wired) below.stack) below
 
     abbrev ends_with : State E H
     ends_with = action.advance state (action.spawn scope words ports)
 
-    module _ (answer : Result ℕ Fault) (kept : Holdings) (ch : Changes (entry answer) now next handed_now kept) (more : List EntryView) (later : IsLater (onwards course front) next.next more) where
+    module _ (answer : Result ℕ Fault) (kept : ResourcesView) (ch : Changes (entry answer) now next handed_now kept) (more : List EntryView) (later : IsLater (onwards course front) next.next more) where
       abbrev whole : List EntryView
       whole = (staged.stands.added ++ entry answer ∷ []) ++ more
 
-      sourced : Sourced (IsEarly course) number_of whole begins_with handed_now
+      sourced : HasOrigins (IsEarly course) number_of whole begins_with handed_now
       sourced = sources_now allows number_of (onwards course front) begins_with ends_with (AskSpawn found words ∷ []) now next handed_now kept (entry answer) staged.stands refl ch more later
 
       origins : GivesUnder (IsEarly course) whole (s.input ∷ s.output ∷ s.error ∷ [])
@@ -314,8 +314,8 @@ module _ {E H : Type 0} (allows : Allows H) (number_of : E → ℕ) (course : Co
           let traced : trace whole ≡ trace front ++ trace rest = ap (λ l. trace l) split ∙ trace-append front rest in
           let pairs : pairs_in (trace whole) ≡ course.pairs = ap (λ l. pairs_in (trace l)) (append_assoc staged.stands.added (entry answer ∷ []) more) ∙ staged.stands.begins (entry answer ∷ more) in
           let f = origin_of (trace whole) number_of in
-          let chain : Chain allows (lent number_of scope.hooks) (wired_as f before) (wired_as f staged.wired) =
-          subst (λ l. Chain allows l (wired_as f before) (wired_as f staged.wired)) (lends_lent (trace whole) number_of scope.hooks) (chain_as f allows (lends scope.hooks) before staged.wired staged.chain) in
+          let chain : HooksChange allows (hooks_by_origin number_of scope.hooks) (wired_as f before) (wired_as f staged.wired) =
+          subst (λ l. HooksChange allows l (wired_as f before) (wired_as f staged.wired)) (lends_lent (trace whole) number_of scope.hooks) (chain_as f allows (hooks_by_target scope.hooks) before staged.wired staged.chain) in
           (wired_as f before, wired_as f staged.wired, asked_at whole (trace rest) traced pairs, chain, sym staged.spec_is, origins.0)
 
     low_few : length low.stack + 3 < course.bound
@@ -344,55 +344,55 @@ module _ {E H : Type 0} (allows : Allows H) (number_of : E → ℕ) (course : Co
         )
 
     -- the child was started
-    pub spawn_goes : (number count : ℕ) → GivesEnds (entry (Ok number)) count now next
-        → count ≡ length (spent_by (entry (Ok number)))
-        → Stands allows number_of (onwards course front) ends_with next
+    pub spawn_succeeds : (number count : ℕ) → GivesEnds (entry (Ok number)) count now next
+        → count ≡ length (closed_by (entry (Ok number)))
+        → RunInvariant allows number_of (onwards course front) ends_with next
         (record low { children = held.children ++ number ∷ [] })
-    spawn_goes number count gives many =
-        let kept : Holdings = record low { children = held.children ++ number ∷ [] } in
-        let ch = spawn_changes spec s (Ok number) count now next low kept.children gives many refl in
+    spawn_succeeds number count gives port_end_count =
+        let kept : ResourcesView = record low { children = held.children ++ number ∷ [] } in
+        let ch = spawn_changes spec s (Ok number) count now next low kept.children gives port_end_count refl in
         stands_more allows number_of (onwards course front) begins_with ends_with (AskSpawn found words ∷ []) now next handed_now kept (entry (Ok number)) staged.stands refl ch
         (few_of course.bound kept (omega (arith, low_few))) (record { stack = low_long; out = staged.stands.shaped.out; err = staged.stands.shaped.err }) refl refl
         (λ more later. (given_there (Ok number) kept ch more later, tt))
         (λ more later. let z = sourced (Ok number) kept ch more later in record { stack = (origins (Ok number) kept ch more later).1; out = z.out; err = z.err })
 
     -- the system refused the spawn
-    pub spawn_quits : (fault : Fault) (count : ℕ)
+    pub spawn_fails : (fault : Fault) (count : ℕ)
         → IsRefused (entry (Err fault)) count fault now next
-        → count ≡ length (spent_by (entry (Err fault)))
-        → Stopped allows number_of (onwards course front) ends_with.plan.items next low (System fault)
-    spawn_quits fault count (inl gives) many =
-        let ch = spawn_changes spec s (Err fault) count now next low low.children gives many (sym (append-nil low.children)) in
+        → count ≡ length (closed_by (entry (Err fault)))
+        → StopInvariant allows number_of (onwards course front) ends_with.plan.items next low (System fault)
+    spawn_fails fault count (inl gives) port_end_count =
+        let ch = spawn_changes spec s (Err fault) count now next low low.children gives port_end_count (sym (append-nil low.children)) in
         stops_more allows number_of (onwards course front) begins_with ends_with (AskSpawn found words ∷ []) now next handed_now low (entry (Err fault)) staged.stands refl ch
         (few_of course.bound low (omega (arith, low_few))) fault refl (λ more later. (given_there (Err fault) low ch more later, tt))
-    spawn_quits fault count (inr nothing) many =
-        let none : length (spent_by (entry (Err fault))) ≡ 0 = sym many ∙ nothing.0 in
-        let same : handed s low.stack ≡ low.stack = none_handed s low.stack none in
-        subst (λ (l : List ℕ). Stopped allows number_of (onwards course front) ends_with.plan.items next (holding l low) (System fault)) same
+    spawn_fails fault count (inr nothing) port_end_count =
+        let none : length (closed_by (entry (Err fault))) ≡ 0 = sym port_end_count ∙ nothing.0 in
+        let same : stack_with_streams s low.stack ≡ low.stack = none_handed s low.stack none in
+        subst (λ (l : List ℕ). StopInvariant allows number_of (onwards course front) ends_with.plan.items next (resources_with_stack l low) (System fault)) same
         (stops_unasked allows number_of (onwards course front) begins_with ends_with.plan.items (AskSpawn found words ∷ []) now next handed_now (System fault) staged.stands refl nothing.1 nothing.2)
 
   -- a hook stopped the command, or a request failed while its hooks ran
   pub halts_refused : (refuses : Refuses H)
       (from : (later : List EntryView) × (front ≡ course.front ++ later))
-      (now : JournalView) (s : Three (Stdio ℕ)) (e : Error)
-      → Halts allows refuses number_of (onwards course front) below low before scope.hooks now s e
-      → Refused allows refuses number_of course
+      (now : JournalView) (s : PerStream (Stdio ℕ)) (e : Error)
+      → StopsAmongHooks allows refuses number_of (onwards course front) below low before scope.hooks now s e
+      → StoppedWithCause allows refuses number_of course
       (action.advance state (action.spawn scope words ports)).plan.items now
-      (holding (handed s low.stack) low) e
+      (resources_with_stack (stack_with_streams s low.stack) low) e
   unfolding stopped_front stopped_back
-  halts_refused refuses from now s e (inl plain) = plain_refused allows refuses number_of course _ now (holding (handed s low.stack) low) e plain.0
-      (stopped_front allows number_of course below.plan.items (AskSpawn found words ∷ []) now (holding (handed s low.stack) low) e (stopped_back allows number_of course front below.plan.items now (holding (handed s low.stack) low) e plain.1))
+  halts_refused refuses from now s e (inl plain) = plain_refused allows refuses number_of course _ now (resources_with_stack (stack_with_streams s low.stack) low) e plain.0
+      (stopped_front allows number_of course below.plan.items (AskSpawn found words ∷ []) now (resources_with_stack (stack_with_streams s low.stack) low) e (stopped_back allows number_of course front below.plan.items now (resources_with_stack (stack_with_streams s low.stack) low) e plain.1))
   halts_refused refuses from now s e (inr stopping) =
       let stands = stopping.stands in
       let items = below.plan.items ++ AskSpawn found words ∷ [] in
-      let stopped : Stopped allows number_of course items now (holding (handed s low.stack) low) e =
-      stopped_front allows number_of course below.plan.items (AskSpawn found words ∷ []) now (holding (handed s low.stack) low) e
-      (stopped_back allows number_of course front below.plan.items now (holding (handed s low.stack) low) e (record {
+      let stopped : StopInvariant allows number_of course items now (resources_with_stack (stack_with_streams s low.stack) low) e =
+      stopped_front allows number_of course below.plan.items (AskSpawn found words ∷ []) now (resources_with_stack (stack_with_streams s low.stack) low) e
+      (stopped_back allows number_of course front below.plan.items now (resources_with_stack (stack_with_streams s low.stack) low) e (record {
         added = stands.added;
         books = stands.books;
         few = stands.few;
         answers = stands.answers;
-        ended = hooked {added = stands.added} {error = e} stands.clean (chain_hooks allows refuses (lends scope.hooks) before e stopping.stops);
+        ended = hooked {added = stands.added} {error = e} stands.clean (chain_hooks allows refuses (hooks_by_target scope.hooks) before e stopping.stops);
       })) in
       record {
         stopped = stopped;
@@ -401,8 +401,8 @@ module _ {E H : Type 0} (allows : Allows H) (number_of : E → ℕ) (course : Co
             let rest = stands.starts.0 ++ more in
             let traced : entries ≡ trace front ++ trace rest = ap (λ l. trace (l ++ more)) stands.starts.1 ∙ ap (λ l. trace l) (append_assoc front stands.starts.0 more) ∙ trace-append front rest in
             let f = origin_of entries number_of in
-            let stops : ChainStops allows refuses (lent number_of scope.hooks) (wired_as f before) e =
-            subst (λ l. ChainStops allows refuses l (wired_as f before) e) (lends_lent entries number_of scope.hooks) (chain_stops_as f allows refuses (lends scope.hooks) before e stopping.stops) in
+            let stops : HooksStop allows refuses (hooks_by_origin number_of scope.hooks) (wired_as f before) e =
+            subst (λ l. HooksStop allows refuses l (wired_as f before) e) (lends_lent entries number_of scope.hooks) (chain_stops_as f allows refuses (hooks_by_target scope.hooks) before e stopping.stops) in
             let there : StoppedBy allows refuses number_of entries (length below.plan.items) (Some (AskSpawn found words)) e =
             (wired_as f before, asked_at (stands.added ++ more) (trace rest) traced (stands.begins more), stops) in
             subst (λ n. StoppedBy allows refuses number_of entries n (slice_get items n) e) (sym (as_many stands))

@@ -3,7 +3,7 @@ use Rattle.std.proofs.Common.{◌≡◌, ℕ, suc, zero, ◌<◌, ◌≤◌, Lis
 use Rattle.std.proofs.lemmas.List.{length-reverse, reverse-append}
 use Rattle.std.proofs.lemmas.Option.{slice_get_within}
 use Rattle.std.specs.Prelude.{Some, slice_get, reverse}
-use Rattle.duct_start.specs.Actions.{Action, State, level, pops, Needs, IsReady, AreReady, Leads, after, advance}
+use Rattle.duct_start.specs.Actions.{Action, State, at_depth, pop_count, Needs, IsReady, AreReady, Leads, after_actions, advance}
 
 pub get_seam : {A : Type 0} (xs : List A) (x : A) → slice_get (xs ++ x ∷ []) (length xs) ≡ Some x
 get_seam [] x = refl
@@ -17,30 +17,30 @@ get_front (y ∷ xs) ys (suc n) x is = get_front xs ys n x is
 
 -- the depth of a pushed element is the length of the stack that it was pushed onto
 pub level_top : {A : Type 0} (stack : List A) (x : A) (n : ℕ) → n ≡ length stack
-    → level (x ∷ stack) n ≡ Some x
+    → at_depth (x ∷ stack) n ≡ Some x
 level_top stack x n is =
     ap (λ l. slice_get l n) (reverse-append (x ∷ []) stack)
     ∙ ap (λ k. slice_get (reverse stack ++ x ∷ []) k) (is ∙ sym (length-reverse stack)) ∙ get_seam (reverse stack) x
 
 -- an element below it keeps its depth
-pub level_under : {A : Type 0} (stack : List A) (x y : A) (n : ℕ) → level stack n ≡ Some y
-    → level (x ∷ stack) n ≡ Some y
+pub level_under : {A : Type 0} (stack : List A) (x y : A) (n : ℕ) → at_depth stack n ≡ Some y
+    → at_depth (x ∷ stack) n ≡ Some y
 level_under stack x y n is = ap (λ l. slice_get l n) (reverse-append (x ∷ []) stack) ∙ get_front (reverse stack) (x ∷ []) n y is
 
-pub level_within : {A : Type 0} (stack : List A) (x : A) (n : ℕ) → level stack n ≡ Some x
+pub level_within : {A : Type 0} (stack : List A) (x : A) (n : ℕ) → at_depth stack n ≡ Some x
     → n < length stack
 level_within stack x n is = omega (arith, slice_get_within (reverse stack) n x is, length-reverse stack)
 
 module _ {E H : Type 0} (number_of : E → ℕ) (base bound : ℕ) where
   ready-append : (state : State E H) (xs ys : List (Action E H)) →
-      AreReady number_of base bound state xs → AreReady number_of base bound (after state xs) ys → AreReady number_of base bound state (xs ++ ys)
+      AreReady number_of base bound state xs → AreReady number_of base bound (after_actions state xs) ys → AreReady number_of base bound state (xs ++ ys)
   ready-append state [] ys first second = second
   ready-append state (x ∷ xs) ys first second = (first.0, ready-append (advance state x) xs ys first.1 second)
 
-  after-append : (state : State E H) (xs ys : List (Action E H))
-      → after state (xs ++ ys) ≡ after (after state xs) ys
-  after-append state [] ys = refl
-  after-append state (x ∷ xs) ys = after-append (advance state x) xs ys
+  after_actions-append : (state : State E H) (xs ys : List (Action E H))
+      → after_actions state (xs ++ ys) ≡ after_actions (after_actions state xs) ys
+  after_actions-append state [] ys = refl
+  after_actions-append state (x ∷ xs) ys = after_actions-append (advance state x) xs ys
 
   pub leads_none : (state : State E H) → Leads number_of base bound state [] state
   leads_none state = record { ready = tt; is = refl }
@@ -56,11 +56,11 @@ module _ {E H : Type 0} (number_of : E → ℕ) (base bound : ℕ) where
       → Leads number_of base bound state (xs ++ ys) next
   leads_append state mid next xs ys first second = record {
     ready = ready-append state xs ys first.ready (subst (λ (s : State E H). AreReady number_of base bound s ys) (sym first.is) second.ready);
-    is = after-append state xs ys ∙ ap (λ (s : State E H). after s ys) first.is ∙ second.is;
+    is = after_actions-append state xs ys ∙ ap (λ (s : State E H). after_actions s ys) first.is ∙ second.is;
   }
 
   -- one action that pops nothing
-  pub leads_one : (state : State E H) (x : Action E H) (next : State E H) → pops x ≡ 0
+  pub leads_one : (state : State E H) (x : Action E H) (next : State E H) → pop_count x ≡ 0
       → Needs number_of base bound state x → advance state x ≡ next → length next.stack ≤ bound
       → Leads number_of base bound state (x ∷ []) next
   leads_one state x next none needs is low = record {

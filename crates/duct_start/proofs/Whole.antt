@@ -8,17 +8,17 @@ use Rattle.duct_system.specs.Trace.{IsClean, segment, trace}
 use Rattle.duct_start.specs.Actions.{State}
 use Rattle.duct_start.specs.Chain.{Allows}
 use Rattle.duct_start.specs.Follows.{AsksPlan, FollowsWhole}
-use Rattle.duct_start.specs.Holdings.{Holdings, ends}
+use Rattle.duct_start.specs.ResourcesView.{ResourcesView, open_ends}
 use Rattle.duct_start.specs.Kinds.{entry_kind, item_kind}
 use Rattle.duct_start.specs.Plan.{Plan}
-use Rattle.duct_start.specs.Standing.{AnswersUnder, Course, IsLater, Stands}
-use Rattle.duct_start.specs.Start.{AreEarlier, GotNew, Grows, HoldsFew, StartSucceeds, ceiling, depth}
+use Rattle.duct_start.specs.RunInvariant.{AnswersUnder, RunContext, IsLater, RunInvariant}
+use Rattle.duct_start.specs.Start.{AreEarlier, GotNew, Grows, KeepsFewOpen, StartSucceeds, ceiling, depth}
 use Rattle.duct_start.specs.Step.{Item}
 use Rattle.duct_start.specs.TreeView.{TreeView}
 use Rattle.duct_start.proofs.Ceiling.{ceiling_low}
 use Rattle.duct_start.proofs.Ending.{clean_stops}
 use Rattle.duct_start.proofs.Sources.{exactly_answered, plan_asked}
-use Rattle.duct_start.proofs.Standing.{as_many}
+use Rattle.duct_start.proofs.RunInvariant.{as_many}
 
 pub segment-added : (old added : List EntryView) → segment old (old ++ added) ≡ added
 segment-added [] added = refl
@@ -41,13 +41,13 @@ grows_by_added old new added entries_are counted next room =
     }
 
 -- no entry comes later
-pub nothing_later : (course : Course) (next : ℕ) → IsLater course next []
+pub nothing_later : (course : RunContext) (next : ℕ) → IsLater course next []
 nothing_later course next = record { fresh = λ number lt. refl }
 
-module _ {E H : Type 0} (allows : Allows H) (number_of : E → ℕ) (tree : TreeView E H) (plan : Plan E H) (course : Course) (state : State E H) (old now : JournalView) (held : Holdings)
-    (stands : Stands allows number_of course state now held)
-    (old_is : course.old ≡ old) (base_is : course.base ≡ ceiling number_of tree) (bound_is : course.bound ≡ 2 * depth tree + 4) (items_are : state.plan.items ≡ plan.items) (all_spent : ends held ≡ []) where
-  none_held : (n : ℕ) → count_of n (ends held) ≡ 0
+module _ {E H : Type 0} (allows : Allows H) (number_of : E → ℕ) (tree : TreeView E H) (plan : Plan E H) (course : RunContext) (state : State E H) (old now : JournalView) (held : ResourcesView)
+    (stands : RunInvariant allows number_of course state now held)
+    (old_is : course.old ≡ old) (base_is : course.base ≡ ceiling number_of tree) (bound_is : course.bound ≡ 2 * depth tree + 4) (items_are : state.plan.items ≡ plan.items) (all_spent : open_ends held ≡ []) where
+  none_held : (n : ℕ) → count_of n (open_ends held) ≡ 0
   none_held n = ap (λ (l : List ℕ). count_of n l) all_spent
 
   early : AreEarlier number_of course.old tree → course.base ≤ course.old.next
@@ -82,7 +82,7 @@ module _ {E H : Type 0} (allows : Allows H) (number_of : E → ℕ) (tree : Tree
         whole = λ earlier. subst (λ (l : List EntryView). FollowsWhole allows number_of plan l) same (whole earlier);
         balanced = subst IsBalanced same (λ n. (omega (arith, books.even n, none_held n), books.once n));
         got_new = subst (λ (l : List EntryView). GotNew course.old l) same books.above;
-        few = subst (λ (l : List EntryView). HoldsFew tree l) same (λ count. omega (arith, bound_is, stands.few count));
+        few = subst (λ (l : List EntryView). KeepsFewOpen tree l) same (λ count. omega (arith, bound_is, stands.few count));
       }
 
   -- a run that has made all requests of the plan and holds no end is a start that succeeds

@@ -10,12 +10,12 @@ use Rattle.duct_system.specs.declared.spec.Stream.TheVariants.{In, Out, Err}
 use Rattle.duct_system.specs.declared.system.Side.{Side}
 use Rattle.duct_system.specs.declared.system.Side.TheVariants as side
 use Rattle.duct_start.specs.Asked.{port_to}
-use Rattle.duct_start.specs.Found.{Found, Target, Parents, Nothing, ReaderAt, WriterAt, FileAt, Lends, Change, target_of}
-use Rattle.duct_start.specs.Plan.{Plan, asks, captures_out, captures_err, commanded, drains}
+use Rattle.duct_start.specs.Surroundings.{Surroundings, Target, Parents, Nothing, ReaderAt, WriterAt, FileAt, Lends, VariableChange, target_of}
+use Rattle.duct_start.specs.Plan.{Plan, with_item, with_output_capture, with_error_capture, with_command, with_drain}
 use Rattle.duct_start.specs.Step.{Item, AskPipe, AskOpenRead, AskCreate, AskFeed}
 
 -- one value for each of the three streams
-pub record Three (X : Type 0) : Type 0 where
+pub record PerStream (X : Type 0) : Type 0 where
   pub input : X
   pub output : X
   pub error : X
@@ -24,11 +24,11 @@ pub record Three (X : Type 0) : Type 0 where
 -- hooks with the outermost first, each with its ends
 pub record Scope (E H : Type 0) : Type 0 where
   pub folder : Option (List ℕ)
-  pub changes : List Change
+  pub changes : List VariableChange
   pub hooks : List (H × List E)
 
 -- one action, where a spawn names its scope by a value of type `K`. A pipe leaves its write end on
--- top, an input its read end. A depth is counted from the bottom of the stack; `tap` duplicates the
+-- top, an input its read end. A depth is counted from the bottom of the stack; `duplicate_capture` duplicates the
 -- write end of a capture pipe, `finish` closes it and starts the drain worker of its read end. A
 -- spawn first requests the canonical path of its program, where one is needed
 pub data ActionOf (E K : Type 0) : Type 0 where
@@ -38,11 +38,11 @@ pub data ActionOf (E K : Type 0) : Type 0 where
   input : ActionOf E K
   capture : Side → ActionOf E K
   duplicate : ℕ → ActionOf E K
-  tap : Side → ActionOf E K
-  lend : E → ActionOf E K
+  duplicate_capture : Side → ActionOf E K
+  duplicate_caller_end : E → ActionOf E K
   parent : Side → ActionOf E K
   close : ActionOf E K
-  spawn : K → List (List ℕ) → Three Port → ActionOf E K
+  spawn : K → List (List ℕ) → PerStream Port → ActionOf E K
   feed : List ℕ → ActionOf E K
   finish : Side → ActionOf E K
 
@@ -57,107 +57,122 @@ pub record State (E H : Type 0) : Type 0 where
   pub plan : Plan E H
 
 -- the element at a depth of a stack
-abbrev pub level : {A : Type 0} → List A → ℕ → Option A
-level stack depth = slice_get (reverse stack) depth
+abbrev pub at_depth : {A : Type 0} → List A → ℕ → Option A
+at_depth stack depth = slice_get (reverse stack) depth
 
 -- the place of the pipe whose end is on top of the stack, or 0 if no end of a pipe is on top
-abbrev pub place_of : {E : Type 0} → List (Target E) → ℕ
-place_of (ReaderAt place ∷ stack) = place
-place_of (WriterAt place ∷ stack) = place
-place_of stack = 0
+abbrev pub pipe_place : {E : Type 0} → List (Target E) → ℕ
+pipe_place (ReaderAt place ∷ stack) = place
+pipe_place (WriterAt place ∷ stack) = place
+pipe_place stack = 0
 
 -- where a stream goes by its port: to the end on top of the stack, to nothing, or else to the
 -- parent's stream
-abbrev pub given : {E : Type 0} → Stream → Port → List (Target E) → Target E
-given stream port.Given (top ∷ stack) = top
-given stream port.Null stack = Nothing
-given stream p stack = Parents stream
+abbrev pub stream_target : {E : Type 0} → Stream → Port → List (Target E) → Target E
+stream_target stream port.Given (top ∷ stack) = top
+stream_target stream port.Null stack = Nothing
+stream_target stream p stack = Parents stream
 
 -- the stack after a port has taken its end, if it takes one
-abbrev pub less : {A : Type 0} → Port → List A → List A
-less port.Given stack = drop 1 stack
-less p stack = stack
+abbrev pub stack_after_port : {A : Type 0} → Port → List A → List A
+stack_after_port port.Given stack = drop 1 stack
+stack_after_port p stack = stack
 
 -- how many ends a port takes
-abbrev pub many : Port → ℕ
-many port.Given = 1
-many p = 0
+abbrev pub port_end_count : Port → ℕ
+port_end_count port.Given = 1
+port_end_count p = 0
 
 -- the stack after three ports have taken their ends; stderr's end is on top
-abbrev pub left_by : {A : Type 0} → Three Port → List A → List A
-left_by ports stack = less ports.input (less ports.output (less ports.error stack))
+abbrev pub stack_after_ports : {A : Type 0} → PerStream Port → List A → List A
+stack_after_ports ports stack = stack_after_port ports.input
+    (stack_after_port ports.output (stack_after_port ports.error stack))
 
 -- what a command finds, by its scope and by what its ports take from the stack
-abbrev pub found_by : {E H : Type 0} → Scope E H → Three Port → List (Target E) → Found E H
-found_by scope ports stack = record {
+abbrev pub surroundings_by : {E H : Type 0} → Scope E H → PerStream Port → List (Target E)
+    → Surroundings E H
+surroundings_by scope ports stack = record {
   folder = scope.folder;
   changes = scope.changes;
-  input = given In ports.input (less ports.output (less ports.error stack));
-  output = given Out ports.output (less ports.error stack);
-  error = given Err ports.error stack;
+  input = stream_target In ports.input (stack_after_port ports.output
+      (stack_after_port ports.error stack));
+  output = stream_target Out ports.output (stack_after_port ports.error stack);
+  error = stream_target Err ports.error stack;
   hooks = scope.hooks;
 }
 
 -- the plan with the capture pipe of this side open
-abbrev pub captures : {E H : Type 0} → Side → Plan E H → Plan E H
-captures side.Out plan = captures_out plan
-captures side.Err plan = captures_err plan
+abbrev pub with_capture : {E H : Type 0} → Side → Plan E H → Plan E H
+with_capture side.Out plan = with_output_capture plan
+with_capture side.Err plan = with_error_capture plan
 
 -- the place of the capture pipe of this side, if it is open
-abbrev pub capture_at : {E H : Type 0} → Side → Plan E H → Option ℕ
-capture_at side.Out plan = plan.out
-capture_at side.Err plan = plan.err
+abbrev pub capture_place : {E H : Type 0} → Side → Plan E H → Option ℕ
+capture_place side.Out plan = plan.out
+capture_place side.Err plan = plan.err
 
 -- the plan after the capture pipe of this side is finished: its drain worker is requested, if the
 -- pipe was open
-abbrev pub finished : {E H : Type 0} → Side → Plan E H → Plan E H
-finished side.Out plan =
-    record { items = (drains plan.out plan).items; out = None; err = plan.err }
-finished side.Err plan =
-    record { items = (drains plan.err plan).items; out = plan.out; err = None }
+abbrev pub with_capture_finished : {E H : Type 0} → Side → Plan E H → Plan E H
+with_capture_finished side.Out plan =
+    record { items = (with_drain plan.out plan).items; out = None; err = plan.err }
+with_capture_finished side.Err plan =
+    record { items = (with_drain plan.err plan).items; out = plan.out; err = None }
 
 -- the state with an empty stack and this plan
 abbrev pub with_plan : {E H : Type 0} → Plan E H → State E H
 with_plan plan = record { stack = []; plan = plan }
 
 -- the state with these ends pushed onto the stack, and one more item
-abbrev pub gets : {E H : Type 0} → List (Target E) → Item E H → State E H → State E H
-gets tops item state = record { stack = tops ++ state.stack; plan = asks item state.plan }
+abbrev pub with_opened_ends : {E H : Type 0} → List (Target E) → Item E H → State E H → State E H
+with_opened_ends tops item state = record {
+  stack = tops
+      ++ state.stack;
+  plan = with_item item state.plan;
+}
 
 -- the state with one more end on the stack
-abbrev pub pushes : {E H : Type 0} → Target E → State E H → State E H
-pushes top state = record { stack = top ∷ state.stack; plan = state.plan }
+abbrev pub with_end : {E H : Type 0} → Target E → State E H → State E H
+with_end top state = record { stack = top ∷ state.stack; plan = state.plan }
 
 -- the state after an action
 abbrev pub advance : {E H : Type 0} → State E H → Action E H → State E H
 advance state (open_read path) =
-    gets (FileAt (length state.plan.items) ∷ []) (AskOpenRead path) state
-advance state (create path) = gets (FileAt (length state.plan.items) ∷ []) (AskCreate path) state
+    with_opened_ends (FileAt (length state.plan.items) ∷ []) (AskOpenRead path) state
+advance state (create path) = with_opened_ends (FileAt (length state.plan.items) ∷ [])
+    (AskCreate path) state
 advance state pipe =
-    let place = length state.plan.items in gets (WriterAt place ∷ ReaderAt place ∷ []) AskPipe state
+    let place = length state.plan.items in with_opened_ends
+    (WriterAt place ∷ ReaderAt place ∷ []) AskPipe state
 advance state input =
-    let place = length state.plan.items in gets (ReaderAt place ∷ WriterAt place ∷ []) AskPipe state
-advance state (capture which) = record { stack = state.stack; plan = captures which state.plan }
-advance state (duplicate depth) = pushes (unwrap_or (level state.stack depth) Nothing) state
-advance state (tap which) = pushes (WriterAt (unwrap_or (capture_at which state.plan) 0)) state
-advance state (lend end) = pushes (Lends end) state
-advance state (parent side.Out) = pushes (Parents Out) state
-advance state (parent side.Err) = pushes (Parents Err) state
+    let place = length state.plan.items in with_opened_ends
+    (ReaderAt place ∷ WriterAt place ∷ []) AskPipe state
+advance state (capture which) = record { stack = state.stack; plan = with_capture which state.plan }
+advance state (duplicate depth) = with_end (unwrap_or (at_depth state.stack depth) Nothing) state
+advance state (duplicate_capture which) = with_end (WriterAt
+    (unwrap_or (capture_place which state.plan) 0)) state
+advance state (duplicate_caller_end end) = with_end (Lends end) state
+advance state (parent side.Out) = with_end (Parents Out) state
+advance state (parent side.Err) = with_end (Parents Err) state
 advance state close = record { stack = drop 1 state.stack; plan = state.plan }
 advance state (spawn scope words ports) = record {
-  stack = left_by ports state.stack;
-  plan = commanded (found_by scope ports state.stack) words state.plan;
+  stack = stack_after_ports ports state.stack;
+  plan = with_command (surroundings_by scope ports state.stack) words state.plan;
 }
 advance state (feed bytes) = record {
   stack = drop 1 state.stack;
-  plan = asks (AskFeed (place_of state.stack) bytes) state.plan;
+  plan = with_item (AskFeed (pipe_place state.stack) bytes) state.plan;
 }
-advance state (finish which) = record { stack = state.stack; plan = finished which state.plan }
+advance state (finish which) = record {
+  stack = state.stack;
+  plan = with_capture_finished which
+      state.plan;
+}
 
 -- the state after a list of actions
-abbrev pub after : {E H : Type 0} → State E H → List (Action E H) → State E H
-after state [] = state
-after state (action ∷ actions) = after (advance state action) actions
+abbrev pub after_actions : {E H : Type 0} → State E H → List (Action E H) → State E H
+after_actions state [] = state
+after_actions state (action ∷ actions) = after_actions (advance state action) actions
 
 -- whether an action opens the capture pipe of this side
 abbrev pub is_capture : {E K : Type 0} → Side → ActionOf E K → Bool
@@ -182,7 +197,7 @@ IsWriter (WriterAt place ∷ stack) = Unit {0}
 IsWriter stack = ⊥
 
 -- the port of a stream
-abbrev pub port_in : Three Port → Stream → Port
+abbrev pub port_in : PerStream Port → Stream → Port
 port_in ports In = ports.input
 port_in ports Out = ports.output
 port_in ports Err = ports.error
@@ -194,24 +209,25 @@ AreBelow number_of base hooks = All (λ hook. All (λ end. number_of end < base)
 -- what a spawn needs: each stream has the port of where it goes, the ends of its hooks have numbers
 -- below `base`, and the stack has room for three streams and one more end
 pub record CanSpawn {E H : Type 0} (number_of : E → ℕ) (base bound : ℕ) (stack : List (Target E))
-    (scope : Scope E H) (ports : Three Port) : Type 0 where
+    (scope : Scope E H) (ports : PerStream Port) : Type 0 where
   pub ports_are : (stream : Stream)
-      → port_in ports stream ≡ port_to stream (target_of (found_by scope ports stack) stream)
+      → port_in ports stream ≡ port_to stream (target_of (surroundings_by scope ports stack) stream)
   pub below : AreBelow number_of base scope.hooks
-  pub place : length (left_by ports stack) + 3 < bound
+  pub place : length (stack_after_ports ports stack) + 3 < bound
 
 -- how many ends an action pops
-abbrev pub pops : {E K : Type 0} → ActionOf E K → ℕ
-pops close = 1
-pops (feed bytes) = 1
-pops (spawn scope words ports) = many ports.input + (many ports.output + many ports.error)
-pops action = 0
+abbrev pub pop_count : {E K : Type 0} → ActionOf E K → ℕ
+pop_count close = 1
+pop_count (feed bytes) = 1
+pop_count (spawn scope words ports) = port_end_count ports.input
+    + (port_end_count ports.output + port_end_count ports.error)
+pop_count action = 0
 
 -- what an action needs besides the ends that it pops; a caller's end has a number below this one
 abbrev pub Needs : {E H : Type 0} → (E → ℕ) → ℕ → ℕ → State E H → Action E H → Type 0
 Needs number_of base bound state (duplicate depth) = depth < length state.stack
-Needs number_of base bound state (tap which) = IsSome (capture_at which state.plan)
-Needs number_of base bound state (lend end) = number_of end < base
+Needs number_of base bound state (duplicate_capture which) = IsSome (capture_place which state.plan)
+Needs number_of base bound state (duplicate_caller_end end) = number_of end < base
 Needs number_of base bound state (feed bytes) = IsWriter state.stack
 Needs number_of base bound state (spawn scope words ports) =
     CanSpawn number_of base bound state.stack scope ports
@@ -220,7 +236,7 @@ Needs number_of base bound state action = Unit {0}
 -- an action has all that it needs, and leaves at most `bound` ends on the stack
 pub record IsReady {E H : Type 0} (number_of : E → ℕ) (base bound : ℕ) (state : State E H)
     (action : Action E H) : Type 0 where
-  pub full : pops action ≤ length state.stack
+  pub full : pop_count action ≤ length state.stack
   pub needs : Needs number_of base bound state action
   pub low : length (advance state action).stack ≤ bound
 
@@ -235,4 +251,4 @@ AreReady number_of base bound state (action ∷ actions) =
 pub record Leads {E H : Type 0} (number_of : E → ℕ) (base bound : ℕ) (state : State E H)
     (actions : List (Action E H)) (next : State E H) : Type 0 where
   pub ready : AreReady number_of base bound state actions
-  pub is : after state actions ≡ next
+  pub is : after_actions state actions ≡ next

@@ -1,7 +1,7 @@
 -- The spec and the streams that a tree gives a command, before its hooks.
 use Rattle.std.specs.Prelude.{ℕ, List, [], ◌∷◌, ◌≡◌, slice_index, slice_get, flat_map}
 use Rattle.std.specs.Option.{option_to_list}
-use Rattle.duct_system.specs.Ledger.{got_by}
+use Rattle.duct_system.specs.Ledger.{opened_by}
 use Rattle.duct_system.specs.EntryView.{EntryView}
 use Rattle.duct_system.specs.Origin.{Origin, Opened, ParentOf, Lent}
 use Rattle.duct_system.specs.SpecView.{SpecView, Vars, AreOrdered, variable_in, port_of}
@@ -12,7 +12,7 @@ use Rattle.duct_system.specs.declared.spec.Stream.TheVariants.{In, Out, Err}
 use Rattle.duct_system.specs.declared.system.Side.TheVariants as side
 use Rattle.duct_system.specs.declared.system.Stdio.{Stdio}
 use Rattle.duct_system.specs.declared.system.Stdio.TheVariants.{Inherit, Null, End}
-use Rattle.duct_start.specs.Found.{Found, Target, Parents, Nothing, ReaderAt, WriterAt, FileAt, Lends, target_of, variable}
+use Rattle.duct_start.specs.Surroundings.{Surroundings, Target, Parents, Nothing, ReaderAt, WriterAt, FileAt, Lends, target_of, variable}
 
 -- the port of a stream that goes there: it inherits the parent's own stream where that is the same
 -- stream
@@ -30,7 +30,7 @@ with_program program (word ∷ words) = program ∷ words
 
 -- the spec has these words with this program, the folder and the variables that the command finds,
 -- each name once and in order, and for each stream the port of where it goes
-pub record IsAsked {E H : Type 0} (pairs : Vars) (program : List ℕ) (found : Found E H)
+pub record IsAsked {E H : Type 0} (pairs : Vars) (program : List ℕ) (found : Surroundings E H)
     (words : List (List ℕ)) (spec : SpecView) : Type 0 where
   pub words_are : spec.words ≡ with_program program words
   pub folder_is : spec.folder ≡ found.folder
@@ -42,7 +42,7 @@ pub record IsAsked {E H : Type 0} (pairs : Vars) (program : List ℕ) (found : F
 -- end and end 1 the write end
 abbrev pub end_at : List EntryView → ℕ → ℕ → ℕ
 end_at entries place which =
-    slice_index (flat_map got_by (option_to_list (slice_get entries place))) which
+    slice_index (flat_map opened_by (option_to_list (slice_get entries place))) which
 
 -- the stream that goes there, by the origin of its end, from the trace and the numbers of the
 -- caller's ends
@@ -60,7 +60,8 @@ stream_to entries number_of stream (FileAt place) = End (Opened (end_at entries 
 stream_to entries number_of stream (Lends end) = End (Lent (number_of end))
 
 -- the three streams of a command, in the order stdin, stdout, stderr
-abbrev pub streams_to : {E H : Type 0} → List EntryView → (E → ℕ) → Found E H → List (Stdio Origin)
+abbrev pub streams_to : {E H : Type 0} → List EntryView → (E → ℕ) → Surroundings E H → List
+    (Stdio Origin)
 streams_to entries number_of found =
     stream_to entries number_of In found.input ∷ stream_to entries number_of Out found.output
     ∷ stream_to entries number_of Err found.error ∷ []

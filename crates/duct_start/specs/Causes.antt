@@ -8,7 +8,7 @@ use Rattle.duct_system.specs.declared.error.Error.{Error}
 use Rattle.duct_system.specs.declared.error.Error.TheVariants.{System, Checked, NotUtf8, Hook, HookEnd, Deadline, Memory}
 use Rattle.duct_system.specs.declared.system.Fault.{Fault}
 use Rattle.duct_system.specs.declared.system.Kind.TheVariants.{OutOfMemory}
-use Rattle.duct_start.specs.Chain.{Wired, Allows, Refuses, ChainStops, lent}
+use Rattle.duct_start.specs.Chain.{SpecWithOrigins, Allows, Refuses, HooksStop, hooks_by_origin}
 use Rattle.duct_start.specs.Follows.{IsAskedAt}
 use Rattle.duct_start.specs.Plan.{Plan}
 use Rattle.duct_start.specs.Step.{Item, AskSpawn}
@@ -26,8 +26,8 @@ last_fault added =
 abbrev pub StoppedBy : {E H : Type 0} → Allows H → Refuses H → (E → ℕ) → List EntryView → ℕ
     → Option (Item E H) → Error → Type 0
 StoppedBy allows refuses number_of entries place (Some (AskSpawn found words)) error =
-    (before : Wired) × IsAskedAt entries number_of place found words before
-    × ChainStops allows refuses (lent number_of found.hooks) before error
+    (before : SpecWithOrigins) × IsAskedAt entries number_of place found words before
+    × HooksStop allows refuses (hooks_by_origin number_of found.hooks) before error
 StoppedBy allows refuses number_of entries place other error = ⊥
 
 -- the hooks of the command whose spawn is the next item of the plan stop the start with this error
@@ -39,21 +39,21 @@ StoppedNext allows refuses number_of plan added error =
 
 -- a start may fail with this error: an allocation failure, the fault of the last entry that is not
 -- a close, a hook's fault, or a place at which a hook has no end
-abbrev pub MayAnswer : List EntryView → Error → Type 0
-MayAnswer added (System fault) = (fault.kind ≡ OutOfMemory) ⊎ (last_fault added ≡ Some fault)
-MayAnswer added (Checked text) = ⊥
-MayAnswer added NotUtf8 = ⊥
-MayAnswer added (Hook fault) = Unit {0}
-MayAnswer added (HookEnd place) = Unit {0}
-MayAnswer added Deadline = ⊥
-MayAnswer added Memory = Unit {0}
+abbrev pub MayFailWith : List EntryView → Error → Type 0
+MayFailWith added (System fault) = (fault.kind ≡ OutOfMemory) ⊎ (last_fault added ≡ Some fault)
+MayFailWith added (Checked text) = ⊥
+MayFailWith added NotUtf8 = ⊥
+MayFailWith added (Hook fault) = Unit {0}
+MayFailWith added (HookEnd place) = Unit {0}
+MayFailWith added Deadline = ⊥
+MayFailWith added Memory = Unit {0}
 
 -- the error has a cause: a system's fault is an allocation failure or that of the last entry that
 -- is not a close; a hook's error comes from the next command; the only other error is an allocation
 -- failure
 abbrev pub HasCause : {E H : Type 0} → Allows H → Refuses H → (E → ℕ) → Plan E H → List EntryView
     → Error → Type 0
-HasCause allows refuses number_of plan added (System fault) = MayAnswer added (System fault)
+HasCause allows refuses number_of plan added (System fault) = MayFailWith added (System fault)
 HasCause allows refuses number_of plan added (Hook fault) =
     StoppedNext allows refuses number_of plan added (Hook fault)
 HasCause allows refuses number_of plan added (HookEnd place) =
@@ -62,6 +62,6 @@ HasCause allows refuses number_of plan added Memory = Unit {0}
 HasCause allows refuses number_of plan added other = ⊥
 
 -- if the last entry that is not a close has a fault, the error is that fault and no other
-abbrev pub AnswersLastFault : List EntryView → Error → Type 0
-AnswersLastFault added error =
+abbrev pub ReturnsLastFault : List EntryView → Error → Type 0
+ReturnsLastFault added error =
     (fault : Fault) → last_fault added ≡ Some fault → error ≡ System fault

@@ -9,8 +9,8 @@ use Rattle.duct_system.specs.Streams.{stream_of}
 use Rattle.duct_system.specs.Trace.{trace, IsClean, StopsAtFault}
 use Rattle.duct_system.specs.declared.system.Stdio.{Stdio}
 use Rattle.duct_start.specs.Asked.{IsAsked, end_at, streams_to}
-use Rattle.duct_start.specs.Chain.{Wired, Allows, Chain, lent}
-use Rattle.duct_start.specs.Found.{Found}
+use Rattle.duct_start.specs.Chain.{SpecWithOrigins, Allows, HooksChange, hooks_by_origin}
+use Rattle.duct_start.specs.Surroundings.{Surroundings}
 use Rattle.duct_start.specs.Plan.{Plan, is_canonical, program_of}
 use Rattle.duct_start.specs.Sources.{IsGivenFrom, Pairwise}
 use Rattle.duct_start.specs.Step.{Item, AskEnvironment, AskPipe, AskOpenRead, AskCreate, AskCanonicalize, AskSpawn, AskFeed, AskDrain, AskReader}
@@ -27,14 +27,15 @@ text_in _ = []
 
 -- the program of the command whose spawn is at this place: the canonical path that the entry before
 -- it returned, if one was requested, or else the first word
-abbrev pub program_at : {E H : Type 0} → List EntryView → ℕ → Found E H → List (List ℕ) → List ℕ
+abbrev pub program_at : {E H : Type 0} → List EntryView → ℕ → Surroundings E H → List (List ℕ)
+    → List ℕ
 program_at entries place found words =
     if is_canonical found words then text_in (slice_get entries (place - 1)) else program_of words
 
 -- the spec and the streams that the tree gives the command whose spawn is at this place, before its
 -- hooks
 pub record IsAskedAt {E H : Type 0} (entries : List EntryView) (number_of : E → ℕ) (place : ℕ)
-    (found : Found E H) (words : List (List ℕ)) (wired : Wired) : Type 0 where
+    (found : Surroundings E H) (words : List (List ℕ)) (wired : SpecWithOrigins) : Type 0 where
   pub spec_is : IsAsked (pairs_in entries)
       (program_at entries place found words) found words wired.spec
   pub streams_are : wired.input ∷ wired.output ∷ wired.error ∷ []
@@ -48,14 +49,15 @@ Gives = List (Stdio ℕ) → List (Stdio Origin) → Type 0
 -- the spawn at this place is given what the hooks of the command make of the spec and the streams
 -- that the tree gives it, and `gives` holds for its streams
 abbrev pub IsSpawnedBy : {E H : Type 0} → (List (Stdio Origin) → Type 0) → Allows H → (E → ℕ)
-    → List EntryView → ℕ → Found E H → List (List ℕ) → SpecView → Type 0
+    → List EntryView → ℕ → Surroundings E H → List (List ℕ) → SpecView → Type 0
 IsSpawnedBy gives allows number_of entries place found words spec =
-    (before : Wired) × (after : Wired) × IsAskedAt entries number_of place found words before
-    × Chain allows (lent number_of found.hooks) before after
+    (before : SpecWithOrigins) × (after : SpecWithOrigins)
+    × IsAskedAt entries number_of place found words before
+    × HooksChange allows (hooks_by_origin number_of found.hooks) before after
     × (spec ≡ after.spec) × gives (after.input ∷ after.output ∷ after.error ∷ [])
 
 -- the same, with streams of exactly these origins
-abbrev pub IsSpawnedAt : {E H : Type 0} → Allows H → (E → ℕ) → List EntryView → ℕ → Found E H
+abbrev pub IsSpawnedAt : {E H : Type 0} → Allows H → (E → ℕ) → List EntryView → ℕ → Surroundings E H
     → List (List ℕ) → SpecView → List (Stdio Origin) → Type 0
 IsSpawnedAt allows number_of entries place found words spec streams =
     IsSpawnedBy (λ wanted. streams ≡ wanted) allows number_of entries place found words spec

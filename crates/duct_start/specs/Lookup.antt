@@ -4,44 +4,45 @@ use Rattle.std.specs.Option.{option_or}
 use Rattle.std.specs.declared.option.Option.{Option}
 use Rattle.duct_system.specs.declared.spec.Stream.{Stream}
 use Rattle.duct_system.specs.declared.spec.Stream.TheVariants.{In, Out, Err}
-use Rattle.duct_start.specs.Found.{Found, Target, Parents, Change}
-use Rattle.duct_start.specs.Path.{Path, place_of, step_of}
+use Rattle.duct_start.specs.Surroundings.{Surroundings, Target, Parents, VariableChange}
+use Rattle.duct_start.specs.Path.{Path, segment_place, step_of}
 use Rattle.duct_start.specs.Step.{Turn, Decides, Follows}
 
 -- where a stream goes, by the turn of a node and by what is found further out
-abbrev pub turned : {E : Type 0} → Turn E → (Stream → Target E) → Target E
-turned (Decides target) outer = target
-turned (Follows stream) outer = outer stream
+abbrev pub resolved_turn : {E : Type 0} → Turn E → (Stream → Target E) → Target E
+resolved_turn (Decides target) outer = target
+resolved_turn (Follows stream) outer = outer stream
 
 -- where a stream goes: the nearest node that decides the stream says where; a node that lets it
 -- follow another stream only changes which stream is looked up further out
-abbrev pub goes : {E H : Type 0} → Path E H → Stream → Target E
-goes [] stream = Parents stream
-goes (crumb ∷ up) stream =
-    turned ((step_of crumb).turn (place_of crumb) stream) (λ outer. goes up outer)
+abbrev pub stream_goes : {E H : Type 0} → Path E H → Stream → Target E
+stream_goes [] stream = Parents stream
+stream_goes (crumb ∷ up) stream =
+    resolved_turn ((step_of crumb).turn (segment_place crumb) stream)
+    (λ outer. stream_goes up outer)
 
 -- the folder of the nearest node that sets one
-abbrev pub folder : {E H : Type 0} → Path E H → Option (List ℕ)
-folder [] = None
-folder (crumb ∷ up) = option_or (step_of crumb).folder (folder up)
+abbrev pub folder_on : {E H : Type 0} → Path E H → Option (List ℕ)
+folder_on [] = None
+folder_on (crumb ∷ up) = option_or (step_of crumb).folder (folder_on up)
 
 -- the changes of variables, the nearest first
-abbrev pub changes : {E H : Type 0} → Path E H → List Change
-changes [] = []
-changes (crumb ∷ up) = (step_of crumb).changes ++ changes up
+abbrev pub changes_on : {E H : Type 0} → Path E H → List VariableChange
+changes_on [] = []
+changes_on (crumb ∷ up) = (step_of crumb).changes ++ changes_on up
 
 -- the hooks, the outermost first, each with its ends
-abbrev pub hooks : {E H : Type 0} → Path E H → List (H × List E)
-hooks [] = []
-hooks (crumb ∷ up) = hooks up ++ (step_of crumb).hooks
+abbrev pub hooks_on : {E H : Type 0} → Path E H → List (H × List E)
+hooks_on [] = []
+hooks_on (crumb ∷ up) = hooks_on up ++ (step_of crumb).hooks
 
 -- all that a command finds on this path
-abbrev pub found_on : {E H : Type 0} → Path E H → Found E H
-found_on up = record {
-  folder = folder up;
-  changes = changes up;
-  input = goes up In;
-  output = goes up Out;
-  error = goes up Err;
-  hooks = hooks up;
+abbrev pub surroundings_on : {E H : Type 0} → Path E H → Surroundings E H
+surroundings_on up = record {
+  folder = folder_on up;
+  changes = changes_on up;
+  input = stream_goes up In;
+  output = stream_goes up Out;
+  error = stream_goes up Err;
+  hooks = hooks_on up;
 }

@@ -2,8 +2,8 @@
 use Rattle.std.specs.Prelude.{ℕ, Bool, List, [], ◌∷◌, ◌++◌, length, Some, None, is_some, if◌then◌else◌, slice_get, unwrap_or}
 use Rattle.std.specs.declared.option.Option.{Option}
 use Rattle.duct_base.specs.Executable.{asks_canonical}
-use Rattle.duct_start.specs.Found.{Found}
-use Rattle.duct_start.specs.Lookup.{found_on}
+use Rattle.duct_start.specs.Surroundings.{Surroundings}
+use Rattle.duct_start.specs.Lookup.{surroundings_on}
 use Rattle.duct_start.specs.Path.{Path, left_of, right_of, within}
 use Rattle.duct_start.specs.Step.{Item, AskEnvironment, AskPipe, AskCanonicalize, AskSpawn, AskDrain, AskReader, Opening, OpensNothing, Opens, CapturesOut, CapturesErr, step}
 use Rattle.duct_start.specs.TreeView.{TreeView, command, pipe, around, stdout_capture}
@@ -15,25 +15,27 @@ pub record Plan (E H : Type 0) : Type 0 where
   pub err : Option ℕ
 
 -- a plan with one more item at its end
-abbrev pub asks : {E H : Type 0} → Item E H → Plan E H → Plan E H
-asks item plan = record plan { items = plan.items ++ item ∷ [] }
+abbrev pub with_item : {E H : Type 0} → Item E H → Plan E H → Plan E H
+with_item item plan = record plan { items = plan.items ++ item ∷ [] }
 
 -- the plan with stdout's capture pipe, which is opened now if it was not open yet
-abbrev pub captures_out : {E H : Type 0} → Plan E H → Plan E H
-captures_out plan =
-    if is_some plan.out then plan else record (asks AskPipe plan) { out = Some (length plan.items) }
+abbrev pub with_output_capture : {E H : Type 0} → Plan E H → Plan E H
+with_output_capture plan =
+    if is_some plan.out then plan else record (with_item AskPipe plan)
+    { out = Some (length plan.items) }
 
 -- the plan with stderr's capture pipe, which is opened now if it was not open yet
-abbrev pub captures_err : {E H : Type 0} → Plan E H → Plan E H
-captures_err plan =
-    if is_some plan.err then plan else record (asks AskPipe plan) { err = Some (length plan.items) }
+abbrev pub with_error_capture : {E H : Type 0} → Plan E H → Plan E H
+with_error_capture plan =
+    if is_some plan.err then plan else record (with_item AskPipe plan)
+    { err = Some (length plan.items) }
 
 -- the plan after the request that a node makes before its inner expression, if it makes one
-abbrev pub opened : {E H : Type 0} → Opening E H → Plan E H → Plan E H
-opened OpensNothing plan = plan
-opened (Opens item) plan = asks item plan
-opened CapturesOut plan = captures_out plan
-opened CapturesErr plan = captures_err plan
+abbrev pub with_opening : {E H : Type 0} → Opening E H → Plan E H → Plan E H
+with_opening OpensNothing plan = plan
+with_opening (Opens item) plan = with_item item plan
+with_opening CapturesOut plan = with_output_capture plan
+with_opening CapturesErr plan = with_error_capture plan
 
 -- the place of a node that comes next: that of the item that it adds or, for a capture, that of its
 -- stream's one capture pipe
@@ -44,57 +46,59 @@ place_for CapturesOut plan = unwrap_or plan.out (length plan.items)
 place_for CapturesErr plan = unwrap_or plan.err (length plan.items)
 
 -- the plan after the requests that a node makes after its inner expression
-abbrev pub closed : {E H : Type 0} → List (Item E H) → Plan E H → Plan E H
-closed items plan = record plan { items = plan.items ++ items }
+abbrev pub with_closing : {E H : Type 0} → List (Item E H) → Plan E H → Plan E H
+with_closing items plan = record plan { items = plan.items ++ items }
 
 -- the program of a command: its first word
 abbrev pub program_of : List (List ℕ) → List ℕ
 program_of words = unwrap_or (slice_get words 0) []
 
 -- whether the canonical path of a command's program is requested before its spawn
-abbrev pub is_canonical : {E H : Type 0} → Found E H → List (List ℕ) → Bool
+abbrev pub is_canonical : {E H : Type 0} → Surroundings E H → List (List ℕ) → Bool
 is_canonical found words = asks_canonical (program_of words) (is_some found.folder)
 
 -- the plan with the items of a command that finds this
-abbrev pub commanded : {E H : Type 0} → Found E H → List (List ℕ) → Plan E H → Plan E H
-commanded found words plan =
-    asks (AskSpawn found words)
-    (if is_canonical found words then asks (AskCanonicalize (program_of words)) plan else plan)
+abbrev pub with_command : {E H : Type 0} → Surroundings E H → List (List ℕ) → Plan E H → Plan E H
+with_command found words plan =
+    with_item (AskSpawn found words)
+    (if is_canonical found words then with_item (AskCanonicalize (program_of words)) plan else plan)
 
 -- the plan after a tree with this path to the root: a node's own request comes before its inner
 -- expression, and the left side of a pipe before the right side
-abbrev pub planned : {E H : Type 0} → Path E H → TreeView E H → Plan E H → Plan E H
-planned up (command words) plan = commanded (found_on up) words plan
-planned up (pipe left right) plan =
+abbrev pub plan_of_subtree : {E H : Type 0} → Path E H → TreeView E H → Plan E H → Plan E H
+plan_of_subtree up (command words) plan = with_command (surroundings_on up) words plan
+plan_of_subtree up (pipe left right) plan =
     let place = length plan.items in
-    planned (right_of place ∷ up) right (planned (left_of place ∷ up) left (asks AskPipe plan))
-planned up (around modifier inner) plan =
+    plan_of_subtree (right_of place ∷ up) right (plan_of_subtree (left_of place ∷ up) left
+    (with_item AskPipe plan))
+plan_of_subtree up (around modifier inner) plan =
     let place = place_for (step modifier).opening plan in
-    closed ((step modifier).closing place)
-    (planned (within place modifier ∷ up) inner (opened (step modifier).opening plan))
+    with_closing ((step modifier).closing place)
+    (plan_of_subtree (within place modifier ∷ up) inner (with_opening (step modifier).opening plan))
 
 -- the plan before its tree: the environment is requested first
-abbrev pub begun : {E H : Type 0} → Plan E H
-begun = record { items = AskEnvironment ∷ []; out = None; err = None }
+abbrev pub initial_plan : {E H : Type 0} → Plan E H
+initial_plan = record { items = AskEnvironment ∷ []; out = None; err = None }
 
 -- the plan with the drain worker of a capture pipe, if the pipe is open
-abbrev pub drains : {E H : Type 0} → Option ℕ → Plan E H → Plan E H
-drains None plan = plan
-drains (Some place) plan = asks (AskDrain place) plan
+abbrev pub with_drain : {E H : Type 0} → Option ℕ → Plan E H → Plan E H
+with_drain None plan = plan
+with_drain (Some place) plan = with_item (AskDrain place) plan
 
 -- the plan with the reader of a capture pipe, if the pipe is open
-abbrev pub reads : {E H : Type 0} → Option ℕ → Plan E H → Plan E H
-reads None plan = plan
-reads (Some place) plan = asks (AskReader place) plan
+abbrev pub with_reader : {E H : Type 0} → Option ℕ → Plan E H → Plan E H
+with_reader None plan = plan
+with_reader (Some place) plan = with_item (AskReader place) plan
 
 -- the plan of a start: after all commands, the drain worker of stdout's capture pipe, then that of
 -- stderr's
 abbrev pub plan_of : {E H : Type 0} → TreeView E H → Plan E H
-plan_of tree = let plan = planned [] tree begun in drains plan.err (drains plan.out plan)
+plan_of tree = let plan = plan_of_subtree [] tree initial_plan in with_drain plan.err
+    (with_drain plan.out plan)
 
 -- the plan of a reader's start: that of the tree inside one stdout capture, with the reader as its
 -- last item in place of stdout's drain worker
 abbrev pub plan_of_reader : {E H : Type 0} → TreeView E H → Plan E H
 plan_of_reader tree =
-    let plan = planned [] (around stdout_capture tree) begun
-    in reads plan.out (drains plan.err plan)
+    let plan = plan_of_subtree [] (around stdout_capture tree) initial_plan
+    in with_reader plan.out (with_drain plan.err plan)

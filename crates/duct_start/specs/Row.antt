@@ -5,31 +5,31 @@ use Rattle.duct_system.specs.declared.spec.Stream.{Stream}
 use Rattle.duct_system.specs.declared.spec.Stream.TheVariants.{In, Out, Err}
 use Rattle.duct_system.specs.declared.system.Side.{Side}
 use Rattle.duct_system.specs.declared.system.Side.TheVariants as side
-use Rattle.duct_start.specs.Found.{Change, Sets, Removes, Replaces}
+use Rattle.duct_start.specs.Surroundings.{VariableChange, Sets, Removes, Replaces}
 use Rattle.duct_start.specs.TreeView.{ModifierView, stdin_bytes, stdin_path, stdin_file, stdin_null, stdout_path, stdout_file, stdout_null, stdout_capture, stdout_to_stderr, stderr_path, stderr_file, stderr_null, stderr_capture, stderr_to_stdout, stdout_stderr_swap, dir, env, env_remove, full_env, unchecked, before_spawn}
 
 -- what a node opens before its inner expression: nothing, a pipe to read from that is fed these
 -- bytes afterwards, a file to read, a file to create, or the one capture pipe of a stream
-pub data Obtains : Type 0 where
-  opens_nothing : Obtains
-  opens_input : List ℕ → Obtains
-  opens_read : List ℕ → Obtains
-  opens_create : List ℕ → Obtains
-  opens_capture : Side → Obtains
+pub data RowOpening : Type 0 where
+  opens_nothing : RowOpening
+  opens_input : List ℕ → RowOpening
+  opens_read : List ℕ → RowOpening
+  opens_create : List ℕ → RowOpening
+  opens_capture : Side → RowOpening
 
 -- where a stream goes inside a node: where this stream goes outside it, to nothing, to a caller's
 -- end, or to what the node opens
-pub data Way (E : Type 0) : Type 0 where
-  as_outside : Stream → Way E
-  to_nothing : Way E
-  to_lent : E → Way E
-  to_opened : Way E
+pub data Route (E : Type 0) : Type 0 where
+  as_outside : Stream → Route E
+  to_nothing : Route E
+  to_lent : E → Route E
+  to_opened : Route E
 
 -- what a node sets: the folder, a change of variables, or a hook with its ends
-pub data Says (E H : Type 0) : Type 0 where
-  says_folder : List ℕ → Says E H
-  says_change : Change → Says E H
-  says_hook : H → List E → Says E H
+pub data SettingView (E H : Type 0) : Type 0 where
+  says_folder : List ℕ → SettingView E H
+  says_change : VariableChange → SettingView E H
+  says_hook : H → List E → SettingView E H
 
 -- what the shape of a start shows of a node
 pub data Mark : Type 0 where
@@ -39,11 +39,11 @@ pub data Mark : Type 0 where
 
 -- what a node does
 pub record Row (E H : Type 0) : Type 0 where
-  pub opens : Obtains
-  pub input : Way E
-  pub output : Way E
-  pub error : Way E
-  pub says : Option (Says E H)
+  pub opens : RowOpening
+  pub input : Route E
+  pub output : Route E
+  pub error : Route E
+  pub says : Option (SettingView E H)
   pub mark : Mark
 
 -- a node that does nothing
@@ -83,7 +83,7 @@ row unchecked = record idle_row { mark = is_unchecked }
 row (before_spawn hook ends) = record idle_row { says = Some (says_hook hook ends) }
 
 -- where a stream goes inside a node of this row
-abbrev pub way_of : {E H : Type 0} → Row E H → Stream → Way E
-way_of row In = row.input
-way_of row Out = row.output
-way_of row Err = row.error
+abbrev pub route_of : {E H : Type 0} → Row E H → Stream → Route E
+route_of row In = row.input
+route_of row Out = row.output
+route_of row Err = row.error

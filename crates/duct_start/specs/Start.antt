@@ -2,32 +2,32 @@
 use Rattle.std.specs.Prelude.{ℕ, ◌+◌, ◌*◌, ◌<◌, ◌≤◌, max, List, [], ◌∷◌, ◌++◌, ◌≡◌, length, map, take, All, Some}
 use Rattle.std.specs.declared.option.Option.{Option}
 use Rattle.duct_system.specs.Journal.{JournalView}
-use Rattle.duct_system.specs.Ledger.{IsBalanced, count_of, got, held}
+use Rattle.duct_system.specs.Ledger.{IsBalanced, count_of, opened_numbers, open_count}
 use Rattle.duct_system.specs.EntryView.{EntryView}
 use Rattle.duct_system.specs.Trace.{IsClean, StopsAtFault, segment, trace}
 use Rattle.duct_system.specs.declared.error.Error.{Error}
-use Rattle.duct_start.specs.Causes.{HasCause, MayAnswer, AnswersLastFault}
+use Rattle.duct_start.specs.Causes.{HasCause, MayFailWith, ReturnsLastFault}
 use Rattle.duct_start.specs.Chain.{Allows, Refuses}
 use Rattle.duct_start.specs.Follows.{AsksPlan, Follows, FollowsWhole}
 use Rattle.duct_start.specs.Kinds.{entry_kind, item_kind}
 use Rattle.duct_start.specs.Plan.{Plan}
-use Rattle.duct_start.specs.Row.{Obtains, Row, Says, Way, opens_nothing, opens_input, opens_read, opens_create, opens_capture, to_lent, says_hook, row}
+use Rattle.duct_start.specs.Row.{RowOpening, Row, SettingView, Route, opens_nothing, opens_input, opens_read, opens_create, opens_capture, to_lent, says_hook, row}
 use Rattle.duct_start.specs.TreeView.{ModifierView, TreeView, command, pipe, around}
 
 -- the caller's ends that a way leads to
-abbrev pub way_ends : {E : Type 0} → Way E → List E
-way_ends (to_lent end) = end ∷ []
-way_ends _ = []
+abbrev pub route_ends : {E : Type 0} → Route E → List E
+route_ends (to_lent end) = end ∷ []
+route_ends _ = []
 
 -- the caller's ends that a node's hook has
-abbrev pub said_ends : {E H : Type 0} → Option (Says E H) → List E
+abbrev pub said_ends : {E H : Type 0} → Option (SettingView E H) → List E
 said_ends (Some (says_hook hook ends)) = ends
 said_ends _ = []
 
 -- the caller's ends that a node of this row holds
 abbrev pub row_ends : {E H : Type 0} → Row E H → List E
 row_ends row =
-    way_ends row.input ++ (way_ends row.output ++ (way_ends row.error ++ said_ends row.says))
+    route_ends row.input ++ (route_ends row.output ++ (route_ends row.error ++ said_ends row.says))
 
 -- the caller's ends that a node holds
 abbrev pub modifier_ends : {E H : Type 0} → ModifierView E H → List E
@@ -54,7 +54,7 @@ abbrev pub ceiling : {E H : Type 0} → (E → ℕ) → TreeView E H → ℕ
 ceiling number_of tree = least_above number_of (ends_in tree)
 
 -- what a node adds to the depth of a tree by what it opens: 1 for an input or a path
-abbrev pub opens_depth : Obtains → ℕ
+abbrev pub opens_depth : RowOpening → ℕ
 opens_depth opens_nothing = 0
 opens_depth (opens_input bytes) = 1
 opens_depth (opens_read path) = 1
@@ -62,15 +62,15 @@ opens_depth (opens_create path) = 1
 opens_depth (opens_capture which) = 0
 
 -- what a way adds to the depth of a tree: 1 for a caller's end
-abbrev pub way_depth : {E : Type 0} → Way E → ℕ
-way_depth (to_lent end) = 1
-way_depth _ = 0
+abbrev pub route_depth : {E : Type 0} → Route E → ℕ
+route_depth (to_lent end) = 1
+route_depth _ = 0
 
 -- what a node adds to the depth of a tree
 abbrev pub modifier_depth : {E H : Type 0} → ModifierView E H → ℕ
 modifier_depth modifier =
     let r = row modifier in
-    opens_depth r.opens + (way_depth r.input + (way_depth r.output + way_depth r.error))
+    opens_depth r.opens + (route_depth r.input + (route_depth r.output + route_depth r.error))
 
 -- the greatest number of pipes, inputs, paths and files around one command
 abbrev pub depth : {E H : Type 0} → TreeView E H → ℕ
@@ -79,8 +79,8 @@ depth (pipe left right) = max (depth left) (depth right) + 1
 depth (around modifier inner) = modifier_depth modifier + depth inner
 
 -- after every entry, at most twice the depth of the tree plus 12 ends are held
-abbrev pub HoldsFew : {E H : Type 0} → TreeView E H → List EntryView → Type 0
-HoldsFew tree added = (count : ℕ) → held (take count added) ≤ 2 * depth tree + 12
+abbrev pub KeepsFewOpen : {E H : Type 0} → TreeView E H → List EntryView → Type 0
+KeepsFewOpen tree added = (count : ℕ) → open_count (take count added) ≤ 2 * depth tree + 12
 
 -- the old journal is a prefix of the new one, no entry was cleared in between, and neither the next
 -- number nor the room has decreased
@@ -92,7 +92,7 @@ pub record Grows (old new : JournalView) : Type 0 where
 
 -- no number that these entries got is below the next number of the old journal
 abbrev pub GotNew : JournalView → List EntryView → Type 0
-GotNew old added = (number : ℕ) → number < old.next → count_of number (got added) ≡ 0
+GotNew old added = (number : ℕ) → number < old.next → count_of number (opened_numbers added) ≡ 0
 
 -- a start that succeeds: the journal has grown by entries without a fault, which make all requests
 -- of the plan in order, and which follow the whole plan if the caller's ends came before the start;
@@ -108,7 +108,7 @@ pub record StartSucceeds {E H : Type 0} (allows : Allows H) (number_of : E → �
       → FollowsWhole allows number_of plan (segment old.entries new.entries)
   pub balanced : IsBalanced (segment old.entries new.entries)
   pub got_new : GotNew old (segment old.entries new.entries)
-  pub few : HoldsFew tree (segment old.entries new.entries)
+  pub few : KeepsFewOpen tree (segment old.entries new.entries)
 
 -- a start that fails: the journal has grown by entries that make the requests of a prefix of the
 -- plan, and that follow the plan if the caller's ends came before the start; after a fault there
@@ -118,12 +118,12 @@ pub record StartRefused {E H : Type 0} (allows : Allows H) (refuses : Refuses H)
     (old new : JournalView) (error : Error) : Type 0 where
   pub grows : Grows old new
   pub stops : StopsAtFault (segment old.entries new.entries)
-  pub reason : MayAnswer (segment old.entries new.entries) error
+  pub reason : MayFailWith (segment old.entries new.entries) error
   pub asks : AsksPlan allows number_of plan (segment old.entries new.entries)
   pub follows : AreEarlier number_of old tree
       → Follows allows number_of plan (segment old.entries new.entries)
   pub cause : HasCause allows refuses number_of plan (segment old.entries new.entries) error
-  pub last_fault : AnswersLastFault (segment old.entries new.entries) error
+  pub last_fault : ReturnsLastFault (segment old.entries new.entries) error
   pub balanced : IsBalanced (segment old.entries new.entries)
   pub got_new : GotNew old (segment old.entries new.entries)
-  pub few : HoldsFew tree (segment old.entries new.entries)
+  pub few : KeepsFewOpen tree (segment old.entries new.entries)

@@ -5,8 +5,8 @@ use Rattle.std.specs.declared.option.Option.{Option}
 use Rattle.duct_system.specs.declared.spec.Stream.{Stream}
 use Rattle.duct_system.specs.declared.spec.Stream.TheVariants.{In, Out, Err}
 use Rattle.duct_system.specs.declared.system.Side.TheVariants as side
-use Rattle.duct_start.specs.Found.{Found, Target, Nothing, ReaderAt, WriterAt, FileAt, Lends, Change}
-use Rattle.duct_start.specs.Row.{Obtains, Row, Says, Way, opens_nothing, opens_input, opens_read, opens_create, opens_capture, as_outside, to_nothing, to_lent, to_opened, says_folder, says_change, says_hook, row, way_of}
+use Rattle.duct_start.specs.Surroundings.{Surroundings, Target, Nothing, ReaderAt, WriterAt, FileAt, Lends, VariableChange}
+use Rattle.duct_start.specs.Row.{RowOpening, Row, SettingView, Route, opens_nothing, opens_input, opens_read, opens_create, opens_capture, as_outside, to_nothing, to_lent, to_opened, says_folder, says_change, says_hook, row, route_of}
 use Rattle.duct_start.specs.TreeView.{ModifierView}
 
 -- one request of a plan. The request for a canonical path holds the program; a spawn holds what its
@@ -18,7 +18,7 @@ pub data Item (E H : Type 0) : Type 0 where
   AskOpenRead : List ℕ → Item E H
   AskCreate : List ℕ → Item E H
   AskCanonicalize : List ℕ → Item E H
-  AskSpawn : Found E H → List (List ℕ) → Item E H
+  AskSpawn : Surroundings E H → List (List ℕ) → Item E H
   AskFeed : ℕ → List ℕ → Item E H
   AskDrain : ℕ → Item E H
   AskReader : ℕ → Item E H
@@ -39,12 +39,12 @@ pub data Turn (E : Type 0) : Type 0 where
 
 -- what a node does; its place is that of the item that it adds or, for a capture, that of its
 -- stream's one capture pipe
-pub record Step (E H : Type 0) : Type 0 where
+pub record NodeStep (E H : Type 0) : Type 0 where
   pub opening : Opening E H
   pub closing : ℕ → List (Item E H)
   pub turn : ℕ → Stream → Turn E
   pub folder : Option (List ℕ)
-  pub changes : List Change
+  pub changes : List VariableChange
   pub hooks : List (H × List E)
 
 -- the turns of a node that redirects stdin and leaves the other streams as they are
@@ -60,8 +60,8 @@ at_stdout turn Out = turn
 at_stdout turn Err = Follows Err
 
 -- a node that does nothing
-abbrev pub idle : {E H : Type 0} → Step E H
-idle = record {
+abbrev pub idle_step : {E H : Type 0} → NodeStep E H
+idle_step = record {
   opening = OpensNothing;
   closing = λ place. [];
   turn = λ place stream. Follows stream;
@@ -71,14 +71,14 @@ idle = record {
 }
 
 -- what a pipe does to its left side, and to its right side
-abbrev pub left_step : {E H : Type 0} → Step E H
-left_step = record idle { turn = λ place. at_stdout (Decides (WriterAt place)) }
+abbrev pub left_step : {E H : Type 0} → NodeStep E H
+left_step = record idle_step { turn = λ place. at_stdout (Decides (WriterAt place)) }
 
-abbrev pub right_step : {E H : Type 0} → Step E H
-right_step = record idle { turn = λ place. at_stdin (Decides (ReaderAt place)) }
+abbrev pub right_step : {E H : Type 0} → NodeStep E H
+right_step = record idle_step { turn = λ place. at_stdin (Decides (ReaderAt place)) }
 
 -- the request that a node makes for what it opens
-abbrev pub opening_of : {E H : Type 0} → Obtains → Opening E H
+abbrev pub opening_of : {E H : Type 0} → RowOpening → Opening E H
 opening_of opens_nothing = OpensNothing
 opening_of (opens_input bytes) = Opens AskPipe
 opening_of (opens_read path) = Opens (AskOpenRead path)
@@ -87,43 +87,43 @@ opening_of (opens_capture side.Out) = CapturesOut
 opening_of (opens_capture side.Err) = CapturesErr
 
 -- the requests that it makes for that after its inner expression
-abbrev pub closing_of : {E H : Type 0} → Obtains → ℕ → List (Item E H)
+abbrev pub closing_of : {E H : Type 0} → RowOpening → ℕ → List (Item E H)
 closing_of (opens_input bytes) place = AskFeed place bytes ∷ []
 closing_of _ place = []
 
 -- the target that a node has by what it opens at this place
-abbrev pub end_of : {E : Type 0} → Obtains → ℕ → Target E
-end_of opens_nothing place = Nothing
-end_of (opens_input bytes) place = ReaderAt place
-end_of (opens_read path) place = FileAt place
-end_of (opens_create path) place = FileAt place
-end_of (opens_capture which) place = WriterAt place
+abbrev pub opened_target : {E : Type 0} → RowOpening → ℕ → Target E
+opened_target opens_nothing place = Nothing
+opened_target (opens_input bytes) place = ReaderAt place
+opened_target (opens_read path) place = FileAt place
+opened_target (opens_create path) place = FileAt place
+opened_target (opens_capture which) place = WriterAt place
 
 -- what a node does to a stream that goes this way
-abbrev pub turn_of : {E : Type 0} → Obtains → ℕ → Way E → Turn E
+abbrev pub turn_of : {E : Type 0} → RowOpening → ℕ → Route E → Turn E
 turn_of opens place (as_outside stream) = Follows stream
 turn_of opens place to_nothing = Decides Nothing
 turn_of opens place (to_lent end) = Decides (Lends end)
-turn_of opens place to_opened = Decides (end_of opens place)
+turn_of opens place to_opened = Decides (opened_target opens place)
 
 -- what a node does that sets only this
-abbrev pub said : {E H : Type 0} → Says E H → Step E H
-said (says_folder path) = record idle { folder = Some path }
-said (says_change change) = record idle { changes = change ∷ [] }
-said (says_hook hook ends) = record idle { hooks = (hook, ends) ∷ [] }
+abbrev pub step_of_setting : {E H : Type 0} → SettingView E H → NodeStep E H
+step_of_setting (says_folder path) = record idle_step { folder = Some path }
+step_of_setting (says_change change) = record idle_step { changes = change ∷ [] }
+step_of_setting (says_hook hook ends) = record idle_step { hooks = (hook, ends) ∷ [] }
 
-abbrev pub said_if : {E H : Type 0} → Option (Says E H) → Step E H
-said_if None = idle
-said_if (Some says) = said says
+abbrev pub step_if_setting : {E H : Type 0} → Option (SettingView E H) → NodeStep E H
+step_if_setting None = idle_step
+step_if_setting (Some says) = step_of_setting says
 
 -- what a node of this row does
-abbrev pub step_of_row : {E H : Type 0} → Row E H → Step E H
-step_of_row row = record (said_if row.says) {
+abbrev pub step_of_row : {E H : Type 0} → Row E H → NodeStep E H
+step_of_row row = record (step_if_setting row.says) {
   opening = opening_of row.opens;
   closing = closing_of row.opens;
-  turn = λ place stream. turn_of row.opens place (way_of row stream);
+  turn = λ place stream. turn_of row.opens place (route_of row stream);
 }
 
 -- what each kind of modifier does
-abbrev pub step : {E H : Type 0} → ModifierView E H → Step E H
+abbrev pub step : {E H : Type 0} → ModifierView E H → NodeStep E H
 step modifier = step_of_row (row modifier)

@@ -3,7 +3,7 @@ use Rattle.std.specs.Prelude.{ℕ, List}
 use Rattle.std.specs.Borrow.{Bor}
 use Rattle.duct_system.specs.declared.system.Said.{Said}
 use Rattle.duct_system.specs.declared.system.Said.TheVariants as said
-use Rattle.duct_status.specs.declared.status.outcome.Outcome.{Outcome as Found}
+use Rattle.duct_status.specs.declared.status.outcome.Outcome.{Outcome as Findings}
 use Rattle.duct_status.specs.declared.status.outcome.Outcome.TheVariants as found
 use Rattle.duct_status.specs.Outcome.{OutcomeView, waits, faults, finished}
 
@@ -14,7 +14,7 @@ lent_bytes (said.Done bytes) = said.Done bytes.now
 lent_bytes (said.Fault fault) = said.Fault fault
 
 -- what contracts see of an outcome
-abbrev pub outcome_view : Found → OutcomeView
+abbrev pub outcome_view : Findings → OutcomeView
 outcome_view found.Waits = waits
 outcome_view (found.Faults fault) = faults fault
 outcome_view (found.Finished output error) = finished output.now error.now

@@ -20,8 +20,8 @@ use crate::status::answer::{answer, failure};
 use crate::status::begin::{begin, first_word};
 use crate::status::choose::choose;
 use crate::status::copy::copy;
-use crate::status::keep::{keep_at, keep_bytes, tell_at};
-use crate::status::look::{Found, look};
+use crate::status::keep::{keep_at, keep_bytes, record_at};
+use crate::status::look::{Findings, look};
 use crate::status::outcome::{Outcome, awaited, judge};
 use duct_system::error::Error;
 use duct_system::system::{ExitStatus, Fault, Output, Said, Side};
@@ -129,7 +129,7 @@ impl Core {
     ghost use Rattle.duct_status.specs.Latest.{is_due, is_input_due, latest_after};
 
     /// Stores a report of a command.
-    fn tell(&mut self, at: usize, word: Word) -> Reply
+    fn record_command(&mut self, at: usize, word: Word) -> Reply
         ensures shape { shape_in self.new ≡ shape_in self.old }
         ensures words { latest_in self.new
             ≡ latest_after (latest_in self.old) (event_view (Event.Command at word)) }
@@ -137,7 +137,7 @@ impl Core {
         ensures reply { Responds (shape_in self.old) (latest_in self.old)
             (event_view (Event.Command at word)) (reply_view result) }
     {
-        if tell_at(&mut self.commands, at, word) {
+        if record_at(&mut self.commands, at, word) {
             Reply::Noted
         } else {
             Reply::Unknown
@@ -145,7 +145,7 @@ impl Core {
     }
 
     /// Stores a report of an input worker.
-    fn hear(&mut self, at: usize, said: Said<()>) -> Reply
+    fn record_input(&mut self, at: usize, said: Said<()>) -> Reply
         ensures shape { shape_in self.new ≡ shape_in self.old }
         ensures words { latest_in self.new
             ≡ latest_after (latest_in self.old) (event_view (Event.Input at said)) }
@@ -161,7 +161,7 @@ impl Core {
     }
 
     /// Stores a report of stdout's capture worker.
-    fn hear_output(&mut self, said: Said<Arc<Vec<u8>>>) -> Reply
+    fn record_output(&mut self, said: Said<Arc<Vec<u8>>>) -> Reply
         ensures shape { shape_in self.new ≡ shape_in self.old }
         ensures words { latest_in self.new
             ≡ latest_after (latest_in self.old) (event_view (Event.Drain Side.Out said)) }
@@ -177,7 +177,7 @@ impl Core {
     }
 
     /// Stores a report of stderr's capture worker.
-    fn hear_error(&mut self, said: Said<Arc<Vec<u8>>>) -> Reply
+    fn record_error_output(&mut self, said: Said<Arc<Vec<u8>>>) -> Reply
         ensures shape { shape_in self.new ≡ shape_in self.old }
         ensures words { latest_in self.new
             ≡ latest_after (latest_in self.old) (event_view (Event.Drain Side.Err said)) }
@@ -214,7 +214,7 @@ impl Core {
     }
 
     /// Returns what is found in the latest reports of the commands and the input workers.
-    fn found(&self) -> Found
+    fn found(&self) -> Findings
         ensures fault { result.fault
             ≡ first_fault (in_tree_order (shape_in self.now) 0 0 (latest_in self.now).commands
             (latest_in self.now).inputs) }
@@ -244,7 +244,7 @@ impl Core {
 
     /// Returns the final reply, with one more owner of it, or `Memory` if that owner can't be made.
     /// Returns `None` if there is no final reply yet.
-    fn again(&self) -> Option<Reply>
+    fn repeat_answer(&self) -> Option<Reply>
         ensures none { IfNone result (standing_in self.now ≡ None) }
         ensures fits { IfSome result
             (λ reply. Fits (shape_in self.now) (latest_in self.now) reply) }
@@ -269,7 +269,7 @@ impl Core {
 
     /// Stores the reply as the final one, if it is an answer or a failure, and returns it. Returns
     /// `Memory` and stores nothing if one more owner of it can't be made.
-    fn stand(&mut self, reply: Reply) -> Reply
+    fn keep_answer(&mut self, reply: Reply) -> Reply
         requires fits { Fits (shape_in self.old) (latest_in self.old) reply }
         requires first { standing_in self.old ≡ None }
         ensures shape { shape_in self.new ≡ shape_in self.old }
@@ -305,11 +305,11 @@ impl Core {
         ensures standing { standing_in self.new
             ≡ standing_after (standing_in self.old) (reply_view result) }
     {
-        if let Some(reply) = self.again() {
+        if let Some(reply) = self.repeat_answer() {
             return reply;
         }
         let reply = self.outcome();
-        self.stand(reply)
+        self.keep_answer(reply)
     }
 
     /// Takes an event and returns the reply. A report is stored and gets `Noted`. It gets `Unknown`
@@ -331,10 +331,10 @@ impl Core {
             ≡ standing_after (standing_in self.old) (reply_view result) }
     {
         match event {
-            Event::Command(at, word) => self.tell(at, word),
-            Event::Input(at, said) => self.hear(at, said),
-            Event::Drain(Side::Out, said) => self.hear_output(said),
-            Event::Drain(Side::Err, said) => self.hear_error(said),
+            Event::Command(at, word) => self.record_command(at, word),
+            Event::Input(at, said) => self.record_input(at, said),
+            Event::Drain(Side::Out, said) => self.record_output(said),
+            Event::Drain(Side::Err, said) => self.record_error_output(said),
             Event::Conclude => self.conclude(),
         }
     }

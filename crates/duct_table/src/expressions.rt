@@ -15,7 +15,7 @@
 //! - `pipes=9` is nine pipes with the last expression as their right side. Each one is the left
 //!   side of the next: `a b pipes=2` is `a.pipe(&b).pipe(&b)`.
 use crate::hooks::hook;
-use crate::stop::Stop;
+use crate::stop::TableError;
 use crate::words::{pairs, pieces};
 use duct::{Error, Expression, Fault, Numbered};
 use duct_script::calls::CallLog;
@@ -37,7 +37,7 @@ pub trait Lender {
     type End: Numbered;
 
     /// Returns the end with this number. Fails if it can't be lent.
-    fn lend(&mut self, number: u64) -> Result<Self::End, Stop>;
+    fn lend(&mut self, number: u64) -> Result<Self::End, TableError>;
 }
 
 /// Lends ends of other scripted systems, with any number from 1 to `u64::MAX - 1`.
@@ -50,7 +50,7 @@ pub struct Strangers {
 impl Lender for Strangers {
     type End = ScriptEnd;
 
-    fn lend(&mut self, number: u64) -> Result<ScriptEnd, Stop> {
+    fn lend(&mut self, number: u64) -> Result<ScriptEnd, TableError> {
         Ok(adopted(&mut Script::new(self.alloc)?, number)?)
     }
 }
@@ -62,7 +62,7 @@ fn adopted(sys: &mut Script, number: u64) -> Result<ScriptEnd, Fault> {
 
 /// Builds the expression of a text over the scripted system, with ends from `Strangers`. Fails as
 /// `written_with` does.
-pub fn written(alloc: Global, calls: Log, text: &str) -> Result<Tree<ScriptEnd>, Stop> {
+pub fn written(alloc: Global, calls: Log, text: &str) -> Result<Tree<ScriptEnd>, TableError> {
     written_with(alloc, &mut Strangers { alloc }, calls, text)
 }
 
@@ -73,7 +73,7 @@ pub fn written_with<L: Lender>(
     lender: &mut L,
     calls: Log,
     text: &str,
-) -> Result<Tree<L::End>, Stop> {
+) -> Result<Tree<L::End>, TableError> {
     only(written_all(alloc, lender, calls, text)?)
 }
 
@@ -84,7 +84,7 @@ pub fn written_all<L: Lender>(
     lender: &mut L,
     calls: Log,
     text: &str,
-) -> Result<Vec<Tree<L::End>>, Stop> {
+) -> Result<Vec<Tree<L::End>>, TableError> {
     let steps = steps(alloc, text)?;
     let mut writing = Writing {
         alloc,
@@ -126,20 +126,20 @@ fn unquoted(text: &str) -> &str {
 }
 
 /// Returns the only expression. Fails if there is none, or more than one.
-fn only<E: Drop>(mut built: Vec<Tree<E>>) -> Result<Tree<E>, Stop> {
+fn only<E: Drop>(mut built: Vec<Tree<E>>) -> Result<Tree<E>, TableError> {
     let made = last(&mut built)?;
     if built.is_empty() {
         Ok(made)
     } else {
-        Err(Stop::Text("more than one expression"))
+        Err(TableError::Text("more than one expression"))
     }
 }
 
 /// Removes and returns the last expression.
-fn last<E>(built: &mut Vec<Tree<E>>) -> Result<Tree<E>, Stop> {
+fn last<E>(built: &mut Vec<Tree<E>>) -> Result<Tree<E>, TableError> {
     match built.pop() {
         Some(tree) => Ok(tree),
-        None => Err(Stop::Text("no expression")),
+        None => Err(TableError::Text("no expression")),
     }
 }
 
@@ -161,7 +161,7 @@ struct Writing<'l, 'c, L: Lender> {
 impl<L: Lender> Writing<'_, '_, L> {
     /// Makes a step: a call with arguments, a call without arguments, or a command. A quoted step
     /// is a command.
-    fn step(&mut self, step: &str) -> Result<(), Stop> {
+    fn step(&mut self, step: &str) -> Result<(), TableError> {
         match step.split_once('=') {
             Some((call, values)) if is_call(call) => self.with_values(call, unquoted(values)),
             _ if step.is_empty() => Ok(()),
@@ -170,12 +170,12 @@ impl<L: Lender> Writing<'_, '_, L> {
         }
     }
 
-    fn push(&mut self, made: Tree<L::End>) -> Result<(), Stop> {
+    fn push(&mut self, made: Tree<L::End>) -> Result<(), TableError> {
         Ok(self.built.push(made)?)
     }
 
     /// Makes a call without arguments, a pipe of the last two expressions, or a command.
-    fn bare(&mut self, step: &str) -> Result<(), Stop> {
+    fn bare(&mut self, step: &str) -> Result<(), TableError> {
         match step {
             "pipe" => self.pipe(),
             "again" => self.again(),
@@ -191,35 +191,35 @@ impl<L: Lender> Writing<'_, '_, L> {
         }
     }
 
-    fn pipe(&mut self) -> Result<(), Stop> {
+    fn pipe(&mut self) -> Result<(), TableError> {
         let right = last(&mut self.built)?;
         let piped = last(&mut self.built)?.pipe(&right)?;
         self.push(piped)
     }
 
     /// Adds the last expression once more.
-    fn again(&mut self) -> Result<(), Stop> {
+    fn again(&mut self) -> Result<(), TableError> {
         let made = match self.built.last() {
             Some(tree) => tree.clone()?,
-            None => return Err(Stop::Text("no expression")),
+            None => return Err(TableError::Text("no expression")),
         };
         self.push(made)
     }
 
     /// Adds a command whose words are separated by commas.
-    fn command(&mut self, words: &str) -> Result<(), Stop> {
+    fn command(&mut self, words: &str) -> Result<(), TableError> {
         let words = pieces(self.alloc, words)?;
         match words.split_first() {
             Some((program, args)) => {
                 let made = duct::cmd(self.alloc, *program, args)?;
                 self.push(made)
             }
-            None => Err(Stop::Text("no program")),
+            None => Err(TableError::Text("no program")),
         }
     }
 
     /// Adds a command of one word in this form, or makes a call with arguments.
-    fn with_values(&mut self, call: &str, values: &str) -> Result<(), Stop> {
+    fn with_values(&mut self, call: &str, values: &str) -> Result<(), TableError> {
         if let Some(command) = program(self.alloc, call, values)? {
             return self.push(command);
         }
@@ -236,7 +236,7 @@ impl<L: Lender> Writing<'_, '_, L> {
     }
 
     /// Adds the hook of a text to an expression, with the ends whose numbers follow the text.
-    fn hooked(&mut self, inner: &Tree<L::End>, values: &str) -> Result<Tree<L::End>, Stop> {
+    fn hooked(&mut self, inner: &Tree<L::End>, values: &str) -> Result<Tree<L::End>, TableError> {
         let (text, numbers) = values.split_once(',').unwrap_or((values, ""));
         let hook = hook(self.alloc, self.calls, text)?;
         let mut ends = Vec::new(self.alloc);
@@ -264,7 +264,7 @@ fn program<E: Drop>(alloc: Global, form: &str, text: &str) -> Result<Option<Tree
 
 /// Makes a call on a stream that takes no arguments. Fails if there is no such call, or on an
 /// allocation failure.
-pub fn redirected<E: Drop>(inner: &Tree<E>, call: &str) -> Result<Tree<E>, Stop> {
+pub fn redirected<E: Drop>(inner: &Tree<E>, call: &str) -> Result<Tree<E>, TableError> {
     let made = match call {
         "stdin_null" => inner.stdin_null(),
         "stdout_null" => inner.stdout_null(),
@@ -274,7 +274,7 @@ pub fn redirected<E: Drop>(inner: &Tree<E>, call: &str) -> Result<Tree<E>, Stop>
         "stdout_to_stderr" => inner.stdout_to_stderr(),
         "stderr_to_stdout" => inner.stderr_to_stdout(),
         "stdout_stderr_swap" => inner.stdout_stderr_swap(),
-        _ => return Err(Stop::Text("no such call")),
+        _ => return Err(TableError::Text("no such call")),
     };
     Ok(made?)
 }
@@ -296,7 +296,7 @@ pub fn with_texts<E: Drop>(
     inner: &Tree<E>,
     call: &str,
     values: &str,
-) -> Result<Tree<E>, Stop> {
+) -> Result<Tree<E>, TableError> {
     let made = match call {
         "stdin_bytes" => inner.stdin_bytes(Vec::from_slice(alloc, values.as_bytes())?),
         "stdin_many" => inner.stdin_bytes(many(alloc, values)?),
@@ -311,19 +311,19 @@ pub fn with_texts<E: Drop>(
         "env_remove" => inner.env_remove(values),
         "full_env" => inner.full_env(pairs(alloc, values)?.as_slice()),
         "unchecked" => return unchecked(inner, values),
-        _ => return Err(Stop::Text("no such call")),
+        _ => return Err(TableError::Text("no such call")),
     };
     Ok(made?)
 }
 
 /// A number of bytes of one value: `9,42` is nine bytes of value 42.
-fn many(alloc: Global, values: &str) -> Result<Vec<u8>, Stop> {
+fn many(alloc: Global, values: &str) -> Result<Vec<u8>, TableError> {
     let (count, byte) = values.split_once(',').unwrap_or((values, "0"));
     Ok(vec![in alloc; byte.parse()?; count.parse()?]?)
 }
 
 /// This many pipes with the same right side, each one the left side of the next.
-fn pipes<E: Drop>(left: Tree<E>, right: &Tree<E>, count: &str) -> Result<Tree<E>, Stop> {
+fn pipes<E: Drop>(left: Tree<E>, right: &Tree<E>, count: &str) -> Result<Tree<E>, TableError> {
     let mut made = left;
     for _ in 0..count.parse::<u64>()? {
         made = made.pipe(right)?;
@@ -332,7 +332,7 @@ fn pipes<E: Drop>(left: Tree<E>, right: &Tree<E>, count: &str) -> Result<Tree<E>
 }
 
 /// This many `unchecked` nodes, at least one.
-fn unchecked<E: Drop>(inner: &Tree<E>, count: &str) -> Result<Tree<E>, Stop> {
+fn unchecked<E: Drop>(inner: &Tree<E>, count: &str) -> Result<Tree<E>, TableError> {
     let mut made = inner.unchecked()?;
     for _ in 1..count.parse::<u64>()? {
         made = made.unchecked()?;

@@ -14,7 +14,7 @@
 //! `refused=Other` is a fault of this kind. It takes the place of the result in `pipe`,
 //! `open_read`, `create`, `parent`, `duplicate` and `canonicalize`, and of the bytes in `feed`. In
 //! `spawn` it is one of the words that can follow.
-use crate::stop::Stop;
+use crate::stop::TableError;
 use crate::words::{fault, first_word, owned_pairs, side};
 use duct::{CommandSpec, Entry, Fault, Port, Stdio};
 use duct_base::names::EnvNameString;
@@ -24,7 +24,7 @@ use std::collections::BTreeMap;
 use std::sync::Arc;
 
 /// Builds the journal of a text. Fails if an entry is malformed, or on an allocation failure.
-pub fn journal(alloc: Global, text: &str) -> Result<Vec<Entry>, Stop> {
+pub fn journal(alloc: Global, text: &str) -> Result<Vec<Entry>, TableError> {
     let mut entries = Vec::new(alloc);
     for part in text.split(';') {
         let part = part.trim();
@@ -35,7 +35,7 @@ pub fn journal(alloc: Global, text: &str) -> Result<Vec<Entry>, Stop> {
     Ok(entries)
 }
 
-fn entry(alloc: Global, text: &str) -> Result<Entry, Stop> {
+fn entry(alloc: Global, text: &str) -> Result<Entry, TableError> {
     let (request, rest) = first_word(text);
     match request {
         "environment" => Ok(Entry::Environment(Ok(owned_pairs(alloc, rest)?))),
@@ -49,14 +49,14 @@ fn entry(alloc: Global, text: &str) -> Result<Entry, Stop> {
 }
 
 /// The fault of a result, if it is one.
-fn refused(answer: &str) -> Result<Option<Fault>, Stop> {
+fn refused(answer: &str) -> Result<Option<Fault>, TableError> {
     match answer.strip_prefix("refused=") {
         Some(kind) => Ok(Some(fault(kind)?)),
         None => Ok(None),
     }
 }
 
-fn pipe(answer: &str) -> Result<Entry, Stop> {
+fn pipe(answer: &str) -> Result<Entry, TableError> {
     if let Some(fault) = refused(answer)? {
         return Ok(Entry::Pipe(Err(fault)));
     }
@@ -67,7 +67,7 @@ fn pipe(answer: &str) -> Result<Entry, Stop> {
 }
 
 /// Reads a result that is the number of an end, or a fault.
-fn number(answer: &str) -> Result<Result<u64, Fault>, Stop> {
+fn number(answer: &str) -> Result<Result<u64, Fault>, TableError> {
     match refused(answer)? {
         Some(fault) => Ok(Err(fault)),
         None => Ok(Ok(answer.parse::<u64>()?)),
@@ -75,7 +75,7 @@ fn number(answer: &str) -> Result<Result<u64, Fault>, Stop> {
 }
 
 /// The entry of a request that takes one text or number.
-fn with_argument(alloc: Global, request: &str, rest: &str) -> Result<Entry, Stop> {
+fn with_argument(alloc: Global, request: &str, rest: &str) -> Result<Entry, TableError> {
     let (argument, answer) = first_word(rest);
     match request {
         "feed" => feed(alloc, argument.parse::<u64>()?, answer),
@@ -87,7 +87,7 @@ fn with_argument(alloc: Global, request: &str, rest: &str) -> Result<Entry, Stop
 }
 
 /// The entry of a feed of these bytes, or of a refused feed of no bytes.
-fn feed(alloc: Global, end: u64, text: &str) -> Result<Entry, Stop> {
+fn feed(alloc: Global, end: u64, text: &str) -> Result<Entry, TableError> {
     let (bytes, answer) = match refused(text)? {
         Some(fault) => ("", Err(fault)),
         None => (text, Ok(())),
@@ -96,7 +96,7 @@ fn feed(alloc: Global, end: u64, text: &str) -> Result<Entry, Stop> {
     Ok(Entry::Feed(end, bytes, answer))
 }
 
-fn canonical(alloc: Global, path: &str, answer: &str) -> Result<Entry, Stop> {
+fn canonical(alloc: Global, path: &str, answer: &str) -> Result<Entry, TableError> {
     let path = String::from_str(alloc, path)?;
     match refused(answer)? {
         Some(fault) => Ok(Entry::Canonicalize(path, Err(fault))),
@@ -109,11 +109,11 @@ fn file(
     request: &str,
     path: &str,
     answer: Result<u64, Fault>,
-) -> Result<Entry, Stop> {
+) -> Result<Entry, TableError> {
     match request {
         "open_read" => Ok(Entry::OpenRead(String::from_str(alloc, path)?, answer)),
         "create" => Ok(Entry::Create(String::from_str(alloc, path)?, answer)),
-        _ => Err(Stop::Text("no such request")),
+        _ => Err(TableError::Text("no such request")),
     }
 }
 
@@ -126,14 +126,14 @@ struct Child<'t> {
     answer: Result<u64, Fault>,
 }
 
-fn spawn(alloc: Global, text: &str) -> Result<Entry, Stop> {
+fn spawn(alloc: Global, text: &str) -> Result<Entry, TableError> {
     let (words, rest) = text.split_once("->").ok_or("no streams")?;
     let given = given(rest)?;
     let spec = spec(alloc, words, &given)?;
     Ok(Entry::Spawn(spec, given.streams, given.answer))
 }
 
-fn given(text: &str) -> Result<Child<'_>, Stop> {
+fn given(text: &str) -> Result<Child<'_>, TableError> {
     let mut words = text.split_whitespace();
     let streams = [
         stream(words.next())?,
@@ -153,7 +153,7 @@ fn given(text: &str) -> Result<Child<'_>, Stop> {
 }
 
 /// Adds one word to what a child gets.
-fn with<'t>(given: Child<'t>, word: &'t str) -> Result<Child<'t>, Stop> {
+fn with<'t>(given: Child<'t>, word: &'t str) -> Result<Child<'t>, TableError> {
     let (key, value) = word.split_once('=').ok_or("no value")?;
     let mut given = given;
     match key {
@@ -161,17 +161,17 @@ fn with<'t>(given: Child<'t>, word: &'t str) -> Result<Child<'t>, Stop> {
         "with" => given.vars = value,
         "as" => given.answer = Ok(value.parse::<u64>()?),
         "refused" => given.answer = Err(fault(value)?),
-        _ => return Err(Stop::Text("no such word of a spawn")),
+        _ => return Err(TableError::Text("no such word of a spawn")),
     }
     Ok(given)
 }
 
-fn stream(word: Option<&str>) -> Result<Stdio<u64>, Stop> {
+fn stream(word: Option<&str>) -> Result<Stdio<u64>, TableError> {
     match word {
         Some("inherit") => Ok(Stdio::Inherit),
         Some("null") => Ok(Stdio::Null),
         Some(number) => Ok(Stdio::End(number.parse::<u64>()?)),
-        None => Err(Stop::Text("no stream")),
+        None => Err(TableError::Text("no stream")),
     }
 }
 

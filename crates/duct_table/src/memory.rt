@@ -1,7 +1,7 @@
 //! Outcomes of calls while allocations may fail.
-use crate::stop::Stop;
-use duct_system::error::Error;
-use duct_system::system::Kind;
+use crate::stop::TableError;
+use duct_base::error::Error;
+use duct_base::system::Kind;
 
 /// The outcome of a call.
 #[derive(Clone, Copy, Debug, PartialEq, Eq)]
@@ -26,10 +26,10 @@ impl MemoryOutcome {
 
     /// Returns the outcome of lines that make no request to a system, so that an allocation failure
     /// is the library's own. Any error but `Error::Memory` is `Wrong`.
-    pub fn of_lines(tried: Result<MemoryOutcome, Stop>) -> MemoryOutcome {
+    pub fn of_lines(tried: Result<MemoryOutcome, TableError>) -> MemoryOutcome {
         match tried {
             Ok(came) => came,
-            Err(Stop::Error(Error::Memory)) => MemoryOutcome::Refused,
+            Err(TableError::Error(Error::Memory)) => MemoryOutcome::Refused,
             Err(_) => MemoryOutcome::Wrong,
         }
     }

@@ -1,6 +1,6 @@
 //! What a row sets up before a start: the parent's variables, canonical paths, requests that are
 //! refused, results of the polls and orders of children, and the children that the pool keeps.
-use crate::stop::Stop;
+use crate::stop::TableError;
 use crate::words::{fault, first_word, pairs, pieces};
 use duct::{ExitStatus, Fault, Pool};
 use duct_base::pool::{place_new, pool_take, seat_new};
@@ -82,7 +82,7 @@ pub const CALLS: usize = 512;
 
 /// Builds the system and the pool of a scene. Fails if a line of the scene is malformed, or on an
 /// allocation failure.
-pub fn bench_of(alloc: Global, scene: Scene) -> Result<Bench, Stop> {
+pub fn bench_of(alloc: Global, scene: Scene) -> Result<Bench, TableError> {
     let mut bench = Bench {
         sys: Script::new(alloc)?,
         pool: Pool::new(alloc),
@@ -92,7 +92,7 @@ pub fn bench_of(alloc: Global, scene: Scene) -> Result<Bench, Stop> {
     Ok(bench)
 }
 
-fn set(alloc: Global, bench: &mut Bench, scene: Scene) -> Result<(), Stop> {
+fn set(alloc: Global, bench: &mut Bench, scene: Scene) -> Result<(), TableError> {
     let sys = &mut bench.sys;
     sys.skip_numbers_below(FIRST);
     sys.note_in(Arc::try_clone(&bench.calls)?);
@@ -115,7 +115,7 @@ fn set_names(alloc: Global, sys: &mut Script, scene: Scene) -> Result<(), AllocE
 
 /// Sets the requests that are refused: `Spawn 2 NotFound; Pipe 1 Other`. Fails if the text is
 /// malformed, or on an allocation failure.
-pub fn set_refusals(sys: &mut Script, refusals: &str) -> Result<(), Stop> {
+pub fn set_refusals(sys: &mut Script, refusals: &str) -> Result<(), TableError> {
     for refusal in refusals.split(';') {
         let refusal = refusal.trim();
         if !refusal.is_empty() {
@@ -125,7 +125,7 @@ pub fn set_refusals(sys: &mut Script, refusals: &str) -> Result<(), Stop> {
     Ok(())
 }
 
-fn set_refusal(sys: &mut Script, refusal: &str) -> Result<(), Stop> {
+fn set_refusal(sys: &mut Script, refusal: &str) -> Result<(), TableError> {
     let (name, rest) = first_word(refusal);
     let (number, kind) = first_word(rest);
     let sort = sort(name).ok_or("no such request")?;
@@ -153,7 +153,7 @@ fn sort(name: &str) -> Option<Sort> {
 /// Sets the poll results of the children, in the order of their spawns: `running, code 0; Other`.
 /// After a slash, a child has the results of its kills, which are also those of its signals:
 /// `running / done, Other`. Fails if the text is malformed, or on an allocation failure.
-pub fn set_children(alloc: Global, sys: &mut Script, children: &str) -> Result<(), Stop> {
+pub fn set_children(alloc: Global, sys: &mut Script, children: &str) -> Result<(), TableError> {
     if !children.is_empty() {
         for child in children.split(';') {
             sys.child(child_script(alloc, child)?)?;
@@ -162,7 +162,7 @@ pub fn set_children(alloc: Global, sys: &mut Script, children: &str) -> Result<(
     Ok(())
 }
 
-fn child_script(alloc: Global, child: &str) -> Result<ChildScript, Stop> {
+fn child_script(alloc: Global, child: &str) -> Result<ChildScript, TableError> {
     let (polls, orders) = child.split_once('/').unwrap_or((child, ""));
     let mut script = ChildScript::running(alloc);
     script.polls = Answers::of(poll_answers(alloc, polls)?);
@@ -173,7 +173,7 @@ fn child_script(alloc: Global, child: &str) -> Result<ChildScript, Stop> {
 
 /// Gives the pool children with these results, numbered from 1. The pool polls each of them once
 /// when it takes it. Fails if the text is malformed, or on an allocation failure.
-pub fn keep_children(alloc: Global, bench: &mut Bench, children: &str) -> Result<(), Stop> {
+pub fn keep_children(alloc: Global, bench: &mut Bench, children: &str) -> Result<(), TableError> {
     if !children.is_empty() {
         let mut number = 0_u64;
         for answers in children.split(';') {
@@ -184,7 +184,12 @@ pub fn keep_children(alloc: Global, bench: &mut Bench, children: &str) -> Result
     Ok(())
 }
 
-fn keep_child(alloc: Global, bench: &mut Bench, number: u64, answers: &str) -> Result<(), Stop> {
+fn keep_child(
+    alloc: Global,
+    bench: &mut Bench,
+    number: u64,
+    answers: &str,
+) -> Result<(), TableError> {
     let script = child_script(alloc, answers)?;
     let calls = Arc::try_clone(&bench.calls)?;
     let seat = seat_new(alloc)?;
@@ -194,7 +199,7 @@ fn keep_child(alloc: Global, bench: &mut Bench, number: u64, answers: &str) -> R
 }
 
 /// The poll results in a text, separated by commas.
-fn poll_answers(alloc: Global, answers: &str) -> Result<Vec<PollAnswer>, Stop> {
+fn poll_answers(alloc: Global, answers: &str) -> Result<Vec<PollAnswer>, TableError> {
     let mut made = Vec::new(alloc);
     for answer in answers.split(',') {
         made.push(poll_answer(answer.trim())?)?;
@@ -203,7 +208,7 @@ fn poll_answers(alloc: Global, answers: &str) -> Result<Vec<PollAnswer>, Stop> {
 }
 
 /// Reads a poll result: `running`, `code 0`, `signal 9`, or the kind of a fault.
-fn poll_answer(answer: &str) -> Result<PollAnswer, Stop> {
+fn poll_answer(answer: &str) -> Result<PollAnswer, TableError> {
     match first_word(answer) {
         ("running", _) => Ok(PollAnswer::Running),
         ("code", code) => Ok(PollAnswer::Ended(ExitStatus::Code(code.parse()?))),
@@ -214,7 +219,7 @@ fn poll_answer(answer: &str) -> Result<PollAnswer, Stop> {
 
 /// Returns the results of orders in a text, separated by commas: `done`, or the kind of a fault. An
 /// empty text has none. Fails if a result is malformed, or on an allocation failure.
-pub fn order_answers(alloc: Global, answers: &str) -> Result<Vec<Result<(), Fault>>, Stop> {
+pub fn order_answers(alloc: Global, answers: &str) -> Result<Vec<Result<(), Fault>>, TableError> {
     let mut made = Vec::new(alloc);
     for answer in pieces(alloc, answers)? {
         made.push(order_answer(answer.trim())?)?;
@@ -222,7 +227,7 @@ pub fn order_answers(alloc: Global, answers: &str) -> Result<Vec<Result<(), Faul
     Ok(made)
 }
 
-fn order_answer(answer: &str) -> Result<Result<(), Fault>, Stop> {
+fn order_answer(answer: &str) -> Result<Result<(), Fault>, TableError> {
     match answer {
         "done" => Ok(Ok(())),
         kind => Ok(Err(fault(kind)?)),

@@ -2,18 +2,18 @@
 //! keys of the other lines. Rows are separated by empty lines. A line has a key, a colon and a
 //! text; a line that begins with `#` is a comment. A line either sets up later lines of its row, or
 //! its text is compared with what was found.
-use crate::stop::Stop;
+use crate::stop::TableError;
 use std::io::{self, Write};
 
 /// What the keys of a file mean.
 pub trait Table<'t> {
     /// Reads a line. Returns the found text, which is compared with the text of the line, or `None`
     /// if the line only sets up later lines. Fails with the reason why the row stops.
-    fn line(&mut self, key: &'t str, text: &'t str) -> Result<Option<String>, Stop>;
+    fn line(&mut self, key: &'t str, text: &'t str) -> Result<Option<String>, TableError>;
 
     /// Ends a row, and forgets what its lines set up. Fails if a condition that has to hold for
     /// every row does not hold.
-    fn end(&mut self) -> Result<(), Stop>;
+    fn end(&mut self) -> Result<(), TableError>;
 }
 
 /// Whether allocations can fail.
@@ -49,7 +49,7 @@ pub struct File<'t> {
 
 /// Writes why no row of a file can be tried, and returns counts with one difference. Fails if the
 /// output can't be written.
-pub fn untried<W: Write>(file: File, stop: &Stop, out: &mut W) -> io::Result<Counts> {
+pub fn untried<W: Write>(file: File, stop: &TableError, out: &mut W) -> io::Result<Counts> {
     writeln!(out, "{}:1: {stop}", file.name)?;
     Ok(Counts {
         compared: 0,
@@ -168,7 +168,7 @@ impl<W: Write> Reading<'_, '_, W> {
         )
     }
 
-    fn stopped(&mut self, number: u64, line: &str, stop: &Stop) -> io::Result<()> {
+    fn stopped(&mut self, number: u64, line: &str, stop: &TableError) -> io::Result<()> {
         if self.file.memory == Memory::Refused && stop.is_memory() {
             self.is_refused();
             return Ok(());

@@ -1,6 +1,6 @@
 //! Waits for tests. Each wait ends, even if what it waits for never happens.
-use crate::stop::Stop;
-use duct_system::system::{Fault, Job, Said};
+use crate::stop::TableError;
+use duct_base::system::{Fault, Job, Said};
 use std::rt::Clock;
 use std::thread;
 use std::time::Duration;
@@ -27,7 +27,10 @@ pub fn until<F: Fn() -> bool>(is_so: F) -> bool
 /// Polls a worker until it has a result or a fault, which is returned. Blocks the thread: it polls
 /// at most 30000 times, and sleeps one millisecond between two polls. Fails if the worker is still
 /// running after that.
-pub fn heard<J: Job>(rt: &impl Clock, worker: &mut J) -> Result<Result<J::Result, Fault>, Stop> {
+pub fn heard<J: Job>(
+    rt: &impl Clock,
+    worker: &mut J,
+) -> Result<Result<J::Result, Fault>, TableError> {
     for _ in 0..30_000 {
         match worker.poll() {
             Said::Running => thread::sleep(rt, Duration::from_millis(1)),
@@ -35,5 +38,5 @@ pub fn heard<J: Job>(rt: &impl Clock, worker: &mut J) -> Result<Result<J::Result
             Said::Fault(fault) => return Ok(Err(fault)),
         }
     }
-    Err(Stop::Text("the worker goes on"))
+    Err(TableError::Text("the worker goes on"))
 }

@@ -1,7 +1,7 @@
 //! Parts of the lines of tables, and the names of streams and of kinds of faults.
-use crate::stop::Stop;
-use duct_system::spec::Stream;
-use duct_system::system::{Fault, Kind, Side};
+use crate::stop::TableError;
+use duct_base::spec::Stream;
+use duct_base::system::{Fault, Kind, Side};
 use std::alloc::{AllocError, Global};
 
 /// Splits a text at its first space. Without a space, the second part is empty.
@@ -33,26 +33,26 @@ pub fn pairs(alloc: Global, text: &str) -> Result<Vec<(&str, &str)>, AllocError>
 }
 
 /// Returns the stream with this name: `in`, `out` or `err`. Fails for any other name.
-pub fn stream(name: &str) -> Result<Stream, Stop> {
+pub fn stream(name: &str) -> Result<Stream, TableError> {
     match name {
         "in" => Ok(Stream::In),
         "out" => Ok(Stream::Out),
         "err" => Ok(Stream::Err),
-        _ => Err(Stop::Text("no such stream")),
+        _ => Err(TableError::Text("no such stream")),
     }
 }
 
 /// Returns the parent's output stream with this name: `out` or `err`. Fails for any other name.
-pub fn side(name: &str) -> Result<Side, Stop> {
+pub fn side(name: &str) -> Result<Side, TableError> {
     match name {
         "out" => Ok(Side::Out),
         "err" => Ok(Side::Err),
-        _ => Err(Stop::Text("no such stream")),
+        _ => Err(TableError::Text("no such stream")),
     }
 }
 
 /// Returns a fault of the kind with this name. Fails if there is no such kind.
-pub fn fault(kind: &str) -> Result<Fault, Stop> {
+pub fn fault(kind: &str) -> Result<Fault, TableError> {
     let kind = match kind {
         "NotFound" => Kind::NotFound,
         "PermissionDenied" => Kind::PermissionDenied,
@@ -62,7 +62,7 @@ pub fn fault(kind: &str) -> Result<Fault, Stop> {
         "Unsupported" => Kind::Unsupported,
         "OutOfMemory" => Kind::OutOfMemory,
         "Other" => Kind::Other,
-        _ => return Err(Stop::Text("no kind of fault")),
+        _ => return Err(TableError::Text("no kind of fault")),
     };
     Ok(Fault::new(kind))
 }

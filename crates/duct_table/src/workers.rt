@@ -1,5 +1,5 @@
 //! What a row sets for the workers and readers of a start.
-use crate::stop::Stop;
+use crate::stop::TableError;
 use crate::words::{fault, first_word};
 use duct::Said;
 use duct_script::answers::Answers;
@@ -12,7 +12,7 @@ use std::sync::Arc;
 
 /// Sets the poll results of the feeds, in the order in which they are started:
 /// `running, done; Other`. Fails if the text is malformed, or on an allocation failure.
-pub fn set_feeds(alloc: Global, sys: &mut Script, feeds: &str) -> Result<(), Stop> {
+pub fn set_feeds(alloc: Global, sys: &mut Script, feeds: &str) -> Result<(), TableError> {
     if !feeds.is_empty() {
         for said in feeds.split(';') {
             sys.feed(feed(alloc, said)?)?;
@@ -21,7 +21,7 @@ pub fn set_feeds(alloc: Global, sys: &mut Script, feeds: &str) -> Result<(), Sto
     Ok(())
 }
 
-fn feed(alloc: Global, said: &str) -> Result<FeedScript, Stop> {
+fn feed(alloc: Global, said: &str) -> Result<FeedScript, TableError> {
     let mut script = Vec::new(alloc);
     for word in said.split(',') {
         script.push(feed_word(word.trim())?)?;
@@ -31,7 +31,7 @@ fn feed(alloc: Global, said: &str) -> Result<FeedScript, Stop> {
 
 /// Reads a poll result of a feed: `running`, `done`, or the kind of a fault. Fails for any other
 /// word.
-pub fn feed_word(word: &str) -> Result<Said<()>, Stop> {
+pub fn feed_word(word: &str) -> Result<Said<()>, TableError> {
     match word {
         "running" => Ok(Said::Running),
         "done" => Ok(Said::Done(())),
@@ -41,7 +41,7 @@ pub fn feed_word(word: &str) -> Result<Said<()>, Stop> {
 
 /// Sets the poll results of the drains, in the order in which they are started:
 /// `running, done abc; Other`. Fails if the text is malformed, or on an allocation failure.
-pub fn set_drains(alloc: Global, sys: &mut Script, drains: &str) -> Result<(), Stop> {
+pub fn set_drains(alloc: Global, sys: &mut Script, drains: &str) -> Result<(), TableError> {
     if !drains.is_empty() {
         for said in drains.split(';') {
             sys.drain(drain(alloc, said)?)?;
@@ -50,7 +50,7 @@ pub fn set_drains(alloc: Global, sys: &mut Script, drains: &str) -> Result<(), S
     Ok(())
 }
 
-fn drain(alloc: Global, said: &str) -> Result<DrainScript, Stop> {
+fn drain(alloc: Global, said: &str) -> Result<DrainScript, TableError> {
     let mut script = DrainScript::new(alloc);
     for word in said.split(',') {
         script.push_back(drain_word(alloc, word.trim())?)?;
@@ -60,7 +60,7 @@ fn drain(alloc: Global, said: &str) -> Result<DrainScript, Stop> {
 
 /// Reads a poll result of a drain: `running`, `done abc`, or the kind of a fault. Fails for any
 /// other word, or on an allocation failure.
-pub fn drain_word(alloc: Global, word: &str) -> Result<Said<Arc<Vec<u8>>>, Stop> {
+pub fn drain_word(alloc: Global, word: &str) -> Result<Said<Arc<Vec<u8>>>, TableError> {
     match first_word(word) {
         ("running", _) => Ok(Said::Running),
         ("done", bytes) => Ok(Said::Done(shared(alloc, bytes)?)),
@@ -75,7 +75,7 @@ fn shared(alloc: Global, bytes: &str) -> Result<Arc<Vec<u8>>, AllocError> {
 /// Sets what the next reader returns: pieces of bytes, and errors between them, for example
 /// `abc, Interrupted, d`. In a piece, `_` is a space, `$` a newline, `^` a carriage return, and `?`
 /// a byte that is not valid UTF-8. Fails on an allocation failure.
-pub fn set_reader(alloc: Global, sys: &mut Script, pieces: &str) -> Result<(), Stop> {
+pub fn set_reader(alloc: Global, sys: &mut Script, pieces: &str) -> Result<(), TableError> {
     let mut script = ReaderScript::empty(alloc);
     if !pieces.is_empty() {
         for piece in pieces.split(',') {

@@ -6,13 +6,17 @@ use duct::{Clock, Error, Handle, Output, ReaderHandle, Seen};
 use duct_script::system::Script;
 use duct_table::expressions::written;
 use duct_table::scenes::Bench;
-use duct_table::stop::Stop;
+use duct_table::stop::TableError;
 use std::alloc::Global;
 use std::sync::{Arc, Wait};
 use std::time::Duration;
 
 /// Starts the expression of a text, and returns its handle.
-pub fn handle_of(alloc: Global, bench: &mut Bench, text: &str) -> Result<Handle<Script>, Stop> {
+pub fn handle_of(
+    alloc: Global,
+    bench: &mut Bench,
+    text: &str,
+) -> Result<Handle<Script>, TableError> {
     let tree = written(alloc, None, text)?;
     Ok(tree.start(&mut bench.sys, &mut bench.pool)?)
 }

@@ -7,7 +7,7 @@ use duct_script::reader::ReaderScript;
 use duct_script::system::Script;
 use duct_table::expressions::written;
 use duct_table::scenes::{Bench, Scene, bench_of};
-use duct_table::stop::Stop;
+use duct_table::stop::TableError;
 use duct_table::waits::until;
 use std::alloc::Global;
 use std::sync::Wait;
@@ -19,7 +19,7 @@ use std::thread::Threads;
 const TURNS: u32 = 1_000_000;
 
 /// A reader that returns this many bytes, and has this gate, if there is one.
-fn reader(alloc: Global, count: usize, gate: Option<&Gate>) -> Result<ReaderScript, Stop> {
+fn reader(alloc: Global, count: usize, gate: Option<&Gate>) -> Result<ReaderScript, TableError> {
     let mut script = ReaderScript::empty(alloc);
     script.bytes = vec![in alloc; 7; count]?;
     if let Some(gate) = gate {
@@ -33,7 +33,7 @@ fn handle_of<'r, R: Wait>(
     rt: &'r R,
     alloc: Global,
     bench: &mut Bench,
-) -> Result<ReaderHandle<Script, &'r R>, Stop> {
+) -> Result<ReaderHandle<Script, &'r R>, TableError> {
     let tree = written(alloc, None, "a")?;
     Ok(tree.reader(rt, &mut bench.sys, &mut bench.pool)?)
 }
@@ -72,7 +72,7 @@ fn told_at_gate<R: Wait + Threads + Sync>(
     alloc: Global,
     bench: &mut Bench,
     gate: &Gate,
-) -> Result<(Option<usize>, (bool, usize, bool, bool)), Stop> {
+) -> Result<(Option<usize>, (bool, usize, bool, bool)), TableError> {
     bench.sys.bytes(reader(alloc, 3, Some(gate))?)?;
     let handle = handle_of(rt, alloc, bench)?;
     gate.shut();
@@ -115,7 +115,7 @@ fn count_thousand<R: Wait + Threads + Sync>(
     rt: &R,
     alloc: Global,
     bench: &mut Bench,
-) -> Result<usize, Stop> {
+) -> Result<usize, TableError> {
     bench.sys.bytes(reader(alloc, 1000, None)?)?;
     let handle = handle_of(rt, alloc, bench)?;
     let total = count_together(rt, &handle);

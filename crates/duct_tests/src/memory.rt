@@ -13,13 +13,14 @@ mod readers;
 mod starts;
 
 use duct_table::memory::MemoryOutcome;
-use duct_table::stop::Stop;
+use duct_table::stop::TableError;
 
 /// The outcome of calls that may make requests to the system.
-fn outcome(tried: Result<MemoryOutcome, Stop>) -> MemoryOutcome {
+fn outcome(tried: Result<MemoryOutcome, TableError>) -> MemoryOutcome {
     match tried {
         Ok(came) => came,
-        Err(Stop::Error(error)) => MemoryOutcome::of(Err(error)),
-        Err(Stop::Io(_) | Stop::Number | Stop::Text(_) | Stop::Found(_)) => MemoryOutcome::Wrong,
+        Err(TableError::Error(error)) => MemoryOutcome::of(Err(error)),
+        Err(TableError::Io(_) | TableError::Number | TableError::Text(_) | TableError::Found(_)) =>
+            MemoryOutcome::Wrong,
     }
 }

@@ -12,7 +12,7 @@ use duct_script::gate::Gate;
 use duct_script::system::{Script, ScriptEnd};
 use duct_table::expressions::Tree;
 use duct_table::scenes::{Bench, Scene, bench_of};
-use duct_table::stop::Stop;
+use duct_table::stop::TableError;
 use duct_table::told::counts;
 use duct_table::waits::until;
 use duct_table::workers::set_drains;
@@ -51,7 +51,7 @@ fn child(alloc: Global, runs: usize, gate: Option<&Gate>) -> Result<ChildScript,
 
 /// A system of at most two commands that run for this many polls, and a capture worker that returns
 /// `hi`.
-fn greeting_bench(alloc: Global, runs: usize, gate: Option<&Gate>) -> Result<Bench, Stop> {
+fn greeting_bench(alloc: Global, runs: usize, gate: Option<&Gate>) -> Result<Bench, TableError> {
     let mut bench = bench_of(alloc, Scene::plain())?;
     set_greeting(alloc, &mut bench.sys, runs, gate)?;
     Ok(bench)
@@ -62,7 +62,7 @@ fn set_greeting(
     sys: &mut Script,
     runs: usize,
     gate: Option<&Gate>,
-) -> Result<(), Stop> {
+) -> Result<(), TableError> {
     sys.child(child(alloc, runs, gate)?)?;
     sys.child(child(alloc, runs, gate)?)?;
     set_drains(alloc, sys, "done hi")
@@ -121,7 +121,7 @@ fn all_greet<R: Wait + Threads + Sync>(
     rt: &R,
     alloc: Global,
     bench: &mut Bench,
-) -> Result<[bool; 4], Stop> {
+) -> Result<[bool; 4], TableError> {
     let handle = handle_of(alloc, bench, "a stdout_capture")?;
     let (one, other) = both_greet(rt, &handle, Waiting::End);
     let (third, own) = spent(rt, handle, &mut bench.pool);
@@ -182,7 +182,7 @@ fn is_passed<R: Wait + Threads + Sync>(
     bench: &mut Bench,
     gate: &Gate,
     waiting: Waiting,
-) -> Result<bool, Stop> {
+) -> Result<bool, TableError> {
     let handle = handle_of(alloc, bench, "a stdout_capture")?;
     gate.shut();
     let told = greet_and_kill(rt, &handle, gate, waiting);
@@ -191,7 +191,11 @@ fn is_passed<R: Wait + Threads + Sync>(
     Ok(told == ((true, true), true) && before > 0 && behind > 0)
 }
 
-fn passes<R: Wait + Threads + Sync>(rt: &R, alloc: Global, waiting: Waiting) -> Result<bool, Stop> {
+fn passes<R: Wait + Threads + Sync>(
+    rt: &R,
+    alloc: Global,
+    waiting: Waiting,
+) -> Result<bool, TableError> {
     let gate = Gate::new(alloc)?;
     let mut bench = greeting_bench(alloc, 400, Some(&gate))?;
     is_passed(rt, alloc, &mut bench, &gate, waiting)
@@ -270,7 +274,7 @@ fn told_beside_kill<R: Wait + Threads + Sync>(
     alloc: Global,
     bench: &mut Bench,
     gates: &Gates,
-) -> Result<(bool, (bool, usize)), Stop> {
+) -> Result<(bool, (bool, usize)), TableError> {
     let handle = handle_of(alloc, bench, "a stdout_capture")?;
     gates.before.shut();
     let told = kill_and_wait(rt, &handle, gates);
@@ -314,7 +318,7 @@ fn told_by_tokens<R: Wait + Threads + Sync>(
     rt: &R,
     alloc: Global,
     bench: &mut Bench,
-) -> Result<(bool, bool, usize), Stop> {
+) -> Result<(bool, bool, usize), TableError> {
     let handle = handle_of(alloc, bench, "a stdout_capture")?;
     let told = both_told(rt, &handle);
     handle.give_up(&mut bench.pool);
@@ -429,7 +433,7 @@ fn run_of_eight<R: Wait + Threads + Sync>(
     rt: &R,
     alloc: Global,
     bench: &mut Bench,
-) -> Result<(bool, bool), Stop> {
+) -> Result<(bool, bool), TableError> {
     let handle = handle_of(alloc, bench, "a b pipe stdout_capture")?;
     let from = bench.calls.noted();
     let well = play_all(rt, alloc, &handle);

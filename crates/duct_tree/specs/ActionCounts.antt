@@ -1,6 +1,6 @@
 -- What is counted of the actions of a start before they run.
 use Rattle.std.specs.Prelude.{ℕ, Bool, true, false, List, count_by}
-use Rattle.duct_start.specs.Actions.{ActionOf, open_read, create, pipe, input, capture, duplicate, tap, lend, parent, close, spawn, feed, finish}
+use Rattle.duct_start.specs.Actions.{ActionOf, open_read, create, pipe, input, capture, duplicate, duplicate_capture, duplicate_caller_end, parent, close, spawn, feed, finish}
 
 -- the action starts a command
 abbrev pub is_spawn : {E K : Type 0} → ActionOf E K → Bool
@@ -10,8 +10,8 @@ is_spawn pipe = false
 is_spawn input = false
 is_spawn (capture which) = false
 is_spawn (duplicate depth) = false
-is_spawn (tap which) = false
-is_spawn (lend end) = false
+is_spawn (duplicate_capture which) = false
+is_spawn (duplicate_caller_end end) = false
 is_spawn (parent which) = false
 is_spawn close = false
 is_spawn (spawn scope words ports) = true
@@ -26,8 +26,8 @@ is_feed pipe = false
 is_feed input = false
 is_feed (capture which) = false
 is_feed (duplicate depth) = false
-is_feed (tap which) = false
-is_feed (lend end) = false
+is_feed (duplicate_capture which) = false
+is_feed (duplicate_caller_end end) = false
 is_feed (parent which) = false
 is_feed close = false
 is_feed (spawn scope words ports) = false

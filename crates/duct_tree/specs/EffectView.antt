@@ -3,7 +3,7 @@ use Rattle.std.specs.Prelude.{Some, None}
 use Rattle.std.specs.declared.option.Option.{Option}
 use Rattle.std.specs.Arc.{arc_value}
 use Rattle.duct_start.specs.Row as row
-use Rattle.duct_start.specs.Row.{Row, Says}
+use Rattle.duct_start.specs.Row.{Row, SettingView}
 use Rattle.duct_run.specs.ScopeView.{setting_view}
 use Rattle.duct_run.specs.declared.scope.Setting.{Setting}
 use Rattle.duct_tree.specs.declared.effect.Effect.{Effect}
@@ -11,11 +11,11 @@ use Rattle.duct_tree.specs.declared.effect.Mark.{Mark}
 use Rattle.duct_tree.specs.declared.effect.Mark.TheVariants as mark
 use Rattle.duct_tree.specs.declared.effect.Opening.{Opening}
 use Rattle.duct_tree.specs.declared.effect.Opening.TheVariants as opening
-use Rattle.duct_tree.specs.declared.effect.Way.{Way}
-use Rattle.duct_tree.specs.declared.effect.Way.TheVariants as way
+use Rattle.duct_tree.specs.declared.effect.Route.{Route}
+use Rattle.duct_tree.specs.declared.effect.Route.TheVariants as way
 
 -- what a node opens
-abbrev pub opening_view : Opening → row.Obtains
+abbrev pub opening_view : Opening → row.RowOpening
 opening_view opening.Nothing = row.opens_nothing
 opening_view (opening.Input bytes) = row.opens_input (arc_value bytes.now).items
 opening_view (opening.Read path) = row.opens_read path.now
@@ -23,14 +23,14 @@ opening_view (opening.Create path) = row.opens_create path.now
 opening_view (opening.Capture which) = row.opens_capture which
 
 -- where a stream goes
-abbrev pub way_view : {E : Type 0} → Way E → row.Way E
-way_view (way.Outside stream) = row.as_outside stream
-way_view way.Nothing = row.to_nothing
-way_view (way.Lent end) = row.to_lent end.now
-way_view way.Opened = row.to_opened
+abbrev pub route_view : {E : Type 0} → Route E → row.Route E
+route_view (way.Outside stream) = row.as_outside stream
+route_view way.Nothing = row.to_nothing
+route_view (way.Lent end) = row.to_lent end.now
+route_view way.Opened = row.to_opened
 
 -- what a node sets, if anything: the folder, a change of the variables, or a hook
-abbrev pub says_view : {E H : Type 0} → Option (Setting E H) → Option (Says E H)
+abbrev pub says_view : {E H : Type 0} → Option (Setting E H) → Option (SettingView E H)
 says_view None = None
 says_view (Some setting) = Some (setting_view setting)
 
@@ -44,9 +44,9 @@ mark_view mark.Unchecked = row.is_unchecked
 abbrev pub effect_view : {E H : Type 0} → Effect E H → Row E H
 effect_view effect = record {
   opens = opening_view effect.opening;
-  input = way_view effect.input;
-  output = way_view effect.output;
-  error = way_view effect.error;
+  input = route_view effect.input;
+  output = route_view effect.output;
+  error = route_view effect.error;
   says = says_view effect.setting;
   mark = mark_view effect.mark;
 }

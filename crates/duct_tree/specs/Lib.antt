@@ -1,6 +1,6 @@
 pub mod ActionCounts
 pub mod EffectView
-pub mod InsideView
-pub mod ListingView
+pub mod NodeContextView
+pub mod ActionListView
 pub mod NodeView
 pub mod Text

@@ -33,7 +33,7 @@ impl Clone for Opening<'_> {
 impl Copy for Opening<'_> {}
 
 /// Where a stream goes inside a node.
-pub(crate) enum Way<'a, E> {
+pub(crate) enum Route<'a, E> {
     /// Where this stream goes outside the node.
     Outside(Stream),
     /// To nothing.
@@ -44,13 +44,13 @@ pub(crate) enum Way<'a, E> {
     Opened,
 }
 
-impl<E> Clone for Way<'_, E> {
+impl<E> Clone for Route<'_, E> {
     fn clone(&self) -> Result<Self, AllocError> {
         Ok(*self)
     }
 }
 
-impl<E> Copy for Way<'_, E> {}
+impl<E> Copy for Route<'_, E> {}
 
 /// What the shape of a start shows of a node.
 #[derive(Clone, Copy)]
@@ -65,11 +65,11 @@ pub(crate) struct Effect<'a, E, H> {
     /// What it opens.
     pub opening: Opening<'a>,
     /// Where stdin goes.
-    pub input: Way<'a, E>,
+    pub input: Route<'a, E>,
     /// Where stdout goes.
-    pub output: Way<'a, E>,
+    pub output: Route<'a, E>,
     /// Where stderr goes.
-    pub error: Way<'a, E>,
+    pub error: Route<'a, E>,
     /// What it sets, if anything: the folder, a change of the variables, or a hook.
     pub setting: Option<Setting<'a, E, H>>,
     /// What the shape shows of it.
@@ -90,79 +90,79 @@ pub(crate) fn effect_of<E, H>(modifier: &Modifier<E, H>) -> Effect<'_, E, H>
 {
     let idle = Effect {
         opening: Opening::Nothing,
-        input: Way::Outside(Stream::In),
-        output: Way::Outside(Stream::Out),
-        error: Way::Outside(Stream::Err),
+        input: Route::Outside(Stream::In),
+        output: Route::Outside(Stream::Out),
+        error: Route::Outside(Stream::Err),
         setting: None,
         mark: Mark::Plain,
     };
     match modifier {
         Modifier::StdinBytes(bytes) => Effect {
             opening: Opening::Input(bytes),
-            input: Way::Opened,
+            input: Route::Opened,
             mark: Mark::Input,
             ..idle
         },
         Modifier::StdinPath(path) => Effect {
             opening: Opening::Read(path.as_str()),
-            input: Way::Opened,
+            input: Route::Opened,
             ..idle
         },
         Modifier::StdinFile(end) => Effect {
-            input: Way::Lent(end),
+            input: Route::Lent(end),
             ..idle
         },
         Modifier::StdinNull => Effect {
-            input: Way::Nothing,
+            input: Route::Nothing,
             ..idle
         },
         Modifier::StdoutPath(path) => Effect {
             opening: Opening::Create(path.as_str()),
-            output: Way::Opened,
+            output: Route::Opened,
             ..idle
         },
         Modifier::StdoutFile(end) => Effect {
-            output: Way::Lent(end),
+            output: Route::Lent(end),
             ..idle
         },
         Modifier::StdoutNull => Effect {
-            output: Way::Nothing,
+            output: Route::Nothing,
             ..idle
         },
         Modifier::StdoutCapture => Effect {
             opening: Opening::Capture(Side::Out),
-            output: Way::Opened,
+            output: Route::Opened,
             ..idle
         },
         Modifier::StdoutToStderr => Effect {
-            output: Way::Outside(Stream::Err),
+            output: Route::Outside(Stream::Err),
             ..idle
         },
         Modifier::StderrPath(path) => Effect {
             opening: Opening::Create(path.as_str()),
-            error: Way::Opened,
+            error: Route::Opened,
             ..idle
         },
         Modifier::StderrFile(end) => Effect {
-            error: Way::Lent(end),
+            error: Route::Lent(end),
             ..idle
         },
         Modifier::StderrNull => Effect {
-            error: Way::Nothing,
+            error: Route::Nothing,
             ..idle
         },
         Modifier::StderrCapture => Effect {
             opening: Opening::Capture(Side::Err),
-            error: Way::Opened,
+            error: Route::Opened,
             ..idle
         },
         Modifier::StderrToStdout => Effect {
-            error: Way::Outside(Stream::Out),
+            error: Route::Outside(Stream::Out),
             ..idle
         },
         Modifier::StdoutStderrSwap => Effect {
-            output: Way::Outside(Stream::Err),
-            error: Way::Outside(Stream::Out),
+            output: Route::Outside(Stream::Err),
+            error: Route::Outside(Stream::Out),
             ..idle
         },
         Modifier::Dir(path) => Effect {

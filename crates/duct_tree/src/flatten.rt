@@ -3,42 +3,42 @@
 ghost use Rattle.std.specs.Prelude.{ℕ, List, ◌≡◌, ◌+◌, ◌++◌, length, map, string_bytes, IfOk, OnOk, IsOkUnless};
 ghost use Rattle.std.specs.Option.{option_map, option_to_list};
 ghost use Rattle.duct_start.specs.Actions.{ActionOf};
-ghost use Rattle.duct_start.specs.Flat.{commands, deeper, fetches, opened_wire, port_at, wired};
-ghost use Rattle.duct_start.specs.Listed.{listed_of, scope_index};
+ghost use Rattle.duct_start.specs.Flat.{command_actions, depth_inside, source_actions, opened_source, port_at, source_inside};
+ghost use Rattle.duct_start.specs.ActionList.{list_of, scope_index};
 ghost use Rattle.duct_start.specs.TreeView.{TreeView, around, stdout_capture};
 ghost use Rattle.duct_run.specs.ActionView.{action_view, actions_view};
 ghost use Rattle.duct_run.specs.ScopeView.{scopes_view};
-ghost use Rattle.duct_tree.specs.EffectView.{opening_view, says_view, way_view};
-ghost use Rattle.duct_tree.specs.InsideView.{wire_view, wires_view};
-ghost use Rattle.duct_tree.specs.ListingView.{closings, listing_view, openings, with_ending, with_scope, with_tree};
+ghost use Rattle.duct_tree.specs.EffectView.{opening_view, says_view, route_view};
+ghost use Rattle.duct_tree.specs.NodeContextView.{source_view, sources_view};
+ghost use Rattle.duct_tree.specs.ActionListView.{closings, action_list_view, openings, with_ending, with_scope, with_tree};
 ghost use Rattle.duct_tree.specs.NodeView.{modifier_view, node_view};
 
-mod inside;
-mod listing;
+mod action_list;
+mod context;
 
-use crate::effect::{Opening, Way, effect_of};
-use crate::flatten::inside::{Inside, Wire};
-use crate::flatten::listing::more;
+use crate::effect::{Opening, Route, effect_of};
+use crate::flatten::action_list::more;
+use crate::flatten::context::{NodeContext, StreamSource};
 use crate::tree::{Modifier, Node};
+pub use action_list::ActionList;
 use duct_base::error::Error;
 use duct_base::spec::{Port, Stream};
 use duct_base::system::Side;
 use duct_run::action::{Action, Ports};
 use duct_run::scope::Setting;
-pub use listing::Listing;
 use std::alloc::Global;
 
 /// Returns the list of a node's tree. Fails only with `Error::Memory`, on allocation failure or
 /// where a count does not fit in a `usize`.
-pub fn flatten<'a, E, H>(alloc: Global, root: &'a Node<E, H>) -> Result<Listing<'a, E, H>, Error>
+pub fn flatten<'a, E, H>(alloc: Global, root: &'a Node<E, H>) -> Result<ActionList<'a, E, H>, Error>
     ensures actions { IfOk result (λ list.
-        actions_view list.actions.items ≡ (listed_of (node_view root.now)).actions) }
+        actions_view list.actions.items ≡ (list_of (node_view root.now)).actions) }
     ensures scopes { IfOk result (λ list.
-        scopes_view list.scopes.items ≡ (listed_of (node_view root.now)).scopes) }
+        scopes_view list.scopes.items ≡ (list_of (node_view root.now)).scopes) }
     ensures memory { IsOkUnless result Error.Memory }
 {
-    let mut list = Listing::new(alloc);
-    walk(root, Inside::root(), &mut list)?;
+    let mut list = ActionList::new(alloc);
+    walk(root, NodeContext::root(), &mut list)?;
     Ok(list)
 }
 
@@ -47,16 +47,16 @@ pub fn flatten<'a, E, H>(alloc: Global, root: &'a Node<E, H>) -> Result<Listing<
 pub fn flatten_captured<'a, E, H>(
     alloc: Global,
     root: &'a Node<E, H>,
-) -> Result<Listing<'a, E, H>, Error>
+) -> Result<ActionList<'a, E, H>, Error>
     ensures actions { IfOk result (λ list. actions_view list.actions.items
-        ≡ (listed_of (around stdout_capture (node_view root.now))).actions) }
+        ≡ (list_of (around stdout_capture (node_view root.now))).actions) }
     ensures scopes { IfOk result (λ list. scopes_view list.scopes.items
-        ≡ (listed_of (around stdout_capture (node_view root.now))).scopes) }
+        ≡ (list_of (around stdout_capture (node_view root.now))).scopes) }
     ensures memory { IsOkUnless result Error.Memory }
 {
-    let mut list = Listing::new(alloc);
+    let mut list = ActionList::new(alloc);
     list.add(Action::Capture(Side::Out))?;
-    let inside = Inside::root().with_output(Wire::Captured(Side::Out));
+    let inside = NodeContext::root().with_output(StreamSource::Captured(Side::Out));
     walk(root, inside, &mut list)?;
     Ok(list)
 }
@@ -64,11 +64,11 @@ pub fn flatten_captured<'a, E, H>(
 // Adds the actions and the scopes of a tree in this context.
 fn walk<'a, E, H>(
     node: &'a Node<E, H>,
-    inside: Inside<'a, E>,
-    list: &mut Listing<'a, E, H>,
+    inside: NodeContext<'a, E>,
+    list: &mut ActionList<'a, E, H>,
 ) -> Result<(), Error>
-    ensures list { OnOk result (listing_view list.new
-        ≡ with_tree inside.entry (node_view node.now) (listing_view list.old)) }
+    ensures list { OnOk result (action_list_view list.new
+        ≡ with_tree inside.entry (node_view node.now) (action_list_view list.old)) }
     ensures memory { IsOkUnless result Error.Memory }
 {
     match node {
@@ -76,8 +76,8 @@ fn walk<'a, E, H>(
         Node::Pipe(left, right) => {
             let reader = inside.depth;
             let writer = more(reader, 1)?;
-            let writing = inside.deeper(2)?.with_output(Wire::Slot(writer));
-            let reading = inside.deeper(1)?.with_input(Wire::Slot(reader));
+            let writing = inside.deeper(2)?.with_output(StreamSource::Slot(writer));
+            let reading = inside.deeper(1)?.with_input(StreamSource::Slot(reader));
             list.add(Action::Pipe)?;
             walk(left, writing, list)?;
             list.add(Action::Close)?;
@@ -96,19 +96,19 @@ fn walk<'a, E, H>(
 // Returns the context of the inner expression.
 fn enter<'a, E, H>(
     modifier: &'a Modifier<E, H>,
-    inside: Inside<'a, E>,
-    list: &mut Listing<'a, E, H>,
-) -> Result<Inside<'a, E>, Error>
+    inside: NodeContext<'a, E>,
+    list: &mut ActionList<'a, E, H>,
+) -> Result<NodeContext<'a, E>, Error>
     ensures list { IfOk result (λ within. (tree : TreeView E H) →
-        with_ending (modifier_view modifier.now) (with_tree within tree (listing_view list.new))
+        with_ending (modifier_view modifier.now) (with_tree within tree (action_list_view list.new))
         ≡ with_tree inside.entry (around (modifier_view modifier.now) tree)
-        (listing_view list.old)) }
+        (action_list_view list.old)) }
     ensures memory { IsOkUnless result Error.Memory }
 {
     let effect = effect_of(modifier);
     let opened = open(effect.opening, inside.depth, list)?;
     let scope = scoped(effect.setting, inside.scope, list)?;
-    Ok(Inside {
+    Ok(NodeContext {
         scope,
         input: wire(effect.input, opened.wire, inside),
         output: wire(effect.output, opened.wire, inside),
@@ -120,7 +120,7 @@ fn enter<'a, E, H>(
 // What an opening leaves: the wire to what it opened, and how many ends are on the stack then.
 #[derive(Drop)]
 struct Opened<'a, E> {
-    wire: Wire<'a, E>,
+    wire: StreamSource<'a, E>,
     depth: usize,
 }
 
@@ -128,11 +128,12 @@ struct Opened<'a, E> {
 fn open<'a, E, H>(
     opening: Opening<'a>,
     depth: usize,
-    list: &mut Listing<'a, E, H>,
+    list: &mut ActionList<'a, E, H>,
 ) -> Result<Opened<'a, E>, Error>
     ensures wire { IfOk result
-        (λ opened. wire_view opened.wire ≡ opened_wire (opening_view opening.entry) depth) }
-    ensures depth { IfOk result (λ opened. opened.depth ≡ deeper (opening_view opening.entry) depth) }
+        (λ opened. source_view opened.wire ≡ opened_source (opening_view opening.entry) depth) }
+    ensures depth { IfOk result (λ opened. opened.depth ≡ depth_inside
+        (opening_view opening.entry) depth) }
     ensures actions { OnOk result (actions_view list.new.actions.items
         ≡ openings (opening_view opening.entry) (actions_view list.old.actions.items)) }
     ensures scopes { list.new.scopes ≡ list.old.scopes }
@@ -150,7 +151,7 @@ fn open<'a, E, H>(
 
 // Returns how many ends an opening leaves on the stack.
 fn pushed(opening: Opening<'_>) -> usize
-    ensures { (depth : ℕ) → depth + result ≡ deeper (opening_view opening.entry) depth }
+    ensures { (depth : ℕ) → depth + result ≡ depth_inside (opening_view opening.entry) depth }
 {
     match opening {
         Opening::Nothing | Opening::Capture(_) => 0,
@@ -161,8 +162,8 @@ fn pushed(opening: Opening<'_>) -> usize
 
 // Returns the action of an opening, if it has one.
 fn first<'a, E>(opening: Opening<'a>) -> Option<Action<'a, E>>
-    ensures { (actions : List (ActionOf E ℕ)) → actions ++ option_to_list (option_map action_view result)
-        ≡ openings (opening_view opening.entry) actions }
+    ensures { (actions : List (ActionOf E ℕ)) → actions ++ option_to_list
+        (option_map action_view result) ≡ openings (opening_view opening.entry) actions }
 {
     match opening {
         Opening::Nothing => None,
@@ -174,16 +175,16 @@ fn first<'a, E>(opening: Opening<'a>) -> Option<Action<'a, E>>
 }
 
 // Returns the wire to what was opened. `deep` is the depth of the stack after the opening.
-fn top<'a, E>(opening: Opening<'a>, deep: usize) -> Wire<'a, E>
-    ensures { (depth : ℕ) → deep ≡ deeper (opening_view opening.entry) depth
-        → wire_view result ≡ opened_wire (opening_view opening.entry) depth }
+fn top<'a, E>(opening: Opening<'a>, deep: usize) -> StreamSource<'a, E>
+    ensures { (depth : ℕ) → deep ≡ depth_inside (opening_view opening.entry) depth
+        → source_view result ≡ opened_source (opening_view opening.entry) depth }
 {
     match opening {
-        Opening::Nothing => Wire::Nothing,
-        Opening::Capture(which) => Wire::Captured(which),
-        Opening::Input(_) | Opening::Read(_) | Opening::Create(_) => Wire::Slot(deep.saturating_sub(
-            1,
-        )),
+        Opening::Nothing => StreamSource::Nothing,
+        Opening::Capture(which) => StreamSource::Captured(which),
+        Opening::Input(_) | Opening::Read(_) | Opening::Create(_) => StreamSource::Slot(
+            deep.saturating_sub(1),
+        ),
     }
 }
 
@@ -192,7 +193,7 @@ fn top<'a, E>(opening: Opening<'a>, deep: usize) -> Wire<'a, E>
 fn scoped<'a, E, H>(
     setting: Option<Setting<'a, E, H>>,
     outer: usize,
-    list: &mut Listing<'a, E, H>,
+    list: &mut ActionList<'a, E, H>,
 ) -> Result<usize, Error>
     ensures index { IfOk result (λ index. index ≡ scope_index (says_view setting.entry) outer
         (length (scopes_view list.old.scopes.items) + 1)) }
@@ -208,31 +209,38 @@ fn scoped<'a, E, H>(
 }
 
 // Returns the wire of a stream that goes this way.
-fn wire<'a, E>(way: Way<'a, E>, opened: Wire<'a, E>, inside: Inside<'a, E>) -> Wire<'a, E>
-    ensures { wire_view result
-        ≡ wired (way_view way.entry) (wire_view opened.entry) (wires_view inside.entry) }
+fn wire<'a, E>(
+    way: Route<'a, E>,
+    opened: StreamSource<'a, E>,
+    inside: NodeContext<'a, E>,
+) -> StreamSource<'a, E>
+    ensures { source_view result ≡ source_inside (route_view way.entry) (source_view opened.entry)
+        (sources_view inside.entry) }
 {
     match way {
-        Way::Outside(Stream::In) => inside.input,
-        Way::Outside(Stream::Out) => inside.output,
-        Way::Outside(Stream::Err) => inside.error,
-        Way::Nothing => Wire::Nothing,
-        Way::Lent(end) => Wire::Lent(end),
-        Way::Opened => opened,
+        Route::Outside(Stream::In) => inside.input,
+        Route::Outside(Stream::Out) => inside.output,
+        Route::Outside(Stream::Err) => inside.error,
+        Route::Nothing => StreamSource::Nothing,
+        Route::Lent(end) => StreamSource::Lent(end),
+        Route::Opened => opened,
     }
 }
 
 // Adds the actions of a modifier that come after those of the inner expression.
-fn leave<'a, E, H>(modifier: &'a Modifier<E, H>, list: &mut Listing<'a, E, H>) -> Result<(), Error>
-    ensures list { OnOk result (listing_view list.new
-        ≡ with_ending (modifier_view modifier.now) (listing_view list.old)) }
+fn leave<'a, E, H>(
+    modifier: &'a Modifier<E, H>,
+    list: &mut ActionList<'a, E, H>,
+) -> Result<(), Error>
+    ensures list { OnOk result (action_list_view list.new
+        ≡ with_ending (modifier_view modifier.now) (action_list_view list.old)) }
     ensures memory { IsOkUnless result Error.Memory }
 {
     close(effect_of(modifier).opening, list)
 }
 
 // Adds the actions of an opening that come after those of the inner expression.
-fn close<'a, E, H>(opening: Opening<'a>, list: &mut Listing<'a, E, H>) -> Result<(), Error>
+fn close<'a, E, H>(opening: Opening<'a>, list: &mut ActionList<'a, E, H>) -> Result<(), Error>
     ensures actions { OnOk result (actions_view list.new.actions.items
         ≡ closings (opening_view opening.entry) (actions_view list.old.actions.items)) }
     ensures scopes { list.new.scopes ≡ list.old.scopes }
@@ -251,13 +259,13 @@ fn close<'a, E, H>(opening: Opening<'a>, list: &mut Listing<'a, E, H>) -> Result
 // Adds the actions of a command in this context.
 fn command<'a, E, H>(
     words: &'a [String],
-    inside: Inside<'a, E>,
-    list: &mut Listing<'a, E, H>,
+    inside: NodeContext<'a, E>,
+    list: &mut ActionList<'a, E, H>,
 ) -> Result<(), Error>
     ensures actions { OnOk result (let words = map string_bytes words.now in
         actions_view list.new.actions.items
         ≡ actions_view list.old.actions.items
-        ++ commands inside.entry.scope (wires_view inside.entry) words) }
+        ++ command_actions inside.entry.scope (sources_view inside.entry) words) }
     ensures scopes { list.new.scopes ≡ list.old.scopes }
     ensures memory { IsOkUnless result Error.Memory }
 {
@@ -277,21 +285,21 @@ fn command<'a, E, H>(
 // port of the stream.
 fn fetch<'a, E, H>(
     stream: Stream,
-    wire: Wire<'a, E>,
-    list: &mut Listing<'a, E, H>,
+    wire: StreamSource<'a, E>,
+    list: &mut ActionList<'a, E, H>,
 ) -> Result<Port, Error>
-    ensures port { IfOk result (λ port. port ≡ port_at (wire_view wire.entry) stream) }
+    ensures port { IfOk result (λ port. port ≡ port_at (source_view wire.entry) stream) }
     ensures actions { OnOk result (actions_view list.new.actions.items
-        ≡ actions_view list.old.actions.items ++ fetches (wire_view wire.entry) stream) }
+        ≡ actions_view list.old.actions.items ++ source_actions (source_view wire.entry) stream) }
     ensures scopes { list.new.scopes ≡ list.old.scopes }
     ensures memory { IsOkUnless result Error.Memory }
 {
     let action = match wire {
-        Wire::Nothing => return Ok(Port::Null),
-        Wire::Slot(depth) => Action::Duplicate(depth),
-        Wire::Captured(which) => Action::Tap(which),
-        Wire::Lent(end) => Action::Lend(end),
-        Wire::Parents(parents) => match (stream, parents) {
+        StreamSource::Nothing => return Ok(Port::Null),
+        StreamSource::Slot(depth) => Action::Duplicate(depth),
+        StreamSource::Captured(which) => Action::DuplicateCapture(which),
+        StreamSource::Lent(end) => Action::DuplicateCallerEnd(end),
+        StreamSource::Parents(parents) => match (stream, parents) {
             (_, Stream::In) | (Stream::Out, Stream::Out) | (Stream::Err, Stream::Err) => {
                 return Ok(Port::Inherit);
             }

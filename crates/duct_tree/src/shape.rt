@@ -43,7 +43,8 @@ fn around<E, H>(alloc: Global, modifier: &Modifier<E, H>, inner: Shape) -> Resul
 
 // Returns the shape of a node with this mark around an expression of shape `inner`.
 fn marking(alloc: Global, mark: Mark, inner: Shape) -> Result<Shape, Error>
-    ensures shape { IfOk result (λ shape. shape_view shape ≡ marked (mark_view mark) (shape_view inner)) }
+    ensures shape { IfOk result (λ shape. shape_view shape ≡ marked (mark_view mark)
+        (shape_view inner)) }
     ensures memory { IsOkUnless result Error.Memory }
 {
     match mark {

@@ -11,7 +11,7 @@ use duct_script::calls::{Call, CallLog};
 use duct_script::clock::ScriptClock;
 use duct_script::system::ScriptEnd;
 use duct_table::scenes::{Bench, Scene, bench_of};
-use duct_table::stop::Stop;
+use duct_table::stop::TableError;
 use duct_table::workers::set_reader;
 use std::alloc::{AllocError, Global};
 use std::sync::Wait;
@@ -93,7 +93,7 @@ fn built_text(rt: &impl Wait, alloc: Global, bench: &mut Bench) -> Result<String
 
 /// Runs a step whose commands return these results to polls. Returns its result as text, how many
 /// commands were killed, and how many children were given to the pool.
-fn step_text(rt: &impl Wait, alloc: Global, children: &str) -> Result<String, Stop> {
+fn step_text(rt: &impl Wait, alloc: Global, children: &str) -> Result<String, TableError> {
     let mut bench = bench_of(alloc, Scene::of(children))?;
     let mut text = built_text(rt, alloc, &mut bench)?;
     let (killed, given) = (orders(&bench.calls), bench.pool.given());

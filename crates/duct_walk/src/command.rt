@@ -1,5 +1,5 @@
 //! A command: its canonical path, its streams, its hooks, and its spawn.
-use crate::context::{Context, Goes, Variables};
+use crate::context::{ActionSucceeds, Context, Variables};
 use crate::hooks::change;
 use crate::made::Made;
 use crate::requests::spawn;
@@ -73,13 +73,14 @@ fn named(
 }
 
 // Requests an end of the parent's stream, for an output stream that goes to the parent's other one.
-fn find(goes: &mut Goes, stream: Stream, sys: &mut Script) -> Result<(), Error> {
+fn find(goes: &mut ActionSucceeds, stream: Stream, sys: &mut Script) -> Result<(), Error> {
     let side = match (&*goes, stream) {
-        (Goes::Parents(Stream::Out), Stream::Err) => Side::Out,
-        (Goes::Parents(Stream::Err), Stream::Out) => Side::Err,
-        (Goes::Parents(_) | Goes::Nothing | Goes::End(_), _) => return Ok(()),
+        (ActionSucceeds::Parents(Stream::Out), Stream::Err) => Side::Out,
+        (ActionSucceeds::Parents(Stream::Err), Stream::Out) => Side::Err,
+        (ActionSucceeds::Parents(_) | ActionSucceeds::Nothing | ActionSucceeds::End(_), _) =>
+            return Ok(()),
     };
-    *goes = Goes::End(sys.parent(side)?);
+    *goes = ActionSucceeds::End(sys.parent(side)?);
     Ok(())
 }
 
@@ -100,10 +101,10 @@ fn asked(
     Ok(spec_of(words, folder, variables, input, output, error))
 }
 
-fn port(goes: &Goes) -> Port {
+fn port(goes: &ActionSucceeds) -> Port {
     match goes {
-        Goes::Parents(_) => Port::Inherit,
-        Goes::Nothing => Port::Null,
-        Goes::End(_) => Port::Given,
+        ActionSucceeds::Parents(_) => Port::Inherit,
+        ActionSucceeds::Nothing => Port::Null,
+        ActionSucceeds::End(_) => Port::Given,
     }
 }

@@ -13,7 +13,7 @@ use std::mem::replace;
 
 /// Where a stream goes.
 #[derive(Drop)]
-pub(crate) enum Goes {
+pub(crate) enum ActionSucceeds {
     /// To this stream of the parent.
     Parents(Stream),
     Nothing,
@@ -24,18 +24,18 @@ pub(crate) enum Goes {
 pub(crate) type Variables = BTreeMap<EnvNameString, String>;
 
 /// A hook with its ends.
-pub(crate) type Hooked<'t> = (&'t ScriptHook, &'t [ScriptEnd]);
+pub(crate) type StoppedByHook<'t> = (&'t ScriptHook, &'t [ScriptEnd]);
 
 /// The context of a node: what the nodes around it set.
 #[derive(Drop)]
 pub(crate) struct Context<'t> {
-    pub input: Goes,
-    pub output: Goes,
-    pub error: Goes,
+    pub input: ActionSucceeds,
+    pub output: ActionSucceeds,
+    pub error: ActionSucceeds,
     pub folder: Option<&'t str>,
     pub variables: Variables,
     /// The hooks, the outermost first.
-    pub hooks: Vec<Hooked<'t>>,
+    pub hooks: Vec<StoppedByHook<'t>>,
 }
 
 impl<'t> Context<'t> {
@@ -49,9 +49,9 @@ impl<'t> Context<'t> {
             variables.insert(EnvNameString::from(name), value)?;
         }
         Ok(Context {
-            input: Goes::Parents(Stream::In),
-            output: Goes::Parents(Stream::Out),
-            error: Goes::Parents(Stream::Err),
+            input: ActionSucceeds::Parents(Stream::In),
+            output: ActionSucceeds::Parents(Stream::Out),
+            error: ActionSucceeds::Parents(Stream::Err),
             folder: None,
             variables,
             hooks: Vec::new(alloc),
@@ -59,7 +59,7 @@ impl<'t> Context<'t> {
     }
 
     /// Sends a stream there. An end that the stream had is closed.
-    pub(crate) fn turn(&mut self, stream: Stream, goes: Goes, sys: &mut Script) {
+    pub(crate) fn turn(&mut self, stream: Stream, goes: ActionSucceeds, sys: &mut Script) {
         let had = match stream {
             Stream::In => replace(&mut self.input, goes),
             Stream::Out => replace(&mut self.output, goes),
@@ -101,9 +101,9 @@ impl<'t> Context<'t> {
         let hooks = Vec::from_slice(*self.hooks.allocator(), self.hooks.as_slice())?;
         let (reader, writer) = sys.pipe()?;
         let mut left = Context {
-            input: replace(&mut self.input, Goes::End(reader)),
-            output: Goes::End(writer),
-            error: Goes::Nothing,
+            input: replace(&mut self.input, ActionSucceeds::End(reader)),
+            output: ActionSucceeds::End(writer),
+            error: ActionSucceeds::Nothing,
             folder: self.folder,
             variables,
             hooks,
@@ -128,33 +128,33 @@ impl<'t> Context<'t> {
     }
 }
 
-fn let_go(goes: Goes, sys: &mut Script) {
+fn let_go(goes: ActionSucceeds, sys: &mut Script) {
     match goes {
-        Goes::Parents(_) | Goes::Nothing => {}
-        Goes::End(end) => close(sys, end),
+        ActionSucceeds::Parents(_) | ActionSucceeds::Nothing => {}
+        ActionSucceeds::End(end) => close(sys, end),
     }
 }
 
 /// Opens a file for reading.
-pub(crate) fn opened(path: &str, sys: &mut Script) -> Result<Goes, Error> {
-    Ok(Goes::End(sys.open_read(path)?))
+pub(crate) fn opened(path: &str, sys: &mut Script) -> Result<ActionSucceeds, Error> {
+    Ok(ActionSucceeds::End(sys.open_read(path)?))
 }
 
 /// Creates a file.
-pub(crate) fn created(path: &str, sys: &mut Script) -> Result<Goes, Error> {
-    Ok(Goes::End(sys.create(path)?))
+pub(crate) fn created(path: &str, sys: &mut Script) -> Result<ActionSucceeds, Error> {
+    Ok(ActionSucceeds::End(sys.create(path)?))
 }
 
 /// Duplicates this end.
-pub(crate) fn lent(end: &ScriptEnd, sys: &mut Script) -> Result<Goes, Error> {
-    Ok(Goes::End(sys.duplicate(end)?))
+pub(crate) fn lent(end: &ScriptEnd, sys: &mut Script) -> Result<ActionSucceeds, Error> {
+    Ok(ActionSucceeds::End(sys.duplicate(end)?))
 }
 
 // Returns a copy of where a stream goes. An end is duplicated.
-fn copy(goes: &Goes, sys: &mut Script) -> Result<Goes, Error> {
+fn copy(goes: &ActionSucceeds, sys: &mut Script) -> Result<ActionSucceeds, Error> {
     match goes {
-        Goes::Parents(stream) => Ok(Goes::Parents(*stream)),
-        Goes::Nothing => Ok(Goes::Nothing),
-        Goes::End(end) => lent(end, sys),
+        ActionSucceeds::Parents(stream) => Ok(ActionSucceeds::Parents(*stream)),
+        ActionSucceeds::Nothing => Ok(ActionSucceeds::Nothing),
+        ActionSucceeds::End(end) => lent(end, sys),
     }
 }

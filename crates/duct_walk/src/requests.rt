@@ -3,7 +3,7 @@
 ghost use Rattle.std.specs.Prelude.{◌≡◌, []};
 ghost use Rattle.duct_system.specs.Streams.{end_of};
 
-use crate::context::{Context, Goes};
+use crate::context::{ActionSucceeds, Context};
 use duct_base::error::Error;
 use duct_base::spec::CommandSpec;
 use duct_base::system::{Fault, Kind, Stdio, System};
@@ -31,21 +31,21 @@ pub(crate) fn spawn(
     Ok(sys.spawn(spec, [endless(input), endless(output), endless(error)])?)
 }
 
-fn stream(goes: Goes) -> Stdio<ScriptEnd> {
+fn stream(goes: ActionSucceeds) -> Stdio<ScriptEnd> {
     match goes {
-        Goes::Parents(_) => Stdio::Inherit,
-        Goes::Nothing => Stdio::Null,
-        Goes::End(end) => Stdio::End(end),
+        ActionSucceeds::Parents(_) => Stdio::Inherit,
+        ActionSucceeds::Nothing => Stdio::Null,
+        ActionSucceeds::End(end) => Stdio::End(end),
     }
 }
 
 // Like `stream`, for a stream without an end. A stream with an end becomes `Null`.
-fn endless(goes: Goes) -> Stdio<ScriptEnd>
+fn endless(goes: ActionSucceeds) -> Stdio<ScriptEnd>
     ensures { end_of result ≡ [] }
 {
     match goes {
-        Goes::Parents(_) => Stdio::Inherit,
-        Goes::Nothing | Goes::End(_) => Stdio::Null,
+        ActionSucceeds::Parents(_) => Stdio::Inherit,
+        ActionSucceeds::Nothing | ActionSucceeds::End(_) => Stdio::Null,
     }
 }
 

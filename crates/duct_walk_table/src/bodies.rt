@@ -8,7 +8,7 @@ use duct_script::requests::Sort;
 use duct_script::system::ScriptEnd;
 use duct_table::expressions::Tree;
 use duct_table::scenes::{Bench, bench_of};
-use duct_table::stop::Stop;
+use duct_table::stop::TableError;
 use duct_table::told::{pool_text, trace_text};
 use duct_walk::start::{Walked, walk, walk_reader};
 use std::alloc::{AllocError, Global};
@@ -22,17 +22,17 @@ pub(crate) fn agree(
     alloc: Global,
     case: Case,
     refused: Option<Request>,
-) -> Result<Vec<Request>, Stop> {
+) -> Result<Vec<Request>, TableError> {
     let (own, requests) = launched(alloc, case, refused)?;
     let walked = walked(alloc, case, refused)?;
     if own == walked {
         return Ok(requests);
     }
-    Err(Stop::Found(format!(in alloc; "{own} by the library, {walked} by the walk")?))
+    Err(TableError::Found(format!(in alloc; "{own} by the library, {walked} by the walk")?))
 }
 
 /// Returns the system and the pool of a case. This request is refused, if there is one.
-fn bench(alloc: Global, case: Case, refused: Option<Request>) -> Result<Bench, Stop> {
+fn bench(alloc: Global, case: Case, refused: Option<Request>) -> Result<Bench, TableError> {
     let mut bench = bench_of(alloc, case.scene)?;
     if let Some((sort, number)) = refused {
         let fault = Fault::new(Kind::NotFound);
@@ -46,7 +46,7 @@ fn launched(
     alloc: Global,
     case: Case,
     refused: Option<Request>,
-) -> Result<(String, Vec<Request>), Stop> {
+) -> Result<(String, Vec<Request>), TableError> {
     let bench = bench(alloc, case, refused)?;
     let tree = case.noted_tree(alloc, &bench)?;
     let start = started_tree(alloc, &tree, case.way, bench)?;
@@ -56,16 +56,20 @@ fn launched(
 }
 
 /// Starts a case by the walk. Returns the result as text.
-fn walked(alloc: Global, case: Case, refused: Option<Request>) -> Result<String, Stop> {
+fn walked(alloc: Global, case: Case, refused: Option<Request>) -> Result<String, TableError> {
     let mut bench = bench(alloc, case, refused)?;
     let answer = answered(alloc, case, &mut bench)?;
     if !is_balanced(alloc, bench.sys.journal())? {
-        return Err(Stop::Text("the walk did not spend an end once"));
+        return Err(TableError::Text("the walk did not spend an end once"));
     }
     told(alloc, case.way, &bench, &answer)
 }
 
-fn answered(alloc: Global, case: Case, bench: &mut Bench) -> Result<Result<Runs, Error>, Stop> {
+fn answered(
+    alloc: Global,
+    case: Case,
+    bench: &mut Bench,
+) -> Result<Result<Runs, Error>, TableError> {
     let tree = case.tree(alloc)?;
     let answer = match case.way {
         Way::Launched | Way::Handle => walk(alloc, tree.root(), &mut bench.sys, &mut bench.pool),
@@ -98,7 +102,7 @@ fn told(
     way: Way,
     bench: &Bench,
     answer: &Result<Runs, Error>,
-) -> Result<String, Stop> {
+) -> Result<String, TableError> {
     let mut text = trace_text(alloc, bench.sys.journal())?;
     let answer = answer_text(alloc, way, answer)?;
     let pool = pool_text(alloc, &bench.pool)?;

@@ -6,7 +6,7 @@ use duct_script::system::ScriptEnd;
 use duct_table::dice::Dice;
 use duct_table::expressions::{Tree, written};
 use duct_table::scenes::{Bench, Scene};
-use duct_table::stop::Stop;
+use duct_table::stop::TableError;
 use std::alloc::{AllocError, Global};
 
 /// An expression, how it is started, and the system and the pool for it.
@@ -26,12 +26,12 @@ impl<'t> Case<'t> {
     }
 
     /// Returns the tree of its expression.
-    pub fn tree(self, alloc: Global) -> Result<Tree<ScriptEnd>, Stop> {
+    pub fn tree(self, alloc: Global) -> Result<Tree<ScriptEnd>, TableError> {
         written(alloc, None, self.expression)
     }
 
     /// Returns the tree of its expression, whose hooks note their calls in the log of this bench.
-    pub fn noted_tree(self, alloc: Global, bench: &Bench) -> Result<Tree<ScriptEnd>, Stop> {
+    pub fn noted_tree(self, alloc: Global, bench: &Bench) -> Result<Tree<ScriptEnd>, TableError> {
         written(alloc, Some(&bench.calls), self.expression)
     }
 }

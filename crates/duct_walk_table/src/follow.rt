@@ -5,7 +5,7 @@ use duct::{Entry, Error, Fault, Kind, System};
 use duct_plain::checker::fault_of;
 use duct_plan_table::starts::{Start, started_tree};
 use duct_table::scenes::bench_of;
-use duct_table::stop::Stop;
+use duct_table::stop::TableError;
 use std::alloc::Global;
 
 /// Whether a start failed with an allocation failure, which none of these may.
@@ -35,22 +35,22 @@ fn is_refused(start: &Start, refused: u64) -> bool {
 /// Starts a case. The request of this number is refused, where all requests are counted from 1;
 /// with 0 none is refused. Fails if the start does what no start may do, or if its error is not
 /// that fault.
-pub(crate) fn follows(alloc: Global, case: Case, refused: u64) -> Result<Start, Stop> {
+pub(crate) fn follows(alloc: Global, case: Case, refused: u64) -> Result<Start, TableError> {
     let mut bench = bench_of(alloc, case.scene)?;
     bench.sys.refuse(refused, Fault::new(Kind::NotFound))?;
     let tree = case.noted_tree(alloc, &bench)?;
     let start = started_tree(alloc, &tree, case.way, bench)?;
     if wants_memory(&start) {
-        return Err(Stop::Text("there was no memory"));
+        return Err(TableError::Text("there was no memory"));
     }
     if !is_refused(&start, refused) {
-        return Err(Stop::Text("the error is not the fault of the request"));
+        return Err(TableError::Text("the error is not the fault of the request"));
     }
     Ok(start)
 }
 
 /// Starts a case without a fault, and with a fault at each request in turn.
-pub(crate) fn follow_each(alloc: Global, case: Case) -> Result<(), Stop> {
+pub(crate) fn follow_each(alloc: Global, case: Case) -> Result<(), TableError> {
     let start = follows(alloc, case, 0)?;
     let requests = start.bench.sys.requests();
     drop(start);
@@ -62,7 +62,7 @@ pub(crate) fn follow_each(alloc: Global, case: Case) -> Result<(), Stop> {
 
 /// Starts the random case of a seed without a fault, and with a fault at a random request that can
 /// be refused.
-pub(crate) fn follow_random(alloc: Global, case: Case, seed: u64) -> Result<(), Stop> {
+pub(crate) fn follow_random(alloc: Global, case: Case, seed: u64) -> Result<(), TableError> {
     let start = follows(alloc, case, 0)?;
     let refused = drawn(start.bench.sys.journal(), seed);
     drop(start);
@@ -71,7 +71,7 @@ pub(crate) fn follow_random(alloc: Global, case: Case, seed: u64) -> Result<(), 
 }
 
 /// Returns the numbers of the ends that a start closes after this request was refused.
-pub(crate) fn closed(alloc: Global, case: Case, refused: u64) -> Result<String, Stop> {
+pub(crate) fn closed(alloc: Global, case: Case, refused: u64) -> Result<String, TableError> {
     let start = follows(alloc, case, refused)?;
     let mut text = String::new(alloc);
     for entry in start.bench.sys.journal().iter().skip(refused as usize) {

@@ -26,7 +26,7 @@ use crate::follow::{closed, follow_each, follow_random};
 use crate::waited::{wait_each, wait_random};
 use duct_plan_table::starts::Way;
 use duct_table::scenes::Scene;
-use duct_table::stop::Stop;
+use duct_table::stop::TableError;
 use duct_table::table::Table;
 use std::alloc::Global;
 use std::sync::Wait;
@@ -66,7 +66,7 @@ impl<'t, R: Wait> Starts<'t, R> {
     }
 
     /// Checks each tree of the row. Returns how many there are.
-    fn tried(&self, check: Check) -> Result<String, Stop> {
+    fn tried(&self, check: Check) -> Result<String, TableError> {
         for (expression, way) in self.expressions.iter() {
             let case = self.case(expression, *way);
             named(self.alloc, case, self.try_chosen(check, case))?;
@@ -89,7 +89,7 @@ impl<'t, R: Wait> Starts<'t, R> {
         }
     }
 
-    fn try_chosen(&self, check: Check, case: Case) -> Result<(), Stop> {
+    fn try_chosen(&self, check: Check, case: Case) -> Result<(), TableError> {
         match check {
             Check::Agree => agree_on_each(self.alloc, case),
             Check::Follow => follow_each(self.alloc, case),
@@ -99,13 +99,13 @@ impl<'t, R: Wait> Starts<'t, R> {
     }
 
     /// Checks the random tree of a seed.
-    fn try_seed(&self, check: Check, seed: u64) -> Result<(), Stop> {
+    fn try_seed(&self, check: Check, seed: u64) -> Result<(), TableError> {
         let mut expression = String::new(self.alloc);
         let case = random_case(seed, &mut expression)?;
         named(self.alloc, case, self.try_random(check, case, seed))
     }
 
-    fn try_random(&self, check: Check, case: Case, seed: u64) -> Result<(), Stop> {
+    fn try_random(&self, check: Check, case: Case, seed: u64) -> Result<(), TableError> {
         match check {
             Check::Agree => agree_on_each(self.alloc, case),
             Check::Follow => follow_random(self.alloc, case, seed),
@@ -115,14 +115,14 @@ impl<'t, R: Wait> Starts<'t, R> {
     }
 
     /// Returns the ends that the start of the last expression closes after the refused request.
-    fn closed(&self) -> Result<String, Stop> {
+    fn closed(&self) -> Result<String, TableError> {
         let (expression, way) = self.expressions.last().ok_or("no expression")?;
         closed(self.alloc, self.case(expression, *way), self.refused)
     }
 }
 
 impl<'t, R: Wait> Table<'t> for Starts<'t, R> {
-    fn line(&mut self, key: &'t str, text: &'t str) -> Result<Option<String>, Stop> {
+    fn line(&mut self, key: &'t str, text: &'t str) -> Result<Option<String>, TableError> {
         match key {
             "expression" => self.expressions.push((text, Way::Launched))?,
             "reader" => self.expressions.push((text, Way::Read))?,
@@ -139,7 +139,7 @@ impl<'t, R: Wait> Table<'t> for Starts<'t, R> {
     }
 
     /// Resets what the lines set. Each start has been checked already.
-    fn end(&mut self) -> Result<(), Stop> {
+    fn end(&mut self) -> Result<(), TableError> {
         self.expressions.clear();
         self.seeds = (0, 0);
         self.scene = Scene::plain();
@@ -149,16 +149,16 @@ impl<'t, R: Wait> Table<'t> for Starts<'t, R> {
 }
 
 /// Returns the first seed, and the one after the last: `200 from 0`.
-fn seeds(text: &str) -> Result<(u64, u64), Stop> {
+fn seeds(text: &str) -> Result<(u64, u64), TableError> {
     let (count, first) = text.split_once(" from ").ok_or("no first seed")?;
     let first = first.parse::<u64>()?;
     Ok((first, first.saturating_add(count.parse::<u64>()?)))
 }
 
 /// Returns the result of a case, with the case's expression if it failed.
-fn named(alloc: Global, case: Case, tried: Result<(), Stop>) -> Result<(), Stop> {
+fn named(alloc: Global, case: Case, tried: Result<(), TableError>) -> Result<(), TableError> {
     match tried {
         Ok(()) => Ok(()),
-        Err(stop) => Err(Stop::Found(format!(in alloc; "{}: {stop}", case.expression)?)),
+        Err(stop) => Err(TableError::Found(format!(in alloc; "{}: {stop}", case.expression)?)),
     }
 }

@@ -10,7 +10,7 @@ use duct_script::system::ScriptEnd;
 use duct_table::dice::Dice;
 use duct_table::expressions::Tree;
 use duct_table::scenes::{Bench, Scene, bench_of};
-use duct_table::stop::Stop;
+use duct_table::stop::TableError;
 use duct_table::told::{children_started, counts};
 use duct_table::words::fault;
 use std::alloc::{AllocError, Global};
@@ -160,7 +160,7 @@ fn error(rt: &impl Wait, tree: &Tree<ScriptEnd>, way: Way, bench: &mut Bench) ->
 
 /// Runs or reads a case. The request of this number is refused, where all requests are counted from
 /// 1; with 0 none is refused. Fails if the result is not the expected one.
-fn waits(rt: &impl Wait, alloc: Global, waited: Waited, refused: u64) -> Result<(), Stop> {
+fn waits(rt: &impl Wait, alloc: Global, waited: Waited, refused: u64) -> Result<(), TableError> {
     let case = waited.case;
     let mut bench = bench_of(alloc, case.scene)?;
     bench.sys.refuse(refused, Fault::new(Kind::NotFound))?;
@@ -176,18 +176,18 @@ fn is_right(
     refused: u64,
     bench: &Bench,
     error: Option<Error>,
-) -> Result<(), Stop> {
+) -> Result<(), TableError> {
     let entries = bench.sys.journal();
     let (wanted, left) = wanted(waited, refused, children_started(entries));
     let is_right = error == wanted && counts(&bench.pool) == left;
     if is_right && is_balanced(alloc, entries)? {
         return Ok(());
     }
-    Err(Stop::Found(format!(in alloc; "{error:?} with request {refused} refused")?))
+    Err(TableError::Found(format!(in alloc; "{error:?} with request {refused} refused")?))
 }
 
 /// Runs or reads a case, without a fault and with a fault at each request in turn.
-pub(crate) fn wait_each(rt: &impl Wait, alloc: Global, case: Case) -> Result<(), Stop> {
+pub(crate) fn wait_each(rt: &impl Wait, alloc: Global, case: Case) -> Result<(), TableError> {
     let start = follows(alloc, case, 0)?;
     let waited = Waited {
         case,
@@ -222,7 +222,7 @@ fn wait_twice(
     start: &Start,
     children: &str,
     seed: u64,
-) -> Result<(), Stop> {
+) -> Result<(), TableError> {
     let scene = Scene {
         parent: case.scene.parent,
         canonical: case.scene.canonical,
@@ -248,7 +248,7 @@ pub(crate) fn wait_random(
     alloc: Global,
     case: Case,
     seed: u64,
-) -> Result<(), Stop> {
+) -> Result<(), TableError> {
     let start = follows(alloc, case, 0)?;
     let started = children_started(start.bench.sys.journal());
     let children = random_children(alloc, seed, started)?;

@@ -13,7 +13,7 @@ use duct_call_table::scripted::Scripted;
 use duct_host_table::tables;
 use duct_parts_table::expressions::Expressions;
 use duct_parts_table::journals::Journals;
-use duct_parts_table::names::Names;
+use duct_parts_table::names::NameSucceeds;
 use duct_parts_table::random::Random;
 use duct_parts_table::specs::Specs;
 use duct_parts_table::statuses::Statuses;
@@ -21,7 +21,7 @@ use duct_parts_table::transfers::Transfers;
 use duct_plan_table::plans::Plans;
 use duct_request_table::machine::Real;
 use duct_script_table::scripts::Scripts;
-use duct_table::stop::Stop;
+use duct_table::stop::TableError;
 use duct_table::table::{Counts, File, Memory, compare, untried};
 use duct_walk_table::starts::Starts;
 use std::alloc::Global;
@@ -45,7 +45,7 @@ fn tried<W: Write>(
         },
         "expressions" => compare(&mut Expressions::new(alloc), file, out),
         "journals" => compare(&mut Journals::new(alloc), file, out),
-        "names" => compare(&mut Names::new(alloc), file, out),
+        "names" => compare(&mut NameSucceeds::new(alloc), file, out),
         "plans" => compare(&mut Plans::new(alloc), file, out),
         "random" => compare(&mut Random::new(alloc), file, out),
         "scripts" => compare(&mut Scripts::new(alloc), file, out),
@@ -53,7 +53,7 @@ fn tried<W: Write>(
         "starts" => compare(&mut Starts::new(rt, alloc), file, out),
         "statuses" => compare(&mut Statuses::new(alloc), file, out),
         "transfers" => compare(&mut Transfers::new(alloc), file, out),
-        _ => untried(file, &Stop::Text("no such table"), out),
+        _ => untried(file, &TableError::Text("no such table"), out),
     }
 }
 

@@ -46,7 +46,7 @@ fn after(word: Word, heard: Word) -> Word
 }
 
 /// Stores a command's report, and returns whether that command is there.
-pub(crate) fn tell_at(commands: &mut Vec<Word>, at: usize, heard: Word) -> bool
+pub(crate) fn record_at(commands: &mut Vec<Word>, at: usize, heard: Word) -> bool
     ensures items { commands.new.items
         ≡ change_at (λ old. word_after old heard) at commands.old.items }
     ensures len { vec_len commands.new ≡ vec_len commands.old }

@@ -10,16 +10,16 @@ use duct_system::system::{Fault, Said};
 /// What was found in a part of a shape, and the numbers of the command and of the input worker
 /// after it.
 #[derive(Clone, Copy)]
-pub(crate) struct Found {
+pub(crate) struct Findings {
     pub(crate) fault: Option<Fault>,
     pub(crate) runs: bool,
     next_command: usize,
     next_input: usize,
 }
 
-impl Found {
+impl Findings {
     /// Returns what is found in one report, with the numbers after it.
-    fn new(said: Said<()>, next_command: usize, next_input: usize) -> Found
+    fn new(said: Said<()>, next_command: usize, next_input: usize) -> Findings
         ensures fault { result.fault ≡ first_fault (said ∷ []) }
         ensures runs { result.runs ≡ some_runs (said ∷ []) }
         ensures next_command { result.next_command ≡ next_command }
@@ -30,7 +30,7 @@ impl Found {
             Said::Done(()) => (None, false),
             Said::Fault(fault) => (Some(fault), false),
         };
-        Found {
+        Findings {
             fault,
             runs,
             next_command,
@@ -39,13 +39,13 @@ impl Found {
     }
 
     /// Returns what was found in both parts; this one comes first.
-    fn before(self, later: Found) -> Found
+    fn before(self, later: Findings) -> Findings
         ensures fault { result.fault ≡ option_or self.fault later.fault }
         ensures runs { result.runs ≡ (self.runs || later.runs) }
         ensures next_command { result.next_command ≡ later.next_command }
         ensures next_input { result.next_input ≡ later.next_input }
     {
-        Found {
+        Findings {
             fault: self.fault.or(later.fault),
             runs: self.runs || later.runs,
             next_command: later.next_command,
@@ -83,7 +83,7 @@ pub(crate) fn look(
     inputs: &[Said<()>],
     command: usize,
     input: usize,
-) -> Found
+) -> Findings
     requires commands { command + command_count (shape_view shape.now) ≤ length commands.now }
     requires inputs { input + input_count (shape_view shape.now) ≤ length inputs.now }
     ensures fault { result.fault
@@ -94,7 +94,7 @@ pub(crate) fn look(
     ensures next_input { result.next_input ≡ input + input_count (shape_view shape.now) }
 {
     match shape {
-        Shape::Command(_) => { Found::new(command_at(commands, command), command + 1, input) }
+        Shape::Command(_) => { Findings::new(command_at(commands, command), command + 1, input) }
         Shape::Pipe(left, right) => {
             let left = look(left, commands, inputs, command, input);
             left.before(look(right, commands, inputs, left.next_command, left.next_input))
@@ -102,7 +102,7 @@ pub(crate) fn look(
         Shape::Input(inner) => {
             let inner = look(inner, commands, inputs, command, input);
             let said = input_at(inputs, inner.next_input);
-            inner.before(Found::new(said, inner.next_command, inner.next_input + 1))
+            inner.before(Findings::new(said, inner.next_command, inner.next_input + 1))
         }
         Shape::Unchecked(inner) => look(inner, commands, inputs, command, input),
     }

@@ -5,7 +5,7 @@ ghost use Rattle.duct_status.specs.Bytes.{lent_bytes, outcome_view};
 ghost use Rattle.duct_status.specs.EventView.{bytes_said};
 ghost use Rattle.duct_status.specs.Outcome.{awaited_by, captured, ended, finished, with_bytes};
 
-use crate::status::look::Found;
+use crate::status::look::Findings;
 use duct_system::system::{Fault, Said, Side};
 use std::sync::Arc;
 
@@ -33,7 +33,7 @@ fn bytes_of(drain: &Option<Said<Arc<Vec<u8>>>>) -> Said<&[u8]>
 /// Returns the outcome: the fault that was found; else `Waits` if something runs; else stdout's
 /// capture worker decides, and then stderr's.
 pub(crate) fn judge<'a>(
-    found: Found,
+    found: Findings,
     output: &'a Option<Said<Arc<Vec<u8>>>>,
     error: &'a Option<Said<Arc<Vec<u8>>>>,
 ) -> Outcome<'a>
@@ -61,7 +61,7 @@ pub(crate) fn judge<'a>(
 /// Returns the stream whose capture worker decides and has not finished, if no fault was found and
 /// nothing runs.
 pub(crate) fn awaited(
-    found: Found,
+    found: Findings,
     output: &Option<Said<Arc<Vec<u8>>>>,
     error: &Option<Said<Arc<Vec<u8>>>>,
 ) -> Option<Side>

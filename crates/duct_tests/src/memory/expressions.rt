@@ -6,7 +6,7 @@ use duct_script::system::ScriptEnd;
 use duct_table::expressions::{Lender, Strangers, Tree, redirected, with_end, with_texts};
 use duct_table::hooks::hook;
 use duct_table::memory::MemoryOutcome;
-use duct_table::stop::Stop;
+use duct_table::stop::TableError;
 use std::alloc::Global;
 
 /// A builder of each kind.
@@ -41,7 +41,7 @@ fn built(
     a: &Tree<ScriptEnd>,
     b: &Tree<ScriptEnd>,
     text: &str,
-) -> Result<Tree<ScriptEnd>, Stop> {
+) -> Result<Tree<ScriptEnd>, TableError> {
     let (call, values) = text.split_once('=').unwrap_or((text, ""));
     match call {
         "pipe" => Ok(a.pipe(b)?),
@@ -56,12 +56,12 @@ fn built(
 }
 
 /// Fails unless an expression has this debug text.
-fn shows(alloc: Global, tree: &Tree<ScriptEnd>, text: &str) -> Result<(), Stop> {
+fn shows(alloc: Global, tree: &Tree<ScriptEnd>, text: &str) -> Result<(), TableError> {
     let found = format!(in alloc; "{tree:?}")?;
     if found.as_str() == text {
         return Ok(());
     }
-    Err(Stop::Found(found))
+    Err(TableError::Found(found))
 }
 
 /// The outcome of a builder. Fails unless the commands stay as they were, whether or not the
@@ -71,7 +71,7 @@ fn kept(
     a: &Tree<ScriptEnd>,
     b: &Tree<ScriptEnd>,
     text: &str,
-) -> Result<MemoryOutcome, Stop> {
+) -> Result<MemoryOutcome, TableError> {
     let came = match built(alloc, a, b, text) {
         Ok(_) => MemoryOutcome::Whole,
         Err(stop) => outcome(Err(stop)),
@@ -82,7 +82,7 @@ fn kept(
 }
 
 /// The outcome of all builders.
-fn builders(alloc: Global) -> Result<MemoryOutcome, Stop> {
+fn builders(alloc: Global) -> Result<MemoryOutcome, TableError> {
     let a: Tree<ScriptEnd> = cmd!(in alloc; "a")?;
     let b: Tree<ScriptEnd> = cmd!(in alloc; "b")?;
     let mut came = MemoryOutcome::Whole;
@@ -93,7 +93,7 @@ fn builders(alloc: Global) -> Result<MemoryOutcome, Stop> {
 }
 
 /// The outcome of a clone, which allocates nothing and has the same debug text.
-fn cloned(alloc: Global) -> Result<MemoryOutcome, Stop> {
+fn cloned(alloc: Global) -> Result<MemoryOutcome, TableError> {
     let a: Tree<ScriptEnd> = cmd!(in alloc; "a")?;
     match a.clone() {
         Ok(copy) => shows(alloc, &copy, "Cmd([\"a\"])")?,

@@ -8,7 +8,7 @@ use duct_script::child::ScriptChild;
 use duct_script::system::Script;
 use duct_table::memory::MemoryOutcome;
 use duct_table::scenes::{Bench, Scene, bench_of};
-use duct_table::stop::Stop;
+use duct_table::stop::TableError;
 use duct_table::told::counts;
 use duct_table::workers::set_drains;
 use std::alloc::Global;
@@ -17,14 +17,14 @@ use std::time::Duration;
 
 /// A system whose command runs at first and then exits with code 0, and whose capture worker
 /// returns `xy`.
-fn bench(alloc: Global) -> Result<Bench, Stop> {
+fn bench(alloc: Global) -> Result<Bench, TableError> {
     let mut bench = bench_of(alloc, Scene::of("running, code 0"))?;
     set_drains(alloc, &mut bench.sys, "done xy")?;
     Ok(bench)
 }
 
 /// Starts that command, and returns its handle.
-fn started(alloc: Global, bench: &mut Bench) -> Result<Handle<Script>, Stop> {
+fn started(alloc: Global, bench: &mut Bench) -> Result<Handle<Script>, TableError> {
     handle_of(alloc, bench, "a stdout_capture")
 }
 
@@ -63,7 +63,7 @@ fn left(
     came.then(MemoryOutcome::whole_if(counts(pool) == (0, 1, 1, 0)))
 }
 
-fn waits_so(rt: &impl Wait, alloc: Global, waiting: Waiting) -> Result<MemoryOutcome, Stop> {
+fn waits_so(rt: &impl Wait, alloc: Global, waiting: Waiting) -> Result<MemoryOutcome, TableError> {
     let mut bench = bench(alloc)?;
     let handle = started(alloc, &mut bench)?;
     let came = waited_again(rt, &handle, waiting);
@@ -79,7 +79,7 @@ fn waits(rt: &impl Wait, alloc: Global) -> MemoryOutcome {
 }
 
 /// A system whose log counts the calls and keeps none.
-fn counting_bench(alloc: Global) -> Result<Bench, Stop> {
+fn counting_bench(alloc: Global) -> Result<Bench, TableError> {
     let calls = Arc::new(alloc, CallLog::new(alloc, 0)?)?;
     let mut sys = Script::new(alloc)?;
     sys.note_in(Arc::try_clone(&calls)?);
@@ -124,7 +124,7 @@ fn all_ordered(rt: &impl Wait, handle: &Handle<Script>, log: &CallLog) -> Memory
     came.then(MemoryOutcome::whole_if(are_ids))
 }
 
-fn orders(rt: &impl Wait, alloc: Global) -> Result<MemoryOutcome, Stop> {
+fn orders(rt: &impl Wait, alloc: Global) -> Result<MemoryOutcome, TableError> {
     let mut bench = counting_bench(alloc)?;
     let handle = handle_of(alloc, &mut bench, "a again pipe")?;
     let came = all_ordered(rt, &handle, &bench.calls);
@@ -135,7 +135,7 @@ fn orders(rt: &impl Wait, alloc: Global) -> Result<MemoryOutcome, Stop> {
 
 /// Gives up two handles with one running child each to another pool than that of their starts, and
 /// sweeps that pool. Neither allocates.
-fn given_up(alloc: Global) -> Result<MemoryOutcome, Stop> {
+fn given_up(alloc: Global) -> Result<MemoryOutcome, TableError> {
     let mut bench = bench_of(alloc, Scene::of("running, code 0; running, Other"))?;
     let mut pool = Pool::new(alloc);
     handle_of(alloc, &mut bench, "a")?.give_up(&mut pool);

@@ -5,12 +5,12 @@ use duct_script::system::Script;
 use duct_table::expressions::written;
 use duct_table::memory::{MemoryOutcome, is_memory};
 use duct_table::scenes::{Bench, Scene, bench_of};
-use duct_table::stop::Stop;
+use duct_table::stop::TableError;
 use duct_table::told::counts;
 use std::alloc::Global;
 
 /// A system with a variable, and a child that runs at first and then fails.
-fn bench(alloc: Global) -> Result<Bench, Stop> {
+fn bench(alloc: Global) -> Result<Bench, TableError> {
     let mut scene = Scene::of("running, code 1");
     scene.parent = "A:1";
     bench_of(alloc, scene)
@@ -59,7 +59,7 @@ fn ended(started: Result<Running<Script>, Error>, journal: &[Entry]) -> MemoryOu
 }
 
 /// The outcome of the start of a command and of its polls, which leave the pool as it was.
-fn launched(alloc: Global) -> Result<MemoryOutcome, Stop> {
+fn launched(alloc: Global) -> Result<MemoryOutcome, TableError> {
     let mut bench = bench(alloc)?;
     let tree = written(alloc, None, "f,x")?;
     let started = tree.launch(&mut bench.sys, &mut bench.pool);

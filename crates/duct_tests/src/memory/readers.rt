@@ -6,7 +6,7 @@ use duct_script::system::Script;
 use duct_table::expressions::written;
 use duct_table::memory::{MemoryOutcome, is_memory};
 use duct_table::scenes::{Bench, Scene, bench_of};
-use duct_table::stop::Stop;
+use duct_table::stop::TableError;
 use duct_table::told::{children_started, counts};
 use duct_table::workers::{set_drains, set_reader};
 use std::alloc::Global;
@@ -14,7 +14,7 @@ use std::sync::Wait;
 
 /// A system whose command runs at first and then exits with code 0, whose capture worker returns
 /// `xy`, and whose reader has `xy` and a newline.
-fn bench(alloc: Global) -> Result<Bench, Stop> {
+fn bench(alloc: Global) -> Result<Bench, TableError> {
     let mut bench = bench_of(alloc, Scene::of("running, code 0"))?;
     set_drains(alloc, &mut bench.sys, "done xy")?;
     set_reader(alloc, &mut bench.sys, "xy$")?;
@@ -89,7 +89,7 @@ fn asked<R: Wait>(handle: &ReaderHandle<Script, R>, first: First) -> MemoryOutco
 }
 
 /// The outcome of a reader handle. The pool is given each child that was started.
-fn reads(rt: &impl Wait, alloc: Global, first: First) -> Result<MemoryOutcome, Stop> {
+fn reads(rt: &impl Wait, alloc: Global, first: First) -> Result<MemoryOutcome, TableError> {
     let mut bench = bench(alloc)?;
     let tree = written(alloc, None, "a stderr_capture")?;
     Ok(match tree.reader(rt, &mut bench.sys, &mut bench.pool) {

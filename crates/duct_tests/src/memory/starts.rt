@@ -10,7 +10,7 @@ use duct_script::system::ScriptEnd;
 use duct_table::expressions::{Tree, written};
 use duct_table::memory::{MemoryOutcome, is_memory};
 use duct_table::scenes::{Bench, Scene, bench_of};
-use duct_table::stop::Stop;
+use duct_table::stop::TableError;
 use duct_table::told::{children_started, counts};
 use std::alloc::{AllocError, Global};
 use std::sync::Wait;
@@ -52,7 +52,7 @@ const WAYS: [Way; 4] = [
 
 /// A system to which one request was made, so that its journal has room for the first request of a
 /// start, and a pool that keeps a child, which has ended by its next poll.
-fn bench(alloc: Global) -> Result<Bench, Stop> {
+fn bench(alloc: Global) -> Result<Bench, TableError> {
     let mut bench = bench_of(alloc, Scene::of("& running, code 0"))?;
     drop(bench.sys.environment()?);
     Ok(bench)
@@ -162,14 +162,14 @@ fn tried(
     alloc: Global,
     tree: &Tree<ScriptEnd>,
     way: Way,
-) -> Result<MemoryOutcome, Stop> {
+) -> Result<MemoryOutcome, TableError> {
     let mut bench = bench(alloc)?;
     let started = start(rt, tree, &mut bench, way);
     Ok(came_of(alloc, tree, &bench, way, started)?)
 }
 
 /// The outcome of all starts of a tree.
-fn each_way(rt: &impl Wait, alloc: Global, text: &str) -> Result<MemoryOutcome, Stop> {
+fn each_way(rt: &impl Wait, alloc: Global, text: &str) -> Result<MemoryOutcome, TableError> {
     let tree = written(alloc, None, text)?;
     let mut came = MemoryOutcome::Whole;
     for way in WAYS {

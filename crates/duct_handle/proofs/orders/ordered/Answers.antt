@@ -14,7 +14,7 @@ returns-in-Kill g c =
     let numbers = ap (λ (n : NumbersView). n.children) (c.if-not-is_of.ensures.0 refl).1 in
     subst (λ order. IsObeyed may obey order c.args.numbers.now.children.items c.kill.result) (sym c.in-Kill.is)
     (order_obeyed may obey _ (map view c.args.running.now.children) (map view c.kill.new.self.children) c.args.numbers.now.children.items c.kill.result c.kill.ensures.ordered
-    (∥∥₁_map c.are_told.ensures (λ t. t.children_told)) numbers)
+    (∥∥₁_map c.answers_allowed.ensures (λ t. t.children_told)) numbers)
 
 pub returns-in-Signal : goal.returns-in-Signal
 returns-in-Signal g c =
@@ -25,4 +25,4 @@ returns-in-Signal g c =
     let same : to_z w32 (of_z w32 c.in-Signal.signal) ≡ c.in-Signal.signal = search rules in
     subst (λ order. IsObeyed may obey order c.args.numbers.now.children.items c.signal.result) (ap (λ s. Signal s) same ∙ sym c.in-Signal.is)
     (order_obeyed may obey _ (map view c.args.running.now.children) (map view c.signal.new.self.children) c.args.numbers.now.children.items c.signal.result c.signal.ensures.ordered
-    (∥∥₁_map c.are_told.ensures (λ t. t.children_told)) numbers)
+    (∥∥₁_map c.answers_allowed.ensures (λ t. t.children_told)) numbers)

@@ -1,7 +1,7 @@
 use Rattle.std.proofs.lemmas.Result.{err_from_is_err_and}
 use Rattle.std.proofs.Common.{sym, ◌∙◌}
 use Rattle.duct_system.specs.Streams.{stream_of}
-use Rattle.duct_start.specs.Chain.{Makes}
+use Rattle.duct_start.specs.Chain.{HookMakes}
 use Rattle.duct_start.proofs.Changing.{alters_one, breaks_end, breaks_error, breaks_fault, breaks_input, breaks_output}
 use Rattle.duct_start.proofs.Settling.{settles_at}
 use Rattle.duct_run.specs.StreamsView.{streams_view}
@@ -49,6 +49,6 @@ returns-clause-ok g c =
     let i = settles_at g.H.Hook.allows num c.args.ends.now _ made.input _ _ _ _ c.port.ensures c.in_ok-settle.ensures.ok in
     let o = settles_at g.H.Hook.allows num c.args.ends.now _ made.output _ _ _ _ c.port-2.ensures c.in_ok-settle-2.ensures.ok in
     let e = settles_at g.H.Hook.allows num c.args.ends.now _ made.error _ _ _ _ c.port-3.ensures c.in_ok-settle-3.ensures.ok in
-    let makes : Makes g.H.Hook.allows c.args.hook.now c.args.spec.now made = record { allowed = c.in_default.ensures.ok; gives_nothing = c.in_default.ensures.given } in
+    let makes : HookMakes g.H.Hook.allows c.args.hook.now c.args.spec.now made = record { allowed = c.in_default.ensures.ok; gives_nothing = c.in_default.ensures.given } in
     rw c.find.ensures (alters_one g.H.Hook.allows num c.args.hook.now c.args.ends.now c.args.spec.now made (streams_view num c.args.streams.now)
-    (stream_of num c.settle.new.stream) (stream_of num c.settle-2.new.stream) (stream_of num c.settle-3.new.stream) _ _ _ _ makes (sym c.missing.ensures ∙ c.in_default-missing.is) i o e)
+    (stream_of num c.settle.new.stream) (stream_of num c.settle-2.new.stream) (stream_of num c.settle-3.new.stream) _ _ _ _ makes (sym c.missing_place.ensures ∙ c.in_default-missing.is) i o e)

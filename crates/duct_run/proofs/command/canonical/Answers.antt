@@ -2,8 +2,8 @@ use Rattle.std.proofs.Common.{◌≡◌, ap, sym, ◌∙◌, subst, map, string_
 use Rattle.duct_base.specs.Executable.{asks_canonical}
 use Rattle.duct_system.specs.EntryView.{Canonicalize}
 use Rattle.duct_system.specs.Journal.{Asks}
-use Rattle.duct_start.specs.Commands.{is_named}
-use Rattle.duct_start.specs.Listed.{scope_in}
+use Rattle.duct_start.specs.Commands.{asks_canonical_path}
+use Rattle.duct_start.specs.ActionList.{scope_in}
 use Rattle.duct_start.proofs.Commanding.{names_some}
 use Rattle.duct_run.specs.ScopeView.{scopes_view}
 use Rattle.std.specs.Option.{option_copied}
@@ -19,6 +19,6 @@ returns-clause-ok g c =
     let texts = map string_bytes c.args.words.now in
     let scope = scope_in (scopes_view c.args.scopes.now) c.args.scope in
     let some : c.is_some.result ≡ is_some scope.folder = c.is_some.ensures ∙ some_copied c.folder_in.result ∙ ap (λ o. is_some o) c.folder_in.ensures in
-    let is : is_named scope texts ≡ true = sym (λ i. asks_canonical (c.program_of-program.ensures i) (some i)) ∙ sym c.asks_canonical.ensures ∙ c.if-not-asks_canonical.false in
+    let is : asks_canonical_path scope texts ≡ true = sym (λ i. asks_canonical (c.program_of-program.ensures i) (some i)) ∙ sym c.asks_canonical.ensures ∙ c.if-not-asks_canonical.false in
     names_some g.H.Hook.allows g.S.End.Numbered.number_of scope texts _ _ _ is
     (subst (λ p. Asks (Canonicalize p (Ok (string_bytes c.in_ok-canonicalize.field-0))) (g.S.System.journal_view c.args.sys.now) (g.S.System.journal_view c.canonicalize.new.self)) c.program_of-program.ensures c.in_ok-canonicalize.ensures.ok)

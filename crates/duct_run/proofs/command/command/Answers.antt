@@ -3,13 +3,13 @@ use Rattle.std.proofs.lemmas.Result.{err_from_is_err_and}
 use Rattle.std.proofs.Common.{◌≡◌, ◌+◌, ◌≤◌, ap, sym, ◌∙◌, subst, arith, rules, length, map, string_bytes, length-append, ◌++◌, ◌∷◌, []}
 use Rattle.duct_system.specs.Child.{IsUnasked}
 use Rattle.duct_system.specs.SpecView.{pair_text}
-use Rattle.duct_start.specs.Actions.{many}
-use Rattle.duct_start.specs.Commands.{Alters, Breaks}
-use Rattle.duct_start.specs.Holdings.{pair_of}
-use Rattle.duct_start.specs.Listed.{scope_in}
+use Rattle.duct_start.specs.Actions.{port_end_count}
+use Rattle.duct_start.specs.Commands.{HooksSucceed, HooksFail}
+use Rattle.duct_start.specs.ResourcesView.{pipe_ends}
+use Rattle.duct_start.specs.ActionList.{scope_in}
 use Rattle.duct_start.proofs.Commanding.{hooks_refused, spawn_refused, spawned}
 use Rattle.duct_run.specs.ActionView.{ports_view}
-use Rattle.duct_run.specs.HeldView.{held_view}
+use Rattle.duct_run.specs.ResourcesView.{resources_view}
 use Rattle.duct_run.specs.ScopeView.{scopes_view}
 use Rattle.duct_run.specs.StreamsView.{many_ends, streams_view}
 use Rattle.duct_run.proofs.Made.{made_is_asked}
@@ -19,29 +19,29 @@ use Rattle.duct_run.proofs.command.command.Goals as goal
 pub returns-in_err-seat-clause-err : goal.returns-in_err-seat-clause-err
 returns-in_err-seat-clause-err g c =
     let p = err_from_is_err_and c.from_residual.result c.from_residual.ensures.1 in
-    rw (p.1, p.2) (c.in_err-seat.ensures.err (held_view g.S.End.Numbered.number_of g.S.Child.Child.child_view g.S.Feed.Job.job_view g.S.Drain.Job.job_view c.args.held.now))
+    rw (p.1, p.2) (c.in_err-seat.ensures.err (resources_view g.S.End.Numbered.number_of g.S.Child.Child.child_view g.S.Feed.Job.job_view g.S.Drain.Job.job_view c.args.held.now))
 
 pub change_all-requires-clause-room : goal.change_all-requires-clause-room
 change_all-requires-clause-room g c =
     let num = g.S.End.Numbered.number_of in
     let allows = g.H.Hook.allows in
-    let h = held_view num g.S.Child.Child.child_view g.S.Feed.Job.job_view g.S.Drain.Job.job_view c.args.held.now in
+    let h = resources_view num g.S.Child.Child.child_view g.S.Feed.Job.job_view g.S.Drain.Job.job_view c.args.held.now in
     let pairs = map pair_text c.args.pairs.now.items in
     let scope = scope_in (scopes_view c.args.scopes.now) c.args.scope in
     let texts = map string_bytes c.args.words.now in
     let ports = ports_view c.args.ports in
     let start = g.S.System.journal_view c.args.sys.now in
     let long = length_stack num c.args.held.now.stack.items in
-    let items : many ports.input + (many ports.output + many ports.error) ≤ length c.args.held.now.stack.items = search rules in
-    let full : many ports.input + (many ports.output + many ports.error) ≤ length h.stack = omega (arith, items, long) in
+    let items : port_end_count ports.input + (port_end_count ports.output + port_end_count ports.error) ≤ length c.args.held.now.stack.items = search rules in
+    let full : port_end_count ports.input + (port_end_count ports.output + port_end_count ports.error) ≤ length h.stack = omega (arith, items, long) in
     let fits = hand_fits num c.take_all-streams.result ports h.stack full c.take_all-streams.ensures.streams in
-    omega (arith, fits, c.requires.room, c.in_ok-seat.ensures.left, length-append h.stack (pair_of h.out ++ pair_of h.err))
+    omega (arith, fits, c.requires.room, c.in_ok-seat.ensures.left, length-append h.stack (pipe_ends h.out ++ pipe_ends h.err))
 
 pub returns-in-Err-clause-err : goal.returns-in-Err-clause-err
 returns-in-Err-clause-err g c =
     let num = g.S.End.Numbered.number_of in
     let allows = g.H.Hook.allows in
-    let h = held_view num g.S.Child.Child.child_view g.S.Feed.Job.job_view g.S.Drain.Job.job_view c.args.held.now in
+    let h = resources_view num g.S.Child.Child.child_view g.S.Feed.Job.job_view g.S.Drain.Job.job_view c.args.held.now in
     let pairs = map pair_text c.args.pairs.now.items in
     let scope = scope_in (scopes_view c.args.scopes.now) c.args.scope in
     let texts = map string_bytes c.args.words.now in
@@ -51,20 +51,20 @@ returns-in-Err-clause-err g c =
     let asked = c.in_ok-seat.spec in
     let ready = c.in_ok-seat.ensures.ok in
     let made = made_is_asked pairs ready.program scope texts ports asked ready.made in
-    let breaks = subst (λ s. Breaks allows g.H.Hook.refuses num scope.hooks one (g.S.System.journal_view c.change_all.new.sys) asked s (streams_view num c.change_all.new.streams) c.in-Err.error) c.take_all-streams.ensures.streams c.in-Err.ensures.err in
+    let breaks = subst (λ s. HooksFail allows g.H.Hook.refuses num scope.hooks one (g.S.System.journal_view c.change_all.new.sys) asked s (streams_view num c.change_all.new.streams) c.in-Err.error) c.take_all-streams.ensures.streams c.in-Err.ensures.err in
     rw (c.put_all.ensures, c.take_all-streams.ensures.left) (hooks_refused allows num scope texts g.H.Hook.refuses pairs ports start h one ready.program ready.names asked made
     (g.S.System.journal_view c.change_all.new.sys) (streams_view num c.change_all.new.streams) c.in-Err.error breaks)
 
 pub spawn-requires : goal.spawn-requires
 spawn-requires g c =
     let num = g.S.End.Numbered.number_of in
-    let h = held_view num g.S.Child.Child.child_view g.S.Feed.Job.job_view g.S.Drain.Job.job_view c.args.held.now in
+    let h = resources_view num g.S.Child.Child.child_view g.S.Feed.Job.job_view g.S.Drain.Job.job_view c.args.held.now in
     let ports = ports_view c.args.ports in
-    let items : many ports.input + (many ports.output + many ports.error) ≤ length c.args.held.now.stack.items = search rules in
-    let full : many ports.input + (many ports.output + many ports.error) ≤ length h.stack = omega (arith, items, length_stack num c.args.held.now.stack.items) in
+    let items : port_end_count ports.input + (port_end_count ports.output + port_end_count ports.error) ≤ length c.args.held.now.stack.items = search rules in
+    let full : port_end_count ports.input + (port_end_count ports.output + port_end_count ports.error) ≤ length h.stack = omega (arith, items, length_stack num c.args.held.now.stack.items) in
     let fits = hand_fits num c.take_all-streams.result ports h.stack full c.take_all-streams.ensures.streams in
     let room : many_ends c.change_all.new.streams ≤ (g.S.System.journal_view c.change_all.new.sys).room =
-    omega (arith, fits, c.requires.room, c.in_ok-seat.ensures.left, c.in_default.ensures.left, length-append h.stack (pair_of h.out ++ pair_of h.err)) in
+    omega (arith, fits, c.requires.room, c.in_ok-seat.ensures.left, c.in_default.ensures.left, length-append h.stack (pipe_ends h.out ++ pipe_ends h.err)) in
     (g.met.S.System.streams_fit, min_fits _ _ (omega (arith, many_given num c.change_all.new.streams, room)))
 
 pub returns-in_err-child-clause-err : goal.returns-in_err-child-clause-err
@@ -72,7 +72,7 @@ returns-in_err-child-clause-err g c =
     let p = err_from_is_err_and c.from_residual-in_err-child.result c.from_residual-in_err-child.ensures.1 in
     let num = g.S.End.Numbered.number_of in
     let allows = g.H.Hook.allows in
-    let h = held_view num g.S.Child.Child.child_view g.S.Feed.Job.job_view g.S.Drain.Job.job_view c.args.held.now in
+    let h = resources_view num g.S.Child.Child.child_view g.S.Feed.Job.job_view g.S.Drain.Job.job_view c.args.held.now in
     let pairs = map pair_text c.args.pairs.now.items in
     let scope = scope_in (scopes_view c.args.scopes.now) c.args.scope in
     let texts = map string_bytes c.args.words.now in
@@ -84,7 +84,7 @@ returns-in_err-child-clause-err g c =
     let made = made_is_asked pairs ready.program scope texts ports asked ready.made in
     let two = g.S.System.journal_view c.change_all.new.sys in
     let t = c.change_all.new.streams in
-    let alters = subst (λ s. Alters allows num scope.hooks one two asked c.change_all.new.spec s (streams_view num t)) c.take_all-streams.ensures.streams c.in_default.ensures.ok in
+    let alters = subst (λ s. HooksSucceed allows num scope.hooks one two asked c.change_all.new.spec s (streams_view num t)) c.take_all-streams.ensures.streams c.in_default.ensures.ok in
     rw (p.1, p.2, c.take_all-streams.ensures.left) (spawn_refused allows num scope texts g.H.Hook.refuses pairs ports start h one ready.program ready.names asked made
     (g.S.System.journal_view c.spawn.new.self) c.change_all.new.spec (streams_view num t) two _ _ alters c.in_err-child.ensures.err (many_spent num t))
 
@@ -92,7 +92,7 @@ pub returns-clause-ok : goal.returns-clause-ok
 returns-clause-ok g c =
     let num = g.S.End.Numbered.number_of in
     let allows = g.H.Hook.allows in
-    let h = held_view num g.S.Child.Child.child_view g.S.Feed.Job.job_view g.S.Drain.Job.job_view c.args.held.now in
+    let h = resources_view num g.S.Child.Child.child_view g.S.Feed.Job.job_view g.S.Drain.Job.job_view c.args.held.now in
     let pairs = map pair_text c.args.pairs.now.items in
     let scope = scope_in (scopes_view c.args.scopes.now) c.args.scope in
     let texts = map string_bytes c.args.words.now in
@@ -104,7 +104,7 @@ returns-clause-ok g c =
     let made = made_is_asked pairs ready.program scope texts ports asked ready.made in
     let two = g.S.System.journal_view c.change_all.new.sys in
     let t = c.change_all.new.streams in
-    let alters = subst (λ s. Alters allows num scope.hooks one two asked c.change_all.new.spec s (streams_view num t)) c.take_all-streams.ensures.streams c.in_default.ensures.ok in
+    let alters = subst (λ s. HooksSucceed allows num scope.hooks one two asked c.change_all.new.spec s (streams_view num t)) c.take_all-streams.ensures.streams c.in_default.ensures.ok in
     let view = g.S.Child.Child.child_view in
     let child = c.in_ok-child.child in
     let number : (view c.place_new.result).number ≡ g.S.Child.Numbered.number_of child = ap (λ x. (view x).number) c.place_new.ensures ∙ g.met.S.Child.Child.has_number child in

@@ -2,7 +2,7 @@
 use Rattle.std.proofs.lemmas.Result.{err_from_is_err_and}
 use Rattle.std.proofs.Common.{subst, map, string_bytes}
 use Rattle.duct_system.specs.SpecView.{pair_text}
-use Rattle.duct_start.specs.Listed.{scope_in}
+use Rattle.duct_start.specs.ActionList.{scope_in}
 use Rattle.duct_start.proofs.Commanding.{name_refused, spec_refused, unasked_refused}
 use Rattle.duct_run.specs.ActionView.{ports_view}
 use Rattle.duct_run.specs.Made.{IsMade, program_text}

@@ -1,9 +1,9 @@
 use Rattle.std.proofs.lemmas.Result.{err_from_is_err_and}
-use Rattle.duct_run.specs.HeldView.{held_view}
+use Rattle.duct_run.specs.ResourcesView.{resources_view}
 use Rattle.duct_start.specs.Actions as action
 use Rattle.std.proofs.Common.{rules, refl}
 use Rattle.duct_run.proofs.Pushed.{at_depth}
-use Rattle.duct_start.proofs.Going.{duplicate_goes, duplicate_quits}
+use Rattle.duct_start.proofs.Going.{duplicate_succeeds, duplicate_fails}
 use Rattle.duct_run.proofs.Pushed.{pushed, goes_over}
 use Rattle.duct_run.proofs.Requesting.{goes_on, stops}
 use Rattle.duct_run.proofs.requests.duplicate.Goals as goal
@@ -11,12 +11,12 @@ use Rattle.duct_run.proofs.requests.duplicate.Goals as goal
 pub returns-in_err-end : goal.returns-in_err-end
 returns-in_err-end g c =
     let p = err_from_is_err_and c.from_residual.result c.from_residual.ensures.1 in
-    rw (p.1, p.2) (stops ((λ no. no), duplicate_quits g.H.Hook.allows g.S.End.Numbered.number_of _ _ _ _ (action.duplicate c.args.depth) _ (λ st. refl) c.in_err-end.ensures.err) (search rules) (search rules))
+    rw (p.1, p.2) (stops ((λ no. no), duplicate_fails g.H.Hook.allows g.S.End.Numbered.number_of _ _ _ _ (action.duplicate c.args.depth) _ (λ st. refl) c.in_err-end.ensures.err) (search rules) (search rules))
 
 pub returns : goal.returns
 returns g c =
     let num = g.S.End.Numbered.number_of in
     let allows = g.H.Hook.allows in
-    let h = held_view num g.S.Child.Child.child_view g.S.Feed.Job.job_view g.S.Drain.Job.job_view c.args.held.now in
+    let h = resources_view num g.S.Child.Child.child_view g.S.Feed.Job.job_view g.S.Drain.Job.job_view c.args.held.now in
     goes_on (goes_over allows num (action.duplicate c.args.depth) _ _ h _ _ (pushed num c.args.held.now.stack.items c.push_reserved.new.self.items c.in_ok-end.end c.push_reserved.ensures.items)
-    (duplicate_goes allows num c.args.depth _ (num c.in_ok-end.end) _ _ h (at_depth num c.args.held.now.stack.items c.args.depth _ c.index.result.now c.requires.within c.index.ensures) c.in_ok-end.ensures.ok)) (search rules) (search rules)
+    (duplicate_succeeds allows num c.args.depth _ (num c.in_ok-end.end) _ _ h (at_depth num c.args.held.now.stack.items c.args.depth _ c.index.result.now c.requires.within c.index.ensures) c.in_ok-end.ensures.ok)) (search rules) (search rules)

@@ -21,11 +21,11 @@ returns-in-Capture g c = record { performed = rw c.in-Capture.is (performed c.ca
 pub returns-in-Duplicate : goal.returns-in-Duplicate
 returns-in-Duplicate g c = record { performed = rw c.in-Duplicate.is (performed c.duplicate.ensures); pool = leaves_same _ _ }
 
-pub returns-in-Tap : goal.returns-in-Tap
-returns-in-Tap g c = record { performed = rw c.in-Tap.is (performed c.tap.ensures); pool = leaves_same _ _ }
+pub returns-in-DuplicateCapture : goal.returns-in-DuplicateCapture
+returns-in-DuplicateCapture g c = record { performed = rw c.in-DuplicateCapture.is (performed c.duplicate_capture.ensures); pool = leaves_same _ _ }
 
-pub returns-in-Lend : goal.returns-in-Lend
-returns-in-Lend g c = record { performed = rw c.in-Lend.is (performed c.lend.ensures); pool = leaves_same _ _ }
+pub returns-in-DuplicateCallerEnd : goal.returns-in-DuplicateCallerEnd
+returns-in-DuplicateCallerEnd g c = record { performed = rw c.in-DuplicateCallerEnd.is (performed c.duplicate_caller_end.ensures); pool = leaves_same _ _ }
 
 pub returns-in-Parent : goal.returns-in-Parent
 returns-in-Parent g c = record { performed = rw c.in-Parent.is (performed c.parent.ensures); pool = leaves_same _ _ }

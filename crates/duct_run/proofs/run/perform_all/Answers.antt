@@ -2,10 +2,10 @@
 use Rattle.std.proofs.Common.{◌≡◌, ◌+◌, ◌∷◌, [], arith, drop, map, refl}
 use Rattle.std.proofs.lemmas.Result.{err_from_is_err_and}
 use Rattle.duct_system.specs.SpecView.{pair_text}
-use Rattle.duct_start.specs.Listed.{resolved, resolved_all}
+use Rattle.duct_start.specs.ActionList.{resolved, resolved_all}
 use Rattle.duct_start.proofs.Leaving.{leaves_on, leaves_same}
 use Rattle.duct_run.specs.ActionView.{action_view, actions_view}
-use Rattle.duct_run.specs.HeldView.{held_view}
+use Rattle.duct_run.specs.ResourcesView.{resources_view}
 use Rattle.duct_run.specs.ScopeView.{all_scopes}
 use Rattle.duct_run.proofs.Pushed.{length_stack}
 use Rattle.duct_run.proofs.Turns.{can_here, goes_on_saying, memory_refused, new_same, pops_resolved, refused_now, rest_is, rest_none, room_here, stands_done, stood_same, within_at, workers_on, workers_same}
@@ -33,7 +33,7 @@ returns-in_err-make_room-clause-err g c =
     let rest = resolved_all scopes (actions_view (drop (c.loop-action.action-index + 1) c.args.actions.now)) in
     let is : before ≡ act ∷ rest = rest_is scopes c.args.actions.now c.loop-action.action-index c.action-item.result c.loop-action-test.true c.action-item.is in
     let pairs = map pair_text c.args.pairs.now.items in
-    let kept = held_view num child feed drain c.make_room.new.held in
+    let kept = resources_view num child feed drain c.make_room.new.held in
     rw (p.1, p.2) (λ course to same first.
     let stood = stood_same num child feed drain c.loop-action.held c.make_room.new.held c.make_room.ensures.same g.H.Hook.allows course to before now (c.loop-action.invariant.stood course to same first) in
     memory_refused g.H.Hook.allows g.H.Hook.refuses num course pairs same to before rest act now kept stood is _ c.in_err-make_room.ensures.memory)
@@ -54,7 +54,7 @@ perform-requires-clause-full g c =
     let rest = resolved_all scopes (actions_view (drop (c.loop-action.action-index + 1) c.args.actions.now)) in
     let is : before ≡ act ∷ rest = rest_is scopes c.args.actions.now c.loop-action.action-index c.action-item.result c.loop-action-test.true c.action-item.is in
     let pairs = map pair_text c.args.pairs.now.items in
-    let kept = held_view num child feed drain c.make_room.new.held in
+    let kept = resources_view num child feed drain c.make_room.new.held in
     let some = c.requires.stood in
     let stood = stood_same num child feed drain c.loop-action.held c.make_room.new.held c.make_room.ensures.same g.H.Hook.allows some.0 some.1 before now (c.loop-action.invariant.stood some.0 some.1 some.2 some.3) in
     omega (arith, (can_here g.H.Hook.allows g.H.Hook.refuses num some.0 pairs some.2 some.1 before rest act now kept stood is).0, pops_resolved scopes (action_view c.action-item.result), length_stack num c.make_room.new.held.stack.items)
@@ -72,7 +72,7 @@ perform-requires-clause-can g c =
     let rest = resolved_all scopes (actions_view (drop (c.loop-action.action-index + 1) c.args.actions.now)) in
     let is : before ≡ act ∷ rest = rest_is scopes c.args.actions.now c.loop-action.action-index c.action-item.result c.loop-action-test.true c.action-item.is in
     let pairs = map pair_text c.args.pairs.now.items in
-    let kept = held_view num child feed drain c.make_room.new.held in
+    let kept = resources_view num child feed drain c.make_room.new.held in
     let some = c.requires.stood in
     let stood = stood_same num child feed drain c.loop-action.held c.make_room.new.held c.make_room.ensures.same g.H.Hook.allows some.0 some.1 before now (c.loop-action.invariant.stood some.0 some.1 some.2 some.3) in
     (can_here g.H.Hook.allows g.H.Hook.refuses num some.0 pairs some.2 some.1 before rest act now kept stood is).1
@@ -90,7 +90,7 @@ perform-requires-clause-room g c =
     let rest = resolved_all scopes (actions_view (drop (c.loop-action.action-index + 1) c.args.actions.now)) in
     let is : before ≡ act ∷ rest = rest_is scopes c.args.actions.now c.loop-action.action-index c.action-item.result c.loop-action-test.true c.action-item.is in
     let pairs = map pair_text c.args.pairs.now.items in
-    let kept = held_view num child feed drain c.make_room.new.held in
+    let kept = resources_view num child feed drain c.make_room.new.held in
     let some = c.requires.stood in
     let stood = stood_same num child feed drain c.loop-action.held c.make_room.new.held c.make_room.ensures.same g.H.Hook.allows some.0 some.1 before now (c.loop-action.invariant.stood some.0 some.1 some.2 some.3) in
     room_here g.H.Hook.allows g.H.Hook.refuses num some.0 pairs some.2 some.1 before rest act now kept stood is
@@ -109,7 +109,7 @@ returns-in_err-perform-clause-err g c =
     let rest = resolved_all scopes (actions_view (drop (c.loop-action.action-index + 1) c.args.actions.now)) in
     let is : before ≡ act ∷ rest = rest_is scopes c.args.actions.now c.loop-action.action-index c.action-item.result c.loop-action-test.true c.action-item.is in
     let pairs = map pair_text c.args.pairs.now.items in
-    let kept = held_view num child feed drain c.make_room.new.held in
+    let kept = resources_view num child feed drain c.make_room.new.held in
     rw (p.1, p.2) (λ course to same first.
     let stood = stood_same num child feed drain c.loop-action.held c.make_room.new.held c.make_room.ensures.same g.H.Hook.allows course to before now (c.loop-action.invariant.stood course to same first) in
     refused_now g.H.Hook.allows g.H.Hook.refuses num course pairs same to before rest act now kept stood is _ _ _ c.in_err-perform.ensures.performed.err)
@@ -134,7 +134,7 @@ loop-action-preserved g c =
     let rest = resolved_all scopes (actions_view (drop (c.loop-action.action-index + 1) c.args.actions.now)) in
     let is : before ≡ act ∷ rest = rest_is scopes c.args.actions.now c.loop-action.action-index c.action-item.result c.loop-action-test.true c.action-item.is in
     let pairs = map pair_text c.args.pairs.now.items in
-    let kept = held_view num child feed drain c.make_room.new.held in
+    let kept = resources_view num child feed drain c.make_room.new.held in
     let same_held = c.make_room.ensures.same in
     record {
       stood = λ course to same first.

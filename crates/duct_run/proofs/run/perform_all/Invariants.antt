@@ -3,10 +3,10 @@ use Rattle.std.proofs.Common.{◌≡◌, [], drop, map}
 use Rattle.duct_system.specs.SpecView.{pair_text}
 use Rattle.duct_start.specs.Actions.{State}
 use Rattle.duct_start.specs.Left.{Leaves, pool_view}
-use Rattle.duct_start.specs.Listed.{resolved_all}
-use Rattle.duct_start.specs.Standing.{Course, Stood}
+use Rattle.duct_start.specs.ActionList.{resolved_all}
+use Rattle.duct_start.specs.RunInvariant.{RunContext, ReadyForActions}
 use Rattle.duct_run.specs.ActionView.{actions_view}
-use Rattle.duct_run.specs.HeldView.{AreNew, HasSameWorkers, held_view}
+use Rattle.duct_run.specs.ResourcesView.{AreNew, HasSameWorkers, resources_view}
 use Rattle.duct_run.specs.ScopeView.{all_scopes}
 use Rattle.duct_run.proofs.run.perform_all.Given as goal
 
@@ -17,9 +17,9 @@ invariant-loop-action g l =
     let feed = g.S.Feed.Job.job_view in
     let drain = g.S.Drain.Job.job_view in
     let journal = g.S.System.journal_view in record {
-      stood : (course : Course) (goal : State _ _) → course.pairs ≡ map pair_text l.pairs.items
-          → Stood g.H.Hook.allows num course goal (resolved_all (all_scopes l.scopes) (actions_view l.actions)) (journal l.fn.sys) (held_view num child feed drain l.fn.held)
-          → Stood g.H.Hook.allows num course goal (resolved_all (all_scopes l.scopes) (actions_view (drop l.action-index l.actions))) (journal l.sys) (held_view num child feed drain l.held);
+      stood : (course : RunContext) (goal : State _ _) → course.pairs ≡ map pair_text l.pairs.items
+          → ReadyForActions g.H.Hook.allows num course goal (resolved_all (all_scopes l.scopes) (actions_view l.actions)) (journal l.fn.sys) (resources_view num child feed drain l.fn.held)
+          → ReadyForActions g.H.Hook.allows num course goal (resolved_all (all_scopes l.scopes) (actions_view (drop l.action-index l.actions))) (journal l.sys) (resources_view num child feed drain l.held);
       new : AreNew child feed drain l.fn.held → AreNew child feed drain l.held;
       workers : HasSameWorkers l.fn.held l.held;
       pool : Leaves g.S.Child.Child.may_answer [] (pool_view child l.fn.pool) (pool_view child l.pool);

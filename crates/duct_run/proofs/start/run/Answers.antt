@@ -3,10 +3,10 @@ use Rattle.std.proofs.Common.{ap, ◌∙◌, ◌≡◌, ℕ, sym}
 use Rattle.std.proofs.lemmas.Result.{err_from_is_err_and, IfErr-weaker, on_ok_weaker}
 use Rattle.std.specs.Prelude.{is_some}
 use Rattle.duct_system.specs.declared.system.Side.TheVariants as side
-use Rattle.duct_start.specs.Actions.{finished}
-use Rattle.duct_start.specs.Listed.{resolved_all}
-use Rattle.duct_start.specs.Ran.{HavePipes, nothing_more}
-use Rattle.duct_start.proofs.Ran.{finished_more, refused_before, run_goes, run_pipes, run_quits, run_room}
+use Rattle.duct_start.specs.Actions.{with_capture_finished}
+use Rattle.duct_start.specs.ActionList.{resolved_all}
+use Rattle.duct_start.specs.RunContract.{HavePipes, no_tail}
+use Rattle.duct_start.proofs.RunContract.{finished_more, refused_before, run_succeeds, run_pipes, run_fails, run_room}
 use Rattle.duct_run.specs.ActionView.{actions_view}
 use Rattle.duct_run.specs.ScopeView.{all_scopes}
 use Rattle.duct_run.proofs.Turns.{some_mapped}
@@ -20,8 +20,8 @@ returns-in_err-run_actions-clause-err g c =
     let acts = resolved_all (all_scopes c.args.scopes.now) (actions_view c.args.actions.now) in
     let old = g.S.System.journal_view c.args.sys.now in
     let e = c.in_err-run_actions.field-0.0 in
-    let once = refused_before allows num acts old g.H.Hook.refuses nothing_more (λ plan. finished side.Out plan) (λ plan. finished_more side.Out plan) _ _ e c.in_err-run_actions.ensures.err in
-    rw (p.1, p.2) (refused_before allows num acts old g.H.Hook.refuses (λ plan. finished side.Out plan) (λ plan. finished side.Err plan) (λ plan. finished_more side.Err plan) _ _ e once)
+    let once = refused_before allows num acts old g.H.Hook.refuses no_tail (λ plan. with_capture_finished side.Out plan) (λ plan. finished_more side.Out plan) _ _ e c.in_err-run_actions.ensures.err in
+    rw (p.1, p.2) (refused_before allows num acts old g.H.Hook.refuses (λ plan. with_capture_finished side.Out plan) (λ plan. with_capture_finished side.Err plan) (λ plan. finished_more side.Err plan) _ _ e once)
 
 pub finish_out-requires-clause-room : goal.finish_out-requires-clause-room
 finish_out-requires-clause-room g c =
@@ -29,7 +29,7 @@ finish_out-requires-clause-room g c =
     let allows = g.H.Hook.allows in
     let acts = resolved_all (all_scopes c.args.scopes.now) (actions_view c.args.actions.now) in
     let old = g.S.System.journal_view c.args.sys.now in
-    run_room allows num acts old nothing_more _ _ c.in_ok-run_actions.ensures.ok c.requires.leads
+    run_room allows num acts old no_tail _ _ c.in_ok-run_actions.ensures.ok c.requires.leads
 
 pub returns-in_err-finish_out-clause-err : goal.returns-in_err-finish_out-clause-err
 returns-in_err-finish_out-clause-err g c =
@@ -39,8 +39,8 @@ returns-in_err-finish_out-clause-err g c =
     let acts = resolved_all (all_scopes c.args.scopes.now) (actions_view c.args.actions.now) in
     let old = g.S.System.journal_view c.args.sys.now in
     let e = c.in_err-finish_out.ensures.err in
-    let once = run_quits allows num acts old nothing_more _ _ c.in_ok-run_actions.ensures.ok g.H.Hook.refuses side.Out _ _ _ e.0 e.1 in
-    rw (p.1, p.2) (refused_before allows num acts old g.H.Hook.refuses (λ plan. finished side.Out plan) (λ plan. finished side.Err plan) (λ plan. finished_more side.Err plan) _ _ _ once)
+    let once = run_fails allows num acts old no_tail _ _ c.in_ok-run_actions.ensures.ok g.H.Hook.refuses side.Out _ _ _ e.0 e.1 in
+    rw (p.1, p.2) (refused_before allows num acts old g.H.Hook.refuses (λ plan. with_capture_finished side.Out plan) (λ plan. with_capture_finished side.Err plan) (λ plan. finished_more side.Err plan) _ _ _ once)
 
 pub finish_err-requires-clause-room : goal.finish_err-requires-clause-room
 finish_err-requires-clause-room g c =
@@ -48,8 +48,8 @@ finish_err-requires-clause-room g c =
     let allows = g.H.Hook.allows in
     let acts = resolved_all (all_scopes c.args.scopes.now) (actions_view c.args.actions.now) in
     let old = g.S.System.journal_view c.args.sys.now in
-    let once = run_goes allows num acts old nothing_more _ _ c.in_ok-run_actions.ensures.ok side.Out _ _ c.in_ok-finish_out.ensures.ok in
-    run_room allows num acts old (λ plan. finished side.Out plan) _ _ once c.requires.leads
+    let once = run_succeeds allows num acts old no_tail _ _ c.in_ok-run_actions.ensures.ok side.Out _ _ c.in_ok-finish_out.ensures.ok in
+    run_room allows num acts old (λ plan. with_capture_finished side.Out plan) _ _ once c.requires.leads
 
 pub returns-clause-ok : goal.returns-clause-ok
 returns-clause-ok g c =
@@ -57,8 +57,8 @@ returns-clause-ok g c =
     let allows = g.H.Hook.allows in
     let acts = resolved_all (all_scopes c.args.scopes.now) (actions_view c.args.actions.now) in
     let old = g.S.System.journal_view c.args.sys.now in
-    let once = run_goes allows num acts old nothing_more _ _ c.in_ok-run_actions.ensures.ok side.Out _ _ c.in_ok-finish_out.ensures.ok in
-    on_ok_weaker c.finish_err.result (λ goes. run_goes allows num acts old (λ plan. finished side.Out plan) _ _ once side.Err _ _ goes) c.finish_err.ensures.ok
+    let once = run_succeeds allows num acts old no_tail _ _ c.in_ok-run_actions.ensures.ok side.Out _ _ c.in_ok-finish_out.ensures.ok in
+    on_ok_weaker c.finish_err.result (λ goes. run_succeeds allows num acts old (λ plan. with_capture_finished side.Out plan) _ _ once side.Err _ _ goes) c.finish_err.ensures.ok
 
 pub returns-clause-err : goal.returns-clause-err
 returns-clause-err g c =
@@ -66,8 +66,8 @@ returns-clause-err g c =
     let allows = g.H.Hook.allows in
     let acts = resolved_all (all_scopes c.args.scopes.now) (actions_view c.args.actions.now) in
     let old = g.S.System.journal_view c.args.sys.now in
-    let once = run_goes allows num acts old nothing_more _ _ c.in_ok-run_actions.ensures.ok side.Out _ _ c.in_ok-finish_out.ensures.ok in
-    IfErr-weaker c.finish_err.result _ _ (λ e quits. run_quits allows num acts old (λ plan. finished side.Out plan) _ _ once g.H.Hook.refuses side.Err _ _ e quits.0 quits.1) c.finish_err.ensures.err
+    let once = run_succeeds allows num acts old no_tail _ _ c.in_ok-run_actions.ensures.ok side.Out _ _ c.in_ok-finish_out.ensures.ok in
+    IfErr-weaker c.finish_err.result _ _ (λ e quits. run_fails allows num acts old (λ plan. with_capture_finished side.Out plan) _ _ once g.H.Hook.refuses side.Err _ _ e quits.0 quits.1) c.finish_err.ensures.err
 
 pub returns-clause-workers : goal.returns-clause-workers
 returns-clause-workers g c =
@@ -77,7 +77,7 @@ returns-clause-workers g c =
     let old = g.S.System.journal_view c.args.sys.now in
     let pair : g.row.S-End.Denot × g.row.S-End.Denot → ℕ × ℕ = λ ends. (num ends.0, num ends.1) in
     let begun = run_pipes allows num acts old _ _ c.in_ok-run_actions.ensures.ok in
-    let once = run_goes allows num acts old nothing_more _ _ c.in_ok-run_actions.ensures.ok side.Out _ _ c.in_ok-finish_out.ensures.ok in
+    let once = run_succeeds allows num acts old no_tail _ _ c.in_ok-run_actions.ensures.ok side.Out _ _ c.in_ok-finish_out.ensures.ok in
     let all : is_some c.finish_err.new.held.error_worker ≡ is_some c.finish_out.new.held.error → HavePipes num acts (is_some c.finish_err.new.held.output_worker) (is_some c.finish_err.new.held.error_worker) =
     λ worker. λ base bound plan leads. (
       ap (λ o. is_some o) c.finish_err.ensures.first ∙ c.in_ok-finish_out.ensures.worker ∙ sym (some_mapped pair c.run_actions.new.held.output) ∙ (begun base bound plan leads).0,

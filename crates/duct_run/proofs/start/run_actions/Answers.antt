@@ -4,10 +4,10 @@ use Rattle.std.proofs.lemmas.Result.{err_from_is_err_and, IfErr-weaker, on_ok_we
 use Rattle.duct_system.specs.SpecView.{pair_text}
 use Rattle.duct_start.specs.Actions.{with_plan}
 use Rattle.duct_start.specs.Left.{pool_view}
-use Rattle.duct_start.specs.Listed.{resolved_all}
-use Rattle.duct_start.specs.Ran.{course_of}
+use Rattle.duct_start.specs.ActionList.{resolved_all}
+use Rattle.duct_start.specs.RunContract.{context_of}
 use Rattle.duct_start.proofs.Leaving.{leaves_same}
-use Rattle.duct_start.proofs.Ran.{environment_refused, stood_begun}
+use Rattle.duct_start.proofs.RunContract.{environment_refused, stood_begun}
 use Rattle.duct_run.specs.ActionView.{actions_view}
 use Rattle.duct_run.specs.ScopeView.{all_scopes}
 use Rattle.duct_run.proofs.start.run_actions.Goals as goal
@@ -31,7 +31,7 @@ perform_all-requires-clause-stood g c =
     let acts = resolved_all (all_scopes c.args.scopes.now) (actions_view c.args.actions.now) in
     let old = g.S.System.journal_view c.args.sys.now in
     let l = c.requires.leads in
-    let course = course_of old l.0 l.1 (map pair_text c.in_ok-pairs.pairs.items) in
+    let course = context_of old l.0 l.1 (map pair_text c.in_ok-pairs.pairs.items) in
     (course, with_plan l.2, refl, stood_begun allows num acts old course l.2 _ _ c.requires.begun refl l.3 c.in_ok-pairs.ensures.ok)
 
 pub returns-clause-ok : goal.returns-clause-ok
@@ -44,7 +44,7 @@ returns-clause-ok g c =
     on_ok_weaker c.perform_all.result (λ done. (
       pairs,
       λ base bound plan leads.
-          let course = course_of old base bound pairs in
+          let course = context_of old base bound pairs in
           done course (with_plan plan) refl (stood_begun allows num acts old course plan _ _ c.requires.begun refl leads c.in_ok-pairs.ensures.ok),
     )) c.perform_all.ensures.ok
 
@@ -58,6 +58,6 @@ returns-clause-err g c =
     IfErr-weaker c.perform_all.result _ _ (λ e refused. (
       pairs,
       λ base bound plan leads.
-          let course = course_of old base bound pairs in
+          let course = context_of old base bound pairs in
           refused course (with_plan plan) refl (stood_begun allows num acts old course plan _ _ c.requires.begun refl leads c.in_ok-pairs.ensures.ok),
     )) c.perform_all.ensures.err

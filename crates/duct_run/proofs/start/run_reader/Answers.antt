@@ -2,13 +2,13 @@
 use Rattle.std.proofs.Common.{◌∙◌, ℕ, sym}
 use Rattle.std.proofs.lemmas.Result.{err_from_is_err_and}
 use Rattle.duct_system.specs.declared.system.Side.TheVariants as side
-use Rattle.duct_start.specs.Actions.{finished}
-use Rattle.duct_start.specs.Listed.{resolved_all}
-use Rattle.duct_start.specs.Ran.{nothing_more, read}
-use Rattle.duct_start.proofs.Ran.{finished_more, read_more, refused_before, run_goes, run_pipes, run_quits, run_room}
+use Rattle.duct_start.specs.Actions.{with_capture_finished}
+use Rattle.duct_start.specs.ActionList.{resolved_all}
+use Rattle.duct_start.specs.RunContract.{no_tail, reader_tail}
+use Rattle.duct_start.proofs.RunContract.{finished_more, read_more, refused_before, run_succeeds, run_pipes, run_fails, run_room}
 use Rattle.duct_start.proofs.Reading.{reader_last, run_reads}
 use Rattle.duct_run.specs.ActionView.{actions_view}
-use Rattle.duct_run.specs.HeldView.{held_view}
+use Rattle.duct_run.specs.ResourcesView.{resources_view}
 use Rattle.duct_run.specs.ScopeView.{all_scopes}
 use Rattle.duct_run.proofs.OutputRead.{two_spent}
 use Rattle.duct_run.proofs.Turns.{some_mapped}
@@ -22,8 +22,8 @@ returns-in_err-run_actions-clause-err g c =
     let acts = resolved_all (all_scopes c.args.scopes.now) (actions_view c.args.actions.now) in
     let old = g.S.System.journal_view c.args.sys.now in
     let e = c.in_err-run_actions.field-0.0 in
-    let once = refused_before allows num acts old g.H.Hook.refuses nothing_more (λ plan. finished side.Err plan) (λ plan. finished_more side.Err plan) _ _ e c.in_err-run_actions.ensures.err in
-    rw (p.1, p.2) (refused_before allows num acts old g.H.Hook.refuses (λ plan. finished side.Err plan) (λ plan. read plan) (λ plan. read_more plan) _ _ e once)
+    let once = refused_before allows num acts old g.H.Hook.refuses no_tail (λ plan. with_capture_finished side.Err plan) (λ plan. finished_more side.Err plan) _ _ e c.in_err-run_actions.ensures.err in
+    rw (p.1, p.2) (refused_before allows num acts old g.H.Hook.refuses (λ plan. with_capture_finished side.Err plan) (λ plan. reader_tail plan) (λ plan. read_more plan) _ _ e once)
 
 pub finish_err-requires-clause-room : goal.finish_err-requires-clause-room
 finish_err-requires-clause-room g c =
@@ -31,7 +31,7 @@ finish_err-requires-clause-room g c =
     let allows = g.H.Hook.allows in
     let acts = resolved_all (all_scopes c.args.scopes.now) (actions_view c.args.actions.now) in
     let old = g.S.System.journal_view c.args.sys.now in
-    run_room allows num acts old nothing_more _ _ c.in_ok-run_actions.ensures.ok c.requires.leads
+    run_room allows num acts old no_tail _ _ c.in_ok-run_actions.ensures.ok c.requires.leads
 
 pub returns-in_err-finish_err-clause-err : goal.returns-in_err-finish_err-clause-err
 returns-in_err-finish_err-clause-err g c =
@@ -41,8 +41,8 @@ returns-in_err-finish_err-clause-err g c =
     let acts = resolved_all (all_scopes c.args.scopes.now) (actions_view c.args.actions.now) in
     let old = g.S.System.journal_view c.args.sys.now in
     let e = c.in_err-finish_err.ensures.err in
-    let once = run_quits allows num acts old nothing_more _ _ c.in_ok-run_actions.ensures.ok g.H.Hook.refuses side.Err _ _ _ e.0 e.1 in
-    rw (p.1, p.2) (refused_before allows num acts old g.H.Hook.refuses (λ plan. finished side.Err plan) (λ plan. read plan) (λ plan. read_more plan) _ _ _ once)
+    let once = run_fails allows num acts old no_tail _ _ c.in_ok-run_actions.ensures.ok g.H.Hook.refuses side.Err _ _ _ e.0 e.1 in
+    rw (p.1, p.2) (refused_before allows num acts old g.H.Hook.refuses (λ plan. with_capture_finished side.Err plan) (λ plan. reader_tail plan) (λ plan. read_more plan) _ _ _ once)
 
 pub read_output-requires-clause-open : goal.read_output-requires-clause-open
 read_output-requires-clause-open g c =
@@ -50,7 +50,7 @@ read_output-requires-clause-open g c =
     let allows = g.H.Hook.allows in
     let acts = resolved_all (all_scopes c.args.scopes.now) (actions_view c.args.actions.now) in
     let old = g.S.System.journal_view c.args.sys.now in
-    let once = run_goes allows num acts old nothing_more _ _ c.in_ok-run_actions.ensures.ok side.Err _ _ c.in_ok-finish_err.ensures.ok in
+    let once = run_succeeds allows num acts old no_tail _ _ c.in_ok-run_actions.ensures.ok side.Err _ _ c.in_ok-finish_err.ensures.ok in
     let l = c.requires.leads in
     let stands = once.1 l.0 l.1 l.2 l.3 in
     sym (some_mapped (λ ends. (num ends.0, num ends.1)) c.finish_err.new.held.output) ∙ stands.shaped.out ∙ c.requires.opens l.0 l.1 l.2 l.3
@@ -61,11 +61,11 @@ read_output-requires-clause-room g c =
     let allows = g.H.Hook.allows in
     let acts = resolved_all (all_scopes c.args.scopes.now) (actions_view c.args.actions.now) in
     let old = g.S.System.journal_view c.args.sys.now in
-    let once = run_goes allows num acts old nothing_more _ _ c.in_ok-run_actions.ensures.ok side.Err _ _ c.in_ok-finish_err.ensures.ok in
-    let h = held_view num g.S.Child.Child.child_view g.S.Feed.Job.job_view g.S.Drain.Job.job_view c.finish_err.new.held in
+    let once = run_succeeds allows num acts old no_tail _ _ c.in_ok-run_actions.ensures.ok side.Err _ _ c.in_ok-finish_err.ensures.ok in
+    let h = resources_view num g.S.Child.Child.child_view g.S.Feed.Job.job_view g.S.Drain.Job.job_view c.finish_err.new.held in
     let l = c.requires.leads in
     let stands = once.1 l.0 l.1 l.2 l.3 in
-    two_spent h (stands.shaped.out ∙ c.requires.opens l.0 l.1 l.2 l.3) _ (run_room allows num acts old (λ plan. finished side.Err plan) _ h once l)
+    two_spent h (stands.shaped.out ∙ c.requires.opens l.0 l.1 l.2 l.3) _ (run_room allows num acts old (λ plan. with_capture_finished side.Err plan) _ h once l)
 
 pub returns-clause-ok : goal.returns-clause-ok
 returns-clause-ok g c =
@@ -73,10 +73,10 @@ returns-clause-ok g c =
     let allows = g.H.Hook.allows in
     let acts = resolved_all (all_scopes c.args.scopes.now) (actions_view c.args.actions.now) in
     let old = g.S.System.journal_view c.args.sys.now in
-    let once = run_goes allows num acts old nothing_more _ _ c.in_ok-run_actions.ensures.ok side.Err _ _ c.in_ok-finish_err.ensures.ok in
+    let once = run_succeeds allows num acts old no_tail _ _ c.in_ok-run_actions.ensures.ok side.Err _ _ c.in_ok-finish_err.ensures.ok in
     let r = c.read_output.ensures.read in
-    let h = held_view num g.S.Child.Child.child_view g.S.Feed.Job.job_view g.S.Drain.Job.job_view c.finish_err.new.held in
-    rw (c.read_output.ensures.output) (run_reads allows num _ _ _ _ _ h r.pipe_is r.closed r.made (λ plan. finished side.Err plan) acts old once)
+    let h = resources_view num g.S.Child.Child.child_view g.S.Feed.Job.job_view g.S.Drain.Job.job_view c.finish_err.new.held in
+    rw (c.read_output.ensures.output) (run_reads allows num _ _ _ _ _ h r.pipe_is r.closed r.made (λ plan. with_capture_finished side.Err plan) acts old once)
 
 pub returns-clause-reader : goal.returns-clause-reader
 returns-clause-reader g c =
@@ -84,10 +84,10 @@ returns-clause-reader g c =
     let allows = g.H.Hook.allows in
     let acts = resolved_all (all_scopes c.args.scopes.now) (actions_view c.args.actions.now) in
     let old = g.S.System.journal_view c.args.sys.now in
-    let once = run_goes allows num acts old nothing_more _ _ c.in_ok-run_actions.ensures.ok side.Err _ _ c.in_ok-finish_err.ensures.ok in
+    let once = run_succeeds allows num acts old no_tail _ _ c.in_ok-run_actions.ensures.ok side.Err _ _ c.in_ok-finish_err.ensures.ok in
     let r = c.read_output.ensures.read in
-    let h = held_view num g.S.Child.Child.child_view g.S.Feed.Job.job_view g.S.Drain.Job.job_view c.finish_err.new.held in
-    reader_last allows num _ _ _ _ _ h r.pipe_is r.closed r.made (λ plan. finished side.Err plan) acts old once g.S.System.may_read _ r.told c.requires.leads
+    let h = resources_view num g.S.Child.Child.child_view g.S.Feed.Job.job_view g.S.Drain.Job.job_view c.finish_err.new.held in
+    reader_last allows num _ _ _ _ _ h r.pipe_is r.closed r.made (λ plan. with_capture_finished side.Err plan) acts old once g.S.System.may_read _ r.told c.requires.leads
 
 pub returns-clause-workers : goal.returns-clause-workers
 returns-clause-workers g c =

@@ -2,7 +2,7 @@ use Rattle.std.proofs.lemmas.Result.{err_from_is_err_and}
 use Rattle.std.proofs.Common.{ap, length, subst, sym, ◌∙◌}
 use Rattle.duct_system.specs.Streams.{stream_of}
 use Rattle.duct_start.specs.Chain.{missing_at}
-use Rattle.duct_start.specs.Commands.{LetsGo}
+use Rattle.duct_start.specs.Commands.{CloseSucceeds}
 use Rattle.duct_start.proofs.Settling.{end_there, settles_place, unsettled}
 use Rattle.duct_run.proofs.streams.settle.Goals as goal
 
@@ -19,5 +19,5 @@ returns-in_ok-end-in-Place-clause-ok g c =
     let there = sym (ap (missing_at (length c.args.ends.now)) c.in-Place.is) ∙ c.requires.place in
     let at = end_there c.args.ends.now c.in-Place.place c.index-ends-place.result _ there c.index-ends-place.is in
     let old = stream_of num c.args.stream.now in
-    let shut = subst (λ s. LetsGo {E = g.row.S-End.Denot} {H = g.row.H.Denot} g.H.Hook.allows num (g.S.System.journal_view c.duplicate.new.self) (g.S.System.journal_view c.let_go-in-Place.new.sys) (stream_of num s)) c.replace-in-Place.ensures.value c.let_go-in-Place.ensures.goes in
+    let shut = subst (λ s. CloseSucceeds {E = g.row.S-End.Denot} {H = g.row.H.Denot} g.H.Hook.allows num (g.S.System.journal_view c.duplicate.new.self) (g.S.System.journal_view c.let_go-in-Place.new.sys) (stream_of num s)) c.replace-in-Place.ensures.value c.let_go-in-Place.ensures.goes in
     rw (c.in-Place.is, c.replace-in-Place.ensures.after) (settles_place g.H.Hook.allows num c.args.ends.now c.in-Place.place (num c.in_ok-end-in-Place.end) c.index-ends-place.result old _ (g.S.System.journal_view c.duplicate.new.self) _ at c.in_ok-end-in-Place.ensures.ok shut)

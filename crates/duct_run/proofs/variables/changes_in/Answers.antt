@@ -1,7 +1,7 @@
 -- One step to the scope outside.
 use Rattle.std.proofs.Common.{◌∙◌, ◌++◌, [], ap, sym, map, inl, inr}
-use Rattle.duct_start.specs.Found.{variable}
-use Rattle.duct_start.specs.Step.{said}
+use Rattle.duct_start.specs.Surroundings.{variable}
+use Rattle.duct_start.specs.Step.{step_of_setting}
 use Rattle.duct_run.specs.Changes.{change_of}
 use Rattle.duct_run.specs.ScopeView.{setting_view}
 use Rattle.duct_run.proofs.Gathering.{one_more, replaced}
@@ -11,7 +11,7 @@ use Rattle.duct_run.proofs.variables.changes_in.Goals as goal
 pub returns-in-FullEnv-clause-found : goal.returns-in-FullEnv-clause-found
 returns-in-FullEnv-clause-found g c =
     let read : IsRead c.args.scopes.now c.loop-inner.inner c.index-scopes-inner.result = record { outwards = c.requires.outwards; above = c.loop-inner-test.true; within = c.loop-inner.invariant.within; is = c.index-scopes-inner.is } in
-    replaced (map change_of c.loop-inner.changes.items) _ _ _ _ (changes_are read _ (ap (λ s. (said (setting_view s)).changes) c.in-FullEnv.is)) c.loop-inner.invariant.all
+    replaced (map change_of c.loop-inner.changes.items) _ _ _ _ (changes_are read _ (ap (λ s. (step_of_setting (setting_view s)).changes) c.in-FullEnv.is)) c.loop-inner.invariant.all
 
 pub loop-inner-smaller-in_ok-push-in-Env : goal.loop-inner-smaller-in_ok-push-in-Env
 loop-inner-smaller-in_ok-push-in-Env g c =
@@ -22,7 +22,7 @@ pub loop-inner-preserved-in_ok-push-in-Env : goal.loop-inner-preserved-in_ok-pus
 loop-inner-preserved-in_ok-push-in-Env g c =
     let read : IsRead c.args.scopes.now c.loop-inner.inner c.index-scopes-inner.result = record { outwards = c.requires.outwards; above = c.loop-inner-test.true; within = c.loop-inner.invariant.within; is = c.index-scopes-inner.is } in
     record {
-      all = one_more c.loop-inner.changes.items c.push.new.self.items _ _ _ _ c.in_ok-push-in-Env.ensures.items (changes_are read _ (ap (λ s. (said (setting_view s)).changes) c.in-Env.is)) c.loop-inner.invariant.all;
+      all = one_more c.loop-inner.changes.items c.push.new.self.items _ _ _ _ c.in_ok-push-in-Env.ensures.items (changes_are read _ (ap (λ s. (step_of_setting (setting_view s)).changes) c.in-Env.is)) c.loop-inner.invariant.all;
       within = outer_within read;
     }
 
@@ -35,7 +35,7 @@ pub loop-inner-preserved-in_ok-push-in-EnvRemove : goal.loop-inner-preserved-in_
 loop-inner-preserved-in_ok-push-in-EnvRemove g c =
     let read : IsRead c.args.scopes.now c.loop-inner.inner c.index-scopes-inner.result = record { outwards = c.requires.outwards; above = c.loop-inner-test.true; within = c.loop-inner.invariant.within; is = c.index-scopes-inner.is } in
     record {
-      all = one_more c.loop-inner.changes.items c.push-in-EnvRemove.new.self.items _ _ _ _ c.in_ok-push-in-EnvRemove.ensures.items (changes_are read _ (ap (λ s. (said (setting_view s)).changes) c.in-EnvRemove.is)) c.loop-inner.invariant.all;
+      all = one_more c.loop-inner.changes.items c.push-in-EnvRemove.new.self.items _ _ _ _ c.in_ok-push-in-EnvRemove.ensures.items (changes_are read _ (ap (λ s. (step_of_setting (setting_view s)).changes) c.in-EnvRemove.is)) c.loop-inner.invariant.all;
       within = outer_within read;
     }
 
@@ -49,8 +49,8 @@ loop-inner-preserved g c =
     let read : IsRead c.args.scopes.now c.loop-inner.inner c.index-scopes-inner.result = record { outwards = c.requires.outwards; above = c.loop-inner-test.true; within = c.loop-inner.invariant.within; is = c.index-scopes-inner.is } in
     record {
       all = ap (λ cs. map change_of c.loop-inner.changes.items ++ cs) (elim c.in-Dir.is [
-        | inl dir ↦ changes_are read [] (ap (λ s. (said (setting_view s)).changes) dir.1)
-        | inr hook ↦ changes_are read [] (ap (λ s. (said (setting_view s)).changes) hook.2)
+        | inl dir ↦ changes_are read [] (ap (λ s. (step_of_setting (setting_view s)).changes) dir.1)
+        | inr hook ↦ changes_are read [] (ap (λ s. (step_of_setting (setting_view s)).changes) hook.2)
       ]) ∙ c.loop-inner.invariant.all;
       within = outer_within read;
     }

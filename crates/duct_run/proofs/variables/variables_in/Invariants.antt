@@ -1,8 +1,8 @@
 -- The remaining changes, applied to the variables so far, are all changes of the scopes.
 use Rattle.std.proofs.Common.{◌≡◌, ◌++◌, ◌∷◌, [], ℕ, List, map, vec_len}
 use Rattle.duct_system.specs.SpecView.{AreOrdered, pair_text, var_view}
-use Rattle.duct_start.specs.Found.{Replaces, variable}
-use Rattle.duct_start.specs.Listed.{scope_in}
+use Rattle.duct_start.specs.Surroundings.{Replaces, variable}
+use Rattle.duct_start.specs.ActionList.{scope_in}
 use Rattle.duct_run.specs.Changes.{change_of}
 use Rattle.duct_run.specs.ScopeView.{scopes_view}
 use Rattle.duct_run.proofs.variables.variables_in.Given as goal

@@ -4,7 +4,7 @@ use Rattle.std.proofs.lemmas.Result.{on_ok_weaker}
 use Rattle.duct_run.specs.ActionView.{actions_view}
 use Rattle.duct_run.specs.ScopeView.{scopes_view}
 use Rattle.duct_start.specs.Row.{Row}
-use Rattle.duct_tree.specs.ListingView.{closings}
+use Rattle.duct_tree.specs.ActionListView.{closings}
 use Rattle.duct_tree.proofs.flatten.leave.Goals as goal
 
 pub returns-clause-list : goal.returns-clause-list

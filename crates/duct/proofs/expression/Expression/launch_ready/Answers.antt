@@ -6,15 +6,15 @@ use Rattle.std.specs.Prelude.{is_some}
 use Rattle.duct_status.specs.CoreView.{shape_in}
 use Rattle.duct_status.specs.Latest.{latest_told}
 use Rattle.duct_status.specs.ShapeView.{command_count, input_count}
-use Rattle.duct_start.specs.Listed.{listed_of, resolved_all}
-use Rattle.duct_start.specs.Plan.{begun, plan_of, planned}
-use Rattle.duct_start.specs.Ran.{drained}
+use Rattle.duct_start.specs.ActionList.{list_of, resolved_all}
+use Rattle.duct_start.specs.Plan.{initial_plan, plan_of, plan_of_subtree}
+use Rattle.duct_start.specs.RunContract.{drain_tail}
 use Rattle.duct_start.specs.ShapeOfTree.{shape_of_tree}
 use Rattle.duct_start.specs.Start.{ceiling, depth}
 use Rattle.duct_start.proofs.Counted.{started_counts}
 use Rattle.duct_start.proofs.Launched.{drained_items, drained_pipes, launched, list_leads, refused_launched, some_leads, stands_launched}
 use Rattle.duct_run.specs.ActionView.{actions_view}
-use Rattle.duct_run.specs.HeldView.{held_view}
+use Rattle.duct_run.specs.ResourcesView.{resources_view}
 use Rattle.duct_run.specs.ScopeView.{all_scopes, scopes_view}
 use Rattle.duct_run.proofs.GivenUp.{given_up, left_started}
 use Rattle.duct_run.proofs.New.{runs_started}
@@ -30,8 +30,8 @@ start-requires-clause-outwards g c =
     let scopes = c.deref.result.now in
     let actions = c.deref-2.result.now in
     let acts = resolved_all (all_scopes scopes) (actions_view actions) in
-    let actions_are : actions_view actions ≡ (listed_of tree).actions = ap (λ l. actions_view l) c.deref-2.ensures.value ∙ c.requires.actions in
-    let scopes_are : scopes_view scopes ≡ (listed_of tree).scopes = ap (λ l. scopes_view l) c.deref.ensures.value ∙ c.requires.scopes in
+    let actions_are : actions_view actions ≡ (list_of tree).actions = ap (λ l. actions_view l) c.deref-2.ensures.value ∙ c.requires.actions in
+    let scopes_are : scopes_view scopes ≡ (list_of tree).scopes = ap (λ l. scopes_view l) c.deref.ensures.value ∙ c.requires.scopes in
     outwards tree scopes actions scopes_are actions_are
 
 pub start-requires-clause-within : goal.start-requires-clause-within
@@ -42,8 +42,8 @@ start-requires-clause-within g c =
     let scopes = c.deref.result.now in
     let actions = c.deref-2.result.now in
     let acts = resolved_all (all_scopes scopes) (actions_view actions) in
-    let actions_are : actions_view actions ≡ (listed_of tree).actions = ap (λ l. actions_view l) c.deref-2.ensures.value ∙ c.requires.actions in
-    let scopes_are : scopes_view scopes ≡ (listed_of tree).scopes = ap (λ l. scopes_view l) c.deref.ensures.value ∙ c.requires.scopes in
+    let actions_are : actions_view actions ≡ (list_of tree).actions = ap (λ l. actions_view l) c.deref-2.ensures.value ∙ c.requires.actions in
+    let scopes_are : scopes_view scopes ≡ (list_of tree).scopes = ap (λ l. scopes_view l) c.deref.ensures.value ∙ c.requires.scopes in
     within tree scopes actions scopes_are actions_are
 
 pub start-requires-clause-leads : goal.start-requires-clause-leads
@@ -54,8 +54,8 @@ start-requires-clause-leads g c =
     let scopes = c.deref.result.now in
     let actions = c.deref-2.result.now in
     let acts = resolved_all (all_scopes scopes) (actions_view actions) in
-    let actions_are : actions_view actions ≡ (listed_of tree).actions = ap (λ l. actions_view l) c.deref-2.ensures.value ∙ c.requires.actions in
-    let scopes_are : scopes_view scopes ≡ (listed_of tree).scopes = ap (λ l. scopes_view l) c.deref.ensures.value ∙ c.requires.scopes in
+    let actions_are : actions_view actions ≡ (list_of tree).actions = ap (λ l. actions_view l) c.deref-2.ensures.value ∙ c.requires.actions in
+    let scopes_are : scopes_view scopes ≡ (list_of tree).scopes = ap (λ l. scopes_view l) c.deref.ensures.value ∙ c.requires.scopes in
     let same = runs_flat tree scopes actions scopes_are actions_are in
     some_leads allows num tree acts same
 
@@ -68,20 +68,20 @@ returns-in_err-kept g c =
     let scopes = c.deref.result.now in
     let actions = c.deref-2.result.now in
     let acts = resolved_all (all_scopes scopes) (actions_view actions) in
-    let actions_are : actions_view actions ≡ (listed_of tree).actions = ap (λ l. actions_view l) c.deref-2.ensures.value ∙ c.requires.actions in
-    let scopes_are : scopes_view scopes ≡ (listed_of tree).scopes = ap (λ l. scopes_view l) c.deref.ensures.value ∙ c.requires.scopes in
+    let actions_are : actions_view actions ≡ (list_of tree).actions = ap (λ l. actions_view l) c.deref-2.ensures.value ∙ c.requires.actions in
+    let scopes_are : scopes_view scopes ≡ (list_of tree).scopes = ap (λ l. scopes_view l) c.deref.ensures.value ∙ c.requires.scopes in
     let same = runs_flat tree scopes actions scopes_are actions_are in
     let child = g.S.Child.Child.child_view in
     let feed = g.S.Feed.Job.job_view in
     let drain = g.S.Drain.Job.job_view in
     let old = g.S.System.journal_view c.args.sys.now in
     let e = c.in_err-kept.ensures.err in
-    let refused = refused_launched allows num tree acts same drained g.H.Hook.refuses old e.stopped (held_view num child feed drain e.held) c.in_err-kept.field-0.0 e.refused in
+    let refused = refused_launched allows num tree acts same drain_tail g.H.Hook.refuses old e.stopped (resources_view num child feed drain e.held) c.in_err-kept.field-0.0 e.refused in
     rw (p.1, p.2) (record {
       ok = tt;
       made = tt;
       swept = tt;
-      err = given_up allows g.H.Hook.refuses num child feed drain _ _ e.stopped e.held _ refused (g.S.System.journal_view c.start.new.sys) e.closes tree (plan_of tree) refl refl (sym (drained_items (planned [] tree begun)));
+      err = given_up allows g.H.Hook.refuses num child feed drain _ _ e.stopped e.held _ refused (g.S.System.journal_view c.start.new.sys) e.closes tree (plan_of tree) refl refl (sym (drained_items (plan_of_subtree [] tree initial_plan)));
       pool_given = λ fits. left_started allows g.H.Hook.refuses num child feed drain _ _ e.stopped e.held _ refused (g.S.System.journal_view c.start.new.sys) e.closes
           g.S.Child.Child.may_answer c.args.pool.now e.swept c.start.new.pool e.new e.leaves e.given fits;
     })
@@ -94,12 +94,12 @@ running-requires-clause-silent g c =
     let scopes = c.deref.result.now in
     let actions = c.deref-2.result.now in
     let acts = resolved_all (all_scopes scopes) (actions_view actions) in
-    let actions_are : actions_view actions ≡ (listed_of tree).actions = ap (λ l. actions_view l) c.deref-2.ensures.value ∙ c.requires.actions in
-    let scopes_are : scopes_view scopes ≡ (listed_of tree).scopes = ap (λ l. scopes_view l) c.deref.ensures.value ∙ c.requires.scopes in
+    let actions_are : actions_view actions ≡ (list_of tree).actions = ap (λ l. actions_view l) c.deref-2.ensures.value ∙ c.requires.actions in
+    let scopes_are : scopes_view scopes ≡ (list_of tree).scopes = ap (λ l. scopes_view l) c.deref.ensures.value ∙ c.requires.scopes in
     let same = runs_flat tree scopes actions scopes_are actions_are in
     let kept = c.in_ok-kept.kept in
-    let workers = c.in_ok-kept.ensures.workers (ceiling num tree) (2 * depth tree + 4) (planned [] tree begun) (list_leads allows num tree acts same) in
-    let pipes = drained_pipes (planned [] tree begun) in
+    let workers = c.in_ok-kept.ensures.workers (ceiling num tree) (2 * depth tree + 4) (plan_of_subtree [] tree initial_plan) (list_leads allows num tree acts same) in
+    let pipes = drained_pipes (plan_of_subtree [] tree initial_plan) in
     let out : is_some kept.output_worker ≡ is_some (plan_of tree).out = workers.0 ∙ pipes.0 in
     let err : is_some kept.error_worker ≡ is_some (plan_of tree).err = workers.1 ∙ pipes.1 in
     c.requires.prepared.silent ∙ (λ i. latest_told (shape_in c.args.ready.core) (record { out = sym out i; err = sym err i }) [])
@@ -112,8 +112,8 @@ running-requires-clause-commands g c =
     let scopes = c.deref.result.now in
     let actions = c.deref-2.result.now in
     let acts = resolved_all (all_scopes scopes) (actions_view actions) in
-    let actions_are : actions_view actions ≡ (listed_of tree).actions = ap (λ l. actions_view l) c.deref-2.ensures.value ∙ c.requires.actions in
-    let scopes_are : scopes_view scopes ≡ (listed_of tree).scopes = ap (λ l. scopes_view l) c.deref.ensures.value ∙ c.requires.scopes in
+    let actions_are : actions_view actions ≡ (list_of tree).actions = ap (λ l. actions_view l) c.deref-2.ensures.value ∙ c.requires.actions in
+    let scopes_are : scopes_view scopes ≡ (list_of tree).scopes = ap (λ l. scopes_view l) c.deref.ensures.value ∙ c.requires.scopes in
     let same = runs_flat tree scopes actions scopes_are actions_are in
     let child = g.S.Child.Child.child_view in
     let feed = g.S.Feed.Job.job_view in
@@ -121,9 +121,9 @@ running-requires-clause-commands g c =
     let old = g.S.System.journal_view c.args.sys.now in
     let kept = c.in_ok-kept.kept in
     let new = g.S.System.journal_view c.start.new.sys in
-    let stands = stands_launched allows num tree acts same drained old new (held_view num child feed drain kept) c.in_ok-kept.ensures.ok in
+    let stands = stands_launched allows num tree acts same drain_tail old new (resources_view num child feed drain kept) c.in_ok-kept.ensures.ok in
     let shapes = c.requires.prepared.shape in
-    let counts = started_counts allows num _ _ new (held_view num child feed drain kept) tree stands (drained_items (planned [] tree begun)) in
+    let counts = started_counts allows num _ _ new (resources_view num child feed drain kept) tree stands (drained_items (plan_of_subtree [] tree initial_plan)) in
     sym (length-map kept.children.items _) ∙ counts.0 ∙ ap (λ s. command_count s) (sym shapes)
 
 pub running-requires-clause-inputs : goal.running-requires-clause-inputs
@@ -134,8 +134,8 @@ running-requires-clause-inputs g c =
     let scopes = c.deref.result.now in
     let actions = c.deref-2.result.now in
     let acts = resolved_all (all_scopes scopes) (actions_view actions) in
-    let actions_are : actions_view actions ≡ (listed_of tree).actions = ap (λ l. actions_view l) c.deref-2.ensures.value ∙ c.requires.actions in
-    let scopes_are : scopes_view scopes ≡ (listed_of tree).scopes = ap (λ l. scopes_view l) c.deref.ensures.value ∙ c.requires.scopes in
+    let actions_are : actions_view actions ≡ (list_of tree).actions = ap (λ l. actions_view l) c.deref-2.ensures.value ∙ c.requires.actions in
+    let scopes_are : scopes_view scopes ≡ (list_of tree).scopes = ap (λ l. scopes_view l) c.deref.ensures.value ∙ c.requires.scopes in
     let same = runs_flat tree scopes actions scopes_are actions_are in
     let child = g.S.Child.Child.child_view in
     let feed = g.S.Feed.Job.job_view in
@@ -143,9 +143,9 @@ running-requires-clause-inputs g c =
     let old = g.S.System.journal_view c.args.sys.now in
     let kept = c.in_ok-kept.kept in
     let new = g.S.System.journal_view c.start.new.sys in
-    let stands = stands_launched allows num tree acts same drained old new (held_view num child feed drain kept) c.in_ok-kept.ensures.ok in
+    let stands = stands_launched allows num tree acts same drain_tail old new (resources_view num child feed drain kept) c.in_ok-kept.ensures.ok in
     let shapes = c.requires.prepared.shape in
-    let counts = started_counts allows num _ _ new (held_view num child feed drain kept) tree stands (drained_items (planned [] tree begun)) in
+    let counts = started_counts allows num _ _ new (resources_view num child feed drain kept) tree stands (drained_items (plan_of_subtree [] tree initial_plan)) in
     sym (length-map kept.feeds.items _) ∙ counts.1 ∙ ap (λ s. input_count s) (sym shapes)
 
 pub returns : goal.returns
@@ -156,8 +156,8 @@ returns g c =
     let scopes = c.deref.result.now in
     let actions = c.deref-2.result.now in
     let acts = resolved_all (all_scopes scopes) (actions_view actions) in
-    let actions_are : actions_view actions ≡ (listed_of tree).actions = ap (λ l. actions_view l) c.deref-2.ensures.value ∙ c.requires.actions in
-    let scopes_are : scopes_view scopes ≡ (listed_of tree).scopes = ap (λ l. scopes_view l) c.deref.ensures.value ∙ c.requires.scopes in
+    let actions_are : actions_view actions ≡ (list_of tree).actions = ap (λ l. actions_view l) c.deref-2.ensures.value ∙ c.requires.actions in
+    let scopes_are : scopes_view scopes ≡ (list_of tree).scopes = ap (λ l. scopes_view l) c.deref.ensures.value ∙ c.requires.scopes in
     let same = runs_flat tree scopes actions scopes_are actions_are in
     let child = g.S.Child.Child.child_view in
     let feed = g.S.Feed.Job.job_view in
@@ -165,14 +165,14 @@ returns g c =
     let old = g.S.System.journal_view c.args.sys.now in
     let kept = c.in_ok-kept.kept in
     let new = g.S.System.journal_view c.start.new.sys in
-    let stands = stands_launched allows num tree acts same drained old new (held_view num child feed drain kept) c.in_ok-kept.ensures.ok in
+    let stands = stands_launched allows num tree acts same drain_tail old new (resources_view num child feed drain kept) c.in_ok-kept.ensures.ok in
     let shapes = c.requires.prepared.shape in
-    let workers = c.in_ok-kept.ensures.workers (ceiling num tree) (2 * depth tree + 4) (planned [] tree begun) (list_leads allows num tree acts same) in
-    let pipes = drained_pipes (planned [] tree begun) in
+    let workers = c.in_ok-kept.ensures.workers (ceiling num tree) (2 * depth tree + 4) (plan_of_subtree [] tree initial_plan) (list_leads allows num tree acts same) in
+    let pipes = drained_pipes (plan_of_subtree [] tree initial_plan) in
     let out : is_some kept.output_worker ≡ is_some (plan_of tree).out = workers.0 ∙ pipes.0 in
     let err : is_some kept.error_worker ≡ is_some (plan_of tree).err = workers.1 ∙ pipes.1 in
     record {
-      ok = launched allows num tree acts same old new (held_view num child feed drain kept) c.in_ok-kept.ensures.ok;
+      ok = launched allows num tree acts same old new (resources_view num child feed drain kept) c.in_ok-kept.ensures.ok;
       made = rw (c.running.ensures, ← out, ← err) (runs_started child feed drain num tree c.args.ready.core.shape kept c.in_ok-kept.ensures.kept shapes allows _ _ new stands);
       swept = c.in_ok-kept.ensures.swept;
       err = tt;

@@ -6,16 +6,16 @@ use Rattle.std.specs.Prelude.{false, is_some}
 use Rattle.duct_status.specs.CoreView.{shape_in}
 use Rattle.duct_status.specs.Latest.{latest_told}
 use Rattle.duct_status.specs.ShapeView.{command_count, input_count}
-use Rattle.duct_start.specs.Listed.{listed_of, resolved_all}
-use Rattle.duct_start.specs.Plan.{begun, plan_of_reader, planned}
-use Rattle.duct_start.specs.Ran.{drained_and_read}
+use Rattle.duct_start.specs.ActionList.{list_of, resolved_all}
+use Rattle.duct_start.specs.Plan.{initial_plan, plan_of_reader, plan_of_subtree}
+use Rattle.duct_start.specs.RunContract.{drain_and_reader_tail}
 use Rattle.duct_start.specs.ShapeOfTree.{shape_of_tree}
 use Rattle.duct_start.specs.Start.{ceiling, depth}
 use Rattle.duct_start.specs.TreeView.{around, stdout_capture}
 use Rattle.duct_start.proofs.Counted.{reader_counts}
 use Rattle.duct_start.proofs.Launched.{list_leads, read_items, read_launched, read_pipe, reads_out, refused_launched, some_leads, stands_launched}
 use Rattle.duct_run.specs.ActionView.{actions_view}
-use Rattle.duct_run.specs.HeldView.{held_view}
+use Rattle.duct_run.specs.ResourcesView.{resources_view}
 use Rattle.duct_run.specs.ScopeView.{all_scopes, scopes_view}
 use Rattle.duct_run.proofs.GivenUp.{given_up, left_started}
 use Rattle.duct_run.proofs.New.{runs_started}
@@ -31,8 +31,8 @@ start_reader-requires-clause-outwards g c =
     let scopes = c.deref.result.now in
     let actions = c.deref-2.result.now in
     let acts = resolved_all (all_scopes scopes) (actions_view actions) in
-    let actions_are : actions_view actions ≡ (listed_of (around stdout_capture tree)).actions = ap (λ l. actions_view l) c.deref-2.ensures.value ∙ c.requires.actions in
-    let scopes_are : scopes_view scopes ≡ (listed_of (around stdout_capture tree)).scopes = ap (λ l. scopes_view l) c.deref.ensures.value ∙ c.requires.scopes in
+    let actions_are : actions_view actions ≡ (list_of (around stdout_capture tree)).actions = ap (λ l. actions_view l) c.deref-2.ensures.value ∙ c.requires.actions in
+    let scopes_are : scopes_view scopes ≡ (list_of (around stdout_capture tree)).scopes = ap (λ l. scopes_view l) c.deref.ensures.value ∙ c.requires.scopes in
     outwards (around stdout_capture tree) scopes actions scopes_are actions_are
 
 pub start_reader-requires-clause-within : goal.start_reader-requires-clause-within
@@ -43,8 +43,8 @@ start_reader-requires-clause-within g c =
     let scopes = c.deref.result.now in
     let actions = c.deref-2.result.now in
     let acts = resolved_all (all_scopes scopes) (actions_view actions) in
-    let actions_are : actions_view actions ≡ (listed_of (around stdout_capture tree)).actions = ap (λ l. actions_view l) c.deref-2.ensures.value ∙ c.requires.actions in
-    let scopes_are : scopes_view scopes ≡ (listed_of (around stdout_capture tree)).scopes = ap (λ l. scopes_view l) c.deref.ensures.value ∙ c.requires.scopes in
+    let actions_are : actions_view actions ≡ (list_of (around stdout_capture tree)).actions = ap (λ l. actions_view l) c.deref-2.ensures.value ∙ c.requires.actions in
+    let scopes_are : scopes_view scopes ≡ (list_of (around stdout_capture tree)).scopes = ap (λ l. scopes_view l) c.deref.ensures.value ∙ c.requires.scopes in
     within (around stdout_capture tree) scopes actions scopes_are actions_are
 
 pub start_reader-requires-clause-leads : goal.start_reader-requires-clause-leads
@@ -55,8 +55,8 @@ start_reader-requires-clause-leads g c =
     let scopes = c.deref.result.now in
     let actions = c.deref-2.result.now in
     let acts = resolved_all (all_scopes scopes) (actions_view actions) in
-    let actions_are : actions_view actions ≡ (listed_of (around stdout_capture tree)).actions = ap (λ l. actions_view l) c.deref-2.ensures.value ∙ c.requires.actions in
-    let scopes_are : scopes_view scopes ≡ (listed_of (around stdout_capture tree)).scopes = ap (λ l. scopes_view l) c.deref.ensures.value ∙ c.requires.scopes in
+    let actions_are : actions_view actions ≡ (list_of (around stdout_capture tree)).actions = ap (λ l. actions_view l) c.deref-2.ensures.value ∙ c.requires.actions in
+    let scopes_are : scopes_view scopes ≡ (list_of (around stdout_capture tree)).scopes = ap (λ l. scopes_view l) c.deref.ensures.value ∙ c.requires.scopes in
     let same = runs_flat (around stdout_capture tree) scopes actions scopes_are actions_are in
     some_leads allows num (around stdout_capture tree) acts same
 
@@ -68,8 +68,8 @@ start_reader-requires-clause-opens g c =
     let scopes = c.deref.result.now in
     let actions = c.deref-2.result.now in
     let acts = resolved_all (all_scopes scopes) (actions_view actions) in
-    let actions_are : actions_view actions ≡ (listed_of (around stdout_capture tree)).actions = ap (λ l. actions_view l) c.deref-2.ensures.value ∙ c.requires.actions in
-    let scopes_are : scopes_view scopes ≡ (listed_of (around stdout_capture tree)).scopes = ap (λ l. scopes_view l) c.deref.ensures.value ∙ c.requires.scopes in
+    let actions_are : actions_view actions ≡ (list_of (around stdout_capture tree)).actions = ap (λ l. actions_view l) c.deref-2.ensures.value ∙ c.requires.actions in
+    let scopes_are : scopes_view scopes ≡ (list_of (around stdout_capture tree)).scopes = ap (λ l. scopes_view l) c.deref.ensures.value ∙ c.requires.scopes in
     let same = runs_flat (around stdout_capture tree) scopes actions scopes_are actions_are in
     reads_out allows num tree acts same
 
@@ -82,20 +82,20 @@ returns-in_err-kept g c =
     let scopes = c.deref.result.now in
     let actions = c.deref-2.result.now in
     let acts = resolved_all (all_scopes scopes) (actions_view actions) in
-    let actions_are : actions_view actions ≡ (listed_of (around stdout_capture tree)).actions = ap (λ l. actions_view l) c.deref-2.ensures.value ∙ c.requires.actions in
-    let scopes_are : scopes_view scopes ≡ (listed_of (around stdout_capture tree)).scopes = ap (λ l. scopes_view l) c.deref.ensures.value ∙ c.requires.scopes in
+    let actions_are : actions_view actions ≡ (list_of (around stdout_capture tree)).actions = ap (λ l. actions_view l) c.deref-2.ensures.value ∙ c.requires.actions in
+    let scopes_are : scopes_view scopes ≡ (list_of (around stdout_capture tree)).scopes = ap (λ l. scopes_view l) c.deref.ensures.value ∙ c.requires.scopes in
     let same = runs_flat (around stdout_capture tree) scopes actions scopes_are actions_are in
     let child = g.S.Child.Child.child_view in
     let feed = g.S.Feed.Job.job_view in
     let drain = g.S.Drain.Job.job_view in
     let old = g.S.System.journal_view c.args.sys.now in
     let e = c.in_err-kept.ensures.err in
-    let refused = refused_launched allows num (around stdout_capture tree) acts same drained_and_read g.H.Hook.refuses old e.stopped (held_view num child feed drain e.held) c.in_err-kept.field-0.0 e.refused in
+    let refused = refused_launched allows num (around stdout_capture tree) acts same drain_and_reader_tail g.H.Hook.refuses old e.stopped (resources_view num child feed drain e.held) c.in_err-kept.field-0.0 e.refused in
     rw (p.1, p.2) (record {
       ok = tt;
       made = tt;
       swept = tt;
-      err = given_up allows g.H.Hook.refuses num child feed drain _ _ e.stopped e.held _ refused (g.S.System.journal_view c.start_reader.new.sys) e.closes tree (plan_of_reader tree) refl (omega arith) (sym (read_items (planned [] (around stdout_capture tree) begun)));
+      err = given_up allows g.H.Hook.refuses num child feed drain _ _ e.stopped e.held _ refused (g.S.System.journal_view c.start_reader.new.sys) e.closes tree (plan_of_reader tree) refl (omega arith) (sym (read_items (plan_of_subtree [] (around stdout_capture tree) initial_plan)));
       pool_given = λ fits. left_started allows g.H.Hook.refuses num child feed drain _ _ e.stopped e.held _ refused (g.S.System.journal_view c.start_reader.new.sys) e.closes
           g.S.Child.Child.may_answer c.args.pool.now e.swept c.start_reader.new.pool e.new e.leaves e.given fits;
     })
@@ -108,13 +108,13 @@ running-requires-clause-silent g c =
     let scopes = c.deref.result.now in
     let actions = c.deref-2.result.now in
     let acts = resolved_all (all_scopes scopes) (actions_view actions) in
-    let actions_are : actions_view actions ≡ (listed_of (around stdout_capture tree)).actions = ap (λ l. actions_view l) c.deref-2.ensures.value ∙ c.requires.actions in
-    let scopes_are : scopes_view scopes ≡ (listed_of (around stdout_capture tree)).scopes = ap (λ l. scopes_view l) c.deref.ensures.value ∙ c.requires.scopes in
+    let actions_are : actions_view actions ≡ (list_of (around stdout_capture tree)).actions = ap (λ l. actions_view l) c.deref-2.ensures.value ∙ c.requires.actions in
+    let scopes_are : scopes_view scopes ≡ (list_of (around stdout_capture tree)).scopes = ap (λ l. scopes_view l) c.deref.ensures.value ∙ c.requires.scopes in
     let same = runs_flat (around stdout_capture tree) scopes actions scopes_are actions_are in
     let kept = c.in_ok-kept.kept in
-    let workers = c.in_ok-kept.ensures.workers (ceiling num (around stdout_capture tree)) (2 * depth (around stdout_capture tree) + 4) (planned [] (around stdout_capture tree) begun) (list_leads allows num (around stdout_capture tree) acts same) in
+    let workers = c.in_ok-kept.ensures.workers (ceiling num (around stdout_capture tree)) (2 * depth (around stdout_capture tree) + 4) (plan_of_subtree [] (around stdout_capture tree) initial_plan) (list_leads allows num (around stdout_capture tree) acts same) in
     let out : is_some kept.output_worker ≡ false = ap (λ o. is_some o) c.in_ok-kept.ensures.output in
-    let err : is_some kept.error_worker ≡ is_some (plan_of_reader tree).err = workers.1 ∙ read_pipe (planned [] (around stdout_capture tree) begun) in
+    let err : is_some kept.error_worker ≡ is_some (plan_of_reader tree).err = workers.1 ∙ read_pipe (plan_of_subtree [] (around stdout_capture tree) initial_plan) in
     c.requires.prepared.silent ∙ (λ i. latest_told (shape_in c.args.ready.core) (record { out = sym out i; err = sym err i }) [])
 
 pub running-requires-clause-commands : goal.running-requires-clause-commands
@@ -125,8 +125,8 @@ running-requires-clause-commands g c =
     let scopes = c.deref.result.now in
     let actions = c.deref-2.result.now in
     let acts = resolved_all (all_scopes scopes) (actions_view actions) in
-    let actions_are : actions_view actions ≡ (listed_of (around stdout_capture tree)).actions = ap (λ l. actions_view l) c.deref-2.ensures.value ∙ c.requires.actions in
-    let scopes_are : scopes_view scopes ≡ (listed_of (around stdout_capture tree)).scopes = ap (λ l. scopes_view l) c.deref.ensures.value ∙ c.requires.scopes in
+    let actions_are : actions_view actions ≡ (list_of (around stdout_capture tree)).actions = ap (λ l. actions_view l) c.deref-2.ensures.value ∙ c.requires.actions in
+    let scopes_are : scopes_view scopes ≡ (list_of (around stdout_capture tree)).scopes = ap (λ l. scopes_view l) c.deref.ensures.value ∙ c.requires.scopes in
     let same = runs_flat (around stdout_capture tree) scopes actions scopes_are actions_are in
     let child = g.S.Child.Child.child_view in
     let feed = g.S.Feed.Job.job_view in
@@ -134,9 +134,9 @@ running-requires-clause-commands g c =
     let old = g.S.System.journal_view c.args.sys.now in
     let kept = c.in_ok-kept.kept in
     let new = g.S.System.journal_view c.start_reader.new.sys in
-    let stands = stands_launched allows num (around stdout_capture tree) acts same drained_and_read old new (held_view num child feed drain kept) c.in_ok-kept.ensures.ok in
+    let stands = stands_launched allows num (around stdout_capture tree) acts same drain_and_reader_tail old new (resources_view num child feed drain kept) c.in_ok-kept.ensures.ok in
     let shapes = c.requires.prepared.shape in
-    let counts = reader_counts allows num _ _ new (held_view num child feed drain kept) tree stands (read_items (planned [] (around stdout_capture tree) begun)) in
+    let counts = reader_counts allows num _ _ new (resources_view num child feed drain kept) tree stands (read_items (plan_of_subtree [] (around stdout_capture tree) initial_plan)) in
     sym (length-map kept.children.items _) ∙ counts.0 ∙ ap (λ s. command_count s) (sym shapes)
 
 pub running-requires-clause-inputs : goal.running-requires-clause-inputs
@@ -147,8 +147,8 @@ running-requires-clause-inputs g c =
     let scopes = c.deref.result.now in
     let actions = c.deref-2.result.now in
     let acts = resolved_all (all_scopes scopes) (actions_view actions) in
-    let actions_are : actions_view actions ≡ (listed_of (around stdout_capture tree)).actions = ap (λ l. actions_view l) c.deref-2.ensures.value ∙ c.requires.actions in
-    let scopes_are : scopes_view scopes ≡ (listed_of (around stdout_capture tree)).scopes = ap (λ l. scopes_view l) c.deref.ensures.value ∙ c.requires.scopes in
+    let actions_are : actions_view actions ≡ (list_of (around stdout_capture tree)).actions = ap (λ l. actions_view l) c.deref-2.ensures.value ∙ c.requires.actions in
+    let scopes_are : scopes_view scopes ≡ (list_of (around stdout_capture tree)).scopes = ap (λ l. scopes_view l) c.deref.ensures.value ∙ c.requires.scopes in
     let same = runs_flat (around stdout_capture tree) scopes actions scopes_are actions_are in
     let child = g.S.Child.Child.child_view in
     let feed = g.S.Feed.Job.job_view in
@@ -156,9 +156,9 @@ running-requires-clause-inputs g c =
     let old = g.S.System.journal_view c.args.sys.now in
     let kept = c.in_ok-kept.kept in
     let new = g.S.System.journal_view c.start_reader.new.sys in
-    let stands = stands_launched allows num (around stdout_capture tree) acts same drained_and_read old new (held_view num child feed drain kept) c.in_ok-kept.ensures.ok in
+    let stands = stands_launched allows num (around stdout_capture tree) acts same drain_and_reader_tail old new (resources_view num child feed drain kept) c.in_ok-kept.ensures.ok in
     let shapes = c.requires.prepared.shape in
-    let counts = reader_counts allows num _ _ new (held_view num child feed drain kept) tree stands (read_items (planned [] (around stdout_capture tree) begun)) in
+    let counts = reader_counts allows num _ _ new (resources_view num child feed drain kept) tree stands (read_items (plan_of_subtree [] (around stdout_capture tree) initial_plan)) in
     sym (length-map kept.feeds.items _) ∙ counts.1 ∙ ap (λ s. input_count s) (sym shapes)
 
 pub returns : goal.returns
@@ -169,8 +169,8 @@ returns g c =
     let scopes = c.deref.result.now in
     let actions = c.deref-2.result.now in
     let acts = resolved_all (all_scopes scopes) (actions_view actions) in
-    let actions_are : actions_view actions ≡ (listed_of (around stdout_capture tree)).actions = ap (λ l. actions_view l) c.deref-2.ensures.value ∙ c.requires.actions in
-    let scopes_are : scopes_view scopes ≡ (listed_of (around stdout_capture tree)).scopes = ap (λ l. scopes_view l) c.deref.ensures.value ∙ c.requires.scopes in
+    let actions_are : actions_view actions ≡ (list_of (around stdout_capture tree)).actions = ap (λ l. actions_view l) c.deref-2.ensures.value ∙ c.requires.actions in
+    let scopes_are : scopes_view scopes ≡ (list_of (around stdout_capture tree)).scopes = ap (λ l. scopes_view l) c.deref.ensures.value ∙ c.requires.scopes in
     let same = runs_flat (around stdout_capture tree) scopes actions scopes_are actions_are in
     let child = g.S.Child.Child.child_view in
     let feed = g.S.Feed.Job.job_view in
@@ -178,13 +178,13 @@ returns g c =
     let old = g.S.System.journal_view c.args.sys.now in
     let kept = c.in_ok-kept.kept in
     let new = g.S.System.journal_view c.start_reader.new.sys in
-    let stands = stands_launched allows num (around stdout_capture tree) acts same drained_and_read old new (held_view num child feed drain kept) c.in_ok-kept.ensures.ok in
+    let stands = stands_launched allows num (around stdout_capture tree) acts same drain_and_reader_tail old new (resources_view num child feed drain kept) c.in_ok-kept.ensures.ok in
     let shapes = c.requires.prepared.shape in
-    let workers = c.in_ok-kept.ensures.workers (ceiling num (around stdout_capture tree)) (2 * depth (around stdout_capture tree) + 4) (planned [] (around stdout_capture tree) begun) (list_leads allows num (around stdout_capture tree) acts same) in
+    let workers = c.in_ok-kept.ensures.workers (ceiling num (around stdout_capture tree)) (2 * depth (around stdout_capture tree) + 4) (plan_of_subtree [] (around stdout_capture tree) initial_plan) (list_leads allows num (around stdout_capture tree) acts same) in
     let out : is_some kept.output_worker ≡ false = ap (λ o. is_some o) c.in_ok-kept.ensures.output in
-    let err : is_some kept.error_worker ≡ is_some (plan_of_reader tree).err = workers.1 ∙ read_pipe (planned [] (around stdout_capture tree) begun) in
+    let err : is_some kept.error_worker ≡ is_some (plan_of_reader tree).err = workers.1 ∙ read_pipe (plan_of_subtree [] (around stdout_capture tree) initial_plan) in
     record {
-      ok = read_launched allows num tree acts same old new (held_view num child feed drain kept) c.in_ok-kept.ensures.ok;
+      ok = read_launched allows num tree acts same old new (resources_view num child feed drain kept) c.in_ok-kept.ensures.ok;
       made = (rw (c.running.ensures, ← out, ← err) (runs_started child feed drain num tree c.args.ready.core.shape kept c.in_ok-kept.ensures.kept shapes allows _ _ new stands), c.in_ok-kept.ensures.reader);
       swept = c.in_ok-kept.ensures.swept;
       err = tt;

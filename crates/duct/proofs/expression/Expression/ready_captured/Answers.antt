@@ -4,8 +4,8 @@ use Rattle.std.specs.Prelude.{false, is_some}
 use Rattle.duct_status.specs.CoreView.{shape_in}
 use Rattle.duct_status.specs.Latest.{latest_told}
 use Rattle.duct_system.specs.declared.system.Side.TheVariants as side
-use Rattle.duct_start.specs.Listed.{listed_of}
-use Rattle.duct_start.specs.Plan.{begun, plan_of_reader, planned}
+use Rattle.duct_start.specs.ActionList.{list_of}
+use Rattle.duct_start.specs.Plan.{initial_plan, plan_of_reader, plan_of_subtree}
 use Rattle.duct_start.specs.ShapeOfTree.{shape_of_tree}
 use Rattle.duct_start.specs.TreeView.{around, stdout_capture}
 use Rattle.duct_start.proofs.Launched.{read_pipe}
@@ -20,10 +20,10 @@ returns-clause-ready g c =
     let tree = tree_view c.args.self.now in
     let list = c.in_ok-list.list in
     let core = c.in_ok-core.core in
-    let actions_are : actions_view list.actions.items ≡ (listed_of (around stdout_capture tree)).actions = c.in_ok-list.ensures.actions ∙ ap (λ t. (listed_of (around stdout_capture t)).actions) c.root.ensures in
-    let scopes_are : scopes_view list.scopes.items ≡ (listed_of (around stdout_capture tree)).scopes = c.in_ok-list.ensures.scopes ∙ ap (λ t. (listed_of (around stdout_capture t)).scopes) c.root.ensures in
-    let first : actions_view c.deref.result.now ≡ (listed_of (around stdout_capture tree)).actions = ap (λ l. actions_view l) c.deref.ensures.value ∙ actions_are in
-    let err : c.captures-2.result ≡ is_some (plan_of_reader tree).err = c.captures-2.ensures ∙ captured (around stdout_capture tree) list.scopes.items c.deref.result.now scopes_are first side.Err ∙ read_pipe (planned [] (around stdout_capture tree) begun) in
+    let actions_are : actions_view list.actions.items ≡ (list_of (around stdout_capture tree)).actions = c.in_ok-list.ensures.actions ∙ ap (λ t. (list_of (around stdout_capture t)).actions) c.root.ensures in
+    let scopes_are : scopes_view list.scopes.items ≡ (list_of (around stdout_capture tree)).scopes = c.in_ok-list.ensures.scopes ∙ ap (λ t. (list_of (around stdout_capture t)).scopes) c.root.ensures in
+    let first : actions_view c.deref.result.now ≡ (list_of (around stdout_capture tree)).actions = ap (λ l. actions_view l) c.deref.ensures.value ∙ actions_are in
+    let err : c.captures-2.result ≡ is_some (plan_of_reader tree).err = c.captures-2.ensures ∙ captured (around stdout_capture tree) list.scopes.items c.deref.result.now scopes_are first side.Err ∙ read_pipe (plan_of_subtree [] (around stdout_capture tree) initial_plan) in
     let p = c.in_ok-core.ensures.prepared in
     record {
       actions = actions_are;

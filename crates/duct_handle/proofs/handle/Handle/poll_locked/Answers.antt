@@ -6,7 +6,7 @@ use Rattle.once_cell.specs.Once.{Agrees}
 use Rattle.duct_status.specs.ShapeView.{shape_view}
 use Rattle.duct_running.specs.Answered.{IsAnswer}
 use Rattle.duct_running.specs.NumbersView.{numbers_view}
-use Rattle.duct_running.specs.Told.{OneRuns}
+use Rattle.duct_running.specs.Allowed.{OneRuns}
 use Rattle.duct_handle.specs.HandleView.{HandleView, PublishedView, SeenView}
 use Rattle.duct_handle.specs.Waited.{Waited}
 use Rattle.duct_handle.proofs.Sharing.{none_within, shared, still_refused, still_unknown}

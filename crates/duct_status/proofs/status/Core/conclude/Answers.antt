@@ -10,4 +10,4 @@ returns-in-Some-clause-reply c =
 pub returns-clause-reply : goal.returns-clause-reply
 returns-clause-reply c =
     let s = c.args.self.now in
-    fits_concludes (shape_in s) (latest_in s) c.stand.result c.stand.ensures.fits
+    fits_concludes (shape_in s) (latest_in s) c.keep_answer.result c.keep_answer.ensures.fits

@@ -1,0 +1,168 @@
+//! How a handle is made of what runs, and how it is given up.
+ghost use Rattle.std.specs.Prelude.{◌≡◌, ◌≤◌, List, [], length, vec_capacity, IfOk, IsOkUnless, None};
+ghost use Rattle.duct_base.specs.Pool.{IsGiven};
+ghost use Rattle.duct_status.specs.ShapeView.{command_count, input_count, shape_view};
+ghost use Rattle.duct_running.specs.NumbersView.{HaveRoom, numbers_in, numbers_view};
+
+use crate::handle::Handle;
+use crate::poll::HandleState;
+use crate::published::Published;
+use duct_base::error::Error;
+use duct_base::pool::Pool;
+use duct_base::status::Shape;
+use duct_base::system::{Child, Job, System};
+use duct_running::numbers::Numbers;
+use duct_running::running::Running;
+use once_cell::race::OnceBox;
+use std::alloc::Global;
+use std::marker::PhantomData;
+use std::sync::Mutex;
+
+/// What a handle keeps outside its lock, and its result, allocated before the first request of a
+/// start: the shape of its tree twice, with room for the numbers and the ids of its children and
+/// workers.
+#[derive(Drop)]
+pub struct HandleBuffers<S: System> {
+    pub shape: Shape,
+    pub numbers: Numbers,
+    pub ids: Vec<u32>,
+    pub spare: Box<Published<S>>,
+}
+
+// Empty lists for the numbers of a start of this shape, twice, and for its ids.
+fn lists(
+    alloc: Global,
+    shape: &Shape,
+    commands: usize,
+    inputs: usize,
+) -> Result<(Numbers, Numbers, Vec<u32>), Error>
+    requires commands { commands ≡ command_count (shape_view shape.now) }
+    requires inputs { inputs ≡ input_count (shape_view shape.now) }
+    ensures numbers { IfOk result (λ made. HaveRoom (shape_view shape.now) made.0) }
+    ensures spare { IfOk result (λ made. HaveRoom (shape_view shape.now) made.1) }
+    ensures empty { IfOk result (λ made. made.2.items ≡ []) }
+    ensures ids { IfOk result
+        (λ made. command_count (shape_view shape.now) ≤ vec_capacity made.2) }
+    ensures memory { IsOkUnless result Error.Memory }
+{
+    let numbers = Numbers::with_room(alloc, commands, inputs)?;
+    let spare = Numbers::with_room(alloc, commands, inputs)?;
+    let ids = Vec::with_capacity(alloc, commands)?;
+    Ok((numbers, spare, ids))
+}
+
+/// Makes room for a handle of a tree with this many commands and inputs. Fails with
+/// `Error::Memory`, and only at an allocation failure.
+pub fn handle_buffers<S: System>(
+    alloc: Global,
+    shape: Shape,
+    again: Shape,
+    commands: usize,
+    inputs: usize,
+) -> Result<HandleBuffers<S>, Error>
+    requires commands { commands ≡ command_count (shape_view shape) }
+    requires inputs { inputs ≡ input_count (shape_view shape) }
+    ensures shape { IfOk result (λ room. room.shape ≡ shape) }
+    ensures empty { IfOk result (λ room. room.ids.items ≡ []) }
+    ensures ids { IfOk result (λ room. command_count (shape_view shape) ≤ vec_capacity room.ids) }
+    ensures numbers { IfOk result (λ room. HaveRoom (shape_view shape) room.numbers) }
+    ensures spare { IfOk result (λ room. HaveRoom (shape_view shape) room.spare.value.numbers) }
+    ensures silent { IfOk result (λ room. room.spare.value.answer ≡ None) }
+    ensures memory { IsOkUnless result Error.Memory }
+{
+    let (numbers, spare, ids) = lists(alloc, &shape, commands, inputs)?;
+    let published = Published {
+        shape: again,
+        numbers: spare,
+        answer: None,
+        of: PhantomData,
+    };
+    let spare = Box::new(alloc, published)?;
+    Ok(HandleBuffers {
+        shape,
+        numbers,
+        ids,
+        spare,
+    })
+}
+
+// Copies these ids, for which there is room.
+fn copy_ids(ids: &mut Vec<u32>, from: &[u32])
+    requires empty { ids.old.items ≡ [] }
+    requires room { length from.now ≤ vec_capacity ids.old }
+    ensures { ids.new.items ≡ from.now }
+{
+    for id in from {
+        ids.push_reserved(*id);
+    }
+}
+
+/// Makes a handle of what runs, in this room. It allocates nothing.
+pub fn handle_of<S: System>(alloc: Global, running: Running<S>, room: HandleBuffers<S>) -> Handle<S>
+    requires shape { shape_view room.shape ≡ shape_view running.shape }
+    requires empty { room.ids.items ≡ [] }
+    requires ids { command_count (shape_view running.shape) ≤ vec_capacity room.ids }
+    requires numbers { HaveRoom (shape_view running.shape) room.numbers }
+    requires spare { HaveRoom (shape_view running.shape) room.spare.value.numbers }
+    requires silent { room.spare.value.answer ≡ None }
+    ensures shape { shape_view result.shape ≡ shape_view running.shape }
+    ensures numbers { result.numbers
+        ≡ numbers_in S.Child.child_view S.Feed.job_view S.Drain.job_view running }
+{
+    let HandleBuffers {
+        shape,
+        mut numbers,
+        mut ids,
+        mut spare,
+    } = room;
+    copy_ids(&mut ids, running.pids());
+    running.note_numbers(&mut numbers);
+    running.note_numbers(&mut spare.numbers);
+    Handle {
+        alloc,
+        shape,
+        numbers,
+        ids,
+        lock: Mutex::new(HandleState {
+            running,
+            spare: Some(spare),
+        }),
+        cell: OnceBox::new(alloc),
+    }
+}
+
+// What the lock of a handle held, with the shape and the numbers that were kept outside it.
+pub(crate) fn into_locked<S: System>(handle: Handle<S>) -> (Running<S>, Shape, Numbers)
+    ensures shape { result.1 ≡ handle.shape }
+    ensures numbers { numbers_view result.2 ≡ handle.numbers }
+{
+    let Handle {
+        alloc: _,
+        shape,
+        numbers,
+        ids,
+        lock,
+        cell,
+    } = handle;
+    drop((ids, cell));
+    let HandleState { running, spare } = lock.into_inner();
+    drop(spare);
+    (running, shape, numbers)
+}
+
+impl<S: System> Handle<S> {
+    /// Gives the children to a pool, which may be another one than the start's. Each is polled
+    /// once: one that still runs goes to the end of the pool, one that has ended counts as reaped,
+    /// and one whose poll is a fault counts as lost.
+    ///
+    /// Nothing is killed and nothing is waited for. The workers go on by themselves. It allocates
+    /// nothing and can't fail.
+    pub fn give_up(self, pool: &mut Pool<S::Child>)
+        ensures { (children : List S.Child)
+            × IsGiven S.Child.may_answer S.Child.child_view children pool.old pool.new }
+    {
+        let (running, shape, numbers) = into_locked(self);
+        drop((shape, numbers));
+        running.give_up(pool);
+    }
+}

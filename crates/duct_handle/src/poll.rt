@@ -1,0 +1,93 @@
+//! What the lock of a handle holds, and one poll of it.
+ghost use Rattle.std.specs.Prelude.{◌≡◌, ◌↔◌, IfOk, IfErr, IfSome, IsTrue, is_some, true, Ok, Err, None};
+ghost use Rattle.duct_status.specs.ShapeView.{shape_view};
+ghost use Rattle.duct_running.specs.Answered.{IsAnswer, WasConcluded};
+ghost use Rattle.duct_running.specs.NumbersView.{numbers_view};
+ghost use Rattle.duct_running.specs.Allowed.{OneRuns};
+ghost use Rattle.duct_handle.specs.AnswerView.{answer_view};
+ghost use Rattle.duct_handle.specs.Waited.{IsNoEnding};
+
+use crate::published::{Answer, Published};
+use duct_base::error::Error;
+use duct_base::status::Shape;
+use duct_base::system::{Child, Fault, Job, Kind, System};
+use duct_running::numbers::Numbers;
+use duct_running::running::Running;
+
+/// What runs, and what is published once it has ended.
+pub(crate) struct HandleState<S: System> {
+    pub(crate) running: Running<S>,
+    pub(crate) spare: Option<Box<Published<S>>>,
+}
+
+// The error if shape or numbers differ, or if there is no result, which no start causes.
+pub(crate) fn mismatch_error() -> Error
+    ensures { result ≡ Error.System (record { kind = Kind.Other }) }
+{
+    Error::System(Fault::new(Kind::Other))
+}
+
+// Polls what runs, which has this shape and these numbers.
+fn poll_checked<S: System>(
+    running: &mut Running<S>,
+    shape: &Shape,
+    numbers: &Numbers,
+) -> Result<Option<Answer>, Error>
+    ensures answer { IfOk result (λ o. IfSome o (λ a. WasConcluded S.Child.may_answer S.Feed.may_say
+        S.Drain.may_say (shape_view shape.now) (numbers_view numbers.now) (answer_view a))) }
+    ensures runs { result ≡ Ok None → OneRuns S.Child.may_answer S.Feed.may_say
+        S.Drain.may_say (numbers_view numbers.now) }
+    ensures waits { result ≡ Ok None → IsAnswer S.Child.may_answer S.Feed.may_say
+        S.Drain.may_say (shape_view shape.now) (numbers_view numbers.now) (Ok None) }
+    ensures fault { IfErr result IsNoEnding }
+    ensures err { IfErr result (λ e. IsAnswer S.Child.may_answer S.Feed.may_say S.Drain.may_say
+        (shape_view shape.now) (numbers_view numbers.now) (Err e)) }
+{
+    let polled = running.poll();
+    running.answers_allowed();
+    if !running.is_of(shape, numbers) {
+        return Err(mismatch_error());
+    }
+    match polled {
+        Ok(None) => Ok(None),
+        Ok(Some(output)) => Ok(Some(Answer::Output(output))),
+        Err(Error::Checked(text)) => Ok(Some(Answer::Failed(text))),
+        Err(error) => Err(error),
+    }
+}
+
+// Once what runs has ended, returns the spare with its result, to be published; before that `None`.
+pub(crate) fn poll_and_publish<S: System>(
+    locked: &mut HandleState<S>,
+    shape: &Shape,
+    numbers: &Numbers,
+) -> Result<Option<Box<Published<S>>>, Error>
+    ensures ended { IfOk result (λ o. IfSome o (λ b. is_some b.value.answer ≡ true)) }
+    ensures runs { result ≡ Ok None → OneRuns S.Child.may_answer S.Feed.may_say
+        S.Drain.may_say (numbers_view numbers.now) }
+    ensures waits { result ≡ Ok None → IsAnswer S.Child.may_answer S.Feed.may_say
+        S.Drain.may_say (shape_view shape.now) (numbers_view numbers.now) (Ok None) }
+    ensures fault { IfErr result IsNoEnding }
+    ensures err { IfErr result (λ e. IsAnswer S.Child.may_answer S.Feed.may_say S.Drain.may_say
+        (shape_view shape.now) (numbers_view numbers.now) (Err e)) }
+{
+    let Some(answer) = poll_checked(&mut locked.running, shape, numbers)? else {
+        return Ok(None);
+    };
+    let Some(mut published) = locked.spare.take() else {
+        return Err(mismatch_error());
+    };
+    if !same(&published, shape, numbers) {
+        return Err(mismatch_error());
+    }
+    published.answer = Some(answer);
+    Ok(Some(published))
+}
+
+// Whether this has the given shape and the given numbers.
+pub(crate) fn same<S: System>(published: &Published<S>, shape: &Shape, numbers: &Numbers) -> bool
+    ensures { IsTrue result ↔ ((shape_view published.now.shape ≡ shape_view shape.now)
+        × (numbers_view published.now.numbers ≡ numbers_view numbers.now)) }
+{
+    published.shape.is_same(shape) && published.numbers.is_same(numbers)
+}

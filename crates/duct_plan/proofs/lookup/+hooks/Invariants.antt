@@ -1,6 +1,0 @@
--- Each call has one node fewer to look at.
-use Rattle.std.proofs.Common.{length}
-use Rattle.duct_plan.proofs.lookup.+hooks.Given as goal
-
-abbrev pub decreases-hooks : goal.decreases-hooks
-decreases-hooks g l = length l.way.now

@@ -1,0 +1,6 @@
+-- Each call has one node fewer to look at.
+use Rattle.std.proofs.Common.{length}
+use Rattle.duct_plan.proofs.lookup.+hooks_on.Given as goal
+
+abbrev pub decreases-hooks : goal.decreases-hooks
+decreases-hooks g l = length l.way.now

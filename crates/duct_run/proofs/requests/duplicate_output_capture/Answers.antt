@@ -1,0 +1,23 @@
+use Rattle.std.proofs.lemmas.Result.{err_from_is_err_and}
+use Rattle.duct_run.specs.ResourcesView.{resources_view}
+use Rattle.duct_start.specs.Actions as action
+use Rattle.std.proofs.Common.{rules, refl, ap}
+use Rattle.std.specs.Option.{option_map}
+use Rattle.duct_system.specs.declared.system.Side.TheVariants as side
+use Rattle.duct_start.proofs.Going.{duplicate_fails, tap_out_succeeds}
+use Rattle.duct_run.proofs.Pushed.{pushed, goes_over}
+use Rattle.duct_run.proofs.Requesting.{goes_on, stops}
+use Rattle.duct_run.proofs.requests.duplicate_output_capture.Goals as goal
+
+pub returns-in_err-end-in-Some : goal.returns-in_err-end-in-Some
+returns-in_err-end-in-Some g c =
+    let p = err_from_is_err_and c.from_residual.result c.from_residual.ensures.1 in
+    rw (p.1, p.2) (stops ((λ no. no), duplicate_fails g.H.Hook.allows g.S.End.Numbered.number_of _ _ _ _ (action.duplicate_capture side.Out) _ (λ st. refl) c.in_err-end-in-Some.ensures.err) (search rules) (search rules))
+
+pub returns : goal.returns
+returns g c =
+    let num = g.S.End.Numbered.number_of in
+    let allows = g.H.Hook.allows in
+    let h = resources_view num g.S.Child.Child.child_view g.S.Feed.Job.job_view g.S.Drain.Job.job_view c.args.held.now in
+    goes_on (goes_over allows num (action.duplicate_capture side.Out) _ _ h _ _ (pushed num c.args.held.now.stack.items c.push_reserved.new.self.items c.in_ok-end-in-Some.end c.push_reserved.ensures.items)
+    (tap_out_succeeds allows num _ _ (num c.in_ok-end-in-Some.end) _ _ h (ap (λ o. option_map (λ pair. (num pair.0, num pair.1)) o) c.in-Some.is) c.in_ok-end-in-Some.ensures.ok)) (search rules) (search rules)

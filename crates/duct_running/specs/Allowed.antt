@@ -1,0 +1,42 @@
+-- Each result that a child or a worker stores is one that a child or a worker of its number may
+-- return.
+use Rattle.std.specs.Prelude.{ℕ, ◌⊎◌, ◌++◌, List, All, Contains, IfSome, Ok, Some, None}
+use Rattle.std.specs.Option.{option_to_list}
+use Rattle.std.specs.declared.option.Option.{Option}
+use Rattle.duct_system.specs.Child.{Answer, ChildView}
+use Rattle.duct_system.specs.Job.{JobView}
+use Rattle.duct_system.specs.declared.system.Said.{Said}
+use Rattle.duct_system.specs.declared.system.Said.TheVariants as said
+use Rattle.duct_running.specs.Polled.{WhileRuns}
+use Rattle.duct_running.specs.NumbersView.{NumbersView}
+use Rattle.duct_running.specs.Stored.{Bytes}
+
+-- a child of this number may return the result of the last poll, and the ending
+pub record ChildAnswersAllowed (may : ℕ → Answer → Type 0) (child : ChildView) : Type 0 where
+  pub answered : IfSome child.last (λ answer. may child.number answer)
+  pub ended : IfSome child.ending (λ status. may child.number (Ok (Some status)))
+
+-- a worker of this number may return the result or the fault that it keeps
+abbrev pub WorkerResultAllowed : {T : Type 0} → (ℕ → Said T → Type 0) → JobView T → Type 0
+WorkerResultAllowed may job = WhileRuns job.kept (Unit {0}) (may job.number job.kept)
+
+-- the same of all children and workers
+pub record AnswersAllowed (answer : ℕ → Answer → Type 0) (feed : ℕ → Said (Unit {0}) → Type 0)
+    (drain : ℕ → Said Bytes → Type 0) (children : List ChildView)
+    (feeds : List (JobView (Unit {0}))) (output error : Option (JobView Bytes)) : Type 0 where
+  pub children_told : All (ChildAnswersAllowed answer) children
+  pub feeds_told : All (WorkerResultAllowed feed) feeds
+  pub output_told : IfSome output (WorkerResultAllowed drain)
+  pub error_told : IfSome error (WorkerResultAllowed drain)
+
+-- one of these numbers may return this
+abbrev pub SomeSays : {A : Type 0} → (ℕ → A → Type 0) → A → List ℕ → Type 0
+SomeSays may answer numbers = (number : ℕ) × Contains numbers number × may number answer
+
+-- a child, an input worker or a capture worker of these numbers may return that it runs
+abbrev pub OneRuns : (ℕ → Answer → Type 0) → (ℕ → Said (Unit {0}) → Type 0)
+    → (ℕ → Said Bytes → Type 0) → NumbersView → Type 0
+OneRuns answer feed drain numbers =
+    SomeSays answer (Ok None) numbers.children ⊎ SomeSays feed said.Running numbers.feeds
+    ⊎ SomeSays drain said.Running
+    (option_to_list numbers.output ++ option_to_list numbers.error)

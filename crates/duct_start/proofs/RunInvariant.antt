@@ -1,0 +1,234 @@
+-- A run goes on by one entry, or stops there.
+use Rattle.std.proofs.Common.{◌≡◌, ℕ, zero, suc, take, refl, inl, inr, ◌+◌, ◌<◌, ◌≤◌, List, [], ◌∷◌, ◌++◌, length, ap, sym, ◌∙◌, arith, subst, append_assoc, length-append}
+use Rattle.std.proofs.lemmas.List.{append-nil, length-map, map-append}
+use Rattle.std.proofs.lemmas.Bool.{cases_lt}
+use Rattle.std.specs.declared.option.Option.{Option}
+use Rattle.std.proofs.lemmas.Grind.{flat_map-append}
+use Rattle.std.specs.Prelude.{Some, None, map}
+use Rattle.duct_system.specs.EntryView.{EntryView}
+use Rattle.duct_system.specs.Journal.{JournalView, Adds, AddsNothing}
+use Rattle.duct_system.specs.Ledger.{opened_numbers, closed_numbers, open_count, opened_by, closed_by, count_of}
+use Rattle.duct_system.specs.Started.{children_in, feeds_in, drains_in, child_by, feed_by, drain_by}
+use Rattle.duct_system.specs.Trace.{trace, IsClean, fault_of}
+use Rattle.duct_system.specs.declared.error.Error.{Error}
+use Rattle.duct_system.specs.declared.error.Error.TheVariants.{System}
+use Rattle.duct_system.specs.declared.system.Fault.{Fault}
+use Rattle.duct_start.specs.Actions.{State}
+use Rattle.duct_start.specs.Chain.{Allows}
+use Rattle.duct_start.specs.Follows.{AnswersFromBy, Gives, pairs_in}
+use Rattle.duct_start.specs.ResourcesView.{ResourcesView, open_ends, pipe_ends}
+use Rattle.duct_start.specs.Kinds.{Kind, entry_kind, item_kind}
+use Rattle.duct_start.specs.RunInvariant.{AnswersUnder, AreFresh, RunContext, OpenEndsWithin, IsEarly, IsLater, IsShaped, LedgerInvariant, GivesUnder, HasOrigins, RunInvariant, StopInvariant, refused, unasked, IsAllocationFailure}
+use Rattle.duct_start.specs.Step.{Item}
+use Rattle.duct_start.proofs.Counts.{once_of}
+use Rattle.duct_start.proofs.Origins.{opened_numbers-append, closed_numbers-append, count_got-append, count_spent-append, trace-append, later_more}
+
+-- the trace has as many entries as the plan has items
+pub as_many : {E H : Type 0} {allows : Allows H} {number_of : E → ℕ} {course : RunContext}
+    {state : State E H} {now : JournalView} {held : ResourcesView}
+    (stands : RunInvariant allows number_of course state now held)
+    → length (trace stands.added) ≡ length state.plan.items
+as_many {E} {H} {allows} {number_of} {course} {state} {now} {held} stands =
+    sym (length-map (trace stands.added) entry_kind) ∙ ap (λ (l : List Kind). length l) stands.kinds ∙ length-map state.plan.items item_kind
+
+module _ {E H : Type 0} (gives : Gives) (allows : Allows H) (number_of : E → ℕ) where
+  -- entries that match some items, followed by entries that match more items, match all these items
+  answers-append : (L : List EntryView) (place : ℕ) (items more : List (Item E H))
+      (entries rest : List EntryView) → length entries ≡ length items →
+      AnswersFromBy gives allows number_of L place items entries → AnswersFromBy gives allows number_of L (place + length items) more rest → AnswersFromBy gives allows number_of L place (items ++ more) (entries ++ rest)
+  answers-append L place [] more [] rest same first second = subst (λ (k : ℕ). AnswersFromBy gives allows number_of L k more rest) (omega arith) second
+  answers-append L place [] more (entry ∷ entries) rest same first second = absurd first
+  answers-append L place (item ∷ items) more [] rest same first second = absurd (omega (arith, same))
+  answers-append L place (item ∷ items) more (entry ∷ entries) rest same first second =
+      let less : length entries ≡ length items = omega (arith, same) in
+      (first.0, answers-append L (place + 1) items more entries rest less first.1 (subst (λ (k : ℕ). AnswersFromBy gives allows number_of L k more rest) (omega arith) second))
+
+  -- entries that match some items match them with more items at the end, too
+  pub answers_front : (L : List EntryView) (place : ℕ) (items more : List (Item E H))
+      (entries : List EntryView) → AnswersFromBy gives allows number_of L place items entries
+      → AnswersFromBy gives allows number_of L place (items ++ more) entries
+  answers_front L place items more [] first = tt
+  answers_front L place [] more (entry ∷ entries) first = absurd first
+  answers_front L place (item ∷ items) more (entry ∷ entries) first = (first.0, answers_front L (place + 1) items more entries first.1)
+
+clean_more : (xs : List EntryView) (entry : EntryView) → IsClean xs → fault_of entry ≡ None
+    → IsClean (xs ++ entry ∷ [])
+clean_more [] entry clean one = (one, tt)
+clean_more (x ∷ xs) entry clean one = (clean.0, clean_more xs entry clean.1 one)
+
+-- what one entry changes in what is held, by the ends that it got and spent
+pub record Changes (entry : EntryView) (now then : JournalView)
+    (held kept : ResourcesView) : Type 0 where
+  pub adds : Adds entry (length (opened_by entry)) (length (closed_by entry)) now then
+  pub fresh : AreFresh now.next then.next (opened_by entry)
+  pub even : (n : ℕ) → count_of n (opened_by entry) + count_of n (open_ends held)
+      ≡ count_of n (closed_by entry) + count_of n (open_ends kept)
+  pub long : length (opened_by entry) + length (open_ends held)
+      ≡ length (closed_by entry) + length (open_ends kept)
+  pub children_are : kept.children ≡ held.children ++ child_by entry
+  pub feeds_are : kept.feeds ≡ held.feeds ++ feed_by entry
+  pub drains_are : kept.drains ≡ held.drains ++ drain_by entry
+
+pub books_more : (old now then : JournalView) (added : List EntryView) (entry : EntryView)
+    (held kept : ResourcesView) → Changes entry now then held kept → LedgerInvariant old now added held
+    → LedgerInvariant old then (added ++ entry ∷ []) kept
+books_more old now then added entry held kept ch books =
+    let nil = λ (n : ℕ). ap (λ (l : List ℕ). count_of n l) (append-nil (opened_by entry)) in
+    let none = λ (n : ℕ). ap (λ (l : List ℕ). count_of n l) (append-nil (closed_by entry)) in
+    record {
+      entries_are = ch.adds.entries_are ∙ ap (λ (l : List EntryView). l ++ entry ∷ []) books.entries_are ∙ append_assoc old.entries added (entry ∷ []);
+      counted = omega (arith, ch.adds.added_is, books.counted, length-append added (entry ∷ []));
+      even = λ n. omega (arith, count_got-append n added (entry ∷ []), count_spent-append n added (entry ∷ []), nil n, none n, ch.even n, books.even n);
+      once = λ n. omega (arith, count_got-append n added (entry ∷ []), nil n, once_of now.next n (count_of n (opened_numbers added)) (count_of n (opened_by entry)) (books.once n) (ch.fresh.once n) (books.below n) (ch.fresh.above n));
+      below = λ n le. let le' : now.next ≤ n = omega (arith, ch.fresh.newer) in omega (arith, count_got-append n added (entry ∷ []), nil n, books.below n le', ch.fresh.below n le);
+      above = λ n lt. let lt' : n < now.next = omega (arith, books.next_grows) in omega (arith, count_got-append n added (entry ∷ []), nil n, books.above n lt, ch.fresh.above n lt');
+      next_grows = omega (arith, books.next_grows, ch.fresh.newer);
+      long = omega (arith, books.long, ch.long, ap (λ l. length l) (opened_numbers-append added (entry ∷ [])), ap (λ l. length l) (closed_numbers-append added (entry ∷ [])), length-append (opened_numbers added) (opened_numbers (entry ∷ [])), length-append (closed_numbers added) (closed_numbers (entry ∷ [])), ap (λ l. length l) (append-nil (opened_by entry)), ap (λ l. length l) (append-nil (closed_by entry)));
+      room_is = omega (arith, ch.long, books.room_is, ch.adds.room_is);
+      children_are = ch.children_are ∙ ap (λ (l : List ℕ). l ++ child_by entry) books.children_are ∙ sym (flat_map-append child_by added (entry ∷ []) ∙ ap (λ (l : List ℕ). children_in added ++ l) (append-nil (child_by entry)));
+      feeds_are = ch.feeds_are ∙ ap (λ (l : List ℕ). l ++ feed_by entry) books.feeds_are ∙ sym (flat_map-append feed_by added (entry ∷ []) ∙ ap (λ (l : List ℕ). feeds_in added ++ l) (append-nil (feed_by entry)));
+      drains_are = ch.drains_are ∙ ap (λ (l : List ℕ). l ++ drain_by entry) books.drains_are ∙ sym (flat_map-append drain_by added (entry ∷ []) ∙ ap (λ (l : List ℕ). drains_in added ++ l) (append-nil (drain_by entry)));
+    }
+
+take_front : {A : Type 0} (xs ys : List A) (count : ℕ) → count ≤ length xs
+    → take count (xs ++ ys) ≡ take count xs
+take_front [] ys zero low = refl
+take_front [] ys (suc count) low = absurd (omega (arith, low))
+take_front (x ∷ xs) ys zero low = refl
+take_front (x ∷ xs) ys (suc count) low = ap (λ l. x ∷ l) (take_front xs ys count (omega (arith, low)))
+
+take_whole : {A : Type 0} (xs : List A) (count : ℕ) → length xs ≤ count → take count xs ≡ xs
+take_whole [] zero low = refl
+take_whole [] (suc count) low = refl
+take_whole (x ∷ xs) zero low = absurd (omega (arith, low))
+take_whole (x ∷ xs) (suc count) low = ap (λ l. x ∷ l) (take_whole xs count (omega (arith, low)))
+
+-- the bound on the ends that are held, after one more entry
+few_more : (bound : ℕ) (old then : JournalView) (added : List EntryView) (entry : EntryView)
+    (kept : ResourcesView) → OpenEndsWithin bound added → LedgerInvariant old then (added ++ entry ∷ []) kept →
+    length (open_ends kept) ≤ bound + 8 → OpenEndsWithin bound (added ++ entry ∷ [])
+few_more bound old then added entry kept few books low = λ count. elim (cases_lt (length added) count) [
+  | inl lt ↦
+      let whole = ap (λ l. length (opened_numbers l)) (take_whole (added ++ entry ∷ []) count (omega (arith, lt, length-append added (entry ∷ [])))) in
+      let all = ap (λ l. length (closed_numbers l)) (take_whole (added ++ entry ∷ []) count (omega (arith, lt, length-append added (entry ∷ [])))) in
+      omega (arith, whole, all, books.long, low)
+  | inr le ↦ let same = ap (λ l. held l) (take_front added (entry ∷ []) count le) in omega (arith, few count, same)
+]
+
+-- the bound on the ends that are held now
+pub few_now : {E H : Type 0} (allows : Allows H) (number_of : E → ℕ) (course : RunContext)
+    (state : State E H) (now : JournalView) (held : ResourcesView)
+    → RunInvariant allows number_of course state now held → length (open_ends held) ≤ course.bound + 8
+few_now allows number_of course state now held stands =
+    let whole = ap (λ l. length (opened_numbers l)) (take_whole stands.added (length stands.added) (omega arith)) in
+    let all = ap (λ l. length (closed_numbers l)) (take_whole stands.added (length stands.added) (omega arith)) in
+    omega (arith, stands.few (length stands.added), whole, all, stands.books.long)
+
+pair_few : (o : Option (ℕ × ℕ)) → length (pipe_ends o) ≤ 2
+pair_few None = omega arith
+pair_few (Some pair) = omega arith
+
+-- at most four ends are held besides those on the stack
+pub few_of : (bound : ℕ) (held : ResourcesView) → length held.stack ≤ bound + 4
+    → length (open_ends held) ≤ bound + 8
+few_of bound held low =
+    omega (arith, low, pair_few held.out, pair_few held.err, length-append held.stack (pipe_ends held.out ++ pipe_ends held.err), length-append (pipe_ends held.out) (pipe_ends held.err))
+
+module _ {E H : Type 0} (allows : Allows H) (number_of : E → ℕ) (course : RunContext) (state then_state : State E H) (asked : List (Item E H)) (now then : JournalView) (held kept : ResourcesView)
+    (entry : EntryView) (stands : RunInvariant allows number_of course state now held) (items_are : then_state.plan.items ≡ state.plan.items ++ asked) (ch : Changes entry now then held kept) where
+  abbrev pub then_added : List EntryView
+  then_added = stands.added ++ entry ∷ []
+
+  -- where the held ends come from, whatever entries come after this one
+  pub sources_now : (more : List EntryView) → IsLater course then.next more
+      → HasOrigins (IsEarly course) number_of (then_added ++ more) state held
+  sources_now more later =
+      subst (λ (l : List EntryView). HasOrigins (IsEarly course) number_of l state held) (sym (append_assoc stands.added (entry ∷ []) more))
+      (stands.sources (entry ∷ more) (later_more course now.next then.next entry more ch.fresh later))
+
+  answers_then : ((more : List EntryView) → IsLater course then.next more → AnswersUnder course allows number_of (then_added ++ more) (length state.plan.items) asked (trace (entry ∷ []))) →
+      (more : List EntryView) → IsLater course then.next more → AnswersUnder course allows number_of (then_added ++ more) 0 then_state.plan.items (trace then_added)
+  answers_then matches = λ more later.
+      let before : AnswersUnder course allows number_of (then_added ++ more) 0 state.plan.items (trace stands.added) =
+      subst (λ (l : List EntryView). AnswersUnder course allows number_of l 0 state.plan.items (trace stands.added)) (sym (append_assoc stands.added (entry ∷ []) more))
+      (stands.answers (entry ∷ more) (later_more course now.next then.next entry more ch.fresh later)) in
+      subst (λ (l : List (Item E H)). AnswersUnder course allows number_of (then_added ++ more) 0 l (trace then_added)) (sym items_are)
+      (subst (λ (l : List EntryView). AnswersUnder course allows number_of (then_added ++ more) 0 (state.plan.items ++ asked) l) (sym (trace-append stands.added (entry ∷ [])))
+      (answers-append (GivesUnder (IsEarly course) (then_added ++ more)) allows number_of (then_added ++ more) 0 state.plan.items asked (trace stands.added) (trace (entry ∷ [])) (as_many stands) before
+      (subst (λ (k : ℕ). AnswersUnder course allows number_of (then_added ++ more) k asked (trace (entry ∷ []))) (omega arith) (matches more later))))
+
+  -- one more entry, without a fault
+  pub stands_more : length (open_ends kept) ≤ course.bound + 8 → IsShaped then_state kept
+      → fault_of entry ≡ None
+      → map entry_kind (trace (entry ∷ [])) ≡ map item_kind asked
+      → ((more : List EntryView) → IsLater course then.next more
+      → AnswersUnder course allows number_of (then_added ++ more) (length state.plan.items) asked
+      (trace (entry ∷ [])))
+      → ((more : List EntryView) → IsLater course then.next more
+      → HasOrigins (IsEarly course) number_of (then_added ++ more) then_state kept)
+      → RunInvariant allows number_of course then_state then kept
+  stands_more few shaped clean kinds matches sourced = record {
+    added = then_added;
+    books = books_more course.old now then stands.added entry held kept ch stands.books;
+    few = few_more course.bound course.old then stands.added entry kept stands.few (books_more course.old now then stands.added entry held kept ch stands.books) few;
+    kinds = ap (λ (l : List EntryView). map entry_kind l) (trace-append stands.added (entry ∷ [])) ∙ map-append entry_kind (trace stands.added) (trace (entry ∷ []))
+        ∙ (λ i. stands.kinds i ++ kinds i) ∙ sym (ap (λ (l : List (Item E H)). map item_kind l) items_are ∙ map-append item_kind state.plan.items asked);
+    shaped = shaped;
+    begins = λ more. ap (λ (l : List EntryView). pairs_in (trace l)) (append_assoc stands.added (entry ∷ []) more) ∙ stands.begins (entry ∷ more);
+    starts = (stands.starts.0 ++ entry ∷ [], ap (λ (l : List EntryView). l ++ entry ∷ []) stands.starts.1 ∙ append_assoc course.front stands.starts.0 (entry ∷ []));
+    answers = answers_then matches;
+    sources = sourced;
+    clean = clean_more stands.added entry stands.clean clean;
+  }
+
+  -- one more entry, with a fault
+  pub stops_more : length (open_ends kept) ≤ course.bound + 8 → (fault : Fault)
+      → fault_of entry ≡ Some fault
+      → ((more : List EntryView) → IsLater course then.next more
+      → AnswersUnder course allows number_of (then_added ++ more) (length state.plan.items) asked
+      (trace (entry ∷ [])))
+      → StopInvariant allows number_of course then_state.plan.items then kept (System fault)
+  stops_more few fault refuses matches = record {
+    added = then_added;
+    books = books_more course.old now then stands.added entry held kept ch stands.books;
+    few = few_more course.bound course.old then stands.added entry kept stands.few (books_more course.old now then stands.added entry held kept ch stands.books) few;
+    answers = answers_then matches;
+    ended = refused stands.added entry fault stands.clean refuses;
+  }
+
+-- entries that are later than a number are later than a smaller one
+later_still : (course : RunContext) (next then : ℕ) (more : List EntryView) → next ≤ then
+    → IsLater course then more → IsLater course next more
+later_still course next then more le later = record { fresh = λ n lt. let lt' : n < then = omega (arith, le) in later.fresh n lt' }
+
+-- no request was made, since an allocation failed
+pub stops_unasked : {E H : Type 0} (allows : Allows H) (number_of : E → ℕ) (course : RunContext)
+    (state : State E H) (items more_items : List (Item E H))
+    (now then : JournalView) (held : ResourcesView) (error : Error) →
+    RunInvariant allows number_of course state now held → items ≡ state.plan.items ++ more_items
+    → AddsNothing now then → IsAllocationFailure error
+    → StopInvariant allows number_of course items then held error
+stops_unasked {E} {H} allows number_of course state items more_items now then held error stands is nothing un =
+    let b = stands.books in
+    let later = λ (more : List EntryView) (l : IsLater course then.next more). later_still course now.next then.next more nothing.next_grows l in
+    record {
+      added = stands.added;
+      books = record {
+        entries_are = nothing.entries_are ∙ b.entries_are;
+        counted = nothing.added_is ∙ b.counted;
+        even = b.even;
+        once = b.once;
+        below = λ n le. let le' : now.next ≤ n = omega (arith, nothing.next_grows) in b.below n le';
+        above = b.above;
+        next_grows = omega (arith, b.next_grows, nothing.next_grows);
+        long = b.long;
+        room_is = omega (arith, b.room_is, nothing.room_grows);
+        children_are = b.children_are;
+        feeds_are = b.feeds_are;
+        drains_are = b.drains_are;
+      };
+      few = stands.few;
+      answers = λ more l. subst (λ (x : List (Item E H)). AnswersUnder course allows number_of (stands.added ++ more) 0 x (trace stands.added)) (sym is)
+          (answers_front (GivesUnder (IsEarly course) (stands.added ++ more)) allows number_of (stands.added ++ more) 0 state.plan.items more_items (trace stands.added) (stands.answers more (later more l)));
+      ended = unasked stands.clean un;
+    }

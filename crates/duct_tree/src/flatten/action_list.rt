@@ -1,0 +1,93 @@
+//! The list that the first pass of a start makes.
+ghost use Rattle.std.specs.Prelude.{◌≡◌, ◌+◌, ◌++◌, [], ◌∷◌, length, IfOk, OnOk, IsOkUnless};
+ghost use Rattle.duct_run.specs.ActionView.{action_view, actions_view};
+ghost use Rattle.duct_run.specs.ScopeView.{scopes_view, setting_view};
+ghost use Rattle.duct_tree.specs.ActionCounts.{feed_count, spawn_count};
+
+use duct_base::error::Error;
+use duct_run::action::Action;
+use duct_run::scope::{Scope, Setting};
+use std::alloc::Global;
+
+/// The actions of a tree and the scopes that they name, with the numbers by which a start makes
+/// room.
+#[derive(Drop)]
+pub struct ActionList<'a, E, H> {
+    pub actions: Vec<Action<'a, E>>,
+    pub scopes: Vec<Scope<'a, E, H>>,
+    /// How many commands the actions start.
+    pub commands: usize,
+    /// How many input workers the actions start.
+    pub inputs: usize,
+    /// The stack never has more ends than this.
+    pub deepest: usize,
+    pub ghost commands_counted: { commands ≡ spawn_count (actions_view actions.items) },
+    pub ghost inputs_counted: { inputs ≡ feed_count (actions_view actions.items) },
+}
+
+impl<'a, E, H> ActionList<'a, E, H> {
+    /// Returns an empty list.
+    pub(crate) fn new(alloc: Global) -> ActionList<'a, E, H>
+        ensures actions { result.actions.items ≡ [] }
+        ensures scopes { result.scopes.items ≡ [] }
+    {
+        ActionList {
+            actions: Vec::new(alloc),
+            scopes: Vec::new(alloc),
+            commands: 0,
+            inputs: 0,
+            deepest: 0,
+        }
+    }
+
+    /// Adds an action.
+    pub(crate) fn add(&mut self, action: Action<'a, E>) -> Result<(), Error>
+        ensures actions { OnOk result (actions_view self.new.actions.items
+            ≡ actions_view self.old.actions.items ++ action_view action.entry ∷ []) }
+        ensures scopes { self.new.scopes ≡ self.old.scopes }
+        ensures memory { IsOkUnless result Error.Memory }
+    {
+        let spawns = usize::from(matches!(action, Action::Spawn(_, _, _)));
+        let feeds = usize::from(matches!(action, Action::Feed(_)));
+        let commands = more(self.commands, spawns)?;
+        let inputs = more(self.inputs, feeds)?;
+        self.actions.push(action)?;
+        self.commands = commands;
+        self.inputs = inputs;
+        Ok(())
+    }
+
+    /// Notes that this many ends are on the stack.
+    pub(crate) fn reach(&mut self, depth: usize)
+        ensures actions { self.new.actions ≡ self.old.actions }
+        ensures scopes { self.new.scopes ≡ self.old.scopes }
+    {
+        self.deepest = self.deepest.max(depth);
+    }
+
+    /// Adds a scope and returns its index.
+    pub(crate) fn add_scope(
+        &mut self,
+        setting: Setting<'a, E, H>,
+        outer: usize,
+    ) -> Result<usize, Error>
+        ensures index { IfOk result
+            (λ index. index ≡ length (scopes_view self.old.scopes.items) + 1) }
+        ensures scopes { OnOk result (scopes_view self.new.scopes.items
+            ≡ scopes_view self.old.scopes.items ++ (setting_view setting.entry, outer) ∷ []) }
+        ensures actions { self.new.actions ≡ self.old.actions }
+        ensures memory { IsOkUnless result Error.Memory }
+    {
+        let index = more(self.scopes.len(), 1)?;
+        self.scopes.push(Scope { setting, outer })?;
+        Ok(index)
+    }
+}
+
+/// Returns `count + by`. Fails with `Error::Memory` where that does not fit in a `usize`.
+pub(crate) fn more(count: usize, by: usize) -> Result<usize, Error>
+    ensures sum { IfOk result (λ sum. sum ≡ count + by) }
+    ensures memory { IsOkUnless result Error.Memory }
+{
+    count.checked_add(by).ok_or(Error::Memory)
+}
