@@ -113,4 +113,15 @@ list_of tree = list_of_subtree 0 root_sources tree 0 1
 -- a command's scope is the root's or one of `count` others
 abbrev pub IsWithin : {E : Type 0} → ℕ → ActionOf E ℕ → Type 0
 IsWithin count (action.spawn i words ports) = i ≤ count
-IsWithin count action = Unit {0}
+IsWithin count (action.open_read path) = Unit {0}
+IsWithin count (action.create path) = Unit {0}
+IsWithin count action.pipe = Unit {0}
+IsWithin count action.input = Unit {0}
+IsWithin count (action.capture which) = Unit {0}
+IsWithin count (action.duplicate depth) = Unit {0}
+IsWithin count (action.duplicate_capture which) = Unit {0}
+IsWithin count (action.duplicate_caller_end end) = Unit {0}
+IsWithin count (action.parent which) = Unit {0}
+IsWithin count action.close = Unit {0}
+IsWithin count (action.feed bytes) = Unit {0}
+IsWithin count (action.finish which) = Unit {0}

@@ -178,7 +178,20 @@ after_actions state (action ∷ actions) = after_actions (advance state action) 
 abbrev pub is_capture : {E K : Type 0} → Side → ActionOf E K → Bool
 is_capture side.Out (capture side.Out) = true
 is_capture side.Err (capture side.Err) = true
-is_capture which _ = false
+is_capture side.Out (capture side.Err) = false
+is_capture side.Err (capture side.Out) = false
+is_capture stream (open_read path) = false
+is_capture stream (create path) = false
+is_capture stream pipe = false
+is_capture stream input = false
+is_capture stream (duplicate depth) = false
+is_capture stream (duplicate_capture which) = false
+is_capture stream (duplicate_caller_end end) = false
+is_capture stream (parent which) = false
+is_capture stream close = false
+is_capture stream (spawn scope words ports) = false
+is_capture stream (feed bytes) = false
+is_capture stream (finish which) = false
 
 -- whether an action of a list opens the capture pipe of this side
 abbrev pub captures_in : {E K : Type 0} → Side → List (ActionOf E K) → Bool
@@ -189,7 +202,18 @@ captures_in which (action ∷ actions) = is_capture which action || captures_in 
 abbrev pub NoneFinishes : {E K : Type 0} → List (ActionOf E K) → Type 0
 NoneFinishes [] = Unit {0}
 NoneFinishes (finish which ∷ actions) = ⊥
-NoneFinishes (_ ∷ actions) = NoneFinishes actions
+NoneFinishes (open_read path ∷ actions) = NoneFinishes actions
+NoneFinishes (create path ∷ actions) = NoneFinishes actions
+NoneFinishes (pipe ∷ actions) = NoneFinishes actions
+NoneFinishes (input ∷ actions) = NoneFinishes actions
+NoneFinishes (capture which ∷ actions) = NoneFinishes actions
+NoneFinishes (duplicate depth ∷ actions) = NoneFinishes actions
+NoneFinishes (duplicate_capture which ∷ actions) = NoneFinishes actions
+NoneFinishes (duplicate_caller_end end ∷ actions) = NoneFinishes actions
+NoneFinishes (parent which ∷ actions) = NoneFinishes actions
+NoneFinishes (close ∷ actions) = NoneFinishes actions
+NoneFinishes (spawn scope words ports ∷ actions) = NoneFinishes actions
+NoneFinishes (feed bytes ∷ actions) = NoneFinishes actions
 
 -- the top of the stack is the write end of a pipe
 abbrev pub IsWriter : {E : Type 0} → List (Target E) → Type 0
@@ -221,7 +245,16 @@ pop_count close = 1
 pop_count (feed bytes) = 1
 pop_count (spawn scope words ports) = port_end_count ports.input
     + (port_end_count ports.output + port_end_count ports.error)
-pop_count action = 0
+pop_count (open_read path) = 0
+pop_count (create path) = 0
+pop_count pipe = 0
+pop_count input = 0
+pop_count (capture which) = 0
+pop_count (duplicate depth) = 0
+pop_count (duplicate_capture which) = 0
+pop_count (duplicate_caller_end end) = 0
+pop_count (parent which) = 0
+pop_count (finish which) = 0
 
 -- what an action needs besides the ends that it pops; a caller's end has a number below this one
 abbrev pub Needs : {E H : Type 0} → (E → ℕ) → ℕ → ℕ → State E H → Action E H → Type 0
@@ -231,7 +264,14 @@ Needs number_of base bound state (duplicate_caller_end end) = number_of end < ba
 Needs number_of base bound state (feed bytes) = IsWriter state.stack
 Needs number_of base bound state (spawn scope words ports) =
     CanSpawn number_of base bound state.stack scope ports
-Needs number_of base bound state action = Unit {0}
+Needs number_of base bound state (open_read path) = Unit {0}
+Needs number_of base bound state (create path) = Unit {0}
+Needs number_of base bound state pipe = Unit {0}
+Needs number_of base bound state input = Unit {0}
+Needs number_of base bound state (capture which) = Unit {0}
+Needs number_of base bound state (parent which) = Unit {0}
+Needs number_of base bound state close = Unit {0}
+Needs number_of base bound state (finish which) = Unit {0}
 
 -- an action has all that it needs, and leaves at most `bound` ends on the stack
 pub record IsReady {E H : Type 0} (number_of : E → ℕ) (base bound : ℕ) (state : State E H)

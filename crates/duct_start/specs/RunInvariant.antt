@@ -210,7 +210,17 @@ abbrev pub FindsItsEnds : {E H : Type 0} → Action E H → ResourcesView → Ty
 FindsItsEnds (action.duplicate depth) held = depth < length held.stack
 FindsItsEnds (action.duplicate_capture side.Out) held = IsSome held.out
 FindsItsEnds (action.duplicate_capture side.Err) held = IsSome held.err
-FindsItsEnds act held = Unit {0}
+FindsItsEnds (action.open_read path) held = Unit {0}
+FindsItsEnds (action.create path) held = Unit {0}
+FindsItsEnds action.pipe held = Unit {0}
+FindsItsEnds action.input held = Unit {0}
+FindsItsEnds (action.capture which) held = Unit {0}
+FindsItsEnds (action.duplicate_caller_end end) held = Unit {0}
+FindsItsEnds (action.parent which) held = Unit {0}
+FindsItsEnds action.close held = Unit {0}
+FindsItsEnds (action.spawn scope words ports) held = Unit {0}
+FindsItsEnds (action.feed bytes) held = Unit {0}
+FindsItsEnds (action.finish which) held = Unit {0}
 
 -- a run that has succeeded so far is about to perform these actions, which lead to its goal
 pub record ReadyForActions {E H : Type 0} (allows : Allows H) (number_of : E → ℕ)

@@ -1,5 +1,5 @@
 -- What a start guarantees about the journal.
-use Rattle.std.specs.Prelude.{ℕ, ◌+◌, ◌*◌, ◌<◌, ◌≤◌, max, List, [], ◌∷◌, ◌++◌, ◌≡◌, length, map, take, All, Some}
+use Rattle.std.specs.Prelude.{ℕ, ◌+◌, ◌*◌, ◌<◌, ◌≤◌, max, List, [], ◌∷◌, ◌++◌, ◌≡◌, length, map, take, All, Some, None}
 use Rattle.std.specs.declared.option.Option.{Option}
 use Rattle.duct_system.specs.Journal.{JournalView}
 use Rattle.duct_system.specs.Ledger.{IsBalanced, count_of, opened_numbers, open_count}
@@ -11,18 +11,22 @@ use Rattle.duct_start.specs.Chain.{Allows, Refuses}
 use Rattle.duct_start.specs.Follows.{AsksPlan, Follows, FollowsWhole}
 use Rattle.duct_start.specs.Kinds.{entry_kind, item_kind}
 use Rattle.duct_start.specs.Plan.{Plan}
-use Rattle.duct_start.specs.Row.{RowOpening, Row, SettingView, Route, opens_nothing, opens_input, opens_read, opens_create, opens_capture, to_lent, says_hook, row}
+use Rattle.duct_start.specs.Row.{RowOpening, Row, SettingView, Route, opens_nothing, opens_input, opens_read, opens_create, opens_capture, as_outside, to_nothing, to_lent, to_opened, says_folder, says_change, says_hook, row}
 use Rattle.duct_start.specs.TreeView.{ModifierView, TreeView, command, pipe, around}
 
 -- the caller's ends that a way leads to
 abbrev pub route_ends : {E : Type 0} → Route E → List E
 route_ends (to_lent end) = end ∷ []
-route_ends _ = []
+route_ends (as_outside stream) = []
+route_ends to_nothing = []
+route_ends to_opened = []
 
 -- the caller's ends that a node's hook has
 abbrev pub said_ends : {E H : Type 0} → Option (SettingView E H) → List E
 said_ends (Some (says_hook hook ends)) = ends
-said_ends _ = []
+said_ends (Some (says_folder path)) = []
+said_ends (Some (says_change change)) = []
+said_ends None = []
 
 -- the caller's ends that a node of this row holds
 abbrev pub row_ends : {E H : Type 0} → Row E H → List E
@@ -64,7 +68,9 @@ opens_depth (opens_capture which) = 0
 -- what a way adds to the depth of a tree: 1 for a caller's end
 abbrev pub route_depth : {E : Type 0} → Route E → ℕ
 route_depth (to_lent end) = 1
-route_depth _ = 0
+route_depth (as_outside stream) = 0
+route_depth to_nothing = 0
+route_depth to_opened = 0
 
 -- what a node adds to the depth of a tree
 abbrev pub modifier_depth : {E H : Type 0} → ModifierView E H → ℕ

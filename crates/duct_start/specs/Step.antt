@@ -89,7 +89,10 @@ opening_of (opens_capture side.Err) = CapturesErr
 -- the requests that it makes for that after its inner expression
 abbrev pub closing_of : {E H : Type 0} → RowOpening → ℕ → List (Item E H)
 closing_of (opens_input bytes) place = AskFeed place bytes ∷ []
-closing_of _ place = []
+closing_of opens_nothing place = []
+closing_of (opens_read path) place = []
+closing_of (opens_create path) place = []
+closing_of (opens_capture which) place = []
 
 -- the target that a node has by what it opens at this place
 abbrev pub opened_target : {E : Type 0} → RowOpening → ℕ → Target E
