@@ -4,7 +4,7 @@ use Rattle.std.proofs.lemmas.Simd.{map-map}
 use Rattle.std.proofs.lemmas.List.{length-map}
 use Rattle.std.proofs.lemmas.List.Elements.{All-cons, All-nil, All-head, All-tail}
 use Rattle.std.specs.List.{All}
-use Rattle.std.specs.Prelude.{map, IfOk, IfErr, Ok, Err}
+use Rattle.std.specs.Prelude.{map, IfOk, IfErr, OnOk, OnErr, Ok, Err}
 use Rattle.std.specs.declared.result.Result.{Result}
 use Rattle.duct_base.specs.Pool.{PoolView, IsGiven}
 use Rattle.duct_system.specs.Child.{Answer, ChildView, IsUnasked}
@@ -75,25 +75,24 @@ module _ {E H C F D V W : Type 0} (child : C → ChildView) (feed : F → JobVie
         leaves_on may (map child waited.children) (pool_view child before) (pool_view child mid) (pool_view child after) swept (leaves_taken may child waited.children mid after (given.takes low)),
       )
 
--- a property of a value, or of an error, may be replaced by one that follows from it
-pub if_ok_with : {T F : Type 0} (r : Result T F) {P Q : T → Type 0}
-    → ((value : T) → P value → Q value) → IfOk r P → IfOk r Q
-if_ok_with (Ok value) step holds = step value holds
-if_ok_with (Err error) step holds = tt
+-- two properties of a value, or of an error, give a third
+pub if_ok_both : {T F Q : Type 0} (r : Result T F) {P R : T → Type 0}
+    → ((value : T) → P value → Q → R value) → IfOk r P → OnOk r Q → IfOk r R
+if_ok_both (Ok value) step holds other = step value holds other
+if_ok_both (Err error) step holds other = tt
 
-pub if_err_with : {T F : Type 0} (r : Result T F) {P Q : F → Type 0}
-    → ((error : F) → P error → Q error) → IfErr r P → IfErr r Q
-if_err_with (Ok value) step holds = tt
-if_err_with (Err error) step holds = step error holds
+pub if_err_both : {T F Q : Type 0} (r : Result T F) {P R : F → Type 0}
+    → ((error : F) → P error → Q → R error) → IfErr r P → OnErr r Q → IfErr r R
+if_err_both (Ok value) step holds other = tt
+if_err_both (Err error) step holds other = step error holds other
 
--- a property of a whole result may be replaced by one of its value, or of its error, that follows
--- from it
-pub told_ok : {T F : Type 0} (r : Result T F) (P : Result T F → Type 0) {Q : T → Type 0}
-    → ((value : T) → P (Ok value) → Q value) → P r → IfOk r Q
-told_ok (Ok value) P step holds = step value holds
-told_ok (Err error) P step holds = tt
+-- so do a property of a whole result and one of its value, or of its error
+pub told_ok_both : {T F Q : Type 0} (r : Result T F) (P : Result T F → Type 0) {R : T → Type 0}
+    → ((value : T) → P (Ok value) → Q → R value) → P r → OnOk r Q → IfOk r R
+told_ok_both (Ok value) P step holds other = step value holds other
+told_ok_both (Err error) P step holds other = tt
 
-pub told_err : {T F : Type 0} (r : Result T F) (P : Result T F → Type 0) {Q : F → Type 0}
-    → ((error : F) → P (Err error) → Q error) → P r → IfErr r Q
-told_err (Ok value) P step holds = tt
-told_err (Err error) P step holds = step error holds
+pub told_err_both : {T F Q : Type 0} (r : Result T F) (P : Result T F → Type 0) {R : F → Type 0}
+    → ((error : F) → P (Err error) → Q → R error) → P r → OnErr r Q → IfErr r R
+told_err_both (Ok value) P step holds other = tt
+told_err_both (Err error) P step holds other = step error holds other

@@ -2,8 +2,7 @@
 use Rattle.std.proofs.Common.{◌≡◌, ℕ, List, ◌∷◌, [], ◌∙◌, ap, length, subst, sym}
 use Rattle.std.proofs.lemmas.List.{length-map}
 use Rattle.std.specs.List.{All}
-use Rattle.std.specs.Prelude.{Err, Ok, OnErr, is_some}
-use Rattle.std.specs.declared.result.Result.{Result}
+use Rattle.std.specs.Prelude.{is_some}
 use Rattle.duct_system.specs.declared.system.Side.{Side}
 use Rattle.duct_start.specs.Actions.{ActionOf, capture_place, captures_in}
 use Rattle.duct_start.specs.Flat.{actions_of, root_scope}
@@ -18,10 +17,6 @@ use Rattle.duct_run.specs.ActionView.{actions_view}
 use Rattle.duct_run.specs.ScopeView.{all_scopes, scopes_view}
 use Rattle.duct_run.specs.declared.action.Action.{Action}
 use Rattle.duct_run.specs.declared.scope.Scope as declared
-
-pub on_err : {T E Q : Type 0} (r : Result T E) → Q → OnErr r Q
-on_err (Ok value) q = tt
-on_err (Err error) q = q
 
 -- these scopes and actions were made for this tree
 module _ {E H : Type 0} (tree : TreeView E H) (scopes : List (declared.Scope E H)) (actions : List (Action E))

@@ -1,14 +1,7 @@
 //! Starts that are waited for: the output of an expression, the text that it prints, or a reader of
 //! it.
-ghost use Rattle.std.specs.Prelude.{◌⊎◌, [], false, is_some, IfOk, IfErr, OnOk, OnErr, Ok, Err};
-ghost use Rattle.duct_system.specs.Trace.{segment};
-ghost use Rattle.duct_status.specs.ReplyView.{answered};
-ghost use Rattle.duct_start.specs.Left.{Leaves, LeavesStarted, pool_view};
-ghost use Rattle.duct_start.specs.Plan.{plan_of, plan_of_reader};
-ghost use Rattle.duct_start.specs.Start.{StartSucceeds, StartRefused};
-ghost use Rattle.duct_handle.specs.Started.{IsHandle};
-ghost use Rattle.duct.specs.RunResults.{WaitReturns, WaitFails, PoolHasRoom, LeavesGiven, ReadReturns};
-ghost use Rattle.duct.specs.TreeView.{tree_view};
+ghost use Rattle.std.specs.Prelude.{IfOk, IfErr};
+ghost use Rattle.duct.specs.Launched.{Fails, Handles, LaunchRefused, Launched, ReadFails, Reads, Returns, RunFailed, draining, reading};
 
 use crate::expression::Expression;
 use crate::start::handle_buffers_of;
@@ -20,6 +13,7 @@ use duct_handle::buffers::handle_of;
 use duct_handle::finish::finish;
 use duct_reader::read::read_text;
 use duct_reader::reader::{ReaderHandle, reader_handle_of};
+use duct_run::views::Seen;
 use std::io::Read;
 use std::sync::Wait;
 
@@ -39,22 +33,10 @@ impl<E: Drop, H: Hook> Expression<E, H> {
         sys: &mut S,
         pool: &mut Pool<S::Child>,
     ) -> Result<ReaderHandle<S, R>, Error>
-        ensures ok { OnOk result (let tree = tree_view self.now in
-            StartSucceeds H.allows E.number_of tree (plan_of_reader tree) (S.journal_view sys.old)
-            (S.journal_view sys.new)) }
-        ensures handle { IfOk result (let tree = tree_view self.now in
-            IsHandle tree false (is_some (plan_of_reader tree).err)
-            (segment (S.journal_view sys.old).entries (S.journal_view sys.new).entries)) }
-        ensures swept { OnOk result (Leaves S.Child.may_answer []
-            (pool_view S.Child.child_view pool.old) (pool_view S.Child.child_view pool.new)) }
-        ensures err { IfErr result (let tree = tree_view self.now in
-            StartRefused H.allows H.refuses E.number_of tree (plan_of_reader tree)
-            (S.journal_view sys.old) (S.journal_view sys.new)) }
-        ensures pool_given { OnErr result
-            (let old = S.journal_view sys.old in
-            let added = segment old.entries (S.journal_view sys.new).entries in
-            PoolHasRoom added pool.old
-            → LeavesStarted S.Child.may_answer S.Child.child_view added pool.old pool.new) }
+        ensures launched { IfOk result (λ handle. Launched ⟦<S as Seen>⟧.views H.allows reading
+            self.now sys.old sys.new pool.old pool.new (Handles handle)) }
+        ensures refused { IfErr result (LaunchRefused ⟦<S as Seen>⟧.views H.allows H.refuses reading
+            self.now sys.old sys.new pool.old pool.new) }
     {
         let alloc = self.allocator();
         let room = handle_buffers_of(alloc, self.root())?;
@@ -77,33 +59,10 @@ impl<E: Drop, H: Hook> Expression<E, H> {
         sys: &mut S,
         pool: &mut Pool<S::Child>,
     ) -> Result<Output, Error>
-        ensures ok { OnOk result (let tree = tree_view self.now in
-            StartSucceeds H.allows E.number_of tree (plan_of tree) (S.journal_view sys.old)
-            (S.journal_view sys.new)) }
-        ensures output { IfOk result (λ output. let tree = tree_view self.now in
-            WaitReturns S.Child.may_answer S.Feed.may_say S.Drain.may_say tree
-            (is_some (plan_of tree).out) (is_some (plan_of tree).err)
-            (segment (S.journal_view sys.old).entries (S.journal_view sys.new).entries)
-            (answered output.status output.stdout.items output.stderr.items)) }
-        ensures swept { OnOk result (Leaves S.Child.may_answer []
-            (pool_view S.Child.child_view pool.old) (pool_view S.Child.child_view pool.new)) }
-
-        // Failed before the end of its start, or started and ended.
-        ensures err { IfErr result (λ e. let tree = tree_view self.now in
-            let old = S.journal_view sys.old in
-            let new = S.journal_view sys.new in
-            let added = segment old.entries new.entries in
-            (StartRefused H.allows H.refuses E.number_of tree (plan_of tree) old new e
-            × (PoolHasRoom added pool.old
-            → LeavesStarted S.Child.may_answer S.Child.child_view added pool.old pool.new))
-            ⊎ (StartSucceeds H.allows E.number_of tree (plan_of tree) old new
-            × WaitFails S.Child.may_answer S.Feed.may_say S.Drain.may_say tree
-            (is_some (plan_of tree).out) (is_some (plan_of tree).err) added e)) }
-        ensures pool_given { OnErr result
-            (let old = S.journal_view sys.old in
-            let added = segment old.entries (S.journal_view sys.new).entries in
-            PoolHasRoom added pool.old
-            → LeavesGiven S.Child.may_answer S.Child.child_view added pool.old pool.new) }
+        ensures output { IfOk result (λ output. Launched ⟦<S as Seen>⟧.views H.allows draining
+            self.now sys.old sys.new pool.old pool.new (Returns ⟦<S as Seen>⟧.views output)) }
+        ensures failed { IfErr result (RunFailed ⟦<S as Seen>⟧.views H.allows H.refuses draining
+            self.now sys.old sys.new pool.old pool.new (Fails ⟦<S as Seen>⟧.views)) }
     {
         let running = self.launch(sys, pool)?;
         finish(self.allocator(), rt, running, pool)
@@ -126,32 +85,12 @@ impl<E: Drop, H: Hook> Expression<E, H> {
         sys: &mut S,
         pool: &mut Pool<S::Child>,
     ) -> Result<String, Error>
-        ensures ok { OnOk result (let tree = tree_view self.now in
-            StartSucceeds H.allows E.number_of tree (plan_of_reader tree) (S.journal_view sys.old)
-            (S.journal_view sys.new)) }
-        ensures text { IfOk result (λ text. let tree = tree_view self.now in
-            ReadReturns S.Child.may_answer S.Feed.may_say S.Drain.may_say tree S.may_read
-            S.Reader.remaining (is_some (plan_of_reader tree).err)
-            (segment (S.journal_view sys.old).entries (S.journal_view sys.new).entries) (Ok text)) }
-        ensures swept { OnOk result (Leaves S.Child.may_answer []
-            (pool_view S.Child.child_view pool.old) (pool_view S.Child.child_view pool.new)) }
-
-        // Failed before the end of its start, or started and read.
-        ensures err { IfErr result (λ e. let tree = tree_view self.now in
-            let old = S.journal_view sys.old in
-            let new = S.journal_view sys.new in
-            let added = segment old.entries new.entries in
-            (StartRefused H.allows H.refuses E.number_of tree (plan_of_reader tree) old new e
-            × (PoolHasRoom added pool.old
-            → LeavesStarted S.Child.may_answer S.Child.child_view added pool.old pool.new))
-            ⊎ (StartSucceeds H.allows E.number_of tree (plan_of_reader tree) old new
-            × ReadReturns S.Child.may_answer S.Feed.may_say S.Drain.may_say tree S.may_read
-            S.Reader.remaining (is_some (plan_of_reader tree).err) added (Err e))) }
-        ensures pool_given { OnErr result
-            (let old = S.journal_view sys.old in
-            let added = segment old.entries (S.journal_view sys.new).entries in
-            PoolHasRoom added pool.old
-            → LeavesGiven S.Child.may_answer S.Child.child_view added pool.old pool.new) }
+        ensures text { IfOk result (λ text. Launched ⟦<S as Seen>⟧.views H.allows reading self.now
+            sys.old sys.new pool.old pool.new (Reads ⟦<S as Seen>⟧.views S.may_read
+            S.Reader.remaining text)) }
+        ensures failed { IfErr result (RunFailed ⟦<S as Seen>⟧.views H.allows H.refuses reading
+            self.now sys.old sys.new pool.old pool.new (ReadFails ⟦<S as Seen>⟧.views S.may_read
+            S.Reader.remaining)) }
     {
         let (running, reader) = self.launch_reader(sys, pool)?;
         read_text(self.allocator(), rt, running, reader, pool)

@@ -1,26 +1,18 @@
 //! The start of an expression: the requests that it makes to the system, and what it keeps of their
 //! results.
-ghost use Rattle.std.specs.Prelude.{◌≡◌, ◌≤◌, [], false, length, is_some, vec_capacity, IfOk, IfErr, OnOk, OnErr, IsOkUnless, None};
-ghost use Rattle.duct_system.specs.Trace.{segment};
+ghost use Rattle.std.specs.Prelude.{◌≡◌, ◌≤◌, [], length, is_some, vec_capacity, IfOk, IfErr, IsOkUnless, None};
 ghost use Rattle.duct_system.specs.declared.system.Side.TheVariants as side;
 ghost use Rattle.duct_status.specs.CoreView.{latest_in, shape_in};
 ghost use Rattle.duct_status.specs.Latest.{latest_told};
 ghost use Rattle.duct_status.specs.ShapeView.{command_count, input_count, shape_view};
 ghost use Rattle.duct_start.specs.Actions.{captures_in, is_capture};
-ghost use Rattle.duct_start.specs.Left.{Leaves, LeavesStarted, pool_view};
-ghost use Rattle.duct_start.specs.Plan.{plan_of, plan_of_reader};
-ghost use Rattle.duct_start.specs.RunContract.{MadeReader};
-ghost use Rattle.duct_start.specs.Running.{IsRunning};
 ghost use Rattle.duct_start.specs.ShapeOfTree.{shape_of_tree};
-ghost use Rattle.duct_start.specs.Start.{StartSucceeds, StartRefused};
-ghost use Rattle.duct_start.specs.TreeView.{around, stdout_capture};
 ghost use Rattle.duct_run.specs.ActionView.{action_view, actions_view};
 ghost use Rattle.duct_run.specs.ResourcesView.{AreNew};
 ghost use Rattle.duct_running.specs.NumbersView.{HaveRoom};
-ghost use Rattle.duct_handle.specs.Started.{IsHandle};
 ghost use Rattle.duct_tree.specs.NodeView.{node_view};
-ghost use Rattle.duct.specs.RunResults.{PoolHasRoom};
-ghost use Rattle.duct.specs.Ready.{FitsShape, IsPrepared, IsReady, Launched};
+ghost use Rattle.duct.specs.Launched.{Handles, LaunchRefused, Launched, Runs, RunsRead, draining, reading};
+ghost use Rattle.duct.specs.Ready.{FitsShape, IsPrepared, IsReady};
 ghost use Rattle.duct.specs.TreeView.{tree_view};
 
 use crate::expression::Expression;
@@ -34,6 +26,7 @@ use duct_handle::handle::Handle;
 use duct_run::action::Action;
 use duct_run::resources::{Resources, no_resources};
 use duct_run::start::{start, start_reader};
+use duct_run::views::Seen;
 use duct_running::running::{Running, RunningBuffers, running_of};
 use duct_tree::flatten::{ActionList, flatten, flatten_captured};
 use duct_tree::shape::shape_of;
@@ -231,23 +224,10 @@ impl<E: Drop, H: Hook> Expression<E, H> {
         sys: &mut S,
         pool: &mut Pool<S::Child>,
     ) -> Result<Running<S>, Error>
-        ensures ok { OnOk result (let tree = tree_view self.now in
-            StartSucceeds H.allows E.number_of tree (plan_of tree) (S.journal_view sys.old)
-            (S.journal_view sys.new)) }
-        ensures running { IfOk result (let tree = tree_view self.now in
-            IsRunning S.Child.child_view S.Feed.job_view S.Drain.job_view tree
-            (is_some (plan_of tree).out) (is_some (plan_of tree).err)
-            (segment (S.journal_view sys.old).entries (S.journal_view sys.new).entries)) }
-        ensures swept { OnOk result (Leaves S.Child.may_answer []
-            (pool_view S.Child.child_view pool.old) (pool_view S.Child.child_view pool.new)) }
-        ensures err { IfErr result (let tree = tree_view self.now in
-            StartRefused H.allows H.refuses E.number_of tree (plan_of tree) (S.journal_view sys.old)
-            (S.journal_view sys.new)) }
-        ensures pool_given { OnErr result
-            (let old = S.journal_view sys.old in
-            let added = segment old.entries (S.journal_view sys.new).entries in
-            PoolHasRoom added pool.old
-            → LeavesStarted S.Child.may_answer S.Child.child_view added pool.old pool.new) }
+        ensures launched { IfOk result (λ running. Launched ⟦<S as Seen>⟧.views H.allows draining
+            self.now sys.old sys.new pool.old pool.new (Runs ⟦<S as Seen>⟧.views running)) }
+        ensures refused { IfErr result (LaunchRefused ⟦<S as Seen>⟧.views H.allows H.refuses
+            draining self.now sys.old sys.new pool.old pool.new) }
     {
         let ready = self.ready()?;
         self.launch_ready(sys, pool, ready)
@@ -263,25 +243,11 @@ impl<E: Drop, H: Hook> Expression<E, H> {
         sys: &mut S,
         pool: &mut Pool<S::Child>,
     ) -> Result<(Running<S>, S::Reader), Error>
-        ensures ok { OnOk result (let tree = tree_view self.now in
-            StartSucceeds H.allows E.number_of tree (plan_of_reader tree) (S.journal_view sys.old)
-            (S.journal_view sys.new)) }
-        ensures running { IfOk result (λ made. let tree = tree_view self.now in
-            IsRunning S.Child.child_view S.Feed.job_view S.Drain.job_view tree
-            false (is_some (plan_of_reader tree).err)
-            (segment (S.journal_view sys.old).entries (S.journal_view sys.new).entries) made.0) }
-        ensures reader { IfOk result (λ made. MadeReader S.may_read
-            (segment (S.journal_view sys.old).entries (S.journal_view sys.new).entries) made.1) }
-        ensures swept { OnOk result (Leaves S.Child.may_answer []
-            (pool_view S.Child.child_view pool.old) (pool_view S.Child.child_view pool.new)) }
-        ensures err { IfErr result (let tree = tree_view self.now in
-            StartRefused H.allows H.refuses E.number_of tree (plan_of_reader tree)
-            (S.journal_view sys.old) (S.journal_view sys.new)) }
-        ensures pool_given { OnErr result
-            (let old = S.journal_view sys.old in
-            let added = segment old.entries (S.journal_view sys.new).entries in
-            PoolHasRoom added pool.old
-            → LeavesStarted S.Child.may_answer S.Child.child_view added pool.old pool.new) }
+        ensures launched { IfOk result (λ made. Launched ⟦<S as Seen>⟧.views H.allows reading
+            self.now sys.old sys.new pool.old pool.new (RunsRead ⟦<S as Seen>⟧.views S.may_read
+            made.0 made.1)) }
+        ensures refused { IfErr result (LaunchRefused ⟦<S as Seen>⟧.views H.allows H.refuses reading
+            self.now sys.old sys.new pool.old pool.new) }
     {
         let ready = self.ready_captured()?;
         self.launch_ready_reader(sys, pool, ready)
@@ -299,22 +265,10 @@ impl<E: Drop, H: Hook> Expression<E, H> {
         sys: &mut S,
         pool: &mut Pool<S::Child>,
     ) -> Result<Handle<S>, Error>
-        ensures ok { OnOk result (let tree = tree_view self.now in
-            StartSucceeds H.allows E.number_of tree (plan_of tree) (S.journal_view sys.old)
-            (S.journal_view sys.new)) }
-        ensures handle { IfOk result (let tree = tree_view self.now in
-            IsHandle tree (is_some (plan_of tree).out) (is_some (plan_of tree).err)
-            (segment (S.journal_view sys.old).entries (S.journal_view sys.new).entries)) }
-        ensures swept { OnOk result (Leaves S.Child.may_answer []
-            (pool_view S.Child.child_view pool.old) (pool_view S.Child.child_view pool.new)) }
-        ensures err { IfErr result (let tree = tree_view self.now in
-            StartRefused H.allows H.refuses E.number_of tree (plan_of tree) (S.journal_view sys.old)
-            (S.journal_view sys.new)) }
-        ensures pool_given { OnErr result
-            (let old = S.journal_view sys.old in
-            let added = segment old.entries (S.journal_view sys.new).entries in
-            PoolHasRoom added pool.old
-            → LeavesStarted S.Child.may_answer S.Child.child_view added pool.old pool.new) }
+        ensures launched { IfOk result (λ handle. Launched ⟦<S as Seen>⟧.views H.allows draining
+            self.now sys.old sys.new pool.old pool.new (Handles handle)) }
+        ensures refused { IfErr result (LaunchRefused ⟦<S as Seen>⟧.views H.allows H.refuses
+            draining self.now sys.old sys.new pool.old pool.new) }
     {
         let alloc = self.allocator();
         let room = handle_buffers_of(alloc, self.root())?;
@@ -327,9 +281,7 @@ impl<E: Drop, H: Hook> Expression<E, H> {
 impl<E: Drop, H: Hook> Expression<E, H> {
     // Allocates what `launch` needs.
     fn ready<C: Drop, F: Drop, D: Drop>(&self) -> Result<Ready<'_, E, H, C, F, D>, Error>
-        ensures ready { IfOk result
-            (let tree = tree_view self.now in let plan = plan_of tree in
-            IsReady tree tree (is_some plan.out) (is_some plan.err)) }
+        ensures ready { IfOk result (IsReady draining (tree_view self.now)) }
         ensures memory { IsOkUnless result Error.Memory }
     {
         let alloc = self.allocator();
@@ -349,8 +301,7 @@ impl<E: Drop, H: Hook> Expression<E, H> {
 
     // Allocates what `launch_reader` needs.
     fn ready_captured<C: Drop, F: Drop, D: Drop>(&self) -> Result<Ready<'_, E, H, C, F, D>, Error>
-        ensures ready { IfOk result (let tree = tree_view self.now in
-            IsReady tree (around stdout_capture tree) false (is_some (plan_of_reader tree).err)) }
+        ensures ready { IfOk result (IsReady reading (tree_view self.now)) }
         ensures memory { IsOkUnless result Error.Memory }
     {
         let alloc = self.allocator();
@@ -375,13 +326,11 @@ impl<E: Drop, H: Hook> Expression<E, H> {
         pool: &mut Pool<S::Child>,
         ready: Ready<'_, E, H, Place<S::Child>, S::Feed, S::Drain>,
     ) -> Result<Running<S>, Error>
-        requires { let tree = tree_view self.now in let plan = plan_of tree in
-            IsReady tree tree (is_some plan.out) (is_some plan.err) ready }
-        ensures { let tree = tree_view self.now in let plan = plan_of tree in
-            let old = S.journal_view sys.old in let new = S.journal_view sys.new in
-            Launched H.allows H.refuses E.number_of S.Child.may_answer S.Child.child_view tree plan
-            old new pool.old pool.new (IsRunning S.Child.child_view S.Feed.job_view S.Drain.job_view
-            tree (is_some plan.out) (is_some plan.err) (segment old.entries new.entries)) result }
+        requires { IsReady draining (tree_view self.now) ready }
+        ensures launched { IfOk result (λ running. Launched ⟦<S as Seen>⟧.views H.allows draining
+            self.now sys.old sys.new pool.old pool.new (Runs ⟦<S as Seen>⟧.views running)) }
+        ensures refused { IfErr result (LaunchRefused ⟦<S as Seen>⟧.views H.allows H.refuses
+            draining self.now sys.old sys.new pool.old pool.new) }
     {
         let Ready {
             list,
@@ -400,16 +349,12 @@ impl<E: Drop, H: Hook> Expression<E, H> {
         pool: &mut Pool<S::Child>,
         ready: Ready<'_, E, H, Place<S::Child>, S::Feed, S::Drain>,
     ) -> Result<(Running<S>, S::Reader), Error>
-        requires { let tree = tree_view self.now in
-            let err = (plan_of_reader tree).err in
-            IsReady tree (around stdout_capture tree) false (is_some err) ready }
-        ensures { let tree = tree_view self.now in let plan = plan_of_reader tree in
-            let old = S.journal_view sys.old in let new = S.journal_view sys.new in
-            let added = segment old.entries new.entries in
-            Launched H.allows H.refuses E.number_of S.Child.may_answer S.Child.child_view tree plan
-            old new pool.old pool.new (λ made. IsRunning S.Child.child_view S.Feed.job_view
-            S.Drain.job_view tree false (is_some plan.err) added made.0
-            × MadeReader S.may_read added made.1) result }
+        requires { IsReady reading (tree_view self.now) ready }
+        ensures launched { IfOk result (λ made. Launched ⟦<S as Seen>⟧.views H.allows reading
+            self.now sys.old sys.new pool.old pool.new (RunsRead ⟦<S as Seen>⟧.views S.may_read
+            made.0 made.1)) }
+        ensures refused { IfErr result (LaunchRefused ⟦<S as Seen>⟧.views H.allows H.refuses reading
+            self.now sys.old sys.new pool.old pool.new) }
     {
         let Ready {
             list,

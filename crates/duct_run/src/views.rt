@@ -23,5 +23,7 @@ impl<S: System> Seen for S {
       may_answer = S.Child.may_answer;
       feed = S.Feed.job_view;
       drain = S.Drain.job_view;
+      feed_may_say = S.Feed.may_say;
+      drain_may_say = S.Drain.may_say;
     } };
 }

@@ -4,34 +4,19 @@ use Rattle.duct_start.specs.Plan.{plan_of_reader}
 use Rattle.duct_start.proofs.Launched.{unasked_launch}
 use Rattle.duct_start.proofs.Leaving.{leaves_unasked}
 use Rattle.duct.specs.TreeView.{tree_view}
-use Rattle.duct.proofs.Finished.{if_ok_with}
-use Rattle.duct.proofs.Starting.{on_err}
 use Rattle.duct.proofs.expression.Expression.launch_reader.Goals as goal
 
-pub returns-in_err-ready-clause-err : goal.returns-in_err-ready-clause-err
-returns-in_err-ready-clause-err g c =
+pub returns-in_err-ready-clause-refused : goal.returns-in_err-ready-clause-refused
+returns-in_err-ready-clause-refused g c =
     let p = err_from_is_err_and c.from_residual.result c.from_residual.ensures.1 in
     let tree = tree_view c.args.self.now in
-    rw (p.1, p.2, c.in_err-ready.ensures.memory) (unasked_launch g.H.Hook.allows g.H.Hook.refuses g.E.Numbered.number_of tree (plan_of_reader tree) (g.S.System.journal_view c.args.sys.now))
+    rw (p.1, p.2, c.in_err-ready.ensures.memory) (record {
+      asked = unasked_launch g.H.Hook.allows g.H.Hook.refuses g.E.Numbered.number_of tree (plan_of_reader tree) (g.S.System.journal_view c.args.sys.now);
+      given = λ fits. leaves_unasked g.S.Child.Child.may_answer g.S.Child.Child.child_view (g.S.System.journal_view c.args.sys.now).entries c.args.pool.now;
+    })
 
-pub returns-in_err-ready-clause-pool_given : goal.returns-in_err-ready-clause-pool_given
-returns-in_err-ready-clause-pool_given g c =
-    on_err c.from_residual.result (λ fits. leaves_unasked g.S.Child.Child.may_answer g.S.Child.Child.child_view (g.S.System.journal_view c.args.sys.now).entries c.args.pool.now)
+pub returns-clause-launched : goal.returns-clause-launched
+returns-clause-launched g c = c.launch_ready_reader.ensures.launched
 
-pub returns-clause-ok : goal.returns-clause-ok
-returns-clause-ok g c = c.launch_ready_reader.ensures.ok
-
-pub returns-clause-running : goal.returns-clause-running
-returns-clause-running g c = if_ok_with c.launch_ready_reader.result (λ made both. both.0) c.launch_ready_reader.ensures.made
-
-pub returns-clause-reader : goal.returns-clause-reader
-returns-clause-reader g c = if_ok_with c.launch_ready_reader.result (λ made both. both.1) c.launch_ready_reader.ensures.made
-
-pub returns-clause-swept : goal.returns-clause-swept
-returns-clause-swept g c = c.launch_ready_reader.ensures.swept
-
-pub returns-clause-err : goal.returns-clause-err
-returns-clause-err g c = c.launch_ready_reader.ensures.err
-
-pub returns-clause-pool_given : goal.returns-clause-pool_given
-returns-clause-pool_given g c = c.launch_ready_reader.ensures.pool_given
+pub returns-clause-refused : goal.returns-clause-refused
+returns-clause-refused g c = c.launch_ready_reader.ensures.refused

@@ -59,8 +59,8 @@ start-requires-clause-leads g c =
     let same = runs_flat tree scopes actions scopes_are actions_are in
     some_leads allows num tree acts same
 
-pub returns-in_err-kept : goal.returns-in_err-kept
-returns-in_err-kept g c =
+pub returns-in_err-kept-clause-refused : goal.returns-in_err-kept-clause-refused
+returns-in_err-kept-clause-refused g c =
     let p = err_from_is_err_and c.from_residual.result c.from_residual.ensures.1 in
     let tree = tree_view c.args.self.now in
     let num = g.E.Numbered.number_of in
@@ -78,11 +78,8 @@ returns-in_err-kept g c =
     let e = c.in_err-kept.ensures.err in
     let refused = refused_launched allows num tree acts same drain_tail g.H.Hook.refuses old e.stopped (resources_view num child feed drain e.held) c.in_err-kept.field-0.0 e.refused in
     rw (p.1, p.2) (record {
-      ok = tt;
-      made = tt;
-      swept = tt;
-      err = given_up allows g.H.Hook.refuses num child feed drain _ _ e.stopped e.held _ refused (g.S.System.journal_view c.start.new.sys) e.closes tree (plan_of tree) refl refl (sym (drained_items (plan_of_subtree [] tree initial_plan)));
-      pool_given = λ fits. left_started allows g.H.Hook.refuses num child feed drain _ _ e.stopped e.held _ refused (g.S.System.journal_view c.start.new.sys) e.closes
+      asked = given_up allows g.H.Hook.refuses num child feed drain _ _ e.stopped e.held _ refused (g.S.System.journal_view c.start.new.sys) e.closes tree (plan_of tree) refl refl (sym (drained_items (plan_of_subtree [] tree initial_plan)));
+      given = λ fits. left_started allows g.H.Hook.refuses num child feed drain _ _ e.stopped e.held _ refused (g.S.System.journal_view c.start.new.sys) e.closes
           g.S.Child.Child.may_answer c.args.pool.now e.swept c.start.new.pool e.new e.leaves e.given fits;
     })
 
@@ -148,8 +145,8 @@ running-requires-clause-inputs g c =
     let counts = started_counts allows num _ _ new (resources_view num child feed drain kept) tree stands (drained_items (plan_of_subtree [] tree initial_plan)) in
     sym (length-map kept.feeds.items _) ∙ counts.1 ∙ ap (λ s. input_count s) (sym shapes)
 
-pub returns : goal.returns
-returns g c =
+pub returns-clause-launched : goal.returns-clause-launched
+returns-clause-launched g c =
     let tree = tree_view c.args.self.now in
     let num = g.E.Numbered.number_of in
     let allows = g.H.Hook.allows in
@@ -172,9 +169,7 @@ returns g c =
     let out : is_some kept.output_worker ≡ is_some (plan_of tree).out = workers.0 ∙ pipes.0 in
     let err : is_some kept.error_worker ≡ is_some (plan_of tree).err = workers.1 ∙ pipes.1 in
     record {
-      ok = launched allows num tree acts same old new (resources_view num child feed drain kept) c.in_ok-kept.ensures.ok;
-      made = rw (c.running.ensures, ← out, ← err) (runs_started child feed drain num tree c.args.ready.core.shape kept c.in_ok-kept.ensures.kept shapes allows _ _ new stands);
+      asked = launched allows num tree acts same old new (resources_view num child feed drain kept) c.in_ok-kept.ensures.ok;
+      makes = rw (c.running.ensures, ← out, ← err) (runs_started child feed drain num tree c.args.ready.core.shape kept c.in_ok-kept.ensures.kept shapes allows _ _ new stands);
       swept = c.in_ok-kept.ensures.swept;
-      err = tt;
-      pool_given = tt;
     }

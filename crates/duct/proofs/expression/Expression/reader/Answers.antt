@@ -1,28 +1,39 @@
 -- A start of a whole tree with a handle that reads.
-use Rattle.std.specs.Prelude.{false, is_some}
 use Rattle.std.proofs.Common.{subst, sym}
+use Rattle.std.proofs.lemmas.Result.{err_from_is_err_and}
 use Rattle.duct_system.specs.Trace.{segment}
 use Rattle.duct_start.specs.Plan.{plan_of_reader}
+use Rattle.duct_start.proofs.Launched.{unasked_launch}
 use Rattle.duct_start.proofs.Leaving.{leaves_unasked}
-use Rattle.duct_handle.specs.HandleView.{HandleView}
-use Rattle.duct_handle.specs.Started.{IsHandle}
-use Rattle.duct_handle.proofs.Beginning.{is_handle}
 use Rattle.duct.specs.TreeView.{tree_view}
-use Rattle.duct.proofs.Starting.{on_err}
+use Rattle.duct_handle.specs.HandleView.{HandleView}
+use Rattle.duct_handle.proofs.Beginning.{is_handle}
+use Rattle.duct.specs.Launched.{Handles, drains_error, drains_output, reading}
 use Rattle.duct.proofs.expression.Expression.reader.Goals as goal
 
-pub returns-in_err-room-clause-pool_given : goal.returns-in_err-room-clause-pool_given
-returns-in_err-room-clause-pool_given g c =
-    on_err c.from_residual.result (λ fits. leaves_unasked g.S.Child.Child.may_answer g.S.Child.Child.child_view (g.S.System.journal_view c.args.sys.now).entries c.args.pool.now)
-
-pub returns-in_err-running-clause-pool_given : goal.returns-in_err-running-clause-pool_given
-returns-in_err-running-clause-pool_given g c = on_err c.from_residual-in_err-running.result c.in_err-running.ensures.pool_given
-
-pub returns-clause-handle : goal.returns-clause-handle
-returns-clause-handle g c =
+pub returns-in_err-room-clause-refused : goal.returns-in_err-room-clause-refused
+returns-in_err-room-clause-refused g c =
+    let p = err_from_is_err_and c.from_residual.result c.from_residual.ensures.1 in
     let tree = tree_view c.args.self.now in
-    let err = is_some (plan_of_reader tree).err in
+    rw (p.1, p.2, c.in_err-room.ensures.memory) (record {
+      asked = unasked_launch g.H.Hook.allows g.H.Hook.refuses g.E.Numbered.number_of tree (plan_of_reader tree) (g.S.System.journal_view c.args.sys.now);
+      given = λ fits. leaves_unasked g.S.Child.Child.may_answer g.S.Child.Child.child_view (g.S.System.journal_view c.args.sys.now).entries c.args.pool.now;
+    })
+
+pub returns-in_err-running-clause-refused : goal.returns-in_err-running-clause-refused
+returns-in_err-running-clause-refused g c =
+    let p = err_from_is_err_and c.from_residual-in_err-running.result c.from_residual-in_err-running.ensures.1 in
+    rw (p.1, p.2) c.in_err-running.ensures.refused
+
+pub returns-clause-launched : goal.returns-clause-launched
+returns-clause-launched g c =
+    let tree = tree_view c.args.self.now in
     let added = segment (g.S.System.journal_view c.args.sys.now).entries (g.S.System.journal_view c.launch_reader.new.sys).entries in
-    subst (λ (h : HandleView). IsHandle tree false err added h) (sym c.reader_handle_of.ensures)
-    (is_handle g.S.Child.Child.child_view g.S.Feed.Job.job_view g.S.Drain.Job.job_view tree false err added c.in_ok-running.running c.handle_of.result
-    c.in_ok-running.ensures.running c.handle_of.ensures.shape c.handle_of.ensures.numbers)
+    let l = c.in_ok-running.ensures.launched in
+    record {
+      asked = l.asked;
+      makes = subst (λ (h : HandleView). Handles h reading tree added) (sym c.reader_handle_of.ensures)
+          (is_handle g.S.Child.Child.child_view g.S.Feed.Job.job_view g.S.Drain.Job.job_view tree (drains_output reading tree) (drains_error reading tree) added
+          c.in_ok-running.running c.handle_of.result l.makes.0 c.handle_of.ensures.shape c.handle_of.ensures.numbers);
+      swept = l.swept;
+    }

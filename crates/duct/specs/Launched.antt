@@ -1,0 +1,129 @@
+-- What a start promises: of the journal, of what it makes, and of the pool.
+use Rattle.std.specs.Prelude.{ℕ, Bool, List, ◌⊎◌, false, is_some, Ok, Err}
+use Rattle.std.specs.declared.alloc.Global.{Global}
+use Rattle.std.specs.declared.option.Option.{Option}
+use Rattle.std.specs.declared.string.String.{String}
+use Rattle.duct_base.specs.Pool.{PoolView}
+use Rattle.duct_system.specs.EntryView.{EntryView}
+use Rattle.duct_system.specs.Trace.{segment}
+use Rattle.duct_system.specs.declared.error.Error.{Error}
+use Rattle.duct_system.specs.declared.system.Output.{Output}
+use Rattle.duct_status.specs.ReplyView.{answered}
+use Rattle.duct_start.specs.Chain.{Allows, Refuses}
+use Rattle.duct_start.specs.Left.{LeavesStarted}
+use Rattle.duct_start.specs.Plan.{Plan, plan_of, plan_of_reader}
+use Rattle.duct_start.specs.RunContract.{MadeReader}
+use Rattle.duct_start.specs.Running.{IsRunning, RunningView}
+use Rattle.duct_start.specs.Start.{StartSucceeds, StartRefused}
+use Rattle.duct_start.specs.TreeView.{TreeView, around, stdout_capture}
+use Rattle.duct_run.specs.Requested.{PoolLeaves}
+use Rattle.duct_run.specs.SystemViews.{SystemViews}
+use Rattle.duct_running.specs.Stored.{Bytes}
+use Rattle.duct_handle.specs.HandleView.{HandleView}
+use Rattle.duct_handle.specs.Started.{IsHandle}
+use Rattle.duct.specs.TreeView.{tree_view}
+use Rattle.duct.specs.declared.expression.Expression.{Expression}
+use Rattle.duct.specs.RunResults.{LeavesGiven, PoolHasRoom, ReadReturns, WaitFails, WaitReturns}
+
+-- a start that ends with the workers of the capture pipes, or with the reader of stdout's
+pub data StartKind : Type 0 where
+  draining : StartKind
+  reading : StartKind
+
+-- the plan of such a start of a tree
+abbrev pub plan_for : {E H : Type 0} → StartKind → TreeView E H → Plan E H
+plan_for draining tree = plan_of tree
+plan_for reading tree = plan_of_reader tree
+
+-- the tree that is listed for such a start: a reader's is inside one more capture of stdout
+abbrev pub tree_for : {E H : Type 0} → StartKind → TreeView E H → TreeView E H
+tree_for draining tree = tree
+tree_for reading tree = around stdout_capture tree
+
+-- stdout gets a capture worker
+abbrev pub drains_output : {E H : Type 0} → StartKind → TreeView E H → Bool
+drains_output draining tree = is_some (plan_of tree).out
+drains_output reading tree = false
+
+-- stderr gets a capture worker
+abbrev pub drains_error : {E H : Type 0} → StartKind → TreeView E H → Bool
+drains_error kind tree = is_some (plan_for kind tree).err
+
+-- what is to hold of what such a start of a tree makes, by the entries that it added
+abbrev pub MadeBy : Type 0 → Type 0 → Type 1
+MadeBy E H = StartKind → TreeView E H → List EntryView → Type 0
+
+-- a handle keeps the shape of the tree and the numbers of what was started
+abbrev pub Handles : {E H : Type 0} → HandleView → MadeBy E H
+Handles handle kind tree added =
+    IsHandle tree (drains_output kind tree) (drains_error kind tree) added handle
+
+module _ {S E C F D V W : Type 0} (views : SystemViews S E C F D V W) where
+  -- the entries that were added between two states of a system
+  abbrev pub added_between : S → S → List EntryView
+  added_between sys after = segment (views.journal sys).entries (views.journal after).entries
+
+  -- this runs the tree
+  abbrev pub Runs : {H : Type 0} → RunningView C F D → MadeBy E H
+  Runs running kind tree added = IsRunning views.child views.feed views.drain tree
+      (drains_output kind tree) (drains_error kind tree) added running
+
+  -- this runs the tree, and this is the reader of its stdout
+  abbrev pub RunsRead : {H R : Type 0} → (ℕ → R → Type 0) → RunningView C F D → R → MadeBy E H
+  RunsRead may running reader kind tree added =
+      Runs running kind tree added × MadeReader may added reader
+
+  -- a start that succeeded: its requests are its plan, it made what it should, and the pool was
+  -- only swept
+  pub record Launched {H : Type 0} (allows : Allows H) (kind : StartKind) (root : Expression E H)
+      (sys after : S) (before left : PoolView C) (made : MadeBy E H) : Type 0 where
+    pub asked : StartSucceeds allows views.number_of (tree_view root)
+        (plan_for kind (tree_view root)) (views.journal sys) (views.journal after)
+    pub makes : made kind (tree_view root) (added_between sys after)
+    pub swept : PoolLeaves views before left
+
+  -- a start that failed with an error: its requests are the start of its plan, and the pool was
+  -- given the children that it had started
+  pub record LaunchRefused {H : Type 0} (allows : Allows H) (refuses : Refuses H)
+      (kind : StartKind) (root : Expression E H) (sys after : S) (before left : PoolView C)
+      (error : Error) : Type 0 where
+    pub asked : StartRefused allows refuses views.number_of (tree_view root)
+        (plan_for kind (tree_view root)) (views.journal sys) (views.journal after) error
+    pub given : PoolHasRoom (added_between sys after) before
+        → LeavesStarted views.may_answer views.child (added_between sys after) before left
+
+  -- a start that was waited for and failed with an error, at the start or after it: the pool was
+  -- given the children that were started, none of them with an order
+  pub record RunFailed {H : Type 0} (allows : Allows H) (refuses : Refuses H)
+      (kind : StartKind) (root : Expression E H) (sys after : S) (before left : PoolView C)
+      (returned : Error → MadeBy E H) (error : Error) : Type 0 where
+    pub cause : LaunchRefused allows refuses kind root sys after before left error
+        ⊎ (StartSucceeds allows views.number_of (tree_view root) (plan_for kind (tree_view root))
+        (views.journal sys) (views.journal after)
+        × returned error kind (tree_view root) (added_between sys after))
+    pub given : PoolHasRoom (added_between sys after) before
+        → LeavesGiven views.may_answer views.child (added_between sys after) before left
+
+module _ {S E C F D : Type 0} (views : SystemViews S E C F D (Unit {0}) Bytes) where
+  -- the wait for what was started returns this output
+  abbrev pub Returns : {H : Type 0} → Output → MadeBy E H
+  Returns output kind tree added = WaitReturns views.may_answer views.feed_may_say
+      views.drain_may_say tree (drains_output kind tree) (drains_error kind tree) added
+      (answered output.status output.stdout.items output.stderr.items)
+
+  -- the wait for what was started fails with this error
+  abbrev pub Fails : {H : Type 0} → Error → MadeBy E H
+  Fails error kind tree added = WaitFails views.may_answer views.feed_may_say
+      views.drain_may_say tree (drains_output kind tree) (drains_error kind tree) added error
+
+  -- the text is that of what was started
+  abbrev pub Reads : {H R : Type 0} → (ℕ → R → Type 0) → (R → Option (List ℕ)) → String Global
+      → MadeBy E H
+  Reads may remaining text kind tree added = ReadReturns views.may_answer views.feed_may_say
+      views.drain_may_say tree may remaining (drains_error kind tree) added (Ok text)
+
+  -- the reading of what was started fails with this error
+  abbrev pub ReadFails : {H R : Type 0} → (ℕ → R → Type 0) → (R → Option (List ℕ)) → Error
+      → MadeBy E H
+  ReadFails may remaining error kind tree added = ReadReturns views.may_answer views.feed_may_say
+      views.drain_may_say tree may remaining (drains_error kind tree) added (Err error)
