@@ -22,18 +22,18 @@ use std::path::{Path, PathBuf};
 
 /// The table of names.
 #[derive(Drop)]
-pub struct NameSucceeds {
+pub struct Names {
     alloc: Global,
 }
 
-impl NameSucceeds {
+impl Names {
     /// Returns a table that has read no line yet.
-    pub fn new(alloc: Global) -> NameSucceeds {
-        NameSucceeds { alloc }
+    pub fn new(alloc: Global) -> Names {
+        Names { alloc }
     }
 }
 
-impl<'t> Table<'t> for NameSucceeds {
+impl<'t> Table<'t> for Names {
     fn line(&mut self, key: &'t str, _text: &'t str) -> Result<Option<String>, TableError> {
         let mut found = String::new(self.alloc);
         let (call, rest) = first_word(key);

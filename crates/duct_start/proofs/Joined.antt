@@ -5,11 +5,13 @@ use Rattle.std.specs.declared.option.Option.{Option}
 use Rattle.std.specs.List.{All}
 use Rattle.std.proofs.lemmas.List.{append-nil}
 use Rattle.std.proofs.lemmas.List.Elements.{All-append, All-nil, All-cons, All-head, All-tail}
-use Rattle.duct_system.specs.declared.spec.Stream.TheVariants.{In, Out, Err}
+use Rattle.duct_system.specs.declared.spec.Stream.{Stream}
+use Rattle.duct_system.specs.declared.spec.Stream.TheVariants.{In}
+use Rattle.duct_system.specs.declared.system.Side.{Side}
 use Rattle.duct_system.specs.declared.system.Side.TheVariants as side
 use Rattle.duct_start.specs.Actions as action
 use Rattle.duct_start.specs.Actions.{Action, Scope, State, PerStream, IsReady, AreBelow, Leads, advance, with_plan}
-use Rattle.duct_start.specs.Flat.{StreamSource, slot, depth_inside, actions_of_subtree, actions_of, opened_source, scope_if, root_scope, root_sources, with_input, with_output, source_inside, sources_inside, actions_around, SourceLeadsTo, is_in, is_out, is_err, is_nothing, is_slot, is_captured, is_lent, SourcesFit}
+use Rattle.duct_start.specs.Flat.{StreamSource, slot, depth_inside, actions_of_subtree, actions_of, opened_source, scope_if, root_scope, root_sources, with_input, with_output, on_side, source_inside, sources_inside, actions_around, SourceLeadsTo, is_in, is_out, is_err, is_nothing, is_slot, is_captured, is_lent, SourcesFit}
 use Rattle.duct_start.specs.Surroundings.{Surroundings, Target, ReaderAt, WriterAt, FileAt, root_surroundings, target_of}
 use Rattle.duct_start.specs.Lookup.{resolved_turn}
 use Rattle.std.specs.Option.{option_or}
@@ -17,7 +19,7 @@ use Rattle.duct_start.specs.Inward.{surroundings_within, plan_inward}
 use Rattle.duct_start.specs.Plan.{Plan, with_item, with_closing, initial_plan, with_opening, place_for, plan_of_subtree}
 use Rattle.duct_start.specs.Start.{depth, ends_in, modifier_ends, opens_depth, said_ends, route_ends}
 use Rattle.duct_start.specs.Row.{RowOpening, SettingView, Route, opens_nothing, opens_input, opens_read, opens_create, opens_capture, as_outside, to_nothing, to_lent, to_opened, says_folder, says_change, says_hook, row}
-use Rattle.duct_start.specs.Step.{Item, AskPipe, closing_of, opened_target, opening_of, step_of_setting, step_if_setting, turn_of, AskFeed, AskOpenRead, AskCreate, left_step, right_step, step}
+use Rattle.duct_start.specs.Step.{Item, AskPipe, closing_of, opened_target, opening_of, step_of_setting, step_if_setting, stream_on, turn_of, AskFeed, AskOpenRead, AskCreate, left_step, right_step, step}
 use Rattle.duct_start.specs.TreeView.{ModifierView, TreeView, command, pipe, around, stdin_bytes}
 use Rattle.duct_start.proofs.Inward.{joined}
 use Rattle.duct_start.proofs.Keeping.{keeps, keeps_same, keeps_out, keeps_err, out_opens, err_opens}
@@ -45,13 +47,6 @@ module _ {E : Type 0} where
   stack_in (opens_create path) place stack = FileAt place ∷ stack
   stack_in (opens_capture which) place stack = stack
 
-  -- stdin follows no other stream, and no other stream follows it
-  abbrev IsWay : Bool → Route E → Type 0
-  IsWay true (as_outside Out) = ⊥
-  IsWay true (as_outside Err) = ⊥
-  IsWay false (as_outside In) = ⊥
-  IsWay b way = Unit {0}
-
   length_in : (opens : RowOpening) (place : ℕ) (stack : List (Target E)) (n : ℕ) → n ≡ length stack
       → depth_inside opens n ≡ length (stack_in opens place stack)
   length_in opens_nothing place stack n is = is
@@ -66,12 +61,6 @@ deep (opens_input bytes) n = omega arith
 deep (opens_read path) n = omega arith
 deep (opens_create path) n = omega arith
 deep (opens_capture which) n = omega arith
-
-module _ {E H : Type 0} where
-  lawful : (modifier : ModifierView E H)
-      → IsWay true (row modifier).input × IsWay false (row modifier).output × IsWay false (row modifier).error
-  lawful (stdin_bytes bytes) = (tt, tt, tt)
-  lawful modifier = (tt, tt, tt)
 
 module _ {E H : Type 0} (number_of : E → ℕ) (base bound : ℕ) where
   abbrev at_st : List (Target E) → Plan E H → State E H
@@ -153,22 +142,24 @@ module _ {E H : Type 0} (number_of : E → ℕ) (base bound : ℕ) where
   opened_fits b (opens_capture side.Out) stack p n is = is_captured b side.Out (unwrap_or p.out (length p.items)) (out_opens p)
   opened_fits b (opens_capture side.Err) stack p n is = is_captured b side.Err (unwrap_or p.err (length p.items)) (err_opens p)
 
-  -- the wire of a stream inside a node leads to where the stream goes there
-  wire_fits : (b : Bool) (way : Route E) (state : State E H) (s : Scope E H) (w : PerStream (StreamSource E))
-      (found : Surroundings E H) (source : StreamSource E) (opens : RowOpening) (place : ℕ) → IsWay b way
+  -- the source of a stream inside a node leads to where the stream goes there, if those outside it do
+  source_fits : {K : Type 0} (b : Bool) (outer : K → StreamSource E) (stream : K → Stream) (way : Route K E)
+      (state : State E H) (found : Surroundings E H) (source : StreamSource E) (opens : RowOpening) (place : ℕ)
+      → ((k : K) → SourceLeadsTo number_of base state b (outer k) (target_of found (stream k)))
       → All (λ end. number_of end < base) (route_ends way)
-      → SourcesFit number_of base state s w found
       → SourceLeadsTo number_of base state b source (opened_target opens place)
-      → SourceLeadsTo number_of base state b (source_inside way source w) (resolved_turn (turn_of opens place way) (target_of found))
-  wire_fits true (as_outside In) state s w found source opens place law below fits there = fits.input
-  wire_fits true (as_outside Out) state s w found source opens place law below fits there = absurd law
-  wire_fits true (as_outside Err) state s w found source opens place law below fits there = absurd law
-  wire_fits false (as_outside In) state s w found source opens place law below fits there = absurd law
-  wire_fits false (as_outside Out) state s w found source opens place law below fits there = fits.output
-  wire_fits false (as_outside Err) state s w found source opens place law below fits there = fits.error
-  wire_fits b to_nothing state s w found source opens place law below fits there = is_nothing b
-  wire_fits b (to_lent end) state s w found source opens place law below fits there = is_lent b end (All-head (λ end. number_of end < base) end [] below)
-  wire_fits b to_opened state s w found source opens place law below fits there = there
+      → SourceLeadsTo number_of base state b (source_inside outer way source) (resolved_turn (turn_of stream opens place way) (target_of found))
+  source_fits b outer stream (as_outside k) state found source opens place fits below there = fits k
+  source_fits b outer stream to_nothing state found source opens place fits below there = is_nothing b
+  source_fits b outer stream (to_lent end) state found source opens place fits below there = is_lent b end (All-head (λ end. number_of end < base) end [] below)
+  source_fits b outer stream to_opened state found source opens place fits below there = there
+
+  -- the sources of stdout and stderr
+  side_fits : (state : State E H) (s : Scope E H) (w : PerStream (StreamSource E)) (found : Surroundings E H)
+      → SourcesFit number_of base state s w found
+      → (which : Side) → SourceLeadsTo number_of base state false (on_side w which) (target_of found (stream_on which))
+  side_fits state s w found fits side.Out = fits.output
+  side_fits state s w found fits side.Err = fits.error
 
   hooks_below : (says : Option (SettingView E H)) → All (λ end. number_of end < base) (said_ends says)
       → AreBelow number_of base (step_if_setting says).hooks
@@ -265,7 +256,6 @@ module _ {E H : Type 0} (number_of : E → ℕ) (base bound : ℕ) where
       (close_leads r stack p3 (omega (arith, is, low))))))
   flat_leads (around modifier inner) s w found stack p n is older fits low =
       let r = row modifier in
-      let law = lawful modifier in
       let place = place_for (opening_of {E = E} {H = H} r.opens) p in
       let p1 = with_opening (opening_of r.opens) p in
       let tops = stack_in r.opens place stack in
@@ -275,9 +265,10 @@ module _ {E H : Type 0} (number_of : E → ℕ) (base bound : ℕ) where
       let other = all_back Below (route_ends r.input) _ here in
       let last = all_back Below (route_ends r.output) _ other in
       let fits1 = fits_grow number_of base (at_st stack p) (at_st tops p1) s w found (opens_grow r.opens stack p) fits in
-      let input = wire_fits true r.input (at_st tops p1) s w found (opened_source r.opens n) r.opens place law.0 (all_front Below (route_ends r.input) _ here) fits1 (opened_fits true r.opens stack p n is) in
-      let output = wire_fits false r.output (at_st tops p1) s w found (opened_source r.opens n) r.opens place law.1 (all_front Below (route_ends r.output) _ other) fits1 (opened_fits false r.opens stack p n is) in
-      let error = wire_fits false r.error (at_st tops p1) s w found (opened_source r.opens n) r.opens place law.2 (all_front Below (route_ends r.error) _ last) fits1 (opened_fits false r.opens stack p n is) in
+      let sides = side_fits (at_st tops p1) s w found fits1 in
+      let input = source_fits true (λ stream. w.input) (λ stream. In) r.input (at_st tops p1) found (opened_source r.opens n) r.opens place (λ stream. fits1.input) (all_front Below (route_ends r.input) _ here) (opened_fits true r.opens stack p n is) in
+      let output = source_fits false (on_side w) stream_on r.output (at_st tops p1) found (opened_source r.opens n) r.opens place sides (all_front Below (route_ends r.output) _ other) (opened_fits false r.opens stack p n is) in
+      let error = source_fits false (on_side w) stream_on r.error (at_st tops p1) found (opened_source r.opens n) r.opens place sides (all_front Below (route_ends r.error) _ last) (opened_fits false r.opens stack p n is) in
       let fit = scope_fits r.says (at_st tops p1) s w (sources_inside r n w) found _ _ _ fits1 (hooks_below r.says (all_back Below (route_ends r.error) _ last)) input output error in
       wraps r.opens stack p (plan_inward found1 inner p1) _ n is (omega (arith, low))
       (flat_leads inner (scope_if r.says s) (sources_inside r n w) found1 tops p1 (depth_inside r.opens n) (length_in r.opens place stack n is)

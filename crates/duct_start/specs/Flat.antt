@@ -100,26 +100,29 @@ opened_source (opens_read path) n = slot n
 opened_source (opens_create path) n = slot n
 opened_source (opens_capture which) n = captured which
 
--- the wire of a stream inside a node, by the wire to what the node opens and by the wires around
--- the node
-abbrev pub source_inside : {E : Type 0} → Route E → StreamSource E → PerStream (StreamSource E)
+-- the source of a stream inside a node, by the sources of the streams outside it and by the source of
+-- what the node opens
+abbrev pub source_inside : {K E : Type 0} → (K → StreamSource E) → Route K E → StreamSource E
     → StreamSource E
-source_inside (as_outside In) opened w = w.input
-source_inside (as_outside Out) opened w = w.output
-source_inside (as_outside Err) opened w = w.error
-source_inside to_nothing opened w = nothing
-source_inside (to_lent end) opened w = lent end
-source_inside to_opened opened w = opened
+source_inside outer (as_outside stream) opened = outer stream
+source_inside outer to_nothing opened = nothing
+source_inside outer (to_lent end) opened = lent end
+source_inside outer to_opened opened = opened
 
--- the wires inside a node of this row
-abbrev pub sources_inside : {E H : Type 0} → Row E H → ℕ → PerStream (StreamSource E) → PerStream
-    (StreamSource E)
+-- what is for stdout or for stderr, of what is for each stream
+abbrev pub on_side : {X : Type 0} → PerStream X → Side → X
+on_side three side.Out = three.output
+on_side three side.Err = three.error
+
+-- the sources inside a node of this row
+abbrev pub sources_inside : {E H : Type 0} → Row E H → ℕ → PerStream (StreamSource E)
+    → PerStream (StreamSource E)
 sources_inside row n w =
     let opened = opened_source row.opens n in
     record {
-      input = source_inside row.input opened w;
-      output = source_inside row.output opened w;
-      error = source_inside row.error opened w;
+      input = source_inside (λ stream. w.input) row.input opened;
+      output = source_inside (on_side w) row.output opened;
+      error = source_inside (on_side w) row.error opened;
     }
 
 -- the inner actions of a node, with the actions for what the node opens around them

@@ -1,8 +1,6 @@
 -- What a node does, as one row for each kind. All else about a kind of node is read off its row.
 use Rattle.std.specs.Prelude.{ℕ, List, Some, None}
 use Rattle.std.specs.declared.option.Option.{Option}
-use Rattle.duct_system.specs.declared.spec.Stream.{Stream}
-use Rattle.duct_system.specs.declared.spec.Stream.TheVariants.{In, Out, Err}
 use Rattle.duct_system.specs.declared.system.Side.{Side}
 use Rattle.duct_system.specs.declared.system.Side.TheVariants as side
 use Rattle.duct_start.specs.Surroundings.{VariableChange, Sets, Removes, Replaces}
@@ -17,13 +15,13 @@ pub data RowOpening : Type 0 where
   opens_create : List ℕ → RowOpening
   opens_capture : Side → RowOpening
 
--- where a stream goes inside a node: where this stream goes outside it, to nothing, to a caller's
--- end, or to what the node opens
-pub data Route (E : Type 0) : Type 0 where
-  as_outside : Stream → Route E
-  to_nothing : Route E
-  to_lent : E → Route E
-  to_opened : Route E
+-- where a stream goes inside a node: where a stream that K names goes outside it, to nothing, to a
+-- caller's end, or to what the node opens
+pub data Route (K E : Type 0) : Type 0 where
+  as_outside : K → Route K E
+  to_nothing : Route K E
+  to_lent : E → Route K E
+  to_opened : Route K E
 
 -- what a node sets: the folder, a change of variables, or a hook with its ends
 pub data SettingView (E H : Type 0) : Type 0 where
@@ -37,12 +35,12 @@ pub data Mark : Type 0 where
   is_input : Mark
   is_unchecked : Mark
 
--- what a node does
+-- what a node does; stdin follows no other stream, and stdout and stderr follow stdout or stderr
 pub record Row (E H : Type 0) : Type 0 where
   pub opens : RowOpening
-  pub input : Route E
-  pub output : Route E
-  pub error : Route E
+  pub input : Route (Unit {0}) E
+  pub output : Route Side E
+  pub error : Route Side E
   pub says : Option (SettingView E H)
   pub mark : Mark
 
@@ -50,9 +48,9 @@ pub record Row (E H : Type 0) : Type 0 where
 abbrev pub idle_row : {E H : Type 0} → Row E H
 idle_row = record {
   opens = opens_nothing;
-  input = as_outside In;
-  output = as_outside Out;
-  error = as_outside Err;
+  input = as_outside tt;
+  output = as_outside side.Out;
+  error = as_outside side.Err;
   says = None;
   mark = is_plain;
 }
@@ -68,22 +66,16 @@ row (stdout_path path) = record idle_row { opens = opens_create path; output = t
 row (stdout_file end) = record idle_row { output = to_lent end }
 row stdout_null = record idle_row { output = to_nothing }
 row stdout_capture = record idle_row { opens = opens_capture side.Out; output = to_opened }
-row stdout_to_stderr = record idle_row { output = as_outside Err }
+row stdout_to_stderr = record idle_row { output = as_outside side.Err }
 row (stderr_path path) = record idle_row { opens = opens_create path; error = to_opened }
 row (stderr_file end) = record idle_row { error = to_lent end }
 row stderr_null = record idle_row { error = to_nothing }
 row stderr_capture = record idle_row { opens = opens_capture side.Err; error = to_opened }
-row stderr_to_stdout = record idle_row { error = as_outside Out }
-row stdout_stderr_swap = record idle_row { output = as_outside Err; error = as_outside Out }
+row stderr_to_stdout = record idle_row { error = as_outside side.Out }
+row stdout_stderr_swap = record idle_row { output = as_outside side.Err; error = as_outside side.Out }
 row (dir path) = record idle_row { says = Some (says_folder path) }
 row (env name value) = record idle_row { says = Some (says_change (Sets name value)) }
 row (env_remove name) = record idle_row { says = Some (says_change (Removes name)) }
 row (full_env vars) = record idle_row { says = Some (says_change (Replaces vars)) }
 row unchecked = record idle_row { mark = is_unchecked }
 row (before_spawn hook ends) = record idle_row { says = Some (says_hook hook ends) }
-
--- where a stream goes inside a node of this row
-abbrev pub route_of : {E H : Type 0} → Row E H → Stream → Route E
-route_of row In = row.input
-route_of row Out = row.output
-route_of row Err = row.error

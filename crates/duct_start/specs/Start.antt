@@ -15,7 +15,7 @@ use Rattle.duct_start.specs.Row.{RowOpening, Row, SettingView, Route, opens_noth
 use Rattle.duct_start.specs.TreeView.{ModifierView, TreeView, command, pipe, around}
 
 -- the caller's ends that a way leads to
-abbrev pub route_ends : {E : Type 0} → Route E → List E
+abbrev pub route_ends : {K E : Type 0} → Route K E → List E
 route_ends (to_lent end) = end ∷ []
 route_ends (as_outside stream) = []
 route_ends to_nothing = []
@@ -66,7 +66,7 @@ opens_depth (opens_create path) = 1
 opens_depth (opens_capture which) = 0
 
 -- what a way adds to the depth of a tree: 1 for a caller's end
-abbrev pub route_depth : {E : Type 0} → Route E → ℕ
+abbrev pub route_depth : {K E : Type 0} → Route K E → ℕ
 route_depth (to_lent end) = 1
 route_depth (as_outside stream) = 0
 route_depth to_nothing = 0

@@ -4,9 +4,10 @@ use Rattle.std.specs.Prelude.{ℕ, List, [], ◌∷◌, Some, None}
 use Rattle.std.specs.declared.option.Option.{Option}
 use Rattle.duct_system.specs.declared.spec.Stream.{Stream}
 use Rattle.duct_system.specs.declared.spec.Stream.TheVariants.{In, Out, Err}
+use Rattle.duct_system.specs.declared.system.Side.{Side}
 use Rattle.duct_system.specs.declared.system.Side.TheVariants as side
 use Rattle.duct_start.specs.Surroundings.{Surroundings, Target, Nothing, ReaderAt, WriterAt, FileAt, Lends, VariableChange}
-use Rattle.duct_start.specs.Row.{RowOpening, Row, SettingView, Route, opens_nothing, opens_input, opens_read, opens_create, opens_capture, as_outside, to_nothing, to_lent, to_opened, says_folder, says_change, says_hook, row, route_of}
+use Rattle.duct_start.specs.Row.{RowOpening, Row, SettingView, Route, opens_nothing, opens_input, opens_read, opens_create, opens_capture, as_outside, to_nothing, to_lent, to_opened, says_folder, says_change, says_hook, row}
 use Rattle.duct_start.specs.TreeView.{ModifierView}
 
 -- one request of a plan. The request for a canonical path holds the program; a spawn holds what its
@@ -102,12 +103,23 @@ opened_target (opens_read path) place = FileAt place
 opened_target (opens_create path) place = FileAt place
 opened_target (opens_capture which) place = WriterAt place
 
--- what a node does to a stream that goes this way
-abbrev pub turn_of : {E : Type 0} → RowOpening → ℕ → Route E → Turn E
-turn_of opens place (as_outside stream) = Follows stream
-turn_of opens place to_nothing = Decides Nothing
-turn_of opens place (to_lent end) = Decides (Lends end)
-turn_of opens place to_opened = Decides (opened_target opens place)
+-- the stream of a side
+abbrev pub stream_on : Side → Stream
+stream_on side.Out = Out
+stream_on side.Err = Err
+
+-- what a node says of a stream that goes this way, where K names streams so
+abbrev pub turn_of : {K E : Type 0} → (K → Stream) → RowOpening → ℕ → Route K E → Turn E
+turn_of outer opens place (as_outside stream) = Follows (outer stream)
+turn_of outer opens place to_nothing = Decides Nothing
+turn_of outer opens place (to_lent end) = Decides (Lends end)
+turn_of outer opens place to_opened = Decides (opened_target opens place)
+
+-- what a node of this row says of each stream
+abbrev pub row_turn : {E H : Type 0} → Row E H → ℕ → Stream → Turn E
+row_turn row place In = turn_of (λ stream. In) row.opens place row.input
+row_turn row place Out = turn_of stream_on row.opens place row.output
+row_turn row place Err = turn_of stream_on row.opens place row.error
 
 -- what a node does that sets only this
 abbrev pub step_of_setting : {E H : Type 0} → SettingView E H → NodeStep E H
@@ -124,7 +136,7 @@ abbrev pub step_of_row : {E H : Type 0} → Row E H → NodeStep E H
 step_of_row row = record (step_if_setting row.says) {
   opening = opening_of row.opens;
   closing = closing_of row.opens;
-  turn = λ place stream. turn_of row.opens place (route_of row stream);
+  turn = λ place stream. row_turn row place stream;
 }
 
 -- what each kind of modifier does

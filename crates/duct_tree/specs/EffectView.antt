@@ -12,7 +12,7 @@ use Rattle.duct_tree.specs.declared.effect.Mark.TheVariants as mark
 use Rattle.duct_tree.specs.declared.effect.Opening.{Opening}
 use Rattle.duct_tree.specs.declared.effect.Opening.TheVariants as opening
 use Rattle.duct_tree.specs.declared.effect.Route.{Route}
-use Rattle.duct_tree.specs.declared.effect.Route.TheVariants as way
+use Rattle.duct_tree.specs.declared.effect.Route.TheVariants as route
 
 -- what a node opens
 abbrev pub opening_view : Opening → row.RowOpening
@@ -23,11 +23,11 @@ opening_view (opening.Create path) = row.opens_create path.now
 opening_view (opening.Capture which) = row.opens_capture which
 
 -- where a stream goes
-abbrev pub route_view : {E : Type 0} → Route E → row.Route E
-route_view (way.Outside stream) = row.as_outside stream
-route_view way.Nothing = row.to_nothing
-route_view (way.Lent end) = row.to_lent end.now
-route_view way.Opened = row.to_opened
+abbrev pub route_view : {K E : Type 0} → Route K E → row.Route K E
+route_view (route.Outside stream) = row.as_outside stream
+route_view route.Nothing = row.to_nothing
+route_view (route.Lent end) = row.to_lent end.now
+route_view route.Opened = row.to_opened
 
 -- what a node sets, if anything: the folder, a change of the variables, or a hook
 abbrev pub says_view : {E H : Type 0} → Option (Setting E H) → Option (SettingView E H)

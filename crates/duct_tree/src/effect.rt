@@ -5,7 +5,6 @@ ghost use Rattle.duct_tree.specs.EffectView.{effect_view};
 ghost use Rattle.duct_tree.specs.NodeView.{modifier_view};
 
 use crate::tree::Modifier;
-use duct_base::spec::Stream;
 use duct_base::system::Side;
 use duct_run::scope::Setting;
 use std::alloc::AllocError;
@@ -32,10 +31,11 @@ impl Clone for Opening<'_> {
 
 impl Copy for Opening<'_> {}
 
-/// Where a stream goes inside a node.
-pub(crate) enum Route<'a, E> {
+/// Where a stream goes inside a node. `K` names the streams that it may follow: stdin follows itself
+/// alone, stdout and stderr follow either of the two.
+pub(crate) enum Route<'a, K, E> {
     /// Where this stream goes outside the node.
-    Outside(Stream),
+    Outside(K),
     /// To nothing.
     Nothing,
     /// To this caller's end.
@@ -44,13 +44,13 @@ pub(crate) enum Route<'a, E> {
     Opened,
 }
 
-impl<E> Clone for Route<'_, E> {
+impl<K: Copy, E> Clone for Route<'_, K, E> {
     fn clone(&self) -> Result<Self, AllocError> {
         Ok(*self)
     }
 }
 
-impl<E> Copy for Route<'_, E> {}
+impl<K: Copy, E> Copy for Route<'_, K, E> {}
 
 /// What the shape of a start shows of a node.
 #[derive(Clone, Copy)]
@@ -65,11 +65,11 @@ pub(crate) struct Effect<'a, E, H> {
     /// What it opens.
     pub opening: Opening<'a>,
     /// Where stdin goes.
-    pub input: Route<'a, E>,
+    pub input: Route<'a, (), E>,
     /// Where stdout goes.
-    pub output: Route<'a, E>,
+    pub output: Route<'a, Side, E>,
     /// Where stderr goes.
-    pub error: Route<'a, E>,
+    pub error: Route<'a, Side, E>,
     /// What it sets, if anything: the folder, a change of the variables, or a hook.
     pub setting: Option<Setting<'a, E, H>>,
     /// What the shape shows of it.
@@ -90,9 +90,9 @@ pub(crate) fn effect_of<E, H>(modifier: &Modifier<E, H>) -> Effect<'_, E, H>
 {
     let idle = Effect {
         opening: Opening::Nothing,
-        input: Route::Outside(Stream::In),
-        output: Route::Outside(Stream::Out),
-        error: Route::Outside(Stream::Err),
+        input: Route::Outside(()),
+        output: Route::Outside(Side::Out),
+        error: Route::Outside(Side::Err),
         setting: None,
         mark: Mark::Plain,
     };
@@ -135,7 +135,7 @@ pub(crate) fn effect_of<E, H>(modifier: &Modifier<E, H>) -> Effect<'_, E, H>
             ..idle
         },
         Modifier::StdoutToStderr => Effect {
-            output: Route::Outside(Stream::Err),
+            output: Route::Outside(Side::Err),
             ..idle
         },
         Modifier::StderrPath(path) => Effect {
@@ -157,12 +157,12 @@ pub(crate) fn effect_of<E, H>(modifier: &Modifier<E, H>) -> Effect<'_, E, H>
             ..idle
         },
         Modifier::StderrToStdout => Effect {
-            error: Route::Outside(Stream::Out),
+            error: Route::Outside(Side::Out),
             ..idle
         },
         Modifier::StdoutStderrSwap => Effect {
-            output: Route::Outside(Stream::Err),
-            error: Route::Outside(Stream::Out),
+            output: Route::Outside(Side::Err),
+            error: Route::Outside(Side::Out),
             ..idle
         },
         Modifier::Dir(path) => Effect {

@@ -3,7 +3,7 @@
 ghost use Rattle.std.specs.Prelude.{ℕ, List, ◌≡◌, ◌+◌, ◌++◌, length, map, string_bytes, IfOk, OnOk, IsOkUnless};
 ghost use Rattle.std.specs.Option.{option_map, option_to_list};
 ghost use Rattle.duct_start.specs.Actions.{ActionOf};
-ghost use Rattle.duct_start.specs.Flat.{command_actions, depth_inside, source_actions, opened_source, port_at, source_inside};
+ghost use Rattle.duct_start.specs.Flat.{command_actions, depth_inside, on_side, opened_source, port_at, source_actions, source_inside};
 ghost use Rattle.duct_start.specs.ActionList.{list_of, scope_index};
 ghost use Rattle.duct_start.specs.TreeView.{TreeView, around, stdout_capture};
 ghost use Rattle.duct_run.specs.ActionView.{action_view, actions_view};
@@ -110,17 +110,17 @@ fn enter<'a, E, H>(
     let scope = scoped(effect.setting, inside.scope, list)?;
     Ok(NodeContext {
         scope,
-        input: wire(effect.input, opened.wire, inside),
-        output: wire(effect.output, opened.wire, inside),
-        error: wire(effect.error, opened.wire, inside),
+        input: input_source(effect.input, opened.source, inside),
+        output: side_source(effect.output, opened.source, inside),
+        error: side_source(effect.error, opened.source, inside),
         depth: opened.depth,
     })
 }
 
-// What an opening leaves: the wire to what it opened, and how many ends are on the stack then.
+// What an opening leaves: the source of what it opened, and how many ends are on the stack then.
 #[derive(Drop)]
 struct Opened<'a, E> {
-    wire: StreamSource<'a, E>,
+    source: StreamSource<'a, E>,
     depth: usize,
 }
 
@@ -130,8 +130,8 @@ fn open<'a, E, H>(
     depth: usize,
     list: &mut ActionList<'a, E, H>,
 ) -> Result<Opened<'a, E>, Error>
-    ensures wire { IfOk result
-        (λ opened. source_view opened.wire ≡ opened_source (opening_view opening.entry) depth) }
+    ensures source { IfOk result
+        (λ opened. source_view opened.source ≡ opened_source (opening_view opening.entry) depth) }
     ensures depth { IfOk result (λ opened. opened.depth ≡ depth_inside
         (opening_view opening.entry) depth) }
     ensures actions { OnOk result (actions_view list.new.actions.items
@@ -144,7 +144,7 @@ fn open<'a, E, H>(
         list.add(action)?;
     }
     Ok(Opened {
-        wire: top(opening, deep),
+        source: top(opening, deep),
         depth: deep,
     })
 }
@@ -174,7 +174,7 @@ fn first<'a, E>(opening: Opening<'a>) -> Option<Action<'a, E>>
     }
 }
 
-// Returns the wire to what was opened. `deep` is the depth of the stack after the opening.
+// Returns the source of what was opened. `deep` is the depth of the stack after the opening.
 fn top<'a, E>(opening: Opening<'a>, deep: usize) -> StreamSource<'a, E>
     ensures { (depth : ℕ) → deep ≡ depth_inside (opening_view opening.entry) depth
         → source_view result ≡ opened_source (opening_view opening.entry) depth }
@@ -208,19 +208,35 @@ fn scoped<'a, E, H>(
     }
 }
 
-// Returns the wire of a stream that goes this way.
-fn wire<'a, E>(
-    way: Route<'a, E>,
+// Returns the source of stdin where it goes this way.
+fn input_source<'a, E>(
+    route: Route<'a, (), E>,
     opened: StreamSource<'a, E>,
     inside: NodeContext<'a, E>,
 ) -> StreamSource<'a, E>
-    ensures { source_view result ≡ source_inside (route_view way.entry) (source_view opened.entry)
-        (sources_view inside.entry) }
+    ensures { source_view result ≡ source_inside (λ stream. (sources_view inside.entry).input)
+        (route_view route.entry) (source_view opened.entry) }
 {
-    match way {
-        Route::Outside(Stream::In) => inside.input,
-        Route::Outside(Stream::Out) => inside.output,
-        Route::Outside(Stream::Err) => inside.error,
+    match route {
+        Route::Outside(()) => inside.input,
+        Route::Nothing => StreamSource::Nothing,
+        Route::Lent(end) => StreamSource::Lent(end),
+        Route::Opened => opened,
+    }
+}
+
+// Returns the source of stdout or stderr where it goes this way.
+fn side_source<'a, E>(
+    route: Route<'a, Side, E>,
+    opened: StreamSource<'a, E>,
+    inside: NodeContext<'a, E>,
+) -> StreamSource<'a, E>
+    ensures { source_view result ≡ source_inside (on_side (sources_view inside.entry))
+        (route_view route.entry) (source_view opened.entry) }
+{
+    match route {
+        Route::Outside(Side::Out) => inside.output,
+        Route::Outside(Side::Err) => inside.error,
         Route::Nothing => StreamSource::Nothing,
         Route::Lent(end) => StreamSource::Lent(end),
         Route::Opened => opened,
@@ -285,16 +301,16 @@ fn command<'a, E, H>(
 // port of the stream.
 fn fetch<'a, E, H>(
     stream: Stream,
-    wire: StreamSource<'a, E>,
+    source: StreamSource<'a, E>,
     list: &mut ActionList<'a, E, H>,
 ) -> Result<Port, Error>
-    ensures port { IfOk result (λ port. port ≡ port_at (source_view wire.entry) stream) }
+    ensures port { IfOk result (λ port. port ≡ port_at (source_view source.entry) stream) }
     ensures actions { OnOk result (actions_view list.new.actions.items
-        ≡ actions_view list.old.actions.items ++ source_actions (source_view wire.entry) stream) }
+        ≡ actions_view list.old.actions.items ++ source_actions (source_view source.entry) stream) }
     ensures scopes { list.new.scopes ≡ list.old.scopes }
     ensures memory { IsOkUnless result Error.Memory }
 {
-    let action = match wire {
+    let action = match source {
         StreamSource::Nothing => return Ok(Port::Null),
         StreamSource::Slot(depth) => Action::Duplicate(depth),
         StreamSource::Captured(which) => Action::DuplicateCapture(which),

@@ -1,5 +1,5 @@
 //! A command: its canonical path, its streams, its hooks, and its spawn.
-use crate::context::{ActionSucceeds, Context, Variables};
+use crate::context::{Destination, Context, Variables};
 use crate::hooks::change;
 use crate::made::Made;
 use crate::requests::spawn;
@@ -73,14 +73,14 @@ fn named(
 }
 
 // Requests an end of the parent's stream, for an output stream that goes to the parent's other one.
-fn find(goes: &mut ActionSucceeds, stream: Stream, sys: &mut Script) -> Result<(), Error> {
+fn find(goes: &mut Destination, stream: Stream, sys: &mut Script) -> Result<(), Error> {
     let side = match (&*goes, stream) {
-        (ActionSucceeds::Parents(Stream::Out), Stream::Err) => Side::Out,
-        (ActionSucceeds::Parents(Stream::Err), Stream::Out) => Side::Err,
-        (ActionSucceeds::Parents(_) | ActionSucceeds::Nothing | ActionSucceeds::End(_), _) =>
+        (Destination::Parents(Stream::Out), Stream::Err) => Side::Out,
+        (Destination::Parents(Stream::Err), Stream::Out) => Side::Err,
+        (Destination::Parents(_) | Destination::Nothing | Destination::End(_), _) =>
             return Ok(()),
     };
-    *goes = ActionSucceeds::End(sys.parent(side)?);
+    *goes = Destination::End(sys.parent(side)?);
     Ok(())
 }
 
@@ -101,10 +101,10 @@ fn asked(
     Ok(spec_of(words, folder, variables, input, output, error))
 }
 
-fn port(goes: &ActionSucceeds) -> Port {
+fn port(goes: &Destination) -> Port {
     match goes {
-        ActionSucceeds::Parents(_) => Port::Inherit,
-        ActionSucceeds::Nothing => Port::Null,
-        ActionSucceeds::End(_) => Port::Given,
+        Destination::Parents(_) => Port::Inherit,
+        Destination::Nothing => Port::Null,
+        Destination::End(_) => Port::Given,
     }
 }

@@ -13,7 +13,7 @@ use std::mem::replace;
 
 /// Where a stream goes.
 #[derive(Drop)]
-pub(crate) enum ActionSucceeds {
+pub(crate) enum Destination {
     /// To this stream of the parent.
     Parents(Stream),
     Nothing,
@@ -24,18 +24,18 @@ pub(crate) enum ActionSucceeds {
 pub(crate) type Variables = BTreeMap<EnvNameString, String>;
 
 /// A hook with its ends.
-pub(crate) type StoppedByHook<'t> = (&'t ScriptHook, &'t [ScriptEnd]);
+pub(crate) type HookWithEnds<'t> = (&'t ScriptHook, &'t [ScriptEnd]);
 
 /// The context of a node: what the nodes around it set.
 #[derive(Drop)]
 pub(crate) struct Context<'t> {
-    pub input: ActionSucceeds,
-    pub output: ActionSucceeds,
-    pub error: ActionSucceeds,
+    pub input: Destination,
+    pub output: Destination,
+    pub error: Destination,
     pub folder: Option<&'t str>,
     pub variables: Variables,
     /// The hooks, the outermost first.
-    pub hooks: Vec<StoppedByHook<'t>>,
+    pub hooks: Vec<HookWithEnds<'t>>,
 }
 
 impl<'t> Context<'t> {
@@ -49,9 +49,9 @@ impl<'t> Context<'t> {
             variables.insert(EnvNameString::from(name), value)?;
         }
         Ok(Context {
-            input: ActionSucceeds::Parents(Stream::In),
-            output: ActionSucceeds::Parents(Stream::Out),
-            error: ActionSucceeds::Parents(Stream::Err),
+            input: Destination::Parents(Stream::In),
+            output: Destination::Parents(Stream::Out),
+            error: Destination::Parents(Stream::Err),
             folder: None,
             variables,
             hooks: Vec::new(alloc),
@@ -59,7 +59,7 @@ impl<'t> Context<'t> {
     }
 
     /// Sends a stream there. An end that the stream had is closed.
-    pub(crate) fn turn(&mut self, stream: Stream, goes: ActionSucceeds, sys: &mut Script) {
+    pub(crate) fn turn(&mut self, stream: Stream, goes: Destination, sys: &mut Script) {
         let had = match stream {
             Stream::In => replace(&mut self.input, goes),
             Stream::Out => replace(&mut self.output, goes),
@@ -101,9 +101,9 @@ impl<'t> Context<'t> {
         let hooks = Vec::from_slice(*self.hooks.allocator(), self.hooks.as_slice())?;
         let (reader, writer) = sys.pipe()?;
         let mut left = Context {
-            input: replace(&mut self.input, ActionSucceeds::End(reader)),
-            output: ActionSucceeds::End(writer),
-            error: ActionSucceeds::Nothing,
+            input: replace(&mut self.input, Destination::End(reader)),
+            output: Destination::End(writer),
+            error: Destination::Nothing,
             folder: self.folder,
             variables,
             hooks,
@@ -128,33 +128,33 @@ impl<'t> Context<'t> {
     }
 }
 
-fn let_go(goes: ActionSucceeds, sys: &mut Script) {
+fn let_go(goes: Destination, sys: &mut Script) {
     match goes {
-        ActionSucceeds::Parents(_) | ActionSucceeds::Nothing => {}
-        ActionSucceeds::End(end) => close(sys, end),
+        Destination::Parents(_) | Destination::Nothing => {}
+        Destination::End(end) => close(sys, end),
     }
 }
 
 /// Opens a file for reading.
-pub(crate) fn opened(path: &str, sys: &mut Script) -> Result<ActionSucceeds, Error> {
-    Ok(ActionSucceeds::End(sys.open_read(path)?))
+pub(crate) fn opened(path: &str, sys: &mut Script) -> Result<Destination, Error> {
+    Ok(Destination::End(sys.open_read(path)?))
 }
 
 /// Creates a file.
-pub(crate) fn created(path: &str, sys: &mut Script) -> Result<ActionSucceeds, Error> {
-    Ok(ActionSucceeds::End(sys.create(path)?))
+pub(crate) fn created(path: &str, sys: &mut Script) -> Result<Destination, Error> {
+    Ok(Destination::End(sys.create(path)?))
 }
 
 /// Duplicates this end.
-pub(crate) fn lent(end: &ScriptEnd, sys: &mut Script) -> Result<ActionSucceeds, Error> {
-    Ok(ActionSucceeds::End(sys.duplicate(end)?))
+pub(crate) fn lent(end: &ScriptEnd, sys: &mut Script) -> Result<Destination, Error> {
+    Ok(Destination::End(sys.duplicate(end)?))
 }
 
 // Returns a copy of where a stream goes. An end is duplicated.
-fn copy(goes: &ActionSucceeds, sys: &mut Script) -> Result<ActionSucceeds, Error> {
+fn copy(goes: &Destination, sys: &mut Script) -> Result<Destination, Error> {
     match goes {
-        ActionSucceeds::Parents(stream) => Ok(ActionSucceeds::Parents(*stream)),
-        ActionSucceeds::Nothing => Ok(ActionSucceeds::Nothing),
-        ActionSucceeds::End(end) => lent(end, sys),
+        Destination::Parents(stream) => Ok(Destination::Parents(*stream)),
+        Destination::Nothing => Ok(Destination::Nothing),
+        Destination::End(end) => lent(end, sys),
     }
 }

@@ -1,5 +1,5 @@
 //! What a hook changes.
-use crate::context::{ActionSucceeds, Context};
+use crate::context::{Destination, Context};
 use duct_base::error::Error;
 use duct_base::spec::{CommandSpec, Hook, Port, Stream, give};
 use duct_base::system::System;
@@ -44,12 +44,12 @@ fn settle(
 ) -> Result<(), Error> {
     let goes = match spec.port(stream) {
         Port::Given => return Ok(()),
-        Port::Inherit => ActionSucceeds::Parents(stream),
-        Port::Null => ActionSucceeds::Nothing,
+        Port::Inherit => Destination::Parents(stream),
+        Port::Null => Destination::Nothing,
         Port::Place(place) => {
             let end = sys.duplicate(ends.get(place).ok_or(Error::HookEnd(place))?)?;
             give(spec, stream);
-            ActionSucceeds::End(end)
+            Destination::End(end)
         }
     };
     context.turn(stream, goes, sys);

@@ -1,5 +1,5 @@
 //! What a walk has made so far, and how it is given up.
-use crate::context::ActionSucceeds;
+use crate::context::Destination;
 use crate::requests::close;
 use duct_base::error::Error;
 use duct_base::pool::{Place, Pool, pool_take};
@@ -36,14 +36,14 @@ impl Made {
 }
 
 /// Returns one more write end of a capture pipe. The pipe is opened if it isn't open.
-pub(crate) fn tap(capture: &mut Capture, sys: &mut Script) -> Result<ActionSucceeds, Error> {
+pub(crate) fn tap(capture: &mut Capture, sys: &mut Script) -> Result<Destination, Error> {
     let (reader, writer) = match capture.take() {
         Some(pipe) => pipe,
         None => sys.pipe()?,
     };
     let tapped = sys.duplicate(&writer);
     *capture = Some((reader, writer));
-    Ok(ActionSucceeds::End(tapped?))
+    Ok(Destination::End(tapped?))
 }
 
 /// Closes the capture pipes that are open, and gives the children to the pool.

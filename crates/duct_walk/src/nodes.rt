@@ -1,6 +1,6 @@
 //! The walk over the nodes of a tree.
 use crate::command::command;
-use crate::context::{ActionSucceeds, Context, created, lent, opened};
+use crate::context::{Destination, Context, created, lent, opened};
 use crate::made::{Made, tap};
 use crate::requests::{close, feed};
 use duct_base::error::Error;
@@ -64,20 +64,20 @@ fn enter<'t>(
     match modifier {
         Modifier::StdinBytes(bytes) => {
             let (reader, writer) = sys.pipe()?;
-            context.turn(Stream::In, ActionSucceeds::End(reader), sys);
+            context.turn(Stream::In, Destination::End(reader), sys);
             return Ok(Some((writer, bytes)));
         }
         Modifier::StdinPath(path) => context.turn(Stream::In, opened(path.as_str(), sys)?, sys),
         Modifier::StdinFile(end) => context.turn(Stream::In, lent(end, sys)?, sys),
-        Modifier::StdinNull => context.turn(Stream::In, ActionSucceeds::Nothing, sys),
+        Modifier::StdinNull => context.turn(Stream::In, Destination::Nothing, sys),
         Modifier::StdoutPath(path) => context.turn(Stream::Out, created(path.as_str(), sys)?, sys),
         Modifier::StdoutFile(end) => context.turn(Stream::Out, lent(end, sys)?, sys),
-        Modifier::StdoutNull => context.turn(Stream::Out, ActionSucceeds::Nothing, sys),
+        Modifier::StdoutNull => context.turn(Stream::Out, Destination::Nothing, sys),
         Modifier::StdoutCapture => context.turn(Stream::Out, tap(&mut made.output, sys)?, sys),
         Modifier::StdoutToStderr => context.output_to_error(sys)?,
         Modifier::StderrPath(path) => context.turn(Stream::Err, created(path.as_str(), sys)?, sys),
         Modifier::StderrFile(end) => context.turn(Stream::Err, lent(end, sys)?, sys),
-        Modifier::StderrNull => context.turn(Stream::Err, ActionSucceeds::Nothing, sys),
+        Modifier::StderrNull => context.turn(Stream::Err, Destination::Nothing, sys),
         Modifier::StderrCapture => context.turn(Stream::Err, tap(&mut made.error, sys)?, sys),
         Modifier::StderrToStdout => context.error_to_output(sys)?,
         Modifier::StdoutStderrSwap => swap(&mut context.output, &mut context.error),

@@ -3,7 +3,7 @@
 ghost use Rattle.std.specs.Prelude.{◌≡◌, []};
 ghost use Rattle.duct_system.specs.Streams.{end_of};
 
-use crate::context::{ActionSucceeds, Context};
+use crate::context::{Destination, Context};
 use duct_base::error::Error;
 use duct_base::spec::CommandSpec;
 use duct_base::system::{Fault, Kind, Stdio, System};
@@ -31,21 +31,21 @@ pub(crate) fn spawn(
     Ok(sys.spawn(spec, [endless(input), endless(output), endless(error)])?)
 }
 
-fn stream(goes: ActionSucceeds) -> Stdio<ScriptEnd> {
+fn stream(goes: Destination) -> Stdio<ScriptEnd> {
     match goes {
-        ActionSucceeds::Parents(_) => Stdio::Inherit,
-        ActionSucceeds::Nothing => Stdio::Null,
-        ActionSucceeds::End(end) => Stdio::End(end),
+        Destination::Parents(_) => Stdio::Inherit,
+        Destination::Nothing => Stdio::Null,
+        Destination::End(end) => Stdio::End(end),
     }
 }
 
 // Like `stream`, for a stream without an end. A stream with an end becomes `Null`.
-fn endless(goes: ActionSucceeds) -> Stdio<ScriptEnd>
+fn endless(goes: Destination) -> Stdio<ScriptEnd>
     ensures { end_of result ≡ [] }
 {
     match goes {
-        ActionSucceeds::Parents(_) => Stdio::Inherit,
-        ActionSucceeds::Nothing | ActionSucceeds::End(_) => Stdio::Null,
+        Destination::Parents(_) => Stdio::Inherit,
+        Destination::Nothing | Destination::End(_) => Stdio::Null,
     }
 }
 

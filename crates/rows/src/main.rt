@@ -13,7 +13,7 @@ use duct_call_table::scripted::Scripted;
 use duct_host_table::tables;
 use duct_parts_table::expressions::Expressions;
 use duct_parts_table::journals::Journals;
-use duct_parts_table::names::NameSucceeds;
+use duct_parts_table::names::Names;
 use duct_parts_table::random::Random;
 use duct_parts_table::specs::Specs;
 use duct_parts_table::statuses::Statuses;
@@ -45,7 +45,7 @@ fn tried<W: Write>(
         },
         "expressions" => compare(&mut Expressions::new(alloc), file, out),
         "journals" => compare(&mut Journals::new(alloc), file, out),
-        "names" => compare(&mut NameSucceeds::new(alloc), file, out),
+        "names" => compare(&mut Names::new(alloc), file, out),
         "plans" => compare(&mut Plans::new(alloc), file, out),
         "random" => compare(&mut Random::new(alloc), file, out),
         "scripts" => compare(&mut Scripts::new(alloc), file, out),

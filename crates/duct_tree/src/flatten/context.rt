@@ -35,11 +35,11 @@ impl<E> Copy for StreamSource<'_, E> {}
 pub(crate) struct NodeContext<'a, E> {
     /// The index of its scope.
     pub scope: usize,
-    /// The wire of stdin.
+    /// The source of stdin.
     pub input: StreamSource<'a, E>,
-    /// The wire of stdout.
+    /// The source of stdout.
     pub output: StreamSource<'a, E>,
-    /// The wire of stderr.
+    /// The source of stderr.
     pub error: StreamSource<'a, E>,
     /// How many ends are on the stack.
     pub depth: usize,
@@ -76,21 +76,21 @@ impl<'a, E> NodeContext<'a, E> {
         NodeContext { scope, ..self }
     }
 
-    /// Returns the same context with another wire of stdin.
+    /// Returns the same context with another source of stdin.
     pub(crate) fn with_input(self, input: StreamSource<'a, E>) -> NodeContext<'a, E>
         ensures { result ≡ record self.entry { input = input.entry } }
     {
         NodeContext { input, ..self }
     }
 
-    /// Returns the same context with another wire of stdout.
+    /// Returns the same context with another source of stdout.
     pub(crate) fn with_output(self, output: StreamSource<'a, E>) -> NodeContext<'a, E>
         ensures { result ≡ record self.entry { output = output.entry } }
     {
         NodeContext { output, ..self }
     }
 
-    /// Returns the same context with another wire of stderr.
+    /// Returns the same context with another source of stderr.
     pub(crate) fn with_error(self, error: StreamSource<'a, E>) -> NodeContext<'a, E>
         ensures { result ≡ record self.entry { error = error.entry } }
     {

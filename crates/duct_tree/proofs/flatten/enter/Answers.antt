@@ -1,6 +1,6 @@
 -- A node that is entered by its row is entered.
 use Rattle.std.proofs.Common.{◌≡◌, ◌+◌, length, ap, ◌∙◌}
-use Rattle.duct_start.specs.Flat.{source_inside}
+use Rattle.duct_start.specs.Flat.{on_side, source_inside}
 use Rattle.duct_start.specs.ActionList.{scope_index}
 use Rattle.duct_run.specs.ActionView.{actions_view}
 use Rattle.duct_run.specs.ScopeView.{scopes_view}
@@ -16,7 +16,7 @@ returns-clause-list g c =
     let r = effect_view c.effect_of-effect.result in
     let outer = c.args.inside.scope in
     let around = sources_view c.args.inside in
-    let wire = c.in_ok-opened.ensures.wire in
+    let source = c.in_ok-opened.ensures.source in
     let actions : actions_view c.scoped.new.list.actions.items ≡ actions_view c.open.new.list.actions.items = cc in
     let scopes : scopes_view c.open.new.list.scopes.items ≡ scopes_view c.args.list.now.scopes.items = cc in
     entered r (modifier_view c.args.modifier.now) c.args.inside _
@@ -26,9 +26,9 @@ returns-clause-list g c =
       scopes_are = c.in_ok-scope.ensures.scopes ∙ ap (λ s. with_scope r.says outer s) scopes;
       scope_is = c.in_ok-scope.ensures.index ∙ ap (λ s. scope_index r.says outer (length s + 1)) scopes;
       wires_are = λ j. record {
-        input = (c.wire.ensures ∙ ap (λ w. source_inside r.input w around) wire) j;
-        output = (c.wire-2.ensures ∙ ap (λ w. source_inside r.output w around) wire) j;
-        error = (c.wire-3.ensures ∙ ap (λ w. source_inside r.error w around) wire) j;
+        input = (c.input_source.ensures ∙ ap (λ w. source_inside (λ stream. around.input) r.input w) source) j;
+        output = (c.side_source.ensures ∙ ap (λ w. source_inside (on_side around) r.output w) source) j;
+        error = (c.side_source-2.ensures ∙ ap (λ w. source_inside (on_side around) r.error w) source) j;
       };
       depth_is = c.in_ok-opened.ensures.depth;
     })
