@@ -204,15 +204,17 @@ impl<E: Drop, H: Hook> Expression<E, H> {
     /// It requests the environment, then what the nodes need, each before what it wraps and the
     /// left side of a pipe before the right, and at the end the workers of the capture pipes.
     /// Before each command the pool is swept. The list of these requests, and the room for what
-    /// runs, are allocated before the first request. That the requests follow the plan is promised
-    /// where the ends in the expression come from this system, so that their numbers are lower than
-    /// the next one it gives.
+    /// runs, are allocated before the first request. A start that succeeds makes the requests of
+    /// the plan, and one that fails those of a prefix of it. A stream that goes to an end of the
+    /// caller gets a duplicate of that end's number. That the duplicate's origin is exactly that
+    /// end is promised where the number of each end of the caller in the expression is lower than
+    /// the next one that the system gives.
     ///
     /// Fails with `Error::System` where the system refuses a request, with `Error::Hook` and
     /// `Error::HookEnd` where a hook stops a command, and with `Error::Memory`. After that its only
-    /// requests are closes: each end that the start got is closed, each child that it had started
-    /// is polled once and goes into the pool if it runs, and a worker that it had started ends by
-    /// itself.
+    /// requests are closes: each end that the start got is closed, the children that it had started
+    /// are given to the pool as `Running::give_up` gives them, and a worker that it had started
+    /// ends by itself.
     ///
     /// What runs has to be spent: by `Running::give_up`, which gives the children to a pool, or by
     /// `Running::into_parts`. A child that `into_parts` returns is not reaped if it is dropped

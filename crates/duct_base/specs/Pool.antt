@@ -7,8 +7,7 @@ use Rattle.duct_system.specs.Child.{Answer, ChildView, PollsChild}
 use Rattle.duct_system.specs.declared.system.ExitStatus.{ExitStatus}
 use Rattle.duct_system.specs.declared.system.Fault.{Fault}
 
--- the children that it keeps, in order, and how many were ever given to it, reaped, and lost to a
--- fault
+-- the children that it keeps, in order, and how many were ever given to it, reaped, and lost
 pub record PoolView (C : Type 0) : Type 0 where
   pub children : List C
   pub given : ℕ

@@ -161,8 +161,8 @@ impl<C: Drop> Pool<C> {
         self.reaped
     }
 
-    /// Returns how many of them were dropped after a poll returned a fault, at most the greatest
-    /// u64.
+    /// Returns how many of them were dropped, and not reaped, at most the greatest u64: a poll
+    /// returned a fault, or there was no room to keep the child.
     pub fn lost(&self) -> u64
         ensures { result ≡ self.now.lost }
     {
@@ -249,8 +249,9 @@ impl<C: Child> Pool<C> {
 }
 
 /// Gives a child to a pool. The child is polled once: one that runs goes to the end of the pool,
-/// one that has ended counts as reaped, and one whose poll returns a fault counts as lost. It
-/// doesn't block and doesn't allocate. It is meant for a start and a handle only.
+/// one that has ended counts as reaped, and one whose poll returns a fault counts as lost. A pool
+/// has room for fewer than 2^63 children: one that runs and finds no room is dropped and counts as
+/// lost. It doesn't block and doesn't allocate. It is meant for a start and a handle only.
 pub fn pool_take<C: Child>(pool: &mut Pool<C>, place: Place<C>)
     ensures { IsGiven C.may_answer C.child_view (place ∷ []) pool.old pool.new }
 {

@@ -33,7 +33,8 @@
 //! - `answers`: the results of the calls of the last line that made calls, `started` if none of
 //!   them has a result, or the error of the start.
 //! - `pool`: how many children it holds, was given, reaped and lost.
-//! - `trace` and `journal`: the requests that were made. `spec`: the spec of the last child.
+//! - `trace` and `journal`: the requests that were made. `spec`: the spec of the journal's last
+//!   entry, which has to be a spawn.
 //! - `line`: the debug text of the expression that the arguments mean. `status`, `out` and `err`
 //!   are those of the program.
 //!

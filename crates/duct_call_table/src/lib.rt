@@ -1,6 +1,6 @@
 //! The table of calls: expressions that are started, and the results of the calls on what was
 //! started, over the scripted system or the real machine.
-//! Test support: only safety and termination are proved here.
+//! Test support: the code is proved safe, and each function that can't block is proved to return.
 #![tactic(auto)]
 
 pub mod calls;

@@ -7,8 +7,7 @@ use Rattle.duct_system.specs.declared.system.Kind.TheVariants.{Other}
 use Rattle.duct_base.specs.Pool.{PoolView, IsGiven}
 use Rattle.duct_running.specs.NumbersView.{NumbersView}
 
--- children were given to the pool: those of these numbers, or, with the error `Other`, any; no
--- start causes the second case
+-- children were given to the pool: those of these numbers, or, with the error `Other`, any
 abbrev pub AreGiven : {C : Type 0} → (ℕ → Answer → Type 0) → (C → ChildView) → NumbersView → Error
     → PoolView C → PoolView C → Type 0
 AreGiven {C} may_answer child_view numbers e before after =

@@ -10,9 +10,9 @@ use Rattle.duct_system.specs.declared.system.Kind.TheVariants.{Other, OutOfMemor
 use Rattle.duct_system.specs.declared.system.Order.{Order}
 use Rattle.duct_running.specs.Ordered.{OrderAnswers, leftmost}
 
--- what a command of this number returns for an order: Ok if an ending of it was told; what it may
--- return for an order that was noted; or OutOfMemory if the allocation of the note failed and it
--- may return that
+-- what a command of this number returns for an order: Ok if a poll of it may return an exit status;
+-- what it may return for an order that was noted; or OutOfMemory if the allocation of the note
+-- failed and it may return that
 abbrev pub CommandAnswers : (ℕ → Answer → Type 0) → (ℕ → Order → Bool → Obeyed → Type 0) → Order
     → ℕ → Obeyed → Type 0
 CommandAnswers answer obey order number heard =

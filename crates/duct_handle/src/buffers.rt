@@ -51,7 +51,7 @@ fn lists(
     Ok((numbers, spare, ids))
 }
 
-/// Makes room for a handle of a tree with this many commands and inputs. Fails with
+/// Allocates the buffers for a handle of a tree with this many commands and inputs. Fails with
 /// `Error::Memory`, and only at an allocation failure.
 pub fn handle_buffers<S: System>(
     alloc: Global,
@@ -97,7 +97,7 @@ fn copy_ids(ids: &mut Vec<u32>, from: &[u32])
     }
 }
 
-/// Makes a handle of what runs, in this room. It allocates nothing.
+/// Makes a handle of what runs, in these buffers. It allocates nothing.
 pub fn handle_of<S: System>(alloc: Global, running: Running<S>, room: HandleBuffers<S>) -> Handle<S>
     requires shape { shape_view room.shape ≡ shape_view running.shape }
     requires empty { room.ids.items ≡ [] }
@@ -153,7 +153,8 @@ pub(crate) fn into_locked<S: System>(handle: Handle<S>) -> (Running<S>, Shape, N
 impl<S: System> Handle<S> {
     /// Gives the children to a pool, which may be another one than the start's. Each is polled
     /// once: one that still runs goes to the end of the pool, one that has ended counts as reaped,
-    /// and one whose poll is a fault counts as lost.
+    /// and one whose poll is a fault counts as lost. A pool has room for fewer than 2^63 children:
+    /// one that runs and finds no room is dropped and counts as lost.
     ///
     /// Nothing is killed and nothing is waited for. The workers go on by themselves. It allocates
     /// nothing and can't fail.

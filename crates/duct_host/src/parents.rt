@@ -34,7 +34,7 @@ impl Parents for HostRuntime {
     }
 
     /// Reads `/proc/self/environ`. If the program has more rights than the process that started it,
-    /// the loader has removed some entries.
+    /// the loader may have removed some entries from the environment, but not from this file.
     fn environment(&self, alloc: Global) -> io::Result<Vec<u8>> {
         let mut entries = Vec::new(alloc);
         File::open(self, "/proc/self/environ")?.read_to_end(&mut entries)?;

@@ -21,9 +21,10 @@
 //! - `asked`: the paths whose canonical paths were requested.
 //! - `questions`: as in `rare`, if the results of the machine are scripted. Such a row begins with
 //!   `returns`.
-//! - `clock` and `slept`: two numbers. How often the clock of the waits was read, or how often this
-//!   thread has slept, has to be between them. `within`: a number of milliseconds that is greater
-//!   than the time since the row began. If this doesn't hold, the actual number is the result.
+//! - `clock` and `slept`: two numbers. How often the clock of the waits was read, or how many
+//!   voluntary context switches this thread has made, has to be between them. A read that blocks
+//!   counts as such a switch, too. `within`: a number of milliseconds that is greater than the time
+//!   since the row began. If this doesn't hold, the actual number is the result.
 //!
 //! At the end of a row the pool is swept until it is empty. The row fails if a file descriptor or a
 //! child is left.

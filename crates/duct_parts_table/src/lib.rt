@@ -1,7 +1,7 @@
 //! The tables of single parts: statuses, the transfers of workers, the checker of journals, specs,
 //! names and expressions; and random comparisons of the core and of polls with the reference
 //! programs.
-//! Test support: the only properties proved here are safety and termination.
+//! Test support: the code is proved safe, and each function that can't block is proved to return.
 #![tactic(auto)]
 
 mod cores;

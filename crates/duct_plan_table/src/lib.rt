@@ -1,6 +1,6 @@
 //! The table of plans, starts and journals: the requests of a start, by the reference programs and
 //! by the library.
-//! Test support: only safety and termination are proved here.
+//! Test support: the code is proved safe, and each function that can't block is proved to return.
 #![tactic(auto)]
 
 mod checks;

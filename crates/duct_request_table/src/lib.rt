@@ -1,7 +1,7 @@
 //! The table of requests over the real machine, and what the tables over that machine share: its
 //! runtime, a runtime that wraps it, the files, file descriptors and children that exist, and texts
 //! for specs, journals and the results of requests.
-//! Test support: the only properties proved here are safety and termination.
+//! Test support: the code is proved safe, and each function that can't block is proved to return.
 #![tactic(auto)]
 
 pub mod children;

@@ -1,4 +1,4 @@
--- A run that failed and gave up what it held.
+-- A run that failed and gave up its resources.
 use Rattle.std.specs.Prelude.{ℕ, List, []}
 use Rattle.duct_base.specs.Pool.{PoolView, IsGiven}
 use Rattle.duct_system.specs.Child.{Answer, ChildView}
@@ -14,8 +14,8 @@ use Rattle.duct_run.specs.ResourceEnds.{ends_of_resources}
 use Rattle.duct_run.specs.ResourcesView.{AreNew, resources_view}
 use Rattle.duct_run.specs.declared.resources.Resources.{Resources}
 
--- the run failed with this error and held this; the pool was swept while it ran, each end was
--- closed, and each child was given to the pool
+-- the run failed with this error and these resources; the pool was swept while it ran, each open
+-- end was closed, and each child was given to the pool
 pub record GivesUp {E H C F D V W : Type 0} (allows : Allows H) (refuses : Refuses H)
     (end : E → ℕ) (child : C → ChildView) (feed : F → JobView V) (drain : D → JobView W)
     (may : ℕ → Answer → Type 0) (ending : PlanTail E H) (actions : List (Action E H))

@@ -18,7 +18,7 @@ use Rattle.duct_run.specs.SystemViews.{SystemViews}
 use Rattle.duct_run.specs.declared.resources.Resources.{Resources}
 
 module _ {S E C F D V W : Type 0} (views : SystemViews S E C F D V W) where
-  -- all that is held, by numbers
+  -- the resources, by numbers
   abbrev pub resources_of : Resources E C F D → ResourcesView
   resources_of held = resources_view views.number_of views.child views.feed views.drain held
 
@@ -26,7 +26,7 @@ module _ {S E C F D V W : Type 0} (views : SystemViews S E C F D V W) where
   abbrev pub IsNew : Resources E C F D → Type 0
   IsNew held = AreNew views.child views.feed views.drain held
 
-  -- an action succeeds, by what is held before and after it
+  -- an action succeeds, by the resources before and after it
   abbrev pub RequestSucceeds : {H : Type 0} → Allows H → Action E H → S → S → Resources E C F D
       → Resources E C F D → Type 0
   RequestSucceeds allows action sys after held kept = ActionSucceeds allows views.number_of action
@@ -79,7 +79,7 @@ module _ {S E C F D V W : Type 0} (views : SystemViews S E C F D V W) where
   PoolLeaves before after = Leaves views.may_answer [] (pool_view views.child before)
       (pool_view views.child after)
 
-  -- the actions ran, and then the requests of the ending
+  -- the actions succeeded, and then the requests of the tail
   abbrev pub RunSucceeds : {H : Type 0} → Allows H → PlanTail E H → List (Action E H) → S → S
       → Resources E C F D → Type 0
   RunSucceeds allows ending actions sys after held = ActionsSucceed allows views.number_of ending
@@ -93,7 +93,7 @@ module _ {S E C F D V W : Type 0} (views : SystemViews S E C F D V W) where
       views.number_of ending actions (views.journal sys) (views.journal after)
       (resources_of held) error
 
-  -- the run failed with this error, and what it held was given up
+  -- the run failed with this error, and its resources were given up
   abbrev pub RunGivesUp : {H : Type 0} → Allows H → Refuses H → PlanTail E H → List (Action E H) → S
       → S → PoolView C → PoolView C → Error → Type 0
   RunGivesUp allows refuses ending actions sys after before left error = GivesUp allows refuses

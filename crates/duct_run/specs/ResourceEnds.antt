@@ -1,4 +1,4 @@
--- The ends that a run holds.
+-- The ends of a run's resources.
 use Rattle.std.specs.Prelude.{ℕ, ◌++◌, List, map}
 use Rattle.std.specs.Option.{option_map}
 use Rattle.duct_start.specs.ResourcesView.{pipe_ends}

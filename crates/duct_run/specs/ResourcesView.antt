@@ -1,4 +1,4 @@
--- What a run holds, as contracts see it.
+-- The resources of a run, as contracts see them.
 use Rattle.std.specs.Prelude.{ℕ, ◌+◌, ◌≤◌, ◌≡◌, ◌++◌, List, All, map, reverse, vec_len, vec_capacity, [], None}
 use Rattle.std.specs.Option.{option_map, option_to_list}
 use Rattle.duct_system.specs.Child.{ChildView, IsUnasked}
@@ -15,7 +15,7 @@ use Rattle.duct_run.specs.declared.resources.Resources.{Resources}
 abbrev pub stack_view : {E : Type 0} → (E → ℕ) → List E → List ℕ
 stack_view number_of items = reverse (map number_of items)
 
--- all that is held, by numbers
+-- the resources, by numbers
 abbrev pub resources_view : {E C F D V W : Type 0} → (E → ℕ) → (C → ChildView) → (F → JobView V)
     → (D → JobView W) → Resources E C F D → ResourcesView
 resources_view end child feed drain held = record {
@@ -28,7 +28,7 @@ resources_view end child feed drain held = record {
       (option_to_list held.output_worker ++ option_to_list held.error_worker);
 }
 
--- both hold the same
+-- both have the same ends, children and workers
 pub record AreSame {E C F D : Type 0} (old new : Resources E C F D) : Type 0 where
   pub stack : new.stack.items ≡ old.stack.items
   pub output : new.output ≡ old.output
@@ -38,7 +38,7 @@ pub record AreSame {E C F D : Type 0} (old new : Resources E C F D) : Type 0 whe
   pub output_worker : new.output_worker ≡ old.output_worker
   pub error_worker : new.error_worker ≡ old.error_worker
 
--- nothing is held
+-- there are no ends, no children and no workers
 pub record IsEmpty {E C F D : Type 0} (held : Resources E C F D) : Type 0 where
   pub stack : held.stack.items ≡ []
   pub output : held.output ≡ None

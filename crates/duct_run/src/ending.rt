@@ -1,4 +1,4 @@
-//! How a run gives up what it holds: it closes its ends and gives its children to a pool.
+//! How a run gives up its resources: it closes its ends and gives its children to a pool.
 ghost use Rattle.std.specs.Prelude.{◌≡◌, ◌≤◌, length, map};
 ghost use Rattle.std.specs.Option.{option_map};
 ghost use Rattle.duct_base.specs.Pool.{IsGiven};
@@ -35,8 +35,9 @@ fn close_pair<S: System>(sys: &mut S, pair: Option<(S::End, S::End)>)
 }
 
 /// Gives these children to a pool, in order. Each is polled once: one that runs is appended to the
-/// pool, one that has ended counts as reaped, and one whose poll returned a fault counts as lost.
-/// It allocates nothing and doesn't block.
+/// pool, one that has ended counts as reaped, and one whose poll returned a fault counts as lost. A
+/// pool has room for fewer than 2^63 children: one that runs and finds no room is dropped and
+/// counts as lost. It allocates nothing and doesn't block.
 pub fn give_all<C: Child>(pool: &mut Pool<C>, children: Vec<Place<C>>)
     ensures { IsGiven C.may_answer C.child_view children.items pool.old pool.new }
 {
@@ -45,7 +46,7 @@ pub fn give_all<C: Child>(pool: &mut Pool<C>, children: Vec<Place<C>>)
     }
 }
 
-// Closes each end that a run holds: the stack from the bottom, then the capture pipes of stdout and
+// Closes each open end of a run: the stack from the bottom, then the capture pipes of stdout and
 // stderr. Gives its children to a pool and drops its workers.
 pub(crate) fn give_up<S: System>(
     sys: &mut S,

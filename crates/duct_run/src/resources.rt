@@ -1,4 +1,5 @@
-//! What a run holds: a stack of ends, the ends of its capture pipes, its children and its workers.
+//! The resources of a run: a stack of ends, the ends of its capture pipes, its children and its
+//! workers.
 ghost use Rattle.std.specs.Prelude.{◌≡◌, ◌≤◌, ◌+◌, ◌++◌, [], ◌∷◌, vec_len, vec_capacity, IfOk, OnOk, IsOkUnless};
 ghost use Rattle.duct_run.specs.ResourcesView.{HasRoom, AreSame, IsEmpty};
 
@@ -6,7 +7,7 @@ use duct_base::error::Error;
 use duct_base::system::Numbered;
 use std::alloc::Global;
 
-/// What a run holds.
+/// The resources of a run.
 #[derive(Drop)]
 pub struct Resources<E, C, F, D> {
     /// The stack of ends, its top last.
@@ -25,8 +26,8 @@ pub struct Resources<E, C, F, D> {
     pub error_worker: Option<D>,
 }
 
-/// Returns a `Resources` that holds nothing, with room for this many ends, children and input workers.
-/// Fails only with `Error::Memory`, on allocation failure.
+/// Returns empty resources, with room for this many ends, children and input workers. Fails only
+/// with `Error::Memory`, on allocation failure.
 pub fn no_resources<E: Drop, C: Drop, F: Drop, D: Drop>(
     alloc: Global,
     ends: usize,

@@ -1,4 +1,4 @@
-//! A start: it runs its actions, and where one of them fails it gives up what it holds.
+//! A start: it runs its actions, and where one of them fails it gives up its resources.
 ghost use Rattle.std.specs.Prelude.{◌≡◌, ◌≤◌, All, length, is_some, true, None, OnOk, IfOk, IfErr, IsSome};
 ghost use Rattle.duct_system.specs.Trace.{segment};
 ghost use Rattle.duct_start.specs.ResourcesView.{empty_resources};
@@ -131,13 +131,13 @@ fn run_reader<S: System, H: Hook>(
     Ok(read_output(sys, &mut held.output))
 }
 
-/// Runs the actions of a start and returns what they leave held. `held` has to be empty. The pool
-/// is swept before each command. It doesn't wait for the commands.
+/// Runs the actions of a start and returns the resources that they leave. `held` has to be empty.
+/// The pool is swept before each command. It doesn't wait for the commands.
 ///
 /// Fails with `Error::System` where the system refuses a request, with `Error::Hook` or
-/// `Error::HookEnd` where a hook stops a command, and with `Error::Memory`. Then each end that is
-/// held is closed, each child that was started is polled once and goes into the pool if it runs,
-/// and the workers are dropped.
+/// `Error::HookEnd` where a hook stops a command, and with `Error::Memory`. Then each open end is
+/// closed, the children that were started are given to the pool as `give_all` gives them, and the
+/// workers are dropped.
 pub fn start<S: System, H: Hook>(
     sys: &mut S,
     pool: &mut Pool<S::Child>,
@@ -172,9 +172,9 @@ pub fn start<S: System, H: Hook>(
     }
 }
 
-/// Runs the actions of a reader's start, which open stdout's capture pipe. Returns what they leave
-/// held, and the reader of that pipe, which has no worker. `held` has to be empty. The pool is
-/// swept before each command. It doesn't wait for the commands.
+/// Runs the actions of a reader's start, which open stdout's capture pipe. Returns the resources
+/// that they leave, and the reader of that pipe, which has no worker. `held` has to be empty. The
+/// pool is swept before each command. It doesn't wait for the commands.
 ///
 /// Fails as `start` does, and leaves the same.
 pub fn start_reader<S: System, H: Hook>(

@@ -47,7 +47,7 @@ IsEnding answer feed drain shape numbers polled =
     ⊎ (polled ≡ Err error.Memory)
 
 -- a poll returned what was concluded, or `Error::Memory`, or the error `Other` because the shape or
--- the numbers differ, which no start causes
+-- the numbers differ
 abbrev pub IsAnswer : (ℕ → Answer → Type 0) → (ℕ → Said (Unit {0}) → Type 0)
     → (ℕ → Said Bytes → Type 0) → ShapeView → NumbersView → Polled → Type 0
 IsAnswer answer feed drain shape numbers polled =

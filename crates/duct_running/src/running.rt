@@ -84,7 +84,7 @@ fn note_ids<C: Child>(ids: &mut Vec<u32>, children: &[Place<C>])
     }
 }
 
-/// The room that a `Running` needs besides what a start gets.
+/// The buffers that a `Running` needs besides what a start gets.
 #[derive(Drop)]
 pub struct RunningBuffers<D> {
     /// Empty, with room for the ids of the children.

@@ -36,14 +36,15 @@ impl PollAnswer {
     }
 }
 
-/// The results of a child's polls, kills and signals. With an empty list, a poll returns `Running`,
-/// and a kill or a signal `Ok`.
+/// The results of a child's polls, kills and signals. Once a poll has returned an exit status,
+/// later polls return it again. With an empty list, a poll returns `Running`, and a kill or a
+/// signal `Ok`.
 #[derive(Drop)]
 pub struct ChildScript {
     pub polls: Answers<PollAnswer>,
     pub kills: Answers<Result<(), Fault>>,
     pub signals: Answers<Result<(), Fault>>,
-    /// A gate at which each call of the child's `number` waits.
+    /// A gate at which each call of the child's `number` waits, for at most `MOST_LOOKS` checks.
     pub gate: Option<Gate>,
 }
 

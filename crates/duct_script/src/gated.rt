@@ -4,7 +4,8 @@ use crate::gate::Gate;
 use std::io;
 use std::io::{Read, Write};
 
-/// A reader or a writer that waits at a gate before each read and each write.
+/// A reader or a writer that waits at a gate before each read and each write, for at most
+/// `MOST_LOOKS` checks.
 #[derive(Drop)]
 pub struct Gated<T> {
     pub gate: Gate,

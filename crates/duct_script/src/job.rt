@@ -10,11 +10,15 @@ use std::collections::VecDeque;
 use std::snapshot::Snapshot;
 use std::sync::Arc;
 
-/// The results of a feed's polls, in order. With an empty list, a poll returns `Done`.
+/// The results of a feed's polls, in order, up to the first `Done` or `Fault`, which later polls
+/// repeat. If there is none, the last result is repeated. With an empty list, a poll returns
+/// `Done`.
 pub type FeedScript = Answers<Said<()>>;
 
-/// The results of a drain's polls, in order. The last one is repeated. With an empty list, a poll
-/// returns `Done` with no bytes.
+/// The results of a drain's polls, in order, up to the first `Done` or `Fault`, which later polls
+/// repeat. If there is none, the last result is repeated. With an empty list, a poll returns `Done`
+/// with no bytes. In place of a `Done` whose bytes can't get one more owner, a poll returns
+/// `Running`.
 pub type DrainScript = VecDeque<Said<Arc<Vec<u8>>>>;
 
 /// A worker that writes nothing and whose results come from a list.

@@ -23,7 +23,7 @@ pub enum ReadStep {
 pub struct ReaderScript {
     pub bytes: Vec<u8>,
     pub steps: VecDeque<ReadStep>,
-    /// A gate at which each read waits.
+    /// A gate at which each read waits, for at most `MOST_LOOKS` checks.
     pub gate: Option<Gate>,
 }
 

@@ -213,7 +213,8 @@ impl Script {
     }
 
     /// Sets the log that notes each later request, and each poll and order of the children that are
-    /// spawned later.
+    /// spawned later. A child notes nothing if the log can't get one more owner when it is spawned.
+    /// An order that fails on allocation failure isn't noted.
     pub fn note_in(&mut self, calls: Arc<CallLog>)
         ensures { self.new ≡ record self.old { calls = Some calls } }
     {

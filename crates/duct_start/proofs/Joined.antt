@@ -20,7 +20,7 @@ use Rattle.duct_start.specs.Plan.{Plan, with_item, with_closing, initial_plan, w
 use Rattle.duct_start.specs.Start.{depth, ends_in, modifier_ends, opens_depth, said_ends, route_ends}
 use Rattle.duct_start.specs.Row.{RowOpening, SettingView, Route, opens_nothing, opens_input, opens_read, opens_create, opens_capture, as_outside, to_nothing, to_lent, to_opened, says_folder, says_change, says_hook, row}
 use Rattle.duct_start.specs.Step.{Item, AskPipe, closing_of, opened_target, opening_of, step_of_setting, step_if_setting, stream_on, turn_of, AskFeed, AskOpenRead, AskCreate, left_step, right_step, step}
-use Rattle.duct_start.specs.TreeView.{ModifierView, TreeView, command, pipe, around, stdin_bytes}
+use Rattle.duct_start.specs.TreeView.{TreeView, command, pipe, around}
 use Rattle.duct_start.proofs.Inward.{joined}
 use Rattle.duct_start.proofs.Keeping.{keeps, keeps_same, keeps_out, keeps_err, out_opens, err_opens}
 use Rattle.duct_start.proofs.Stacks.{level_top, leads_none, leads_cons, leads_append}

@@ -33,8 +33,8 @@ abbrev pub next_index : {A : Type 0} → Option A → ℕ → ℕ
 next_index None next = next
 next_index (Some says) next = next + 1
 
--- the actions of a tree and their new scopes, in the scope of index `i` and with these wires, over
--- a stack of depth `n`, where the next new scope has the index `next`
+-- the actions of a tree and their new scopes, in the scope of index `i` and with these sources,
+-- over a stack of depth `n`, where the next new scope has the index `next`
 abbrev pub list_of_subtree : {E H : Type 0} → ℕ → PerStream (StreamSource E) → TreeView E H → ℕ → ℕ
     → ActionListView E H
 list_of_subtree i w (command words) n next = record {

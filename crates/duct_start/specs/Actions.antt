@@ -28,9 +28,9 @@ pub record Scope (E H : Type 0) : Type 0 where
   pub hooks : List (H × List E)
 
 -- one action, where a spawn names its scope by a value of type `K`. A pipe leaves its write end on
--- top, an input its read end. A depth is counted from the bottom of the stack; `duplicate_capture` duplicates the
--- write end of a capture pipe, `finish` closes it and starts the drain worker of its read end. A
--- spawn first requests the canonical path of its program, where one is needed
+-- top, an input its read end. A depth is counted from the bottom of the stack; `duplicate_capture`
+-- duplicates the write end of a capture pipe, `finish` closes it and starts the drain worker of its
+-- read end. A spawn first requests the canonical path of its program, where one is needed
 pub data ActionOf (E K : Type 0) : Type 0 where
   open_read : List ℕ → ActionOf E K
   create : List ℕ → ActionOf E K
@@ -88,7 +88,7 @@ abbrev pub stack_after_ports : {A : Type 0} → PerStream Port → List A → Li
 stack_after_ports ports stack = stack_after_port ports.input
     (stack_after_port ports.output (stack_after_port ports.error stack))
 
--- what a command finds, by its scope and by what its ports take from the stack
+-- the surroundings of a command, by its scope and by what its ports take from the stack
 abbrev pub surroundings_by : {E H : Type 0} → Scope E H → PerStream Port → List (Target E)
     → Surroundings E H
 surroundings_by scope ports stack = record {

@@ -28,7 +28,7 @@ abbrev pub with_program : List ℕ → List (List ℕ) → List (List ℕ)
 with_program program [] = []
 with_program program (word ∷ words) = program ∷ words
 
--- the spec has these words with this program, the folder and the variables that the command finds,
+-- the spec has these words with this program, the folder and the variables of these surroundings,
 -- each name once and in order, and for each stream the port of where it goes
 pub record IsAsked {E H : Type 0} (pairs : Vars) (program : List ℕ) (found : Surroundings E H)
     (words : List (List ℕ)) (spec : SpecView) : Type 0 where

@@ -68,7 +68,7 @@ hooks_by_target hooks = map (λ hook. (hook.0, map Lends hook.1)) hooks
 abbrev pub with_stack : {E H : Type 0} → List (Target E) → State E H → State E H
 with_stack stack state = record { stack = stack; plan = state.plan }
 
--- what is held, with this stack
+-- the resources, with this stack
 abbrev pub resources_with_stack : List ℕ → ResourcesView → ResourcesView
 resources_with_stack stack held = record held { stack = stack }
 

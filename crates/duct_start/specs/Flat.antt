@@ -15,7 +15,7 @@ use Rattle.duct_start.specs.Row.{RowOpening, Row, SettingView, Route, opens_noth
 use Rattle.duct_start.specs.Step.{NodeStep, step_of_setting}
 use Rattle.duct_start.specs.TreeView.{TreeView, command, pipe, around}
 
--- what a stream is wired to: a stream of the parent, nothing, the end at a depth of the stack, a
+-- the source of a stream: a stream of the parent, nothing, the end at a depth of the stack, a
 -- capture pipe, or a caller's end
 pub data StreamSource (E : Type 0) : Type 0 where
   parents : Stream → StreamSource E
@@ -24,7 +24,7 @@ pub data StreamSource (E : Type 0) : Type 0 where
   captured : Side → StreamSource E
   lent : E → StreamSource E
 
--- the actions that fetch the end that a stream is wired to; none where it needs no end
+-- the actions that fetch the end of a stream from its source; none where it needs no end
 abbrev pub source_actions : {E K : Type 0} → StreamSource E → Stream → List (ActionOf E K)
 source_actions nothing stream = []
 source_actions (slot depth) stream = action.duplicate depth ∷ []
@@ -36,7 +36,7 @@ source_actions (parents Err) Err = []
 source_actions (parents Out) stream = action.parent side.Out ∷ []
 source_actions (parents Err) stream = action.parent side.Err ∷ []
 
--- the port of a stream with this wire
+-- the port of a stream with this source
 abbrev pub port_at : {E : Type 0} → StreamSource E → Stream → Port
 port_at nothing stream = port.Null
 port_at (slot depth) stream = port.Given
@@ -48,7 +48,7 @@ port_at (parents Err) Err = port.Inherit
 port_at (parents Out) stream = port.Given
 port_at (parents Err) stream = port.Given
 
--- the ports of three wires
+-- the ports of three sources
 abbrev pub ports_at : {E : Type 0} → PerStream (StreamSource E) → PerStream Port
 ports_at wires = record {
   input = port_at wires.input In;
@@ -92,7 +92,7 @@ depth_inside (opens_read path) n = n + 1
 depth_inside (opens_create path) n = n + 1
 depth_inside (opens_capture which) n = n
 
--- the wire to what a node opens over a stack of this depth
+-- what a node opens over a stack of this depth, as a source
 abbrev pub opened_source : {E : Type 0} → RowOpening → ℕ → StreamSource E
 opened_source opens_nothing n = nothing
 opened_source (opens_input bytes) n = slot (n + 1)
@@ -100,8 +100,8 @@ opened_source (opens_read path) n = slot n
 opened_source (opens_create path) n = slot n
 opened_source (opens_capture which) n = captured which
 
--- the source of a stream inside a node, by the sources of the streams outside it and by the source of
--- what the node opens
+-- the source of a stream inside a node, by its route, by the sources of the streams outside it and
+-- by the source of what the node opens
 abbrev pub source_inside : {K E : Type 0} → (K → StreamSource E) → Route K E → StreamSource E
     → StreamSource E
 source_inside outer (as_outside stream) opened = outer stream
@@ -139,7 +139,7 @@ abbrev pub scope_if : {E H : Type 0} → Option (SettingView E H) → Scope E H 
 scope_if None scope = scope
 scope_if (Some says) scope = scope_inside (step_of_setting says) scope
 
--- the actions of a tree in this scope and with these wires, over a stack of this depth
+-- the actions of a tree in this scope and with these sources, over a stack of this depth
 abbrev pub actions_of_subtree : {E H : Type 0} → Scope E H → PerStream (StreamSource E)
     → TreeView E H → ℕ → List (Action E H)
 actions_of_subtree s w (command words) n = command_actions s w words
@@ -156,7 +156,7 @@ actions_of_subtree s w (around modifier inner) n =
 abbrev pub root_scope : {E H : Type 0} → Scope E H
 root_scope = record { folder = None; changes = []; hooks = [] }
 
--- the wires of the root, whose streams are the parent's
+-- the sources of the root, which are the parent's streams
 abbrev pub root_sources : {E : Type 0} → PerStream (StreamSource E)
 root_sources = record { input = parents In; output = parents Out; error = parents Err }
 
@@ -179,7 +179,7 @@ is_stdin In = true
 is_stdin Out = false
 is_stdin Err = false
 
--- a wire leads to a target; the boolean tells whether it is a wire of stdin
+-- a source leads to a target; the boolean tells whether it is the source of stdin
 pub data SourceLeadsTo {E H : Type 0} (number_of : E → ℕ) (base : ℕ) (state : State E H)
     : Bool → StreamSource E → Target E → Type 0 where
   is_in : SourceLeadsTo number_of base state true (parents In) (Parents In)
@@ -193,8 +193,8 @@ pub data SourceLeadsTo {E H : Type 0} (number_of : E → ℕ) (base : ℕ) (stat
   is_lent : (b : Bool) (end : E) → number_of end < base
       → SourceLeadsTo number_of base state b (lent end) (Lends end)
 
--- scope and wires fit what is found: the folder, the changes and the hooks are the same, each wire
--- leads to the target of its stream, and the ends of the hooks have numbers below `base`
+-- scope and sources fit the surroundings: the folder, the changes and the hooks are the same, each
+-- source leads to the target of its stream, and the ends of the hooks have numbers below `base`
 pub record SourcesFit {E H : Type 0} (number_of : E → ℕ) (base : ℕ) (state : State E H)
     (scope : Scope E H) (wires : PerStream (StreamSource E))
     (found : Surroundings E H) : Type 0 where

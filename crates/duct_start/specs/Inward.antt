@@ -1,4 +1,4 @@
--- The plan computed inwards: what a command finds is passed down from the root to each command.
+-- The plan computed inwards: the surroundings are passed down from the root to each command.
 use Rattle.std.specs.Prelude.{ℕ, ◌++◌, length}
 use Rattle.std.specs.Option.{option_or}
 use Rattle.duct_system.specs.declared.spec.Stream.TheVariants.{In, Out, Err}
@@ -8,7 +8,7 @@ use Rattle.duct_start.specs.Plan.{Plan, with_item, with_opening, place_for, with
 use Rattle.duct_start.specs.Step.{NodeStep, AskPipe, left_step, right_step, step}
 use Rattle.duct_start.specs.TreeView.{TreeView, command, pipe, around}
 
--- what is found inside a node at this place, by what is found around it
+-- the surroundings inside a node at this place, by those around it
 abbrev pub surroundings_within : {E H : Type 0} → NodeStep E H → ℕ → Surroundings E H
     → Surroundings E H
 surroundings_within node place found = record {
@@ -20,7 +20,7 @@ surroundings_within node place found = record {
   hooks = found.hooks ++ node.hooks;
 }
 
--- the plan after a tree that has this found around it
+-- the plan after a tree with these surroundings
 abbrev pub plan_inward : {E H : Type 0} → Surroundings E H → TreeView E H → Plan E H → Plan E H
 plan_inward found (command words) plan = with_command found words plan
 plan_inward found (pipe left right) plan =

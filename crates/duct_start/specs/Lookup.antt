@@ -1,4 +1,4 @@
--- What a command finds on its path to the root, node by node.
+-- The surroundings of a command, looked up node by node on its path to the root.
 use Rattle.std.specs.Prelude.{ℕ, List, [], ◌∷◌, ◌++◌, None}
 use Rattle.std.specs.Option.{option_or}
 use Rattle.std.specs.declared.option.Option.{Option}
@@ -8,7 +8,7 @@ use Rattle.duct_start.specs.Surroundings.{Surroundings, Target, Parents, Variabl
 use Rattle.duct_start.specs.Path.{Path, segment_place, step_of}
 use Rattle.duct_start.specs.Step.{Turn, Decides, Follows}
 
--- where a stream goes, by the turn of a node and by what is found further out
+-- where a stream goes, by the turn of a node and by where the streams go further out
 abbrev pub resolved_turn : {E : Type 0} → Turn E → (Stream → Target E) → Target E
 resolved_turn (Decides target) outer = target
 resolved_turn (Follows stream) outer = outer stream
@@ -36,7 +36,7 @@ abbrev pub hooks_on : {E H : Type 0} → Path E H → List (H × List E)
 hooks_on [] = []
 hooks_on (crumb ∷ up) = hooks_on up ++ (step_of crumb).hooks
 
--- all that a command finds on this path
+-- the surroundings of a command on this path
 abbrev pub surroundings_on : {E H : Type 0} → Path E H → Surroundings E H
 surroundings_on up = record {
   folder = folder_on up;

@@ -3,8 +3,8 @@ use Rattle.std.specs.Prelude.{ℕ, List}
 use Rattle.duct_start.specs.Step.{NodeStep, left_step, right_step, step}
 use Rattle.duct_start.specs.TreeView.{ModifierView}
 
--- one node around a command: a pipe, entered from its left or its right side, or a modifier; each
--- with its place in the plan
+-- one segment of a path, which is a node around a command: a pipe, entered from its left or its
+-- right side, or a modifier; each with its place in the plan
 pub data PathSegment (E H : Type 0) : Type 0 where
   left_of : ℕ → PathSegment E H
   right_of : ℕ → PathSegment E H

@@ -57,7 +57,7 @@ program_of words = unwrap_or (slice_get words 0) []
 abbrev pub is_canonical : {E H : Type 0} → Surroundings E H → List (List ℕ) → Bool
 is_canonical found words = asks_canonical (program_of words) (is_some found.folder)
 
--- the plan with the items of a command that finds this
+-- the plan with the items of a command that has these surroundings
 abbrev pub with_command : {E H : Type 0} → Surroundings E H → List (List ℕ) → Plan E H → Plan E H
 with_command found words plan =
     with_item (AskSpawn found words)

@@ -1,4 +1,4 @@
--- What a run of actions holds, by numbers.
+-- The resources of a run of actions, by numbers.
 use Rattle.std.specs.Prelude.{ℕ, List, [], ◌∷◌, ◌++◌, Some, None}
 use Rattle.std.specs.declared.option.Option.{Option}
 
@@ -17,11 +17,11 @@ abbrev pub pipe_ends : {A : Type 0} → Option (A × A) → List A
 pipe_ends None = []
 pipe_ends (Some pair) = pair.0 ∷ pair.1 ∷ []
 
--- all ends that are held
+-- all open ends
 abbrev pub open_ends : ResourcesView → List ℕ
 open_ends held = held.stack ++ (pipe_ends held.out ++ pipe_ends held.err)
 
--- nothing is held
+-- no resources
 abbrev pub empty_resources : ResourcesView
 empty_resources = record {
   stack = [];

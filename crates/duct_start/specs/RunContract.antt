@@ -32,7 +32,7 @@ reader_tail plan = record { items = (with_reader plan.out plan).items; out = Non
 abbrev pub drain_and_reader_tail : {E H : Type 0} → PlanTail E H
 drain_and_reader_tail plan = reader_tail (with_capture_finished side.Err plan)
 
--- a run that began with this journal
+-- the context of a run that began with this journal
 abbrev pub context_of : JournalView → ℕ → ℕ → Vars → RunContext
 context_of old base bound pairs =
     record { old = old; base = base; bound = bound; pairs = pairs; front = [] }
@@ -49,7 +49,7 @@ OpenOutputCapture {E} {H} number_of actions =
     (base bound : ℕ) (plan : Plan E H)
     → Leads number_of base bound (with_plan initial_plan) actions (with_plan plan) → IsSome plan.out
 
--- the actions and the ending ran: whatever plan they lead to, its requests were made
+-- the actions and the tail succeeded: whatever plan they lead to, its requests were made
 abbrev pub ActionsSucceed : {E H : Type 0} → Allows H → (E → ℕ) → PlanTail E H → List (Action E H)
     → JournalView → JournalView → ResourcesView → Type 0
 ActionsSucceed {E} {H} allows number_of ending actions old now held =
@@ -58,7 +58,7 @@ ActionsSucceed {E} {H} allows number_of ending actions old now held =
     → RunInvariant allows number_of (context_of old base bound pairs)
     (with_plan (ending plan)) now held)
 
--- the run of the actions and the ending failed with this error
+-- the actions or the tail failed with this error
 abbrev pub ActionsFail : {E H : Type 0} → Allows H → Refuses H → (E → ℕ) → PlanTail E H
     → List (Action E H) → JournalView → JournalView → ResourcesView → Error → Type 0
 ActionsFail {E} {H} allows refuses number_of ending actions old now held error =

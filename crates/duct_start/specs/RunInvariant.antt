@@ -1,5 +1,5 @@
--- What holds between the requests of a run of actions: for the journal, for the ledger and for what
--- the run holds.
+-- What holds between the requests of a run of actions: for the journal, for the ledger and for the
+-- resources of the run.
 use Rattle.std.specs.Prelude.{ℕ, ◌+◌, ◌<◌, ◌≤◌, List, [], ◌∷◌, ◌++◌, ◌≡◌, length, map, take, Some, None, IsSome, is_some}
 use Rattle.std.specs.declared.option.Option.{Option}
 use Rattle.duct_system.specs.EntryView.{EntryView}
@@ -94,17 +94,17 @@ abbrev pub AnswersUnder : {E H : Type 0} → RunContext → Allows H → (E → 
 AnswersUnder course allows number_of added place items entries =
     AnswersFromBy (GivesUnder (IsEarly course) added) allows number_of added place items entries
 
--- each end that is held comes from its target
+-- each open end comes from its target
 pub record HasOrigins {E H : Type 0} (early : Type 0) (number_of : E → ℕ) (added : List EntryView)
     (state : State E H) (held : ResourcesView) : Type 0 where
   pub stack : Pairwise (IsFrom early number_of added) held.stack state.stack
   pub out : IsPair added state.plan.out held.out
   pub err : IsPair added state.plan.err held.err
 
--- the books of a run: each end that was got was spent or is held; each number was got at most once,
--- and is neither below the next number of the old journal nor at or above that of the new one;
--- there is room to give back all ends that are held; and the children and workers that were started
--- are held
+-- the ledger of a run agrees with its resources: each end that was got was spent or is open; each
+-- number was got at most once, and is neither below the next number of the old journal nor at or
+-- above that of the new one; there is room to spend all open ends; and the children and workers of
+-- the resources are those that were started
 pub record LedgerInvariant (old now : JournalView) (added : List EntryView)
     (held : ResourcesView) : Type 0 where
   pub entries_are : now.entries ≡ old.entries ++ added
@@ -121,11 +121,11 @@ pub record LedgerInvariant (old now : JournalView) (added : List EntryView)
   pub feeds_are : held.feeds ≡ feeds_in added
   pub drains_are : held.drains ≡ drains_in added
 
--- after every entry, at most `bound` + 8 ends were held
+-- after every entry, at most `bound` + 8 ends were open
 abbrev pub OpenEndsWithin : ℕ → List EntryView → Type 0
 OpenEndsWithin bound added = (count : ℕ) → open_count (take count added) ≤ bound + 8
 
--- what is held fits the state: the two stacks have the same length, and the same capture pipes are
+-- the resources fit the state: the two stacks have the same length, and the same capture pipes are
 -- open
 pub record IsShaped {E H : Type 0} (state : State E H) (held : ResourcesView) : Type 0 where
   pub stack : length held.stack ≡ length state.stack
@@ -133,8 +133,8 @@ pub record IsShaped {E H : Type 0} (state : State E H) (held : ResourcesView) : 
   pub err : is_some held.err ≡ is_some state.plan.err
 
 -- the run has succeeded so far: no entry has a fault, the trace begins with the variables and
--- matches the items of the plan, and each end that is held comes from where it should, whatever
--- entries come later
+-- matches the items of the plan, and each open end comes from where it should, whatever entries
+-- come later
 pub record RunInvariant {E H : Type 0} (allows : Allows H) (number_of : E → ℕ) (course : RunContext)
     (state : State E H) (now : JournalView) (held : ResourcesView) : Type 0 where
   pub added : List EntryView
@@ -162,8 +162,8 @@ IsHookError (Hook fault) = Unit {0}
 IsHookError (HookEnd place) = Unit {0}
 IsHookError error = ⊥
 
--- how a run ended: no entry has a fault, and the error is an allocation failure or a hook's, or the
--- error is the fault of the last entry
+-- why a run stopped: no entry has a fault, and the error is an allocation failure or a hook's, or
+-- the error is the fault of the last entry
 pub data StopReason : List EntryView → Error → Type 0 where
   unasked : {added : List EntryView} {error : Error} → IsClean added → IsAllocationFailure error
       → StopReason added error
@@ -172,8 +172,8 @@ pub data StopReason : List EntryView → Error → Type 0 where
   refused : (front : List EntryView) (entry : EntryView) (fault : Fault) → IsClean front
       → fault_of entry ≡ Some fault → StopReason (front ++ entry ∷ []) (System fault)
 
--- a run stopped with an error: the trace matches a prefix of the items, and the books of the run
--- agree with what is held
+-- a run stopped with an error: the trace matches a prefix of the items, and the ledger of the run
+-- agrees with the resources
 pub record StopInvariant {E H : Type 0} (allows : Allows H) (number_of : E → ℕ)
     (course : RunContext)
     (items : List (Item E H)) (now : JournalView) (held : ResourcesView)
@@ -205,7 +205,7 @@ ActionFails {E} {H} allows number_of action now then held kept error =
     → RunInvariant allows number_of course state now held
     → StopInvariant allows number_of course (advance state action).plan.items then kept error
 
--- what an action needs of what is held, besides the ends that it pops
+-- what an action needs of the resources, besides the ends that it pops
 abbrev pub FindsItsEnds : {E H : Type 0} → Action E H → ResourcesView → Type 0
 FindsItsEnds (action.duplicate depth) held = depth < length held.stack
 FindsItsEnds (action.duplicate_capture side.Out) held = IsSome held.out

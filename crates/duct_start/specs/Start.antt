@@ -14,7 +14,7 @@ use Rattle.duct_start.specs.Plan.{Plan}
 use Rattle.duct_start.specs.Row.{RowOpening, Row, SettingView, Route, opens_nothing, opens_input, opens_read, opens_create, opens_capture, as_outside, to_nothing, to_lent, to_opened, says_folder, says_change, says_hook, row}
 use Rattle.duct_start.specs.TreeView.{ModifierView, TreeView, command, pipe, around}
 
--- the caller's ends that a way leads to
+-- the caller's ends that a route leads to
 abbrev pub route_ends : {K E : Type 0} → Route K E → List E
 route_ends (to_lent end) = end ∷ []
 route_ends (as_outside stream) = []
@@ -65,7 +65,7 @@ opens_depth (opens_read path) = 1
 opens_depth (opens_create path) = 1
 opens_depth (opens_capture which) = 0
 
--- what a way adds to the depth of a tree: 1 for a caller's end
+-- what a route adds to the depth of a tree: 1 for a caller's end
 abbrev pub route_depth : {K E : Type 0} → Route K E → ℕ
 route_depth (to_lent end) = 1
 route_depth (as_outside stream) = 0
@@ -84,7 +84,7 @@ depth (command words) = 0
 depth (pipe left right) = max (depth left) (depth right) + 1
 depth (around modifier inner) = modifier_depth modifier + depth inner
 
--- after every entry, at most twice the depth of the tree plus 12 ends are held
+-- after every entry, at most twice the depth of the tree plus 12 ends are open
 abbrev pub KeepsFewOpen : {E H : Type 0} → TreeView E H → List EntryView → Type 0
 KeepsFewOpen tree added = (count : ℕ) → open_count (take count added) ≤ 2 * depth tree + 12
 

@@ -10,9 +10,9 @@ use Rattle.duct_start.specs.Surroundings.{Surroundings, Target, Nothing, ReaderA
 use Rattle.duct_start.specs.Row.{RowOpening, Row, SettingView, Route, opens_nothing, opens_input, opens_read, opens_create, opens_capture, as_outside, to_nothing, to_lent, to_opened, says_folder, says_change, says_hook, row}
 use Rattle.duct_start.specs.TreeView.{ModifierView}
 
--- one request of a plan. The request for a canonical path holds the program; a spawn holds what its
--- command finds, and the command's words. A worker and the reader get an end of the pipe that the
--- item at this place opened
+-- one request of a plan. The request for a canonical path holds the program; a spawn holds the
+-- surroundings and the words of its command. A worker and the reader get an end of the pipe that
+-- the item at this place opened
 pub data Item (E H : Type 0) : Type 0 where
   AskEnvironment : Item E H
   AskPipe : Item E H
@@ -108,14 +108,14 @@ abbrev pub stream_on : Side → Stream
 stream_on side.Out = Out
 stream_on side.Err = Err
 
--- what a node says of a stream that goes this way, where K names streams so
+-- what a node does to a stream that has this route, where K names streams in this way
 abbrev pub turn_of : {K E : Type 0} → (K → Stream) → RowOpening → ℕ → Route K E → Turn E
 turn_of outer opens place (as_outside stream) = Follows (outer stream)
 turn_of outer opens place to_nothing = Decides Nothing
 turn_of outer opens place (to_lent end) = Decides (Lends end)
 turn_of outer opens place to_opened = Decides (opened_target opens place)
 
--- what a node of this row says of each stream
+-- what a node of this row does to each stream
 abbrev pub row_turn : {E H : Type 0} → Row E H → ℕ → Stream → Turn E
 row_turn row place In = turn_of (λ stream. In) row.opens place row.input
 row_turn row place Out = turn_of stream_on row.opens place row.output

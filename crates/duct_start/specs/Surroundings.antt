@@ -1,4 +1,4 @@
--- What a command finds on its path to the root.
+-- The surroundings of a command: what it finds on its path to the root.
 use Rattle.std.specs.Prelude.{ℕ, List, Some, None, if◌then◌else◌, [], ◌∷◌}
 use Rattle.std.specs.declared.option.Option.{Option}
 use Rattle.std.specs.Option.{option_map}
@@ -57,7 +57,7 @@ variable pairs (Replaces vars ∷ changes) name = variable_in name vars
 abbrev pub value_found : Vars → List VariableChange → List ℕ → Option (List ℕ)
 value_found pairs changes name = option_map (λ pair. pair.1) (variable pairs changes name)
 
--- what a command finds with no node around it
+-- the surroundings of a command with no node around it
 abbrev pub root_surroundings : {E H : Type 0} → Surroundings E H
 root_surroundings =
     record {

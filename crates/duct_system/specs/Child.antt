@@ -57,8 +57,8 @@ abbrev pub child_ordered : Order → Obeyed → ChildView → ChildView
 child_ordered order answer child = record child { orders = child.orders ++ (order, answer) ∷ [] }
 
 -- a child was given an order: it was noted with its result, which the child may return for an order
--- that is noted; or there was no memory to note it, no request was made, and the result is
--- OutOfMemory, which the child may return for an order that isn't noted; nothing else has changed
+-- that is noted; or it was not noted, and the result is OutOfMemory, which the child may return for
+-- an order that isn't noted; nothing else has changed
 abbrev pub OrdersChild : (ℕ → Order → Bool → Obeyed → Type 0) → Order → ChildView → Obeyed
     → ChildView → Type 0
 OrdersChild may order before answer after =

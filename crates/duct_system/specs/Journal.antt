@@ -20,7 +20,7 @@ pub record Adds (entry : EntryView) (got given : ℕ) (old new : JournalView) : 
   pub next_grows : old.next ≤ new.next
   pub room_is : old.room + got ≤ new.room + given
 
--- no request was made: no entry was added, and the numbers and the room have not fallen
+-- no entry was added, and the numbers and the room have not fallen
 pub record AddsNothing (old new : JournalView) : Type 0 where
   pub entries_are : new.entries ≡ old.entries
   pub added_is : new.added ≡ old.added
@@ -50,7 +50,7 @@ abbrev pub GivesEnds : EntryView → ℕ → JournalView → JournalView → Typ
 GivesEnds entry count old new = Adds entry 0 count old new
 
 -- a call that takes this many ends and fails: its entry was added; or it takes none, the fault is
--- OutOfMemory, and no request was made
+-- OutOfMemory, and no entry was added
 abbrev pub IsRefused : EntryView → ℕ → Fault → JournalView → JournalView → Type 0
 IsRefused entry count fault old new =
     Adds entry 0 count old new ⊎ ((count ≡ 0) × AddsNothing old new × (fault.kind ≡ OutOfMemory))

@@ -28,7 +28,7 @@ pub enum Error {
     /// The sum of the clock's time and the timeout is too great for a `Duration`.
     #[error("deadline out of range")]
     Deadline,
-    /// An allocation failed.
+    /// An allocation failed, an `Arc` can have no further owner, or a count overflowed.
     #[error("out of memory")]
     Memory,
 }

@@ -148,8 +148,10 @@ pub enum Entry {
     Close(u64),
 }
 
-/// A value with a number from the system. No two ends or children of a system have the same number.
-/// A job has the number of the end that it was given.
+/// A value with a number from the system. A job has the number of the end that it was given. An
+/// implementation has to give no two ends or children of a system the same number. No clause states
+/// this: the clauses of `System` give that a new number is at least the journal's `next` before the
+/// call, and below its `next` after it.
 pub trait Numbered: Drop {
     ghost number_of: { Self → ℕ };
 
@@ -179,13 +181,14 @@ pub trait Child: Numbered {
 
     /// Polls the child: returns its exit status if it has ended, and `None` while it runs. Once a
     /// poll has returned an exit status, each later poll returns it again. Fails if the system
-    /// refuses the request. It doesn't block and doesn't allocate.
+    /// refuses the request. An implementation must not block or allocate here; no clause states
+    /// this.
     fn poll(&mut self) -> Result<Option<ExitStatus>, Fault>
         ensures { PollsChild may_answer (child_view self.old) result (child_view self.new) };
 
     /// Kills the child, and doesn't wait until it has ended. Fails if the system refuses the
-    /// request. If the allocation that notes the order fails, no request is made and it fails with
-    /// `OutOfMemory`.
+    /// request. If the allocation that notes the order fails, it fails with `OutOfMemory`, and must
+    /// not make the request; no clause states the latter.
     fn kill(&mut self) -> Result<(), Fault>
         ensures { OrdersChild may_obey Order.Kill (child_view self.old) result
             (child_view self.new) };
@@ -230,9 +233,10 @@ pub trait Job: Numbered {
     /// Its number, and what it stores of the polls so far.
     ghost job_view: { Self → JobView Self.Result };
 
-    /// Polls the job. It doesn't block. Once a poll has returned `Done`, each later poll returns
-    /// the same result, or `Running` if one more owner of the result can't be made. Once a poll has
-    /// returned a fault, each later poll returns it again.
+    /// Polls the job. An implementation must not block here; no clause states this. Once a poll has
+    /// returned `Done`, each later poll returns the same result, or `Running` if one more owner of
+    /// the result can't be made. Once a poll has returned a fault, each later poll returns it
+    /// again.
     fn poll(&mut self) -> Said<Self::Result>
         ensures { PollsJob may_say same refusable (job_view self.old) result (job_view self.new) };
 
@@ -254,9 +258,9 @@ pub trait Clock {
 /// request with its result. A call fails with a fault if the system refuses its request.
 ///
 /// A call that takes no end by value fails with `OutOfMemory` if there is no memory for its entry,
-/// or for the room of the ends that it would return. It then makes no request and adds no entry. A
-/// call that takes an end by value spends it, whatever the result is. It always adds its entry, in
-/// the room that was reserved when the end was returned.
+/// or for the room of the ends that it would return. It then adds no entry, and must not make the
+/// request; no clause states the latter. A call that takes an end by value spends it, whatever the
+/// result is. It always adds its entry, in the room that was reserved when the end was returned.
 ///
 /// Ends and children get their numbers from one count that only grows, also when the journal is
 /// cleared.
@@ -392,14 +396,16 @@ pub trait System {
             GivesEnds (Drain (Self.End.number_of end) (Err fault)) 1 (journal_view self.old)
             (journal_view self.new)) };
 
-    /// Returns a reader of the end. It can't fail and doesn't allocate.
+    /// Returns a reader of the end. It can't fail. An implementation must not allocate here; no
+    /// clause states this.
     fn reader(&mut self, end: Self::End) -> Self::Reader
         requires { 0 < (journal_view self.old).room }
         ensures added { GivesEnds (Reader (Self.End.number_of end)) 1 (journal_view self.old)
             (journal_view self.new) }
         ensures told { may_read (Self.End.number_of end) result };
 
-    /// Closes the end. It can't fail and doesn't allocate.
+    /// Closes the end. It can't fail. An implementation must not allocate here; no clause states
+    /// this.
     fn close(&mut self, end: Self::End)
         requires { 0 < (journal_view self.old).room }
         ensures { GivesEnds (Close (Self.End.number_of end)) 1 (journal_view self.old)

@@ -3,7 +3,7 @@ use duct::{Error, Expression, Output, Pool, System, cmd};
 use std::alloc::Global;
 use std::sync::Arc;
 
-/// Starts `echo hi`, and polls it until it has ended.
+/// Starts `echo hi`, and polls it until it has ended, at most 1,000,001 times.
 pub fn hello<S: System>(alloc: Global, system: &mut S) -> Result<Option<Arc<Output>>, Error> {
     let hello: Expression<S::End> = cmd!(in alloc; "echo", "hi")?;
     let mut pool = Pool::new(alloc);

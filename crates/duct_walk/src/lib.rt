@@ -1,6 +1,7 @@
 //! A start of an expression by a plain recursive walk over the scripted system: a second
 //! implementation beside the library's own, which first makes a flat list and then runs it. For
-//! tests: nothing is proved about it except that it is safe and ends.
+//! tests: the code is proved safe, and each function that can't block is proved to return. One
+//! function has a contract, `endless` in `requests`.
 #![tactic(auto)]
 
 mod command;

@@ -1,5 +1,7 @@
-//! The requests that take ends. The interface requires room for their entries. That room was made
-//! when the ends were returned, so none of these requests fails because there is no room.
+//! The requests that take ends. The interface requires room for their entries, which was made when
+//! the ends were returned. That there is room isn't proved here, so each function checks it.
+//! Without room `close` drops the end, `spawn` drops its ends and uses `Null` in their place, and
+//! the others fail with `OutOfMemory`.
 ghost use Rattle.std.specs.Prelude.{◌≡◌, []};
 ghost use Rattle.duct_system.specs.Streams.{end_of};
 

@@ -24,8 +24,9 @@ fn is_interrupted(error: &io::Error) -> bool
 /// Writes all of the bytes, in order. An interrupted write is retried. If there are no bytes, the
 /// writer isn't called. It blocks while the writer does.
 ///
-/// Fails with `WriteZero` if a write takes none of the bytes, and with any other error of the
-/// writer. A prefix of the bytes was then written, and nothing is retried.
+/// Fails with `WriteZero` if a write takes none of the bytes, with any other error of the writer,
+/// and with `Other` after `u64::MAX` writes. A prefix of the bytes was then written, and nothing is
+/// retried.
 pub fn write_whole<W: Write>(writer: &mut W, bytes: &[u8]) -> io::Result<()>
     ensures whole { OnOk result
         (Appends (W.contents writer.old) (W.contents writer.new) bytes.now) }
@@ -54,7 +55,8 @@ pub fn write_whole<W: Write>(writer: &mut W, bytes: &[u8]) -> io::Result<()>
 /// Writes all of the bytes to the writer, in order, as `write_whole` does. A broken pipe is a
 /// success, though there may be bytes left that nobody reads.
 ///
-/// Fails with the fault of any other error of the writer. A prefix of the bytes was then written.
+/// Fails with the fault of any other error of `write_whole`. A prefix of the bytes was then
+/// written.
 pub fn feed<W: Write>(writer: &mut W, bytes: &[u8]) -> Result<(), Fault>
     ensures { (ending : Result (Unit {0}) ErrorKind)
         × Writes (W.contents writer.old) (W.contents writer.new) bytes.now ending
@@ -79,8 +81,9 @@ fn fault_of_write(error: &io::Error) -> Result<(), Fault>
 /// Reads the reader to EOF and returns its bytes. An interrupted read is retried. Each read may
 /// return up to 64 KiB, and goes straight into the list. It blocks while the reader does.
 ///
-/// Fails with the fault of any other error of the reader, and with `OutOfMemory` if the list can't
-/// grow. The bytes that were read so far are then lost.
+/// Fails with the fault of any other error of the reader, with `OutOfMemory` if the list can't
+/// grow, and with `Other` after `u64::MAX` reads that return bytes, or as many interrupted reads in
+/// a row. The bytes that were read so far are then lost.
 pub fn drain<R: Read>(alloc: Global, reader: &mut R) -> Result<Vec<u8>, Fault>
     ensures bytes { IfOk result
         (λ read. IfSome (R.remaining reader.old) (λ left. read.items ≡ left)) }
@@ -147,8 +150,8 @@ fn read_behind<R: Read>(reader: &mut R, buffer: &mut [u8], at: usize) -> io::Res
     read_retried(reader, &mut buffer[at..])
 }
 
-/// Reads once, and retries a read that is interrupted. Fails with any other error; nothing was then
-/// read. It blocks while the reader does.
+/// Reads once, and retries a read that is interrupted. Fails with any other error, and with `Other`
+/// after `u64::MAX` interrupted reads; nothing was then read. It blocks while the reader does.
 pub fn read_retried<R: Read>(reader: &mut R, buffer: &mut [u8]) -> io::Result<usize>
     ensures bound { ReadsAtMost result buffer.new }
     ensures ok { IfOk result (λ read. Consumes (R.remaining reader.old) (R.remaining reader.new)

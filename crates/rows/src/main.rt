@@ -1,7 +1,7 @@
 //! The program `rows`: reads the files of rows that its arguments name, and tries each row. Prints
 //! a line for each file with the number of texts that were compared, and a line for each row that
 //! differs: its file and line, what was found and what was wanted. Exits with status 1 if a row
-//! differs, if a file can't be read, and if a file compares nothing.
+//! differs, if a file can't be read, and if a file compares nothing and counts no refused row.
 //!
 //! Two options apply to the files after them. With `--quiet` only the rows that differ are printed.
 //! With `--refused` allocations may fail: the rest of a row that reports this is skipped, and the

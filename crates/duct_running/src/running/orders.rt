@@ -65,7 +65,9 @@ impl<S: System> Running<S> {
 
     /// Gives the children to a pool, from left to right, and drops the workers. Each child is
     /// polled once: one that runs is appended to the pool, one that has ended counts as reaped, and
-    /// one whose poll returned a fault counts as lost. It allocates nothing and doesn't block.
+    /// one whose poll returned a fault counts as lost. A pool has room for fewer than 2^63
+    /// children: one that runs and finds no room is dropped and counts as lost. It allocates
+    /// nothing and doesn't block.
     pub fn give_up(self, pool: &mut Pool<S::Child>)
         ensures { IsGiven S.Child.may_answer S.Child.child_view self.children pool.old pool.new }
     {

@@ -47,7 +47,7 @@ fn status_at(commands: &[Word], at: usize) -> ExitStatus
     }
 }
 
-/// Chooses in a part of a shape whose first command has this number.
+/// Chooses the winning command of a part of a shape whose first command has this number.
 pub(crate) fn choose<'a>(shape: &'a Shape, commands: &[Word], first: usize) -> Chosen<'a>
     requires { first + command_count (shape_view shape.now) ≤ length commands.now }
     ensures words { let t = endings_of (shape_view shape.now) first commands.now

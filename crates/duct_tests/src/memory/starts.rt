@@ -16,7 +16,7 @@ use std::alloc::{AllocError, Global};
 use std::sync::Wait;
 
 /// Trees of each kind of node whose hooks don't refuse, one whose hook adds a word and a variable,
-/// and one with more commands and inputs than a list has room for at first.
+/// and one with five commands and three inputs.
 const TREES: [&str; 13] = [
     "a",
     "a stdin_path=i stdout_path=o stderr_path=e",

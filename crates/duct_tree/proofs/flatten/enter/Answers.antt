@@ -6,7 +6,7 @@ use Rattle.duct_run.specs.ActionView.{actions_view}
 use Rattle.duct_run.specs.ScopeView.{scopes_view}
 use Rattle.duct_tree.proofs.Rows.{entered}
 use Rattle.duct_tree.specs.EffectView.{effect_view}
-use Rattle.duct_tree.specs.NodeContextView.{source_view, sources_view}
+use Rattle.duct_tree.specs.NodeContextView.{sources_view}
 use Rattle.duct_tree.specs.ActionListView.{action_list_view, with_scope}
 use Rattle.duct_tree.specs.NodeView.{modifier_view}
 use Rattle.duct_tree.proofs.flatten.enter.Goals as goal
