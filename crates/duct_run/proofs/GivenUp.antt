@@ -29,8 +29,8 @@ use Rattle.duct_run.specs.ResourcesView.{AreNew, resources_view}
 use Rattle.duct_run.specs.declared.resources.Resources.{Resources}
 
 module _ {E H C F D V W : Type 0} (allows : Allows H) (refuses : Refuses H) (number_of : E → ℕ) (child : C → ChildView) (feed : F → JobView V) (drain : D → JobView W)
-    (course : RunContext) (items : List (Item E H)) (now : JournalView) (held : Resources E C F D) (error : Error)
-    (run : StoppedWithCause allows refuses number_of course items now (resources_view number_of child feed drain held) error) where
+    (context : RunContext) (items : List (Item E H)) (now : JournalView) (held : Resources E C F D) (error : Error)
+    (run : StoppedWithCause allows refuses number_of context items now (resources_view number_of child feed drain held) error) where
   abbrev seen : ResourcesView
   seen = resources_view number_of child feed drain held
 
@@ -49,21 +49,21 @@ module _ {E H C F D V W : Type 0} (allows : Allows H) (refuses : Refuses H) (num
 
   -- there is room to close all that it held
   pub room_left : length (ends_of_resources number_of held) ≤ now.room
-  room_left = omega (arith, as_many, refused_room allows refuses number_of course items now seen error run)
+  room_left = omega (arith, as_many, refused_room allows refuses number_of context items now seen error run)
 
   module _ (then : JournalView) (closes : Closes (ends_of_resources number_of held) now then) where
-    pub given_up : (tree : TreeView E H) (plan : Plan E H) → course.base ≡ ceiling number_of tree
-        → course.bound ≡ 2 * depth tree + 4 → plan.items ≡ items
-        → StartRefused allows refuses number_of tree plan course.old then error
-    given_up tree plan base_is bound_is items_are = refused_closed allows refuses number_of course items now then seen error run (ends_of_resources number_of held) same_ends as_many closes tree plan base_is bound_is items_are
+    pub given_up : (tree : TreeView E H) (plan : Plan E H) → context.base ≡ ceiling number_of tree
+        → context.bound ≡ 2 * depth tree + 4 → plan.items ≡ items
+        → StartRefused allows refuses number_of tree plan context.old then error
+    given_up tree plan base_is bound_is items_are = refused_closed allows refuses number_of context items now then seen error run (ends_of_resources number_of held) same_ends as_many closes tree plan base_is bound_is items_are
 
     pub left_started : (may : ℕ → Answer → Type 0) (before mid after : PoolView C)
         → AreNew child feed drain held
         → Leaves may [] (pool_view child before) (pool_view child mid)
         → IsGiven may child held.children.items mid after
         → length before.children
-        + length (children_in (segment course.old.entries then.entries)) < 2 ^ 63
-        → LeavesStarted may child (segment course.old.entries then.entries) before after
+        + length (children_in (segment context.old.entries then.entries)) < 2 ^ 63
+        → LeavesStarted may child (segment context.old.entries then.entries) before after
     left_started may before mid after new swept given fits =
-        leaves_refused may child held.children.items (segment course.old.entries then.entries) before mid after swept given
-        (refused_children allows refuses number_of course items now then seen error run (ends_of_resources number_of held) same_ends as_many closes) new.children fits
+        leaves_refused may child held.children.items (segment context.old.entries then.entries) before mid after swept given
+        (refused_children allows refuses number_of context items now then seen error run (ends_of_resources number_of held) same_ends as_many closes) new.children fits

@@ -63,12 +63,12 @@ module _ {E H C F D V W : Type 0} (child : C → ChildView) (feed : F → JobVie
       }
 
   -- by the journal before and after
-  pub runs_started : (allows : Allows H) (course : RunContext) (state : State E H) (now : JournalView)
-      → RunInvariant allows number_of course state now (resources_view number_of child feed drain held)
+  pub runs_started : (allows : Allows H) (context : RunContext) (state : State E H) (now : JournalView)
+      → RunInvariant allows number_of context state now (resources_view number_of child feed drain held)
       → IsRunning child feed drain tree (is_some held.output_worker) (is_some held.error_worker)
-      (segment course.old.entries now.entries) run
-  runs_started allows course state now stands =
+      (segment context.old.entries now.entries) run
+  runs_started allows context state now stands =
       let added = stands.added in
       subst (λ (l : List EntryView). IsRunning child feed drain tree (is_some held.output_worker) (is_some held.error_worker) l
       run)
-      (sym (segment_is course.old.entries now.entries added stands.books.entries_are)) (runs_new course.old now added stands.books)
+      (sym (segment_is context.old.entries now.entries added stands.books.entries_are)) (runs_new context.old now added stands.books)

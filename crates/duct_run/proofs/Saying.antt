@@ -20,13 +20,13 @@ module _ {E H : Type 0} (allows : Allows H) (number_of : E → ℕ) (pairs : Var
     (now next : JournalView) (held kept : ResourcesView) where
   pub goes_saying : ActionSucceeds allows number_of act now next held kept
       → ActionSucceedsWith allows number_of pairs act now next held kept
-  goes_saying goes = λ course state same. goes course state
+  goes_saying goes = λ context state same. goes context state
 
   pub quits_refused : (refuses : Refuses H) (error : Error)
       → (IsHookError error → ⊥) × ActionFails allows number_of act now next held kept error
       → ActionFailsWith allows refuses number_of pairs act now next held kept error
-  quits_refused refuses error quits = λ course state same ready stands.
-      plain_refused allows refuses number_of course (advance state act).plan.items next kept error quits.0 (quits.1 course state ready stands)
+  quits_refused refuses error quits = λ context state same ready stands.
+      plain_refused allows refuses number_of context (advance state act).plan.items next kept error quits.0 (quits.1 context state ready stands)
 
   pub ok_saying : (answer : Result (Unit {0}) Error)
       → OnOk answer (ActionSucceeds allows number_of act now next held kept)

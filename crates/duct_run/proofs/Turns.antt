@@ -93,11 +93,11 @@ module _ {E C F D V W : Type 0} (end : E → ℕ) (child : C → ChildView) (fee
   }
 
   -- with more room the same is held
-  pub stood_same : {H : Type 0} (allows : Allows H) (course : RunContext) (goal : State E H)
+  pub stood_same : {H : Type 0} (allows : Allows H) (context : RunContext) (goal : State E H)
       (actions : List (Action E H)) (now : JournalView)
-      → ReadyForActions allows end course goal actions now (resources_view end child feed drain old)
-      → ReadyForActions allows end course goal actions now (resources_view end child feed drain new)
-  stood_same allows course goal actions now stood = subst (λ (h : ResourcesView). ReadyForActions allows end course goal actions now h) (sym held_same) stood
+      → ReadyForActions allows end context goal actions now (resources_view end child feed drain old)
+      → ReadyForActions allows end context goal actions now (resources_view end child feed drain new)
+  stood_same allows context goal actions now stood = subst (λ (h : ResourcesView). ReadyForActions allows end context goal actions now h) (sym held_same) stood
 
   pub new_same : AreNew child feed drain old → AreNew child feed drain new
   new_same is = record {
@@ -126,10 +126,10 @@ module _ {E H : Type 0} (allows : Allows H) (refuses : Refuses H) (number_of : E
   stopped_by_as entries place error None p stays stopped = absurd stopped
   stopped_by_as entries place error (Some x) p stays stopped = subst (λ (q : Option (Item E H)). StoppedBy allows refuses number_of entries place q error) (sym (stays x refl)) stopped
 
-  module _ (course : RunContext) where
+  module _ (context : RunContext) where
     refused_more : (items more : List (Item E H)) (now : JournalView) (held : ResourcesView)
-        (error : Error) → StoppedWithCause allows refuses number_of course items now held error →
-        StoppedWithCause allows refuses number_of course (items ++ more) now held error
+        (error : Error) → StoppedWithCause allows refuses number_of context items now held error →
+        StoppedWithCause allows refuses number_of context (items ++ more) now held error
     refused_more items more now held error refused =
         let stopped = refused.stopped in
         record {
@@ -137,7 +137,7 @@ module _ {E H : Type 0} (allows : Allows H) (refuses : Refuses H) (number_of : E
             added = stopped.added;
             books = stopped.books;
             few = stopped.few;
-            answers = λ l later. answers_front (GivesUnder (IsEarly course) (stopped.added ++ l)) allows number_of (stopped.added ++ l) 0 items more (trace stopped.added) (stopped.answers l later);
+            answers = λ l later. answers_front (GivesUnder (IsEarly context) (stopped.added ++ l)) allows number_of (stopped.added ++ l) 0 items more (trace stopped.added) (stopped.answers l later);
             ended = stopped.ended;
           };
           cause = λ is l later.
@@ -148,16 +148,16 @@ module _ {E H : Type 0} (allows : Allows H) (refuses : Refuses H) (number_of : E
     -- a run is at its goal when no action is left
     pub stands_done : (goal : State E H) (actions : List (Action E H)) (now : JournalView)
         (held : ResourcesView) → actions ≡ []
-        → ReadyForActions allows number_of course goal actions now held
-        → RunInvariant allows number_of course goal now held
+        → ReadyForActions allows number_of context goal actions now held
+        → RunInvariant allows number_of context goal now held
     stands_done goal actions now held none stood =
         let is : stood.state ≡ goal = ap (λ (l : List (Action E H)). after_actions stood.state l) (sym none) ∙ stood.goal_is in
-        subst (λ (s : State E H). RunInvariant allows number_of course s now held) is stood.stands
+        subst (λ (s : State E H). RunInvariant allows number_of context s now held) is stood.stands
 
-    module _ (pairs : Vars) (same : course.pairs ≡ pairs) (goal : State E H) (actions rest : List (Action E H)) (act : Action E H) (now : JournalView) (kept : ResourcesView)
-        (stood : ReadyForActions allows number_of course goal actions now kept) (is : actions ≡ act ∷ rest) where
-      ready_here : AreReady number_of course.base course.bound stood.state (act ∷ rest)
-      ready_here = subst (λ (l : List (Action E H)). AreReady number_of course.base course.bound stood.state l) is stood.ready
+    module _ (pairs : Vars) (same : context.pairs ≡ pairs) (goal : State E H) (actions rest : List (Action E H)) (act : Action E H) (now : JournalView) (kept : ResourcesView)
+        (stood : ReadyForActions allows number_of context goal actions now kept) (is : actions ≡ act ∷ rest) where
+      ready_here : AreReady number_of context.base context.bound stood.state (act ∷ rest)
+      ready_here = subst (λ (l : List (Action E H)). AreReady number_of context.base context.bound stood.state l) is stood.ready
 
       goal_here : after_actions stood.state (act ∷ rest) ≡ goal
       goal_here = ap (λ (l : List (Action E H)). after_actions stood.state l) (sym is) ∙ stood.goal_is
@@ -165,10 +165,10 @@ module _ {E H : Type 0} (allows : Allows H) (refuses : Refuses H) (number_of : E
       -- the action succeeds
       pub goes_on_saying : (next : JournalView) (other : ResourcesView)
           → ActionSucceedsWith allows number_of pairs act now next kept other
-          → ReadyForActions allows number_of course goal rest next other
+          → ReadyForActions allows number_of context goal rest next other
       goes_on_saying next other goes = record {
         state = advance stood.state act;
-        stands = goes course stood.state same ready_here.0 stood.stands;
+        stands = goes context stood.state same ready_here.0 stood.stands;
         ready = ready_here.1;
         goal_is = goal_here;
       }
@@ -176,22 +176,22 @@ module _ {E H : Type 0} (allows : Allows H) (refuses : Refuses H) (number_of : E
       -- the action fails
       pub refused_now : (next : JournalView) (other : ResourcesView) (error : Error)
           → ActionFailsWith allows refuses number_of pairs act now next kept other error
-          → StoppedWithCause allows refuses number_of course goal.plan.items next other error
+          → StoppedWithCause allows refuses number_of context goal.plan.items next other error
       refused_now next other error refused =
           let more = items_grow (advance stood.state act) rest in
           let all : (advance stood.state act).plan.items ++ more.0 ≡ goal.plan.items = sym more.1 ∙ ap (λ (x : State E H). x.plan.items) goal_here in
-          subst (λ (l : List (Item E H)). StoppedWithCause allows refuses number_of course l next other error) all
-          (refused_more (advance stood.state act).plan.items more.0 next other error (refused course stood.state same ready_here.0 stood.stands))
+          subst (λ (l : List (Item E H)). StoppedWithCause allows refuses number_of context l next other error) all
+          (refused_more (advance stood.state act).plan.items more.0 next other error (refused context stood.state same ready_here.0 stood.stands))
 
       -- on allocation failure no request was made
       pub memory_refused : (error : Error) → error ≡ Memory
-          → StoppedWithCause allows refuses number_of course goal.plan.items now kept error
-      memory_refused error memory = plain_refused allows refuses number_of course goal.plan.items now kept error (λ hooks. subst (λ (e : Error). IsHookError e) memory hooks)
-          (memory_now allows number_of course goal actions rest act now kept stood is now error (still now) (subst (λ (e : Error). IsAllocationFailure e) (sym memory) tt))
+          → StoppedWithCause allows refuses number_of context goal.plan.items now kept error
+      memory_refused error memory = plain_refused allows refuses number_of context goal.plan.items now kept error (λ hooks. subst (λ (e : Error). IsHookError e) memory hooks)
+          (memory_now allows number_of context goal actions rest act now kept stood is now error (still now) (subst (λ (e : Error). IsAllocationFailure e) (sym memory) tt))
 
       -- what the action needs is held, and there is room to give it away
       pub can_here : (pop_count act ≤ length kept.stack) × FindsItsEnds act kept
-      can_here = can_now allows number_of course goal actions rest act now kept stood is
+      can_here = can_now allows number_of context goal actions rest act now kept stood is
 
       pub room_here : length (open_ends kept) ≤ now.room
       room_here = omega (arith, stood.stands.books.room_is)

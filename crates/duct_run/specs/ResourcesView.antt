@@ -73,5 +73,5 @@ pub record HasSameWorkers {E C F D : Type 0} (old new : Resources E C F D) : Typ
 abbrev pub SomeReadyForActions : {E H : Type 0} → Allows H → (E → ℕ) → Vars → List (Action E H)
     → JournalView → ResourcesView → Type 0
 SomeReadyForActions {E} {H} allows number_of pairs actions now held =
-    (course : RunContext) × (goal : State E H) × (course.pairs ≡ pairs)
-    × ReadyForActions allows number_of course goal actions now held
+    (context : RunContext) × (goal : State E H) × (context.pairs ≡ pairs)
+    × ReadyForActions allows number_of context goal actions now held

@@ -83,17 +83,17 @@ pub(crate) fn perform_all<S: System, H: Hook>(
     requires stood { SomeReadyForActions H.allows S.End.number_of (map pair_text pairs.now.items)
         (resolved_all (all_scopes scopes.now) (actions_view actions.now)) (S.journal_view sys.old)
         (resources_of ⟦<S as Seen>⟧.views held.old) }
-    ensures ok { OnOk result ((course : RunContext) (goal : State S.End H) → course.pairs
-        ≡ map pair_text pairs.now.items → ReadyForActions H.allows S.End.number_of course goal
+    ensures ok { OnOk result ((context : RunContext) (goal : State S.End H) → context.pairs
+        ≡ map pair_text pairs.now.items → ReadyForActions H.allows S.End.number_of context goal
         (resolved_all (all_scopes scopes.now) (actions_view actions.now)) (S.journal_view sys.old)
-        (resources_of ⟦<S as Seen>⟧.views held.old) → RunInvariant H.allows S.End.number_of course
+        (resources_of ⟦<S as Seen>⟧.views held.old) → RunInvariant H.allows S.End.number_of context
         goal (S.journal_view sys.new) (resources_of ⟦<S as Seen>⟧.views held.new)) }
-    ensures err { IfErr result (λ error. (course : RunContext) (goal : State S.End H) → course.pairs
-        ≡ map pair_text pairs.now.items → ReadyForActions H.allows S.End.number_of course goal
-        (resolved_all (all_scopes scopes.now) (actions_view actions.now)) (S.journal_view sys.old)
-        (resources_of ⟦<S as Seen>⟧.views held.old) → StoppedWithCause H.allows H.refuses
-        S.End.number_of course goal.plan.items (S.journal_view sys.new)
-        (resources_of ⟦<S as Seen>⟧.views held.new) error) }
+    ensures err { IfErr result (λ error. (context : RunContext) (goal : State S.End H)
+        → context.pairs ≡ map pair_text pairs.now.items → ReadyForActions H.allows S.End.number_of
+        context goal (resolved_all (all_scopes scopes.now) (actions_view actions.now))
+        (S.journal_view sys.old) (resources_of ⟦<S as Seen>⟧.views held.old)
+        → StoppedWithCause H.allows H.refuses S.End.number_of context goal.plan.items
+        (S.journal_view sys.new) (resources_of ⟦<S as Seen>⟧.views held.new) error) }
     ensures new { IsNew ⟦<S as Seen>⟧.views held.old → IsNew ⟦<S as Seen>⟧.views held.new }
     ensures workers { HasSameWorkers held.old held.new }
     ensures pool { PoolLeaves ⟦<S as Seen>⟧.views pool.old pool.new }

@@ -48,10 +48,10 @@ pub handed_few : {A : Type 0} (s : PerStream (Stdio A)) (rest : List A) (bound :
     → length rest + 3 < bound → length (stack_with_streams s rest) < bound
 handed_few s rest bound low = omega (arith, handed_long s rest, few_ends s.error, few_ends s.output, few_ends s.input, low)
 
-module _ {E H : Type 0} (allows : Allows H) (number_of : E → ℕ) (course : RunContext) (state : State E H) (held : ResourcesView) (ends : List E) (below : All (λ end. number_of end < course.base) ends)
-    (low : length state.stack + 3 < course.bound) where
+module _ {E H : Type 0} (allows : Allows H) (number_of : E → ℕ) (context : RunContext) (state : State E H) (held : ResourcesView) (ends : List E) (below : All (λ end. number_of end < context.base) ends)
+    (low : length state.stack + 3 < context.bound) where
   abbrev StandsBy : PerStream (Stdio ℕ) → PerStream (Stdio (Target E)) → JournalView → Type 0
-  StandsBy s t now = RunInvariant allows number_of course (with_stack (stack_with_streams t state.stack) state) now (resources_with_stack (stack_with_streams s held.stack) held)
+  StandsBy s t now = RunInvariant allows number_of context (with_stack (stack_with_streams t state.stack) state) now (resources_with_stack (stack_with_streams s held.stack) held)
 
   -- each of the three streams is changed at its position on the stack
   pub input_settled : (s : PerStream (Stdio ℕ)) (t : PerStream (Stdio (Target E))) (p : Port)
@@ -65,15 +65,15 @@ module _ {E H : Type 0} (allows : Allows H) (number_of : E → ℕ) (course : Ru
       let same : length over ≡ length above = omega (arith, length-append (end_of s.error) (end_of s.output), length-append (end_of t.error) (end_of t.output), alike_long s.error t.error alike.error, alike_long s.output t.output alike.output) in
       let numbers = λ (x : Stdio ℕ). append_assoc (end_of s.error) (end_of s.output) (end_of x ++ held.stack) in
       let targets = λ (x : Stdio (Target E)). append_assoc (end_of t.error) (end_of t.output) (end_of x ++ state.stack) in
-      let few : length (above ++ (end_of t.input ++ state.stack)) < course.bound = omega (arith, ap (λ l. length l) (targets t.input), handed_few t state.stack course.bound low) in
-      let first : RunInvariant allows number_of course (with_stack (above ++ (end_of t.input ++ state.stack)) state) now (resources_with_stack (over ++ (end_of s.input ++ held.stack)) held) =
-      subst (λ l. RunInvariant allows number_of course (with_stack l state) now (resources_with_stack (over ++ (end_of s.input ++ held.stack)) held)) (sym (targets t.input))
-      (subst (λ l. RunInvariant allows number_of course (with_stack (stack_with_streams t state.stack) state) now (resources_with_stack l held)) (sym (numbers s.input)) stands) in
-      let done = settles course state held over held.stack above state.stack t.input alike.input same below few first in
+      let few : length (above ++ (end_of t.input ++ state.stack)) < context.bound = omega (arith, ap (λ l. length l) (targets t.input), handed_few t state.stack context.bound low) in
+      let first : RunInvariant allows number_of context (with_stack (above ++ (end_of t.input ++ state.stack)) state) now (resources_with_stack (over ++ (end_of s.input ++ held.stack)) held) =
+      subst (λ l. RunInvariant allows number_of context (with_stack l state) now (resources_with_stack (over ++ (end_of s.input ++ held.stack)) held)) (sym (targets t.input))
+      (subst (λ l. RunInvariant allows number_of context (with_stack (stack_with_streams t state.stack) state) now (resources_with_stack l held)) (sym (numbers s.input)) stands) in
+      let done = settles context state held over held.stack above state.stack t.input alike.input same below few first in
       let to = stream_after_hook (map Lends ends) p t.input in (
         record { input = done.0; output = alike.output; error = alike.error },
-        subst (λ l. RunInvariant allows number_of course (with_stack (stack_with_streams (with_input to t) state.stack) state) then (resources_with_stack l held)) (numbers new)
-            (subst (λ l. RunInvariant allows number_of course (with_stack l state) then (resources_with_stack (over ++ (end_of new ++ held.stack)) held)) (targets to) done.1),
+        subst (λ l. RunInvariant allows number_of context (with_stack (stack_with_streams (with_input to t) state.stack) state) then (resources_with_stack l held)) (numbers new)
+            (subst (λ l. RunInvariant allows number_of context (with_stack l state) then (resources_with_stack (over ++ (end_of new ++ held.stack)) held)) (targets to) done.1),
       )
 
   pub output_settled : (s : PerStream (Stdio ℕ)) (t : PerStream (Stdio (Target E))) (p : Port)
@@ -82,8 +82,8 @@ module _ {E H : Type 0} (allows : Allows H) (number_of : E → ℕ) (course : Ru
       → StandsBy s t now → let turned = with_output (stream_after_hook (map Lends ends) p t.output) t in
       AreAlike (with_output new s) turned × StandsBy (with_output new s) turned then
   output_settled s t p new now then alike settles stands =
-      let done = settles course state held (end_of s.error) (end_of s.input ++ held.stack) (end_of t.error) (end_of t.input ++ state.stack) t.output alike.output (alike_long s.error t.error alike.error) below
-      (handed_few t state.stack course.bound low) stands in
+      let done = settles context state held (end_of s.error) (end_of s.input ++ held.stack) (end_of t.error) (end_of t.input ++ state.stack) t.output alike.output (alike_long s.error t.error alike.error) below
+      (handed_few t state.stack context.bound low) stands in
       (record { input = alike.input; output = done.0; error = alike.error }, done.1)
 
   pub error_settled : (s : PerStream (Stdio ℕ)) (t : PerStream (Stdio (Target E))) (p : Port)
@@ -92,17 +92,17 @@ module _ {E H : Type 0} (allows : Allows H) (number_of : E → ℕ) (course : Ru
       → StandsBy s t now → let turned = with_error (stream_after_hook (map Lends ends) p t.error) t in
       AreAlike (with_error new s) turned × StandsBy (with_error new s) turned then
   error_settled s t p new now then alike settles stands =
-      let done = settles course state held [] (end_of s.output ++ (end_of s.input ++ held.stack)) [] (end_of t.output ++ (end_of t.input ++ state.stack)) t.error alike.error refl below
-      (handed_few t state.stack course.bound low) stands in
+      let done = settles context state held [] (end_of s.output ++ (end_of s.input ++ held.stack)) [] (end_of t.output ++ (end_of t.input ++ state.stack)) t.error alike.error refl below
+      (handed_few t state.stack context.bound low) stands in
       (record { input = alike.input; output = alike.output; error = done.0 }, done.1)
 
   -- a stream that could not be changed
   pub stream_unsettled : (s : PerStream (Stdio ℕ)) (t : PerStream (Stdio (Target E)))
       (now then : JournalView) (error : Error)
       → SettleFails {E = E} {H = H} allows number_of ends now then error → StandsBy s t now
-      → FailsWithoutHook allows number_of course state then (resources_with_stack (stack_with_streams s held.stack) held) error
+      → FailsWithoutHook allows number_of context state then (resources_with_stack (stack_with_streams s held.stack) held) error
   stream_unsettled s t now then error unsettled stands =
-      unsettled course state held (stack_with_streams s held.stack) (stack_with_streams t state.stack) below (handed_few t state.stack course.bound low) stands
+      unsettled context state held (stack_with_streams s held.stack) (stack_with_streams t state.stack) below (handed_few t state.stack context.bound low) stands
 
 module _ {H O : Type 0} (allows : Allows H) where
   -- a chain with one more hook
@@ -132,11 +132,11 @@ hooks_by_target-append : {E H : Type 0} (hooks more : List (H × List E))
     → hooks_by_target (hooks ++ more) ≡ hooks_by_target hooks ++ hooks_by_target more
 hooks_by_target-append hooks more = map-append (λ hook. (hook.0, map Lends hook.1)) hooks more
 
-module _ {E H : Type 0} (allows : Allows H) (number_of : E → ℕ) (course : RunContext) (state : State E H) (held : ResourcesView) (before : SpecWithStreams (Target E)) (hooks : List (H × List E)) (hook : H)
-    (ends : List E) (low : length state.stack + 3 < course.bound) (below : AreBelow number_of course.base ((hook, ends) ∷ [])) (now : JournalView) (spec made : SpecView) (s : PerStream (Stdio ℕ))
-    (staged : HooksInvariant allows number_of course state held before hooks now spec s) where
-  lower : All (λ end. number_of end < course.base) ends
-  lower = All-head (λ pair. All (λ end. number_of end < course.base) pair.1) (hook, ends) [] below
+module _ {E H : Type 0} (allows : Allows H) (number_of : E → ℕ) (context : RunContext) (state : State E H) (held : ResourcesView) (before : SpecWithStreams (Target E)) (hooks : List (H × List E)) (hook : H)
+    (ends : List E) (low : length state.stack + 3 < context.bound) (below : AreBelow number_of context.base ((hook, ends) ∷ [])) (now : JournalView) (spec made : SpecView) (s : PerStream (Stdio ℕ))
+    (staged : HooksInvariant allows number_of context state held before hooks now spec s) where
+  lower : All (λ end. number_of end < context.base) ends
+  lower = All-head (λ pair. All (λ end. number_of end < context.base) pair.1) (hook, ends) [] below
 
   -- one more hook has run: it has an end at each place in its spec, and each stream was changed
   pub staged_more : (i o e : Stdio ℕ) (one two then : JournalView)
@@ -144,17 +144,17 @@ module _ {E H : Type 0} (allows : Allows H) (number_of : E → ℕ) (course : Ru
       → SettleSucceeds {E = E} {H = H} allows number_of ends made.input now one s.input i
       → SettleSucceeds {E = E} {H = H} allows number_of ends made.output one two s.output o
       → SettleSucceeds {E = E} {H = H} allows number_of ends made.error two then s.error e
-      → HooksInvariant allows number_of course state held before (hooks ++ (hook, ends) ∷ []) then
+      → HooksInvariant allows number_of context state held before (hooks ++ (hook, ends) ∷ []) then
       (after_hook (map Lends ends) made staged.wired).spec (record { input = i; output = o; error = e })
   staged_more i o e one two then makes there input output error =
       let w = staged.wired in
       let lent = map Lends ends in
       let t = streams_in w in
-      let first = input_settled allows number_of course state held ends lower low s t made.input i now one staged.alike input staged.stands in
+      let first = input_settled allows number_of context state held ends lower low s t made.input i now one staged.alike input staged.stands in
       let ti = with_input (stream_after_hook lent made.input t.input) t in
-      let second = output_settled allows number_of course state held ends lower low (with_input i s) ti made.output o one two first.0 output first.1 in
+      let second = output_settled allows number_of context state held ends lower low (with_input i s) ti made.output o one two first.0 output first.1 in
       let to = with_output (stream_after_hook lent made.output t.output) ti in
-      let third = error_settled allows number_of course state held ends lower low (with_output o (with_input i s)) to made.error e two then second.0 error second.1 in
+      let third = error_settled allows number_of context state held ends lower low (with_output o (with_input i s)) to made.error e two then second.0 error second.1 in
       let is : missing_place (length lent) made ≡ None = ap (λ n. missing_place n made) (length-map ends Lends) ∙ there in
       let changes : HookChanges allows hook lent w (after_hook lent made w) = (made, subst (λ (x : SpecView). HookMakes allows hook x made) (sym staged.spec_is) makes, is, refl) in
       record {
@@ -168,7 +168,7 @@ module _ {E H : Type 0} (allows : Allows H) (number_of : E → ℕ) (course : Ru
   -- the hook stopped the command
   pub hooked_by : (refuses : Refuses H) (error : Error)
       → HookStops allows refuses hook (map Lends ends) staged.wired error
-      → StoppedByHook allows refuses number_of course state held before (hooks ++ (hook, ends) ∷ []) now s error
+      → StoppedByHook allows refuses number_of context state held before (hooks ++ (hook, ends) ∷ []) now s error
   hooked_by refuses error stops = record {
     targets = stack_with_streams (streams_in staged.wired) state.stack;
     stands = staged.stands;
@@ -185,39 +185,39 @@ module _ {E H : Type 0} (allows : Allows H) (number_of : E → ℕ) (hook : H) (
       → HooksSucceed allows number_of ((hook, ends) ∷ []) now then spec
       (record made { input = resolved_port made.input; output = resolved_port made.output; error = resolved_port made.error })
       s (record { input = i; output = o; error = e })
-  alters_one i o e now one two then makes there input output error = λ course state held before hooks low below staged.
-      staged_more allows number_of course state held before hooks hook ends low below now spec made s staged i o e one two then makes there input output error
+  alters_one i o e now one two then makes there input output error = λ context state held before hooks low below staged.
+      staged_more allows number_of context state held before hooks hook ends low below now spec made s staged i o e one two then makes there input output error
 
   module _ (refuses : Refuses H) where
     pub breaks_fault : (now : JournalView) (fault : Fault) → refuses hook spec fault
         → HooksFail allows refuses number_of ((hook, ends) ∷ []) now now spec s s (Hook fault)
-    breaks_fault now fault refused = λ course state held before hooks low below staged.
-        inr (hooked_by allows number_of course state held before hooks hook ends low below now spec made s staged refuses (Hook fault)
+    breaks_fault now fault refused = λ context state held before hooks low below staged.
+        inr (hooked_by allows number_of context state held before hooks hook ends low below now spec made s staged refuses (Hook fault)
         (subst (λ (x : SpecView). refuses hook x fault) (sym staged.spec_is) refused))
 
     pub breaks_end : (now : JournalView) (place : ℕ) → HookMakes allows hook spec made
         → missing_place (length ends) made ≡ Some place
         → HooksFail allows refuses number_of ((hook, ends) ∷ []) now now spec s s (HookEnd place)
-    breaks_end now place makes none = λ course state held before hooks low below staged.
-        inr (hooked_by allows number_of course state held before hooks hook ends low below now spec made s staged refuses (HookEnd place)
+    breaks_end now place makes none = λ context state held before hooks low below staged.
+        inr (hooked_by allows number_of context state held before hooks hook ends low below now spec made s staged refuses (HookEnd place)
         (made, subst (λ (x : SpecView). HookMakes allows hook x made) (sym staged.spec_is) makes, ap (λ n. missing_place n made) (length-map ends Lends) ∙ none))
 
     pub breaks_input : (error : Error) (now then : JournalView)
         → SettleFails {E = E} {H = H} allows number_of ends now then error
         → HooksFail allows refuses number_of ((hook, ends) ∷ []) now then spec s s error
-    breaks_input error now then unsettled = λ course state held before hooks low below staged.
-        let lower = All-head (λ pair. All (λ end. number_of end < course.base) pair.1) (hook, ends) [] below in
-        inl (stream_unsettled allows number_of course state held ends lower low s (streams_in staged.wired) now then error unsettled staged.stands)
+    breaks_input error now then unsettled = λ context state held before hooks low below staged.
+        let lower = All-head (λ pair. All (λ end. number_of end < context.base) pair.1) (hook, ends) [] below in
+        inl (stream_unsettled allows number_of context state held ends lower low s (streams_in staged.wired) now then error unsettled staged.stands)
 
     pub breaks_output : (error : Error) (i : Stdio ℕ) (now one then : JournalView)
         → SettleSucceeds {E = E} {H = H} allows number_of ends made.input now one s.input i
         → SettleFails {E = E} {H = H} allows number_of ends one then error
         → HooksFail allows refuses number_of ((hook, ends) ∷ []) now then spec s (with_input i s) error
-    breaks_output error i now one then input unsettled = λ course state held before hooks low below staged.
-        let lower = All-head (λ pair. All (λ end. number_of end < course.base) pair.1) (hook, ends) [] below in
+    breaks_output error i now one then input unsettled = λ context state held before hooks low below staged.
+        let lower = All-head (λ pair. All (λ end. number_of end < context.base) pair.1) (hook, ends) [] below in
         let t = streams_in staged.wired in
-        let first = input_settled allows number_of course state held ends lower low s t made.input i now one staged.alike input staged.stands in
-        inl (stream_unsettled allows number_of course state held ends lower low (with_input i s) (with_input (stream_after_hook (map Lends ends) made.input t.input) t) one then error unsettled first.1)
+        let first = input_settled allows number_of context state held ends lower low s t made.input i now one staged.alike input staged.stands in
+        inl (stream_unsettled allows number_of context state held ends lower low (with_input i s) (with_input (stream_after_hook (map Lends ends) made.input t.input) t) one then error unsettled first.1)
 
     pub breaks_error : (error : Error) (i o : Stdio ℕ) (now one two then : JournalView)
         → SettleSucceeds {E = E} {H = H} allows number_of ends made.input now one s.input i
@@ -225,19 +225,19 @@ module _ {E H : Type 0} (allows : Allows H) (number_of : E → ℕ) (hook : H) (
         → SettleFails {E = E} {H = H} allows number_of ends two then error
         → HooksFail allows refuses number_of ((hook, ends) ∷ []) now then spec s
         (with_output o (with_input i s)) error
-    breaks_error error i o now one two then input output unsettled = λ course state held before hooks low below staged.
-        let lower = All-head (λ pair. All (λ end. number_of end < course.base) pair.1) (hook, ends) [] below in
+    breaks_error error i o now one two then input output unsettled = λ context state held before hooks low below staged.
+        let lower = All-head (λ pair. All (λ end. number_of end < context.base) pair.1) (hook, ends) [] below in
         let t = streams_in staged.wired in
         let ti = with_input (stream_after_hook (map Lends ends) made.input t.input) t in
-        let first = input_settled allows number_of course state held ends lower low s t made.input i now one staged.alike input staged.stands in
-        let second = output_settled allows number_of course state held ends lower low (with_input i s) ti made.output o one two first.0 output first.1 in
-        inl (stream_unsettled allows number_of course state held ends lower low (with_output o (with_input i s)) (with_output (stream_after_hook (map Lends ends) made.output t.output) ti) two then error unsettled second.1)
+        let first = input_settled allows number_of context state held ends lower low s t made.input i now one staged.alike input staged.stands in
+        let second = output_settled allows number_of context state held ends lower low (with_input i s) ti made.output o one two first.0 output first.1 in
+        inl (stream_unsettled allows number_of context state held ends lower low (with_output o (with_input i s)) (with_output (stream_after_hook (map Lends ends) made.output t.output) ti) two then error unsettled second.1)
 
 -- no hooks, and some hooks after others
 module _ {E H : Type 0} (allows : Allows H) (refuses : Refuses H) (number_of : E → ℕ) (now : JournalView) (spec : SpecView) (s : PerStream (Stdio ℕ)) where
   pub alters_none : HooksSucceed {E = E} {H = H} allows number_of [] now now spec spec s s
-  alters_none = λ course state held before hooks low below staged.
-      subst (λ l. HooksInvariant allows number_of course state held before l now spec s) (sym (append-nil hooks)) staged
+  alters_none = λ context state held before hooks low below staged.
+      subst (λ l. HooksInvariant allows number_of context state held before l now spec s) (sym (append-nil hooks)) staged
 
   module _ (first more : List (H × List E)) (one then : JournalView) (between : SpecView) (t : PerStream (Stdio ℕ)) where
     front_below : (base : ℕ) → AreBelow number_of base (first ++ more)
@@ -251,22 +251,22 @@ module _ {E H : Type 0} (allows : Allows H) (refuses : Refuses H) (number_of : E
         → HooksSucceed allows number_of first now one spec between s t
         → HooksSucceed allows number_of more one then between made t u
         → HooksSucceed allows number_of (first ++ more) now then spec made s u
-    alters_append made u a b = λ course state held before hooks low below staged.
-        subst (λ l. HooksInvariant allows number_of course state held before l then made u) (append_assoc hooks first more)
-        (b course state held before (hooks ++ first) low (back_below course.base below) (a course state held before hooks low (front_below course.base below) staged))
+    alters_append made u a b = λ context state held before hooks low below staged.
+        subst (λ l. HooksInvariant allows number_of context state held before l then made u) (append_assoc hooks first more)
+        (b context state held before (hooks ++ first) low (back_below context.base below) (a context state held before hooks low (front_below context.base below) staged))
 
     pub breaks_first : (error : Error)
         → HooksFail allows refuses number_of first now one spec s t error
         → HooksFail allows refuses number_of (first ++ more) now one spec s t error
-    breaks_first error a = λ course state held before hooks low below staged.
-        further course state held before hooks one t error (a course state held before hooks low (front_below course.base below) staged)
+    breaks_first error a = λ context state held before hooks low below staged.
+        further context state held before hooks one t error (a context state held before hooks low (front_below context.base below) staged)
       where
-        further : (course : RunContext) (state : State E H) (held : ResourcesView)
+        further : (context : RunContext) (state : State E H) (held : ResourcesView)
             (before : SpecWithStreams (Target E)) (hooks : List (H × List E)) (one : JournalView)
             (t : PerStream (Stdio ℕ)) (error : Error) →
-            StopsAmongHooks allows refuses number_of course state held before (hooks ++ first) one t error → StopsAmongHooks allows refuses number_of course state held before (hooks ++ (first ++ more)) one t error
-        further course state held before hooks one t error (inl plain) = inl plain
-        further course state held before hooks one t error (inr hooked) = inr (record {
+            StopsAmongHooks allows refuses number_of context state held before (hooks ++ first) one t error → StopsAmongHooks allows refuses number_of context state held before (hooks ++ (first ++ more)) one t error
+        further context state held before hooks one t error (inl plain) = inl plain
+        further context state held before hooks one t error (inr hooked) = inr (record {
           targets = hooked.targets;
           stands = hooked.stands;
           stops = subst (λ l. HooksStop allows refuses l before error) (sym (hooks_by_target-append hooks (first ++ more) ∙ ap (λ l. hooks_by_target hooks ++ l) (hooks_by_target-append first more) ∙ sym (append_assoc (hooks_by_target hooks) (hooks_by_target first) (hooks_by_target more)) ∙ ap (λ l. l ++ hooks_by_target more) (sym (hooks_by_target-append hooks first))))
@@ -277,9 +277,9 @@ module _ {E H : Type 0} (allows : Allows H) (refuses : Refuses H) (number_of : E
         → HooksSucceed allows number_of first now one spec between s t
         → HooksFail allows refuses number_of more one then between t u error
         → HooksFail allows refuses number_of (first ++ more) now then spec s u error
-    breaks_more u error a b = λ course state held before hooks low below staged.
-        subst (λ l. StopsAmongHooks allows refuses number_of course state held before l then u error) (append_assoc hooks first more)
-        (b course state held before (hooks ++ first) low (back_below course.base below) (a course state held before hooks low (front_below course.base below) staged))
+    breaks_more u error a b = λ context state held before hooks low below staged.
+        subst (λ l. StopsAmongHooks allows refuses number_of context state held before l then u error) (append_assoc hooks first more)
+        (b context state held before (hooks ++ first) low (back_below context.base below) (a context state held before hooks low (front_below context.base below) staged))
 
 -- the same for an equal list of hooks
 pub alters_as : {E H : Type 0} (allows : Allows H) (number_of : E → ℕ)

@@ -228,9 +228,9 @@ may_answer entries added error (refused front entry fault clean is) same = inr (
 
 -- a start that failed, by its run and the closes after it
 
-module _ {E H : Type 0} (allows : Allows H) (refuses : Refuses H) (number_of : E → ℕ) (tree : TreeView E H) (plan : Plan E H) (course : RunContext) (items : List (Item E H)) (now then : JournalView)
-    (held : ResourcesView) (error : Error) (run : StoppedWithCause allows refuses number_of course items now held error) (numbers : List ℕ)
-    (base_is : course.base ≡ ceiling number_of tree) (bound_is : course.bound ≡ 2 * depth tree + 4) (items_are : plan.items ≡ items)
+module _ {E H : Type 0} (allows : Allows H) (refuses : Refuses H) (number_of : E → ℕ) (tree : TreeView E H) (plan : Plan E H) (context : RunContext) (items : List (Item E H)) (now then : JournalView)
+    (held : ResourcesView) (error : Error) (run : StoppedWithCause allows refuses number_of context items now held error) (numbers : List ℕ)
+    (base_is : context.base ≡ ceiling number_of tree) (bound_is : context.bound ≡ 2 * depth tree + 4) (items_are : plan.items ≡ items)
     (same : (n : ℕ) → count_of n numbers ≡ count_of n (open_ends held)) (many : length numbers ≡ length (open_ends held))
     (entries_are : then.entries ≡ now.entries ++ map Close numbers) (counted : then.added ≡ now.added + length numbers) (next : now.next ≤ then.next) (room : now.room ≤ then.room + length numbers) where
   abbrev first : List EntryView
@@ -239,26 +239,26 @@ module _ {E H : Type 0} (allows : Allows H) (refuses : Refuses H) (number_of : E
   abbrev all : List EntryView
   all = first ++ map Close numbers
 
-  all_are : then.entries ≡ course.old.entries ++ all
-  all_are = entries_are ∙ ap (λ (l : List EntryView). l ++ map Close numbers) run.stopped.books.entries_are ∙ append_assoc course.old.entries first (map Close numbers)
+  all_are : then.entries ≡ context.old.entries ++ all
+  all_are = entries_are ∙ ap (λ (l : List EntryView). l ++ map Close numbers) run.stopped.books.entries_are ∙ append_assoc context.old.entries first (map Close numbers)
 
-  closes_later : IsLater course now.next (map Close numbers)
+  closes_later : IsLater context now.next (map Close numbers)
   closes_later = record { fresh = λ n lt. ap (λ (l : List ℕ). count_of n l) (closes_got numbers) }
 
-  early : AreEarlier number_of course.old tree → IsEarly course
-  early earlier = omega (arith, base_is, ceiling_low number_of tree course.old earlier)
+  early : AreEarlier number_of context.old tree → IsEarly context
+  early earlier = omega (arith, base_is, ceiling_low number_of tree context.old earlier)
 
-  all_answered : AnswersUnder course allows number_of all 0 plan.items (trace all)
+  all_answered : AnswersUnder context allows number_of all 0 plan.items (trace all)
   all_answered =
-      subst (λ (l : List (Item E H)). AnswersUnder course allows number_of all 0 l (trace all)) (sym items_are)
-      (subst (λ (l : List EntryView). AnswersUnder course allows number_of all 0 items l) (sym (closed_trace first numbers)) (run.stopped.answers (map Close numbers) closes_later))
+      subst (λ (l : List (Item E H)). AnswersUnder context allows number_of all 0 l (trace all)) (sym items_are)
+      (subst (λ (l : List EntryView). AnswersUnder context allows number_of all 0 items l) (sym (closed_trace first numbers)) (run.stopped.answers (map Close numbers) closes_later))
 
   all_asked : AsksPlan allows number_of plan all
-  all_asked = plan_asked course allows number_of all plan.items (trace all) all_answered
+  all_asked = plan_asked context allows number_of all plan.items (trace all) all_answered
 
-  all_follow : AreEarlier number_of course.old tree → Follows allows number_of plan all
+  all_follow : AreEarlier number_of context.old tree → Follows allows number_of plan all
   all_follow earlier = record {
-    answers = exactly_answered course allows number_of all plan.items (trace all) (early earlier) all_answered;
+    answers = exactly_answered context allows number_of all plan.items (trace all) (early earlier) all_answered;
     stops = ended_stops first error numbers run.stopped.ended;
   }
 
@@ -279,11 +279,11 @@ module _ {E H : Type 0} (allows : Allows H) (refuses : Refuses H) (number_of : E
       (omega (arith, got_more, spent_more, none, some, same n, books.even n), omega (arith, got_more, none, books.once n))
 
   -- a run that failed is a start that fails, once all ends that it held are closed
-  pub refused_start : StartRefused allows refuses number_of tree plan course.old then error
+  pub refused_start : StartRefused allows refuses number_of tree plan context.old then error
   refused_start =
       let books = run.stopped.books in
-      let segment_same = sym (segment_is course.old.entries then.entries all all_are) in record {
-        grows = grows_by_added course.old then all all_are
+      let segment_same = sym (segment_is context.old.entries then.entries all all_are) in record {
+        grows = grows_by_added context.old then all all_are
             (omega (arith, counted, books.counted, length-append first (map Close numbers), closes_long numbers))
             (omega (arith, next, books.next_grows)) (omega (arith, room, many, books.room_is));
         stops = subst StopsAtFault segment_same (ended_stops first error numbers run.stopped.ended);
@@ -293,9 +293,9 @@ module _ {E H : Type 0} (allows : Allows H) (refuses : Refuses H) (number_of : E
         cause = subst (λ (l : List EntryView). HasCause allows refuses number_of plan l error) segment_same all_caused;
         last_fault = subst (λ (l : List EntryView). ReturnsLastFault l error) segment_same (λ fault is. ended_answers first error run.stopped.ended fault (sym (closed_fault first numbers) ∙ is));
         balanced = subst IsBalanced segment_same all_balanced;
-        got_new = subst (λ (l : List EntryView). GotNew course.old l) segment_same
+        got_new = subst (λ (l : List EntryView). GotNew context.old l) segment_same
             (λ n lt. omega (arith, count_got-append n first (map Close numbers), ap (λ (l : List ℕ). count_of n l) (closes_got numbers), books.above n lt));
-        few = subst (λ (l : List EntryView). KeepsFewOpen tree l) segment_same (λ count. omega (arith, bound_is, closed_few first numbers course.bound run.stopped.few count));
+        few = subst (λ (l : List EntryView). KeepsFewOpen tree l) segment_same (λ count. omega (arith, bound_is, closed_few first numbers context.bound run.stopped.few count));
       }
 
 closes_children : (numbers : List ℕ) → children_in (map Close numbers) ≡ []
@@ -304,32 +304,32 @@ closes_children (n ∷ numbers) = closes_children numbers
 
 -- there is room to close all that is held
 pub refused_room : {E H : Type 0} (allows : Allows H) (refuses : Refuses H) (number_of : E → ℕ)
-    (course : RunContext) (items : List (Item E H)) (now : JournalView) (held : ResourcesView)
-    (error : Error) → StoppedWithCause allows refuses number_of course items now held error
+    (context : RunContext) (items : List (Item E H)) (now : JournalView) (held : ResourcesView)
+    (error : Error) → StoppedWithCause allows refuses number_of context items now held error
     → length (open_ends held) ≤ now.room
-refused_room allows refuses number_of course items now held error run = omega (arith, run.stopped.books.room_is)
+refused_room allows refuses number_of context items now held error run = omega (arith, run.stopped.books.room_is)
 
 -- the same, where all ends that were held were closed in some order
-module _ {E H : Type 0} (allows : Allows H) (refuses : Refuses H) (number_of : E → ℕ) (course : RunContext) (items : List (Item E H)) (now then : JournalView) (held : ResourcesView) (error : Error)
-    (run : StoppedWithCause allows refuses number_of course items now held error) (numbers : List ℕ)
+module _ {E H : Type 0} (allows : Allows H) (refuses : Refuses H) (number_of : E → ℕ) (context : RunContext) (items : List (Item E H)) (now then : JournalView) (held : ResourcesView) (error : Error)
+    (run : StoppedWithCause allows refuses number_of context items now held error) (numbers : List ℕ)
     (same : (n : ℕ) → count_of n numbers ≡ count_of n (open_ends held)) (many : length numbers ≡ length (open_ends held)) (closes : Closes numbers now then) where
   pub refused_closed : (tree : TreeView E H) (plan : Plan E H)
-      → course.base ≡ ceiling number_of tree → course.bound ≡ 2 * depth tree + 4
+      → context.base ≡ ceiling number_of tree → context.bound ≡ 2 * depth tree + 4
       → plan.items ≡ items
-      → StartRefused allows refuses number_of tree plan course.old then error
+      → StartRefused allows refuses number_of tree plan context.old then error
   refused_closed tree plan base_is bound_is items_are =
-      refused_start allows refuses number_of tree plan course items now then held error run numbers base_is bound_is items_are same many
+      refused_start allows refuses number_of tree plan context items now then held error run numbers base_is bound_is items_are same many
       closes.entries_are closes.counted closes.next_grows closes.room_is
 
   -- the children that are held are those that were started
   pub refused_children : held.children
-      ≡ children_in (segment course.old.entries then.entries)
+      ≡ children_in (segment context.old.entries then.entries)
   refused_children =
       let added = run.stopped.added in
       let books = run.stopped.books in
-      let entries_are : then.entries ≡ course.old.entries ++ (added ++ map Close numbers) =
-      closes.entries_are ∙ ap (λ (l : List EntryView). l ++ map Close numbers) books.entries_are ∙ append_assoc course.old.entries added (map Close numbers) in
+      let entries_are : then.entries ≡ context.old.entries ++ (added ++ map Close numbers) =
+      closes.entries_are ∙ ap (λ (l : List EntryView). l ++ map Close numbers) books.entries_are ∙ append_assoc context.old.entries added (map Close numbers) in
       sym
-      (ap (λ (l : List EntryView). children_in l) (segment_is course.old.entries then.entries (added ++ map Close numbers) entries_are)
+      (ap (λ (l : List EntryView). children_in l) (segment_is context.old.entries then.entries (added ++ map Close numbers) entries_are)
       ∙ flat_map-append child_by added (map Close numbers) ∙ ap (λ (l : List ℕ). children_in added ++ l) (closes_children numbers) ∙ append-nil (children_in added)
       ∙ sym books.children_are)

@@ -47,17 +47,17 @@ module _ {E H : Type 0} (allows : Allows H) (number_of : E → ℕ) (scope : Sco
       after_canonical_path scope words state ≡ record { stack = state.stack; plan = if b then with_item (AskCanonicalize (program_of words)) state.plan else state.plan }
   named_as b is state = ap (λ (c : Bool). record { stack = state.stack; plan = if c then with_item (AskCanonicalize (program_of words)) state.plan else state.plan }) is
 
-  named_answer : (course : RunContext) (more : State E H) (held : ResourcesView) (next : JournalView)
-      (text : List ℕ) (stands : RunInvariant allows number_of course more next held)
+  named_answer : (context : RunContext) (more : State E H) (held : ResourcesView) (next : JournalView)
+      (text : List ℕ) (stands : RunInvariant allows number_of context more next held)
       (front : List EntryView) →
       stands.added ≡ front ++ Canonicalize (program_of words) (Ok text) ∷ [] → (other : State E H) → more ≡ other → (b : Bool) → b ≡ true →
-      (s : RunInvariant allows number_of course other next held) × (program_in b (trace s.added) words ≡ text)
-  named_answer course more held next text stands front seen other same false is = absurd (cc)
-  named_answer course more held next text stands front seen other same true is =
+      (s : RunInvariant allows number_of context other next held) × (program_in b (trace s.added) words ≡ text)
+  named_answer context more held next text stands front seen other same false is = absurd (cc)
+  named_answer context more held next text stands front seen other same true is =
       let entry = Canonicalize (program_of words) (Ok text) in
       let answer : program_in true (trace stands.added) words ≡ text =
       ap (λ l. program_in true (trace l) words) seen ∙ ap (λ l. program_in true l words) (trace-append front (entry ∷ [])) ∙ last_text (trace front) entry in
-      subst (λ (s : State E H). (z : RunInvariant allows number_of course s next held) × (program_in true (trace z.added) words ≡ text)) same (stands, answer)
+      subst (λ (s : State E H). (z : RunInvariant allows number_of context s next held) × (program_in true (trace z.added) words ≡ text)) same (stands, answer)
     where
       last_text : (xs : List EntryView) (entry : EntryView)
           → text_in (slice_get (xs ++ entry ∷ []) (length (xs ++ entry ∷ []) - 1)) ≡ text_in
@@ -70,19 +70,19 @@ module _ {E H : Type 0} (allows : Allows H) (number_of : E → ℕ) (scope : Sco
   pub names_some : (now next : JournalView) (text : List ℕ) → asks_canonical_path scope words ≡ true
       → Asks (Canonicalize (program_of words) (Ok text)) now next
       → NameSucceeds {E = E} {H = H} allows number_of scope words now next text
-  names_some now next text is asked = λ course state held stands.
+  names_some now next text is asked = λ context state held stands.
       let entry = Canonicalize (program_of words) (Ok text) in
       let item : Item E H = AskCanonicalize (program_of words) in
       let more : State E H = action.with_opened_ends [] item state in
       let ch = none_changes entry now next held asked refl refl refl refl refl in
-      let whole : RunInvariant allows number_of course more next held =
-      stands_more allows number_of course state more (item ∷ []) now next held held entry stands refl ch (few_now allows number_of course state now held stands)
+      let whole : RunInvariant allows number_of context more next held =
+      stands_more allows number_of context state more (item ∷ []) now next held held entry stands refl ch (few_now allows number_of context state now held stands)
       (record { stack = stands.shaped.stack; out = stands.shaped.out; err = stands.shaped.err }) refl refl (λ l later. (refl, tt))
-      (λ l later. let s = sources_now allows number_of course state more (item ∷ []) now next held held entry stands refl ch l later in record { stack = s.stack; out = s.out; err = s.err }) in
-      let old = course.old.entries in
+      (λ l later. let s = sources_now allows number_of context state more (item ∷ []) now next held held entry stands refl ch l later in record { stack = s.stack; out = s.out; err = s.err }) in
+      let old = context.old.entries in
       let seen : old ++ whole.added ≡ old ++ (stands.added ++ entry ∷ []) =
       sym whole.books.entries_are ∙ asked.entries_are ∙ ap (λ (l : List EntryView). l ++ entry ∷ []) stands.books.entries_are ∙ append_assoc old stands.added (entry ∷ []) in
-      named_answer course more held next text whole stands.added (split_second old old whole.added (stands.added ++ entry ∷ []) refl seen) (after_canonical_path scope words state) (sym (named_as true is state)) (asks_canonical_path scope words) is
+      named_answer context more held next text whole stands.added (split_second old old whole.added (stands.added ++ entry ∷ []) refl seen) (after_canonical_path scope words state) (sym (named_as true is state)) (asks_canonical_path scope words) is
 
   -- the canonical path was requested and refused
   pub name_fails : (now next : JournalView) (held : ResourcesView) (ports : PerStream Port) (fault : Fault)
@@ -92,7 +92,7 @@ module _ {E H : Type 0} (allows : Allows H) (number_of : E → ℕ) (scope : Sco
   name_fails now next held ports fault is refused =
       quits_none allows number_of (action.spawn scope words ports) (λ st. items_if true (surroundings_by scope ports st.stack) words) (Canonicalize (program_of words) (Err fault)) fault now next held
       (λ st. ap (λ p. p.items) (commanded_is (surroundings_by scope ports st.stack) words st.plan) ∙ ap (λ b. st.plan.items ++ items_if b (surroundings_by scope ports st.stack) words) is)
-      refused refl refl refl refl refl refl (λ course st L. (refl, tt))
+      refused refl refl refl refl refl refl (λ context st L. (refl, tt))
 
   module _ (refuses : Refuses H) (pairs : Vars) (ports : PerStream Port) (now : JournalView) (held : ResourcesView) where
     abbrev act : Action E H
@@ -101,38 +101,38 @@ module _ {E H : Type 0} (allows : Allows H) (number_of : E → ℕ) (scope : Sco
     -- an allocation failed before the command made a request
     pub unasked_refused : (next : JournalView) (e : Error) → AddsNothing now next → IsAllocationFailure e
         → ActionFailsWith allows refuses number_of pairs act now next held held e
-    unasked_refused next e nothing un = λ course state is ready stands.
-        plain_refused allows refuses number_of course _ next held e (unasked_plain e un)
-        (memory_fails allows number_of act (λ st. items_of (surroundings_by scope ports st.stack) words) now next held e (λ st. ap (λ p. p.items) (commanded_is (surroundings_by scope ports st.stack) words st.plan)) nothing un course state ready stands)
+    unasked_refused next e nothing un = λ context state is ready stands.
+        plain_refused allows refuses number_of context _ next held e (unasked_plain e un)
+        (memory_fails allows number_of act (λ st. items_of (surroundings_by scope ports st.stack) words) now next held e (λ st. ap (λ p. p.items) (commanded_is (surroundings_by scope ports st.stack) words st.plan)) nothing un context state ready stands)
 
     -- the request for the canonical path was refused
     pub name_refused : (next : JournalView) (fault : Fault) → asks_canonical_path scope words ≡ true
         → IsRefused (Canonicalize (program_of words) (Err fault)) 0 fault now next
         → ActionFailsWith allows refuses number_of pairs act now next held held (System fault)
-    name_refused next fault is refused = λ course state same ready stands.
-        plain_refused allows refuses number_of course _ next held (System fault) (λ no. no) (name_fails now next held ports fault is refused course state ready stands)
+    name_refused next fault is refused = λ context state same ready stands.
+        plain_refused allows refuses number_of context _ next held (System fault) (λ no. no) (name_fails now next held ports fault is refused context state ready stands)
 
     module _ (one : JournalView) (program : List ℕ) (names : NameSucceeds {E = E} {H = H} allows number_of scope words now one program) where
       -- an allocation for the spec failed
       pub spec_refused : (e : Error) → IsAllocationFailure e
           → ActionFailsWith allows refuses number_of pairs act now one held held e
-      spec_refused e un = λ course state is ready stands.
-          let n = names course state held stands in
-          plain_refused allows refuses number_of course _ one held e (unasked_plain e un)
-          (stops_unasked allows number_of course (after_canonical_path scope words state) (action.advance state act).plan.items (AskSpawn (surroundings_by scope ports state.stack) words ∷ []) one one held e n.0 refl (record { entries_are = refl; added_is = refl; next_grows = omega arith; room_grows = omega arith }) un)
+      spec_refused e un = λ context state is ready stands.
+          let n = names context state held stands in
+          plain_refused allows refuses number_of context _ one held e (unasked_plain e un)
+          (stops_unasked allows number_of context (after_canonical_path scope words state) (action.advance state act).plan.items (AskSpawn (surroundings_by scope ports state.stack) words ∷ []) one one held e n.0 refl (record { entries_are = refl; added_is = refl; next_grows = omega arith; room_grows = omega arith }) un)
 
       module _ (asked : SpecView) (made : (stack : List (Target E)) → ((s : Stream) → port_in ports s ≡ port_to s (target_of (surroundings_by scope ports stack) s)) → IsAsked pairs program (surroundings_by scope ports stack) words asked) where
-        module _ (course : RunContext) (state : State E H) (same : course.pairs ≡ pairs) (ready : action.IsReady number_of course.base course.bound state act) (stands : RunInvariant allows number_of course state now held) where
+        module _ (context : RunContext) (state : State E H) (same : context.pairs ≡ pairs) (ready : action.IsReady number_of context.base context.bound state act) (stands : RunInvariant allows number_of context state now held) where
           abbrev front : List EntryView
-          front = (names course state held stands).0.added
+          front = (names context state held stands).0.added
 
-          asked_is : IsAsked course.pairs program (surroundings_by scope ports state.stack) words asked
+          asked_is : IsAsked context.pairs program (surroundings_by scope ports state.stack) words asked
           asked_is = subst (λ ps. IsAsked ps program (surroundings_by scope ports state.stack) words asked) (sym same) (made state.stack ready.needs.ports_are)
 
           tops : (L : List EntryView) × (numbers : List ℕ) ×
-              Pairwise (IsFrom (IsEarly course) number_of L) numbers state.stack
+              Pairwise (IsFrom (IsEarly context) number_of L) numbers state.stack
           tops =
-              let n = (names course state held stands).0 in
+              let n = (names context state held stands).0 in
               (n.added ++ [], held.stack, (n.sources [] (record { fresh = λ k lt. refl })).stack)
 
           -- the command before its hooks run
@@ -147,7 +147,7 @@ module _ {E H : Type 0} (allows : Allows H) (number_of : E → ℕ) (scope : Sco
               let t = port_streams ports state.stack in
               record { spec = asked; input = t.input; output = t.output; error = t.error }
 
-          begun : HooksInvariant allows number_of (onwards course front) under kept_low asks_it
+          begun : HooksInvariant allows number_of (onwards context front) under kept_low asks_it
               [] one asked (port_streams ports held.stack)
           begun =
               let all = handed_taken ports state.stack ready.full in
@@ -158,13 +158,13 @@ module _ {E H : Type 0} (allows : Allows H) (number_of : E → ℕ) (scope : Sco
                 spec_is = refl;
                 alike = alike_by ports held.stack state.stack stands.shaped.stack;
                 chain = refl;
-                stands = subst (λ l. RunInvariant allows number_of (onwards course front) (with_stack l under) one (resources_with_stack (stack_with_streams (port_streams ports held.stack) kept_low.stack) kept_low)) (sym all)
-                    (subst (λ l. RunInvariant allows number_of (onwards course front) (after_canonical_path scope words state) one (resources_with_stack l kept_low)) (sym numbers)
-                    (stands_onwards allows number_of course front (after_canonical_path scope words state) one held (names course state held stands).0 refl));
+                stands = subst (λ l. RunInvariant allows number_of (onwards context front) (with_stack l under) one (resources_with_stack (stack_with_streams (port_streams ports held.stack) kept_low.stack) kept_low)) (sym all)
+                    (subst (λ l. RunInvariant allows number_of (onwards context front) (after_canonical_path scope words state) one (resources_with_stack l kept_low)) (sym numbers)
+                    (stands_onwards allows number_of context front (after_canonical_path scope words state) one held (names context state held stands).0 refl));
               }
 
-          from : (later : List EntryView) × (front ≡ course.front ++ later)
-          from = (names course state held stands).0.starts
+          from : (later : List EntryView) × (front ≡ context.front ++ later)
+          from = (names context state held stands).0.starts
 
         -- the child was started
         pub spawned : (next : JournalView) (spec : SpecView) (t : PerStream (Stdio ℕ))
@@ -175,11 +175,11 @@ module _ {E H : Type 0} (allows : Allows H) (number_of : E → ℕ) (scope : Sco
             GivesEnds entry count two next → count ≡ length (closed_by entry)
             → ActionSucceedsWith allows number_of pairs act now next held
             (record held { stack = stack_after_ports ports held.stack; children = held.children ++ number ∷ [] })
-        spawned next spec t two number count alters gives port_end_count = λ course state same ready stands.
-            let n = names course state held stands in
-            let staged = alters (onwards course n.0.added) (under course state same ready stands) (kept_low course state same ready stands) (asks_it course state same ready stands) [] ready.needs.place ready.needs.below (begun course state same ready stands) in
-            stands_back allows number_of course n.0.added n.0.starts (action.advance state act) next _
-            (spawn_succeeds allows number_of course scope words ports state held asked program n.0.added ready.full ready.needs (asked_is course state same ready stands) (as_many n.0) n.1 (tops course state same ready stands)
+        spawned next spec t two number count alters gives port_end_count = λ context state same ready stands.
+            let n = names context state held stands in
+            let staged = alters (onwards context n.0.added) (under context state same ready stands) (kept_low context state same ready stands) (asks_it context state same ready stands) [] ready.needs.place ready.needs.below (begun context state same ready stands) in
+            stands_back allows number_of context n.0.added n.0.starts (action.advance state act) next _
+            (spawn_succeeds allows number_of context scope words ports state held asked program n.0.added ready.full ready.needs (asked_is context state same ready stands) (as_many n.0) n.1 (tops context state same ready stands)
             two next spec t staged number count gives port_end_count)
 
         -- the system refused the spawn
@@ -190,12 +190,12 @@ module _ {E H : Type 0} (allows : Allows H) (number_of : E → ℕ) (scope : Sco
             IsRefused entry count fault two next → count ≡ length (closed_by entry)
             → ActionFailsWith allows refuses number_of pairs act now next held
             (resources_with_stack (stack_after_ports ports held.stack) held) (System fault)
-        spawn_refused next spec t two fault count alters refused port_end_count = λ course state same ready stands.
-            let n = names course state held stands in
-            let staged = alters (onwards course n.0.added) (under course state same ready stands) (kept_low course state same ready stands) (asks_it course state same ready stands) [] ready.needs.place ready.needs.below (begun course state same ready stands) in
-            plain_refused allows refuses number_of course _ next _ (System fault) (λ no. no)
-            (stopped_back allows number_of course n.0.added _ next _ (System fault)
-            (spawn_fails allows number_of course scope words ports state held asked program n.0.added ready.full ready.needs (asked_is course state same ready stands) (as_many n.0) n.1 (tops course state same ready stands)
+        spawn_refused next spec t two fault count alters refused port_end_count = λ context state same ready stands.
+            let n = names context state held stands in
+            let staged = alters (onwards context n.0.added) (under context state same ready stands) (kept_low context state same ready stands) (asks_it context state same ready stands) [] ready.needs.place ready.needs.below (begun context state same ready stands) in
+            plain_refused allows refuses number_of context _ next _ (System fault) (λ no. no)
+            (stopped_back allows number_of context n.0.added _ next _ (System fault)
+            (spawn_fails allows number_of context scope words ports state held asked program n.0.added ready.full ready.needs (asked_is context state same ready stands) (as_many n.0) n.1 (tops context state same ready stands)
             two next spec t staged fault count refused port_end_count))
 
         -- a hook stopped the command, or a request failed while its hooks ran
@@ -203,8 +203,8 @@ module _ {E H : Type 0} (allows : Allows H) (number_of : E → ℕ) (scope : Sco
             → HooksFail allows refuses number_of scope.hooks one next asked (port_streams ports held.stack) t e
             → ActionFailsWith allows refuses number_of pairs act now next held
             (resources_with_stack (stack_with_streams t (stack_after_ports ports held.stack)) held) e
-        hooks_refused next t e breaks = λ course state same ready stands.
-            let n = names course state held stands in
-            let halts = breaks (onwards course n.0.added) (under course state same ready stands) (kept_low course state same ready stands) (asks_it course state same ready stands) [] ready.needs.place ready.needs.below (begun course state same ready stands) in
-            halts_refused allows number_of course scope words ports state held asked program n.0.added ready.full ready.needs (asked_is course state same ready stands) (as_many n.0) n.1 (tops course state same ready stands)
+        hooks_refused next t e breaks = λ context state same ready stands.
+            let n = names context state held stands in
+            let halts = breaks (onwards context n.0.added) (under context state same ready stands) (kept_low context state same ready stands) (asks_it context state same ready stands) [] ready.needs.place ready.needs.below (begun context state same ready stands) in
+            halts_refused allows number_of context scope words ports state held asked program n.0.added ready.full ready.needs (asked_is context state same ready stands) (as_many n.0) n.1 (tops context state same ready stands)
             refuses n.0.starts next t e halts

@@ -53,12 +53,12 @@ feeds_counted (Feed number bytes (std.Err fault) ∷ added) clean = absurd (cc)
 feeds_counted (entry ∷ added) clean = feeds_counted added clean.1
 
 -- a run holds as many children as the plan has spawns, and as many feed workers as it has feeds
-pub counted : {E H : Type 0} (allows : Allows H) (number_of : E → ℕ) (course : RunContext)
+pub counted : {E H : Type 0} (allows : Allows H) (number_of : E → ℕ) (context : RunContext)
     (state : State E H) (now : JournalView) (held : ResourcesView)
-    → RunInvariant allows number_of course state now held
+    → RunInvariant allows number_of context state now held
     → (length held.children ≡ spawns_asked state.plan.items)
     × (length held.feeds ≡ feeds_asked state.plan.items)
-counted allows number_of course state now held stands = (
+counted allows number_of context state now held stands = (
   ap (λ l. length l) stands.books.children_are ∙ children_counted stands.added stands.clean ∙ ap (λ l. spawns l) stands.kinds,
   ap (λ l. length l) stands.books.feeds_are ∙ feeds_counted stands.added stands.clean ∙ ap (λ l. feeds l) stands.kinds,
 )
@@ -182,29 +182,29 @@ module _ {E H : Type 0} where
 
   -- a run that has made all requests of a tree's plan holds a child for each command and a feed
   -- worker for each input
-  pub started_counts : (allows : Allows H) (number_of : E → ℕ) (course : RunContext) (state : State E H)
+  pub started_counts : (allows : Allows H) (number_of : E → ℕ) (context : RunContext) (state : State E H)
       (now : JournalView) (held : ResourcesView) (tree : TreeView E H)
-      → RunInvariant allows number_of course state now held → state.plan.items ≡ (plan_of tree).items
+      → RunInvariant allows number_of context state now held → state.plan.items ≡ (plan_of tree).items
       → (length held.children ≡ command_count (shape_of_tree tree))
       × (length held.feeds ≡ input_count (shape_of_tree tree))
-  started_counts allows number_of course state now held tree stands is =
+  started_counts allows number_of context state now held tree stands is =
       let plan = plan_of_subtree [] tree initial_plan in
-      let all = counted allows number_of course state now held stands in
+      let all = counted allows number_of context state now held stands in
       let out = adds_drains plan.out plan in
       let err = adds_drains plan.err (with_drain plan.out plan) in
       let here = planned_counts tree in
       (omega (arith, all.0, ap (λ l. spawns_asked l) is, out.spawns, err.spawns, here.0), omega (arith, all.1, ap (λ l. feeds_asked l) is, out.feeds, err.feeds, here.1))
 
   -- so does a run that has made all requests of the plan of a reader's start
-  pub reader_counts : (allows : Allows H) (number_of : E → ℕ) (course : RunContext) (state : State E H)
+  pub reader_counts : (allows : Allows H) (number_of : E → ℕ) (context : RunContext) (state : State E H)
       (now : JournalView) (held : ResourcesView) (tree : TreeView E H)
-      → RunInvariant allows number_of course state now held
+      → RunInvariant allows number_of context state now held
       → state.plan.items ≡ (plan_of_reader tree).items
       → (length held.children ≡ command_count (shape_of_tree tree))
       × (length held.feeds ≡ input_count (shape_of_tree tree))
-  reader_counts allows number_of course state now held tree stands is =
+  reader_counts allows number_of context state now held tree stands is =
       let plan = plan_of_subtree [] (around stdout_capture tree) initial_plan in
-      let all = counted allows number_of course state now held stands in
+      let all = counted allows number_of context state now held stands in
       let err = adds_drains plan.err plan in
       let out = adds_reads plan.out (with_drain plan.err plan) in
       let here = planned_counts (around stdout_capture tree) in

@@ -113,13 +113,13 @@ push_changes entry n now next held gets got none no_child no_feed no_drain =
     (λ m. omega (arith, ap (λ (l : List ℕ). count_of m l) got, ap (λ (l : List ℕ). count_of m l) none, count-cons m n (open_ends held))) (omega (arith, g, s))
 
 -- the origin of an end that an entry opened, whatever entries come later
-pub opened_here : (course : RunContext) (added more : List EntryView) (entry : EntryView)
-    (n next which : ℕ) → n < next → IsLater course next more → is_traced entry ≡ true
+pub opened_here : (context : RunContext) (added more : List EntryView) (entry : EntryView)
+    (n next which : ℕ) → n < next → IsLater context next more → is_traced entry ≡ true
     → origin_before (entry ∷ reverse added) n ≡ Opened n → slice_index (opened_by entry) which ≡ n
     → (place : ℕ) → length (trace added) ≡ place
     → origin ((added ++ entry ∷ []) ++ more) n
     ≡ Opened (end_at (trace ((added ++ entry ∷ []) ++ more)) place which)
-opened_here course added more entry n next which below later traced here got_here place many =
+opened_here context added more entry n next which below later traced here got_here place many =
     origin_stays n (added ++ entry ∷ []) more (later.fresh n below) ∙ origin-more n added entry ∙ here
     ∙ ap Opened (sym (ap (λ (k : ℕ). end_at (trace ((added ++ entry ∷ []) ++ more)) k which) (sym many) ∙ end_at_seam added entry more which traced ∙ got_here))
 
@@ -173,35 +173,35 @@ module _ {E H : Type 0} (allows : Allows H) (number_of : E → ℕ) where
       ((st : State E H) → advance st act ≡ record { stack = x st ∷ st.stack; plan = record { items = st.plan.items ++ asked st; out = st.plan.out; err = st.plan.err } }) →
       GetsEnd entry n now next → opened_by entry ≡ n ∷ [] → closed_by entry ≡ [] → child_by entry ≡ [] → feed_by entry ≡ [] → drain_by entry ≡ [] → fault_of entry ≡ None →
       ((st : State E H) → map entry_kind (trace (entry ∷ [])) ≡ map item_kind (asked st)) →
-      ((course : RunContext) (st : State E H) (L : List EntryView) → AnswersUnder course allows number_of L (length st.plan.items) (asked st) (trace (entry ∷ []))) →
-      ((course : RunContext) (st : State E H) → IsReady number_of course.base course.bound st act → (stands : RunInvariant allows number_of course st now held) → (more : List EntryView) → IsLater course next.next more →
-      HasOrigins (IsEarly course) number_of ((stands.added ++ entry ∷ []) ++ more) st held →
-      IsFrom (IsEarly course) number_of ((stands.added ++ entry ∷ []) ++ more) n (x st)) →
+      ((context : RunContext) (st : State E H) (L : List EntryView) → AnswersUnder context allows number_of L (length st.plan.items) (asked st) (trace (entry ∷ []))) →
+      ((context : RunContext) (st : State E H) → IsReady number_of context.base context.bound st act → (stands : RunInvariant allows number_of context st now held) → (more : List EntryView) → IsLater context next.next more →
+      HasOrigins (IsEarly context) number_of ((stands.added ++ entry ∷ []) ++ more) st held →
+      IsFrom (IsEarly context) number_of ((stands.added ++ entry ∷ []) ++ more) n (x st)) →
       ActionSucceeds allows number_of act now next held (on (n ∷ []) held)
-  got_succeeds act asked x entry n now next held is gets got none no_child no_feed no_drain clean many matches source = λ course st ready stands.
+  got_succeeds act asked x entry n now next held is gets got none no_child no_feed no_drain clean many matches source = λ context st ready stands.
       let then_st : State E H = record { stack = x st ∷ st.stack; plan = record { items = st.plan.items ++ asked st; out = st.plan.out; err = st.plan.err } } in
       let ch = push_changes entry n now next held gets got none no_child no_feed no_drain in
-      subst (λ (s : State E H). RunInvariant allows number_of course s next (on (n ∷ []) held)) (sym (is st))
-      (stands_more allows number_of course st then_st (asked st) now next held (on (n ∷ []) held) entry stands refl ch
-      (few_of course.bound (on (n ∷ []) held) (omega (arith, stands.shaped.stack, ready.low, ap (λ (s : State E H). length s.stack) (is st)))) (pushed_shape (n ∷ []) (x st ∷ []) (asked st) st held refl stands.shaped) clean (many st)
-      (λ more later. matches course st ((stands.added ++ entry ∷ []) ++ more))
+      subst (λ (s : State E H). RunInvariant allows number_of context s next (on (n ∷ []) held)) (sym (is st))
+      (stands_more allows number_of context st then_st (asked st) now next held (on (n ∷ []) held) entry stands refl ch
+      (few_of context.bound (on (n ∷ []) held) (omega (arith, stands.shaped.stack, ready.low, ap (λ (s : State E H). length s.stack) (is st)))) (pushed_shape (n ∷ []) (x st ∷ []) (asked st) st held refl stands.shaped) clean (many st)
+      (λ more later. matches context st ((stands.added ++ entry ∷ []) ++ more))
       (λ more later.
-      let s = sources_now allows number_of course st then_st (asked st) now next held (on (n ∷ []) held) entry stands refl ch more later in
-      record { stack = (source course st ready stands more later s, s.stack); out = s.out; err = s.err }))
+      let s = sources_now allows number_of context st then_st (asked st) now next held (on (n ∷ []) held) entry stands refl ch more later in
+      record { stack = (source context st ready stands more later s, s.stack); out = s.out; err = s.err }))
 
   pub open_read_succeeds : (path : List ℕ) (n : ℕ) (now next : JournalView) (held : ResourcesView)
       → GetsEnd (OpenRead path (Ok n)) n now next
       → ActionSucceeds allows number_of (action.open_read path) now next held (on (n ∷ []) held)
   open_read_succeeds path n now next held gets =
-      got_succeeds (action.open_read path) (λ st. AskOpenRead path ∷ []) (λ st. FileAt (length st.plan.items)) (OpenRead path (Ok n)) n now next held (λ st. refl) gets refl refl refl refl refl refl (λ st. refl) (λ course st L. (refl, tt))
-      (λ course st ready stands more later s. surely (IsEarly course) (opened_here course stands.added more (OpenRead path (Ok n)) n next.next 0 gets.1.below_new later refl (rw is_itself refl) refl (length st.plan.items) (as_many stands)))
+      got_succeeds (action.open_read path) (λ st. AskOpenRead path ∷ []) (λ st. FileAt (length st.plan.items)) (OpenRead path (Ok n)) n now next held (λ st. refl) gets refl refl refl refl refl refl (λ st. refl) (λ context st L. (refl, tt))
+      (λ context st ready stands more later s. surely (IsEarly context) (opened_here context stands.added more (OpenRead path (Ok n)) n next.next 0 gets.1.below_new later refl (rw is_itself refl) refl (length st.plan.items) (as_many stands)))
 
   pub create_succeeds : (path : List ℕ) (n : ℕ) (now next : JournalView) (held : ResourcesView)
       → GetsEnd (Create path (Ok n)) n now next
       → ActionSucceeds allows number_of (action.create path) now next held (on (n ∷ []) held)
   create_succeeds path n now next held gets =
-      got_succeeds (action.create path) (λ st. AskCreate path ∷ []) (λ st. FileAt (length st.plan.items)) (Create path (Ok n)) n now next held (λ st. refl) gets refl refl refl refl refl refl (λ st. refl) (λ course st L. (refl, tt))
-      (λ course st ready stands more later s. surely (IsEarly course) (opened_here course stands.added more (Create path (Ok n)) n next.next 0 gets.1.below_new later refl (rw is_itself refl) refl (length st.plan.items) (as_many stands)))
+      got_succeeds (action.create path) (λ st. AskCreate path ∷ []) (λ st. FileAt (length st.plan.items)) (Create path (Ok n)) n now next held (λ st. refl) gets refl refl refl refl refl refl (λ st. refl) (λ context st L. (refl, tt))
+      (λ context st ready stands more later s. surely (IsEarly context) (opened_here context stands.added more (Create path (Ok n)) n next.next 0 gets.1.below_new later refl (rw is_itself refl) refl (length st.plan.items) (as_many stands)))
 
   same_plan : (x : Target E) (st : State E H)
       → action.with_end x st ≡ record { stack = x ∷ st.stack; plan = record { items = st.plan.items ++ []; out = st.plan.out; err = st.plan.err } }
@@ -211,41 +211,41 @@ module _ {E H : Type 0} (allows : Allows H) (number_of : E → ℕ) where
       → GetsEnd (Parent which (Ok n)) n now next
       → ActionSucceeds allows number_of (action.parent which) now next held (on (n ∷ []) held)
   parent_succeeds side.Out n now next held gets =
-      got_succeeds (action.parent side.Out) (λ st. []) (λ st. Parents stream.Out) (Parent side.Out (Ok n)) n now next held (λ st. same_plan (Parents stream.Out) st) gets refl refl refl refl refl refl (λ st. refl) (λ course st L. tt)
-      (λ course st ready stands more later s. surely (IsEarly course) (origin_stays n (stands.added ++ Parent side.Out (Ok n) ∷ []) more (later.fresh n gets.1.below_new) ∙ origin-more n stands.added (Parent side.Out (Ok n)) ∙ rw is_itself refl))
+      got_succeeds (action.parent side.Out) (λ st. []) (λ st. Parents stream.Out) (Parent side.Out (Ok n)) n now next held (λ st. same_plan (Parents stream.Out) st) gets refl refl refl refl refl refl (λ st. refl) (λ context st L. tt)
+      (λ context st ready stands more later s. surely (IsEarly context) (origin_stays n (stands.added ++ Parent side.Out (Ok n) ∷ []) more (later.fresh n gets.1.below_new) ∙ origin-more n stands.added (Parent side.Out (Ok n)) ∙ rw is_itself refl))
   parent_succeeds side.Err n now next held gets =
-      got_succeeds (action.parent side.Err) (λ st. []) (λ st. Parents stream.Err) (Parent side.Err (Ok n)) n now next held (λ st. same_plan (Parents stream.Err) st) gets refl refl refl refl refl refl (λ st. refl) (λ course st L. tt)
-      (λ course st ready stands more later s. surely (IsEarly course) (origin_stays n (stands.added ++ Parent side.Err (Ok n) ∷ []) more (later.fresh n gets.1.below_new) ∙ origin-more n stands.added (Parent side.Err (Ok n)) ∙ rw is_itself refl))
+      got_succeeds (action.parent side.Err) (λ st. []) (λ st. Parents stream.Err) (Parent side.Err (Ok n)) n now next held (λ st. same_plan (Parents stream.Err) st) gets refl refl refl refl refl refl (λ st. refl) (λ context st L. tt)
+      (λ context st ready stands more later s. surely (IsEarly context) (origin_stays n (stands.added ++ Parent side.Err (Ok n) ∷ []) more (later.fresh n gets.1.below_new) ∙ origin-more n stands.added (Parent side.Err (Ok n)) ∙ rw is_itself refl))
 
   pub lend_succeeds : (end : E) (n : ℕ) (now next : JournalView) (held : ResourcesView)
       → GetsEnd (Duplicate (number_of end) (Ok n)) n now next
       → ActionSucceeds allows number_of (action.duplicate_caller_end end) now next held (on (n ∷ []) held)
   lend_succeeds end n now next held gets =
       let entry = Duplicate (number_of end) (Ok n) in
-      got_succeeds (action.duplicate_caller_end end) (λ st. []) (λ st. Lends end) entry n now next held (λ st. same_plan (Lends end) st) gets refl refl refl refl refl refl (λ st. refl) (λ course st L. tt)
-      (λ course st ready stands more later s. (
+      got_succeeds (action.duplicate_caller_end end) (λ st. []) (λ st. Lends end) entry n now next held (λ st. same_plan (Lends end) st) gets refl refl refl refl refl refl (λ st. refl) (λ context st L. tt)
+      (λ context st ready stands more later s. (
         duplicate_first stands.added more (number_of end) n,
         λ early. origin_stays n (stands.added ++ entry ∷ []) more (later.fresh n gets.1.below_new) ∙ origin-more n stands.added entry
-            ∙ rw is_itself (origin_lent (number_of end) stands.added (let lt : number_of end < course.old.next = omega (arith, ready.needs, early) in stands.books.above (number_of end) lt)),
+            ∙ rw is_itself (origin_lent (number_of end) stands.added (let lt : number_of end < context.old.next = omega (arith, ready.needs, early) in stands.books.above (number_of end) lt)),
       ))
 
   -- an action that duplicates an end that is held
   dup_succeeds : (act : Action E H) (x : State E H → Target E) (m n : ℕ) (now next : JournalView)
       (held : ResourcesView) → ((st : State E H) → advance st act ≡ action.with_end (x st) st)
       → 1 ≤ count_of m (open_ends held) →
-      ((course : RunContext) (st : State E H) → IsReady number_of course.base course.bound st act → (L : List EntryView) → HasOrigins (IsEarly course) number_of L st held → IsFrom (IsEarly course) number_of L m (x st)) →
+      ((context : RunContext) (st : State E H) → IsReady number_of context.base context.bound st act → (L : List EntryView) → HasOrigins (IsEarly context) number_of L st held → IsFrom (IsEarly context) number_of L m (x st)) →
       GetsEnd (Duplicate m (Ok n)) n now next → ActionSucceeds allows number_of act now next held (on (n ∷ []) held)
   dup_succeeds act x m n now next held is here from gets =
       let entry = Duplicate m (Ok n) in
       let fresh = fresh_one now.next next.next n gets.1.after_old gets.1.below_new in
-      got_succeeds act (λ st. []) x entry n now next held (λ st. is st ∙ same_plan (x st) st) gets refl refl refl refl refl refl (λ st. refl) (λ course st L. tt)
-      (λ course st ready stands more later sourced.
+      got_succeeds act (λ st. []) x entry n now next held (λ st. is st ∙ same_plan (x st) st) gets refl refl refl refl refl refl (λ st. refl) (λ context st L. tt)
+      (λ context st ready stands more later sourced.
       let L = (stands.added ++ entry ∷ []) ++ more in
       let below : m < now.next = elim (cases_lt m now.next) [ inl lt ↦ lt | inr le ↦ absurd (omega (arith, here, stands.books.even m, stands.books.below m le)) ] in
       let dup : origin L n ≡ origin stands.added m = origin_stays n (stands.added ++ entry ∷ []) more (later.fresh n gets.1.below_new) ∙ origin-more n stands.added entry ∙ rw is_itself refl in
       let lent : origin L m ≡ origin stands.added m =
-      ap (λ (l : List EntryView). origin l m) (append_assoc stands.added (entry ∷ []) more) ∙ origin_stays m stands.added (entry ∷ more) ((later_more course now.next next.next entry more fresh later).fresh m below) in
-      duplicated (IsEarly course) number_of stands.added more m n (x st) (dup ∙ sym lent) (from course st ready (stands.added ++ []) (stands.sources [] (record { fresh = λ k lt. refl }))) (from course st ready L sourced))
+      ap (λ (l : List EntryView). origin l m) (append_assoc stands.added (entry ∷ []) more) ∙ origin_stays m stands.added (entry ∷ more) ((later_more context now.next next.next entry more fresh later).fresh m below) in
+      duplicated (IsEarly context) number_of stands.added more m n (x st) (dup ∙ sym lent) (from context st ready (stands.added ++ []) (stands.sources [] (record { fresh = λ k lt. refl }))) (from context st ready L sourced))
 
   pub duplicate_succeeds : (depth m n : ℕ) (now next : JournalView) (held : ResourcesView)
       → at_depth held.stack depth ≡ Some m → GetsEnd (Duplicate m (Ok n)) n now next
@@ -253,7 +253,7 @@ module _ {E H : Type 0} (allows : Allows H) (number_of : E → ℕ) where
   duplicate_succeeds depth m n now next held at_level gets =
       dup_succeeds (action.duplicate depth) (λ st. unwrap_or (at_depth st.stack depth) Nothing) m n now next held (λ st. refl)
       (omega (arith, count-append m held.stack (pipe_ends held.out ++ pipe_ends held.err), level_counts held.stack depth m at_level))
-      (λ course st ready L s. pair_level (IsFrom (IsEarly course) number_of L) held.stack st.stack depth m Nothing s.stack at_level)
+      (λ context st ready L s. pair_level (IsFrom (IsEarly context) number_of L) held.stack st.stack depth m Nothing s.stack at_level)
       gets
 
   pub tap_out_succeeds : (r w n : ℕ) (now next : JournalView) (held : ResourcesView)
@@ -262,7 +262,7 @@ module _ {E H : Type 0} (allows : Allows H) (number_of : E → ℕ) where
   tap_out_succeeds r w n now next held is gets =
       dup_succeeds (action.duplicate_capture side.Out) (λ st. WriterAt (unwrap_or st.plan.out 0)) w n now next held (λ st. refl)
       (omega (arith, count-append w held.stack (pipe_ends held.out ++ pipe_ends held.err), count-append w (pipe_ends held.out) (pipe_ends held.err), ap (λ o. count_of w (pipe_ends o)) is, count-cons w r (w ∷ []), count_same w))
-      (λ course st ready L s. surely (IsEarly course) (pair_writes L st.plan.out r w (subst (λ o. IsPair L st.plan.out o) is s.out))) gets
+      (λ context st ready L s. surely (IsEarly context) (pair_writes L st.plan.out r w (subst (λ o. IsPair L st.plan.out o) is s.out))) gets
 
   pub tap_err_succeeds : (r w n : ℕ) (now next : JournalView) (held : ResourcesView)
       → held.err ≡ Some (r, w) → GetsEnd (Duplicate w (Ok n)) n now next
@@ -270,7 +270,7 @@ module _ {E H : Type 0} (allows : Allows H) (number_of : E → ℕ) where
   tap_err_succeeds r w n now next held is gets =
       dup_succeeds (action.duplicate_capture side.Err) (λ st. WriterAt (unwrap_or st.plan.err 0)) w n now next held (λ st. refl)
       (omega (arith, count-append w held.stack (pipe_ends held.out ++ pipe_ends held.err), count-append w (pipe_ends held.out) (pipe_ends held.err), ap (λ o. count_of w (pipe_ends o)) is, count-cons w r (w ∷ []), count_same w))
-      (λ course st ready L s. surely (IsEarly course) (pair_writes L st.plan.err r w (subst (λ o. IsPair L st.plan.err o) is s.err))) gets
+      (λ context st ready L s. surely (IsEarly context) (pair_writes L st.plan.err r w (subst (λ o. IsPair L st.plan.err o) is s.err))) gets
 
   -- an action that opens a pipe, with either end on top
   two_succeeds : (act : Action E H) (a b n m : ℕ) (x y : State E H → Target E) (now next : JournalView)
@@ -280,22 +280,22 @@ module _ {E H : Type 0} (allows : Allows H) (number_of : E → ℕ) where
       ((early : Type 0) (st : State E H) (L : List EntryView) → (origin L n ≡ Opened (end_at (trace L) (length st.plan.items) 0)) → (origin L m ≡ Opened (end_at (trace L) (length st.plan.items) 1)) →
       IsFrom early number_of L a (x st) × IsFrom early number_of L b (y st)) →
       GetsEnds (Pipe (Ok (n, m))) n m now next → ActionSucceeds allows number_of act now next held (on (a ∷ b ∷ []) held)
-  two_succeeds act a b n m x y now next held is same from gets = λ course st ready stands.
+  two_succeeds act a b n m x y now next held is same from gets = λ context st ready stands.
       let then_st : State E H = record { stack = x st ∷ y st ∷ st.stack; plan = record { items = st.plan.items ++ AskPipe ∷ []; out = st.plan.out; err = st.plan.err } } in
       let l = Pipe (Ok (n, m)) in
       let ch : Changes l now next held (on (a ∷ b ∷ []) held) = plain_changes l 2 0 now next held (a ∷ b ∷ held.stack) held.out held.err gets.0 refl refl
       (fresh_two now.next next.next n m gets.1.after_old gets.1.below_new gets.2.after_old gets.2.below_new gets.3) refl refl refl
       (λ k. omega (arith, same k, count-append k (a ∷ b ∷ []) (open_ends held))) (omega arith) in
       let other : m ≢ n = λ is. gets.3 (sym is) in
-      subst (λ (z : State E H). RunInvariant allows number_of course z next (on (a ∷ b ∷ []) held)) (sym (is st))
-      (stands_more allows number_of course st then_st (AskPipe ∷ []) now next held (on (a ∷ b ∷ []) held) l stands refl ch
-      (few_of course.bound (on (a ∷ b ∷ []) held) (omega (arith, stands.shaped.stack, ready.low, ap (λ (s : State E H). length s.stack) (is st)))) (pushed_shape (a ∷ b ∷ []) (x st ∷ y st ∷ []) (AskPipe ∷ []) st held refl stands.shaped) refl refl (λ more later. (tt, tt))
+      subst (λ (z : State E H). RunInvariant allows number_of context z next (on (a ∷ b ∷ []) held)) (sym (is st))
+      (stands_more allows number_of context st then_st (AskPipe ∷ []) now next held (on (a ∷ b ∷ []) held) l stands refl ch
+      (few_of context.bound (on (a ∷ b ∷ []) held) (omega (arith, stands.shaped.stack, ready.low, ap (λ (s : State E H). length s.stack) (is st)))) (pushed_shape (a ∷ b ∷ []) (x st ∷ y st ∷ []) (AskPipe ∷ []) st held refl stands.shaped) refl refl (λ more later. (tt, tt))
       (λ more later.
       let L = (stands.added ++ l ∷ []) ++ more in
-      let z = sources_now allows number_of course st then_st (AskPipe ∷ []) now next held (on (a ∷ b ∷ []) held) l stands refl ch more later in
-      let r = opened_here course stands.added more l n next.next 0 gets.1.below_new later refl (rw is_itself refl) refl (length st.plan.items) (as_many stands) in
-      let w = opened_here course stands.added more l m next.next 1 gets.2.below_new later refl (rw (other_than m n (count_other m n other), is_itself) refl) refl (length st.plan.items) (as_many stands) in
-      let both = from (IsEarly course) st L r w in
+      let z = sources_now allows number_of context st then_st (AskPipe ∷ []) now next held (on (a ∷ b ∷ []) held) l stands refl ch more later in
+      let r = opened_here context stands.added more l n next.next 0 gets.1.below_new later refl (rw is_itself refl) refl (length st.plan.items) (as_many stands) in
+      let w = opened_here context stands.added more l m next.next 1 gets.2.below_new later refl (rw (other_than m n (count_other m n other), is_itself) refl) refl (length st.plan.items) (as_many stands) in
+      let both = from (IsEarly context) st L r w in
       record { stack = (both.0, (both.1, z.stack)); out = z.out; err = z.err }))
 
   pub pipe_succeeds : (n m : ℕ) (now next : JournalView) (held : ResourcesView)
@@ -315,52 +315,52 @@ module _ {E H : Type 0} (allows : Allows H) (number_of : E → ℕ) where
   pub close_succeeds : (n : ℕ) (rest : List ℕ) (now next : JournalView) (held : ResourcesView)
       → held.stack ≡ n ∷ rest → GivesEnds (Close n) 1 now next
       → ActionSucceeds allows number_of action.close now next held (resources_with_stack rest held)
-  close_succeeds n rest now next held is gives = λ course st ready stands.
+  close_succeeds n rest now next held is gives = λ context st ready stands.
       let ch : Changes (Close n) now next held (resources_with_stack rest held) =
       pop_changes (Close n) n rest held.children held.feeds held.drains now next held gives refl refl is (sym (append-nil held.children)) (sym (append-nil held.feeds)) (sym (append-nil held.drains)) in
       let items = sym (append-nil st.plan.items) in
-      stands_more allows number_of course st (advance st action.close) [] now next held (resources_with_stack rest held) (Close n) stands items ch
-      (omega (arith, few_now allows number_of course st now held stands, ap (λ (l : List ℕ). length (l ++ (pipe_ends held.out ++ pipe_ends held.err))) is)) (popped_shape n rest (advance st action.close) st (resources_with_stack rest held) held is refl refl refl refl refl refl stands.shaped) refl refl (λ more later. tt)
+      stands_more allows number_of context st (advance st action.close) [] now next held (resources_with_stack rest held) (Close n) stands items ch
+      (omega (arith, few_now allows number_of context st now held stands, ap (λ (l : List ℕ). length (l ++ (pipe_ends held.out ++ pipe_ends held.err))) is)) (popped_shape n rest (advance st action.close) st (resources_with_stack rest held) held is refl refl refl refl refl refl stands.shaped) refl refl (λ more later. tt)
       (λ more later.
-      let s = sources_now allows number_of course st (advance st action.close) [] now next held (resources_with_stack rest held) (Close n) stands items ch more later in
+      let s = sources_now allows number_of context st (advance st action.close) [] now next held (resources_with_stack rest held) (Close n) stands items ch more later in
       let L = (stands.added ++ Close n ∷ []) ++ more in
-      record { stack = pair_popped (IsFrom (IsEarly course) number_of L) n rest st.stack (subst (λ (l : List ℕ). Pairwise (IsFrom (IsEarly course) number_of L) l st.stack) is s.stack); out = s.out; err = s.err })
+      record { stack = pair_popped (IsFrom (IsEarly context) number_of L) n rest st.stack (subst (λ (l : List ℕ). Pairwise (IsFrom (IsEarly context) number_of L) l st.stack) is s.stack); out = s.out; err = s.err })
 
   module _ (n : ℕ) (rest bytes : List ℕ) (now next : JournalView) (held : ResourcesView) (is : held.stack ≡ n ∷ rest) where
-    fed : (answer : Result (Unit {0}) Fault) (kept : ResourcesView) (course : RunContext) (st : State E H)
-        → IsReady number_of course.base course.bound st (action.feed bytes)
-        → (stands : RunInvariant allows number_of course st now held) →
-        (ch : Changes (Feed n bytes answer) now next held kept) → (more : List EntryView) → IsLater course next.next more →
+    fed : (answer : Result (Unit {0}) Fault) (kept : ResourcesView) (context : RunContext) (st : State E H)
+        → IsReady number_of context.base context.bound st (action.feed bytes)
+        → (stands : RunInvariant allows number_of context st now held) →
+        (ch : Changes (Feed n bytes answer) now next held kept) → (more : List EntryView) → IsLater context next.next more →
         let L = (stands.added ++ Feed n bytes answer ∷ []) ++ more in origin L n ≡ Opened (end_at (trace L) (pipe_place st.stack) 1)
-    fed answer kept course st ready stands ch more later =
+    fed answer kept context st ready stands ch more later =
         let L = (stands.added ++ Feed n bytes answer ∷ []) ++ more in
-        let s = sources_now allows number_of course st (advance st (action.feed bytes)) (AskFeed (pipe_place st.stack) bytes ∷ []) now next held kept (Feed n bytes answer) stands refl ch more later in
-        fed_top (IsEarly course) number_of L n rest st.stack ready.needs (subst (λ (l : List ℕ). Pairwise (IsFrom (IsEarly course) number_of L) l st.stack) is s.stack)
+        let s = sources_now allows number_of context st (advance st (action.feed bytes)) (AskFeed (pipe_place st.stack) bytes ∷ []) now next held kept (Feed n bytes answer) stands refl ch more later in
+        fed_top (IsEarly context) number_of L n rest st.stack ready.needs (subst (λ (l : List ℕ). Pairwise (IsFrom (IsEarly context) number_of L) l st.stack) is s.stack)
 
     pub feed_succeeds : GivesEnds (Feed n bytes (Ok tt)) 1 now next
         → ActionSucceeds allows number_of (action.feed bytes) now next held
         (record held { stack = rest; feeds = held.feeds ++ n ∷ [] })
-    feed_succeeds gives = λ course st ready stands.
+    feed_succeeds gives = λ context st ready stands.
         let entry = Feed n bytes (Ok tt) in
         let kept : ResourcesView = record held { stack = rest; feeds = held.feeds ++ n ∷ [] } in
         let ch : Changes entry now next held kept = pop_changes entry n rest held.children kept.feeds held.drains now next held gives refl refl is (sym (append-nil held.children)) refl (sym (append-nil held.drains)) in
-        stands_more allows number_of course st (advance st (action.feed bytes)) (AskFeed (pipe_place st.stack) bytes ∷ []) now next held kept entry stands refl ch
-        (omega (arith, few_now allows number_of course st now held stands, ap (λ (l : List ℕ). length (l ++ (pipe_ends held.out ++ pipe_ends held.err))) is)) (popped_shape n rest (advance st (action.feed bytes)) st kept held is refl refl refl refl refl refl stands.shaped) refl refl
-        (λ more later. ((refl, fed (Ok tt) kept course st ready stands ch more later), tt))
+        stands_more allows number_of context st (advance st (action.feed bytes)) (AskFeed (pipe_place st.stack) bytes ∷ []) now next held kept entry stands refl ch
+        (omega (arith, few_now allows number_of context st now held stands, ap (λ (l : List ℕ). length (l ++ (pipe_ends held.out ++ pipe_ends held.err))) is)) (popped_shape n rest (advance st (action.feed bytes)) st kept held is refl refl refl refl refl refl stands.shaped) refl refl
+        (λ more later. ((refl, fed (Ok tt) kept context st ready stands ch more later), tt))
         (λ more later.
         let L = (stands.added ++ entry ∷ []) ++ more in
-        let s = sources_now allows number_of course st (advance st (action.feed bytes)) (AskFeed (pipe_place st.stack) bytes ∷ []) now next held kept entry stands refl ch more later in
-        record { stack = pair_popped (IsFrom (IsEarly course) number_of L) n rest st.stack (subst (λ (l : List ℕ). Pairwise (IsFrom (IsEarly course) number_of L) l st.stack) is s.stack); out = s.out; err = s.err })
+        let s = sources_now allows number_of context st (advance st (action.feed bytes)) (AskFeed (pipe_place st.stack) bytes ∷ []) now next held kept entry stands refl ch more later in
+        record { stack = pair_popped (IsFrom (IsEarly context) number_of L) n rest st.stack (subst (λ (l : List ℕ). Pairwise (IsFrom (IsEarly context) number_of L) l st.stack) is s.stack); out = s.out; err = s.err })
 
     pub feed_fails : (fault : Fault) → GivesEnds (Feed n bytes (Err fault)) 1 now next
         → ActionFails allows number_of (action.feed bytes) now next held (resources_with_stack rest held) (System fault)
-    feed_fails fault gives = λ course st ready stands.
+    feed_fails fault gives = λ context st ready stands.
         let entry = Feed n bytes (Err fault) in
         let ch : Changes entry now next held (resources_with_stack rest held) =
         pop_changes entry n rest held.children held.feeds held.drains now next held gives refl refl is (sym (append-nil held.children)) (sym (append-nil held.feeds)) (sym (append-nil held.drains)) in
-        stops_more allows number_of course st (advance st (action.feed bytes)) (AskFeed (pipe_place st.stack) bytes ∷ []) now next held (resources_with_stack rest held) entry stands refl ch
-        (omega (arith, few_now allows number_of course st now held stands, ap (λ (l : List ℕ). length (l ++ (pipe_ends held.out ++ pipe_ends held.err))) is)) fault refl
-        (λ more later. ((refl, fed (Err fault) (resources_with_stack rest held) course st ready stands ch more later), tt))
+        stops_more allows number_of context st (advance st (action.feed bytes)) (AskFeed (pipe_place st.stack) bytes ∷ []) now next held (resources_with_stack rest held) entry stands refl ch
+        (omega (arith, few_now allows number_of context st now held stands, ap (λ (l : List ℕ). length (l ++ (pipe_ends held.out ++ pipe_ends held.err))) is)) fault refl
+        (λ more later. ((refl, fed (Err fault) (resources_with_stack rest held) context st ready stands ch more later), tt))
 
   -- an allocation failed before the action made a request
   pub memory_fails : (act : Action E H) (asked : State E H → List (Item E H))
@@ -368,8 +368,8 @@ module _ {E H : Type 0} (allows : Allows H) (number_of : E → ℕ) where
       ((st : State E H) → (advance st act).plan.items ≡ st.plan.items ++ asked st)
       → AddsNothing now next → IsAllocationFailure error
       → ActionFails allows number_of act now next held held error
-  memory_fails act asked now next held error items nothing un = λ course st ready stands.
-      stops_unasked allows number_of course st (advance st act).plan.items (asked st) now next held error stands (items st) nothing un
+  memory_fails act asked now next held error items nothing un = λ context st ready stands.
+      stops_unasked allows number_of context st (advance st act).plan.items (asked st) now next held error stands (items st) nothing un
 
   -- a request that was given no end was refused, with or without its entry
   pub quits_none : (act : Action E H) (asked : State E H → List (Item E H)) (entry : EntryView)
@@ -377,12 +377,12 @@ module _ {E H : Type 0} (allows : Allows H) (number_of : E → ℕ) where
       → ((st : State E H) → (advance st act).plan.items ≡ st.plan.items ++ asked st)
       → IsRefused entry 0 fault now next → fault_of entry ≡ Some fault → opened_by entry ≡ []
       → closed_by entry ≡ [] → child_by entry ≡ [] → feed_by entry ≡ [] → drain_by entry ≡ []
-      → ((course : RunContext) (st : State E H) (L : List EntryView)
-      → AnswersUnder course allows number_of L (length st.plan.items) (asked st) (trace (entry ∷ [])))
+      → ((context : RunContext) (st : State E H) (L : List EntryView)
+      → AnswersUnder context allows number_of L (length st.plan.items) (asked st) (trace (entry ∷ [])))
       → ActionFails allows number_of act now next held held (System fault)
-  quits_none act asked entry fault now next held items (inl adds) refuses no_end none no_child no_feed no_drain matches = λ course st ready stands.
-      stops_more allows number_of course st (advance st act) (asked st) now next held held entry stands (items st)
-      (none_changes entry now next held adds no_end none no_child no_feed no_drain) (few_now allows number_of course st now held stands) fault refuses (λ more later. matches course st ((stands.added ++ entry ∷ []) ++ more))
+  quits_none act asked entry fault now next held items (inl adds) refuses no_end none no_child no_feed no_drain matches = λ context st ready stands.
+      stops_more allows number_of context st (advance st act) (asked st) now next held held entry stands (items st)
+      (none_changes entry now next held adds no_end none no_child no_feed no_drain) (few_now allows number_of context st now held stands) fault refuses (λ more later. matches context st ((stands.added ++ entry ∷ []) ++ more))
   quits_none act asked entry fault now next held items (inr nothing) refuses no_end none no_child no_feed no_drain matches =
       memory_fails act asked now next held (System fault) items nothing.1 nothing.2
 
@@ -391,27 +391,27 @@ module _ {E H : Type 0} (allows : Allows H) (number_of : E → ℕ) where
     pub open_read_fails : (path : List ℕ) → IsRefused (OpenRead path (Err fault)) 0 fault now next
         → ActionFails allows number_of (action.open_read path) now next held held (System fault)
     open_read_fails path refused =
-        quits_none (action.open_read path) (λ st. AskOpenRead path ∷ []) (OpenRead path (Err fault)) fault now next held (λ st. refl) refused refl refl refl refl refl refl (λ course st L. (refl, tt))
+        quits_none (action.open_read path) (λ st. AskOpenRead path ∷ []) (OpenRead path (Err fault)) fault now next held (λ st. refl) refused refl refl refl refl refl refl (λ context st L. (refl, tt))
 
     pub create_fails : (path : List ℕ) → IsRefused (Create path (Err fault)) 0 fault now next
         → ActionFails allows number_of (action.create path) now next held held (System fault)
     create_fails path refused =
-        quits_none (action.create path) (λ st. AskCreate path ∷ []) (Create path (Err fault)) fault now next held (λ st. refl) refused refl refl refl refl refl refl (λ course st L. (refl, tt))
+        quits_none (action.create path) (λ st. AskCreate path ∷ []) (Create path (Err fault)) fault now next held (λ st. refl) refused refl refl refl refl refl refl (λ context st L. (refl, tt))
 
     pub pipe_fails : IsRefused (Pipe (Err fault)) 0 fault now next
         → ActionFails allows number_of action.pipe now next held held (System fault)
-    pipe_fails refused = quits_none action.pipe (λ st. AskPipe ∷ []) (Pipe (Err fault)) fault now next held (λ st. refl) refused refl refl refl refl refl refl (λ course st L. (tt, tt))
+    pipe_fails refused = quits_none action.pipe (λ st. AskPipe ∷ []) (Pipe (Err fault)) fault now next held (λ st. refl) refused refl refl refl refl refl refl (λ context st L. (tt, tt))
 
     pub input_fails : IsRefused (Pipe (Err fault)) 0 fault now next
         → ActionFails allows number_of action.input now next held held (System fault)
-    input_fails refused = quits_none action.input (λ st. AskPipe ∷ []) (Pipe (Err fault)) fault now next held (λ st. refl) refused refl refl refl refl refl refl (λ course st L. (tt, tt))
+    input_fails refused = quits_none action.input (λ st. AskPipe ∷ []) (Pipe (Err fault)) fault now next held (λ st. refl) refused refl refl refl refl refl refl (λ context st L. (tt, tt))
 
     pub parent_fails : (which : Side) → IsRefused (Parent which (Err fault)) 0 fault now next
         → ActionFails allows number_of (action.parent which) now next held held (System fault)
     parent_fails side.Out refused =
-        quits_none (action.parent side.Out) (λ st. []) (Parent side.Out (Err fault)) fault now next held (λ st. sym (append-nil st.plan.items)) refused refl refl refl refl refl refl (λ course st L. tt)
+        quits_none (action.parent side.Out) (λ st. []) (Parent side.Out (Err fault)) fault now next held (λ st. sym (append-nil st.plan.items)) refused refl refl refl refl refl refl (λ context st L. tt)
     parent_fails side.Err refused =
-        quits_none (action.parent side.Err) (λ st. []) (Parent side.Err (Err fault)) fault now next held (λ st. sym (append-nil st.plan.items)) refused refl refl refl refl refl refl (λ course st L. tt)
+        quits_none (action.parent side.Err) (λ st. []) (Parent side.Err (Err fault)) fault now next held (λ st. sym (append-nil st.plan.items)) refused refl refl refl refl refl refl (λ context st L. tt)
 
     -- the refusal of a request for a duplicate, of any end
     pub duplicate_fails : (act : Action E H) (m : ℕ)
@@ -419,4 +419,4 @@ module _ {E H : Type 0} (allows : Allows H) (number_of : E → ℕ) where
         → IsRefused (Duplicate m (Err fault)) 0 fault now next
         → ActionFails allows number_of act now next held held (System fault)
     duplicate_fails act m same refused =
-        quits_none act (λ st. []) (Duplicate m (Err fault)) fault now next held (λ st. same st ∙ sym (append-nil st.plan.items)) refused refl refl refl refl refl refl (λ course st L. tt)
+        quits_none act (λ st. []) (Duplicate m (Err fault)) fault now next held (λ st. same st ∙ sym (append-nil st.plan.items)) refused refl refl refl refl refl refl (λ context st L. tt)

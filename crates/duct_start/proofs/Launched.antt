@@ -122,8 +122,8 @@ module _ {E H : Type 0} (allows : Allows H) (number_of : E → ℕ) (tree : Tree
       → ActionsSucceed allows number_of drain_tail actions old now held
       → StartSucceeds allows number_of tree (plan_of tree) old now
   launched old now held runs =
-      let course = context_of old (ceiling number_of tree) (2 * depth tree + 4) runs.0 in
-      succeeded allows number_of tree (plan_of tree) course (with_plan (drain_tail goal)) old now held (stands_launched drain_tail old now held runs) refl refl refl
+      let context = context_of old (ceiling number_of tree) (2 * depth tree + 4) runs.0 in
+      succeeded allows number_of tree (plan_of tree) context (with_plan (drain_tail goal)) old now held (stands_launched drain_tail old now held runs) refl refl refl
       (drained_items goal) (nothing_left drain_tail refl refl old now held runs)
 
 -- so does a reader's start, whose actions open stdout's capture pipe
@@ -134,8 +134,8 @@ module _ {E H : Type 0} (allows : Allows H) (number_of : E → ℕ) (tree : Tree
   read_launched old now held runs =
       let captured = around stdout_capture tree in
       let goal = plan_of_subtree [] captured initial_plan in
-      let course = context_of old (ceiling number_of captured) (2 * depth captured + 4) runs.0 in
-      succeeded allows number_of tree (plan_of_reader tree) course (with_plan (drain_and_reader_tail goal)) old now held (stands_launched allows number_of captured actions same drain_and_reader_tail old now held runs)
+      let context = context_of old (ceiling number_of captured) (2 * depth captured + 4) runs.0 in
+      succeeded allows number_of tree (plan_of_reader tree) context (with_plan (drain_and_reader_tail goal)) old now held (stands_launched allows number_of captured actions same drain_and_reader_tail old now held runs)
       refl refl (omega arith) (read_items goal) (nothing_left allows number_of captured actions same drain_and_reader_tail refl refl old now held runs)
 
   pub reads_out : OpenOutputCapture number_of actions
@@ -149,7 +149,7 @@ pub unasked_launch : {E H : Type 0} (allows : Allows H) (refuses : Refuses H) (n
     (tree : TreeView E H) (plan : Plan E H) (old : JournalView)
     → StartRefused allows refuses number_of tree plan old old Memory
 unasked_launch allows refuses number_of tree plan old =
-    let course = context_of old (ceiling number_of tree) (2 * depth tree + 4) [] in
-    let nothing = stopped_unasked course old allows number_of plan.items Memory (record { entries_are = refl; added_is = refl; next_grows = omega arith; room_grows = omega arith }) tt in
-    refused_closed allows refuses number_of course plan.items old old empty_resources Memory
-    (plain_refused allows refuses number_of course plan.items old empty_resources Memory (λ no. no) nothing) [] (λ n. refl) refl (closes_none old) tree plan refl refl refl
+    let context = context_of old (ceiling number_of tree) (2 * depth tree + 4) [] in
+    let nothing = stopped_unasked context old allows number_of plan.items Memory (record { entries_are = refl; added_is = refl; next_grows = omega arith; room_grows = omega arith }) tt in
+    refused_closed allows refuses number_of context plan.items old old empty_resources Memory
+    (plain_refused allows refuses number_of context plan.items old empty_resources Memory (λ no. no) nothing) [] (λ n. refl) refl (closes_none old) tree plan refl refl refl

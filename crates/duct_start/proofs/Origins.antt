@@ -104,10 +104,10 @@ end_at_seam xs entry more which traced =
     ∙ ap (λ (l : List ℕ). slice_index l which) (append-nil (opened_by entry))
 
 -- an entry that got fresh numbers, together with later entries, is later than what came before it
-pub later_more : (course : RunContext) (next then : ℕ) (entry : EntryView) (more : List EntryView)
-    → AreFresh next then (opened_by entry) → IsLater course then more
-    → IsLater course next (entry ∷ more)
-later_more course next then entry more fresh later = record {
+pub later_more : (context : RunContext) (next then : ℕ) (entry : EntryView) (more : List EntryView)
+    → AreFresh next then (opened_by entry) → IsLater context then more
+    → IsLater context next (entry ∷ more)
+later_more context next then entry more fresh later = record {
   fresh = λ n lt.
       let lt' : n < then = omega (arith, fresh.newer) in
       omega (arith, count_got-append n (entry ∷ []) more, count_got-append n [] (entry ∷ []), fresh.above n lt, later.fresh n lt', ap (λ (l : List ℕ). count_of n l) (append-nil (opened_by entry)));

@@ -21,11 +21,11 @@ use Rattle.duct_start.proofs.Whole.{segment-added}
 
 module _ {E H : Type 0} (allows : Allows H) (number_of : E → ℕ) (r w : ℕ) (now mid next : JournalView) (held : ResourcesView) (is : held.out ≡ Some (r, w))
     (closed : GivesEnds (Close w) 1 now mid) (made : GivesEnds (Reader r) 1 mid next) where
-  reads_on : (course : RunContext) (st : State E H) → length st.stack ≤ course.bound
-      → RunInvariant allows number_of course st now held
-      → RunInvariant allows number_of course (record { stack = st.stack; plan = reader_tail st.plan }) next (without_out [] held)
-  reads_on course st low stands =
-      let first = closes_out allows number_of course st r w now mid held is closed low stands in
+  reads_on : (context : RunContext) (st : State E H) → length st.stack ≤ context.bound
+      → RunInvariant allows number_of context st now held
+      → RunInvariant allows number_of context (record { stack = st.stack; plan = reader_tail st.plan }) next (without_out [] held)
+  reads_on context st low stands =
+      let first = closes_out allows number_of context st r w now mid held is closed low stands in
       let one = mid_out allows number_of st in
       let before = without_out (r ∷ []) held in
       let kept = without_out [] held in
@@ -33,11 +33,11 @@ module _ {E H : Type 0} (allows : Allows H) (number_of : E → ℕ) (r w : ℕ) 
       let asked : List (Item E H) = AskReader (unwrap_or st.plan.out 0) ∷ [] in
       let then_st : State E H = record { stack = st.stack; plan = record { items = st.plan.items ++ asked; out = None; err = st.plan.err } } in
       let ch : Changes entry mid next before kept = pop_changes entry r held.stack held.children held.feeds held.drains mid next before made refl refl refl (sym (append-nil held.children)) (sym (append-nil held.feeds)) (sym (append-nil held.drains)) in
-      let from = λ (more : List EntryView) (later : IsLater course next.next more). sources_now allows number_of course one then_st asked mid next before kept entry first refl ch more later in
+      let from = λ (more : List EntryView) (later : IsLater context next.next more). sources_now allows number_of context one then_st asked mid next before kept entry first refl ch more later in
       let open' = some_place st.plan.out (sym stands.shaped.out ∙ ap (λ o. is_some o) is) in
       let same : then_st ≡ record { stack = st.stack; plan = reader_tail st.plan } = ap (λ (o : Option ℕ). record { stack = st.stack; plan = record { items = (with_reader o st.plan).items; out = None; err = st.plan.err } }) (sym open') in
-      subst (λ (s : State E H). RunInvariant allows number_of course s next kept) same
-      (stands_more allows number_of course one then_st asked mid next before kept entry first refl ch (few_of course.bound kept (omega (arith, stands.shaped.stack, low))) (record { stack = stands.shaped.stack; out = refl; err = stands.shaped.err }) refl refl
+      subst (λ (s : State E H). RunInvariant allows number_of context s next kept) same
+      (stands_more allows number_of context one then_st asked mid next before kept entry first refl ch (few_of context.bound kept (omega (arith, stands.shaped.stack, low))) (record { stack = stands.shaped.stack; out = refl; err = stands.shaped.err }) refl refl
       (λ more later. ((from more later).stack.0.0, tt))
       (λ more later. let z = from more later in record { stack = z.stack.1; out = tt; err = z.err }))
 

@@ -48,15 +48,15 @@ read_more p = by p.out
 
 module _ {E H : Type 0} (allows : Allows H) (number_of : E → ℕ) (actions : List (Action E H)) (old : JournalView) where
   -- the run once the environment was returned
-  pub stood_begun : (course : RunContext) (plan : Plan E H) (one : JournalView) (held : ResourcesView)
-      → held ≡ empty_resources → course.front ≡ []
-      → Leads number_of course.base course.bound (with_plan initial_plan) actions (with_plan plan)
-      → Asks (Environment (Ok course.pairs)) course.old one
-      → ReadyForActions allows number_of course (with_plan plan) actions one held
-  stood_begun course plan one held nothing none leads asked =
-      subst (λ (h : ResourcesView). ReadyForActions allows number_of course (with_plan plan) actions one h) (sym nothing) (record {
+  pub stood_begun : (context : RunContext) (plan : Plan E H) (one : JournalView) (held : ResourcesView)
+      → held ≡ empty_resources → context.front ≡ []
+      → Leads number_of context.base context.bound (with_plan initial_plan) actions (with_plan plan)
+      → Asks (Environment (Ok context.pairs)) context.old one
+      → ReadyForActions allows number_of context (with_plan plan) actions one held
+  stood_begun context plan one held nothing none leads asked =
+      subst (λ (h : ResourcesView). ReadyForActions allows number_of context (with_plan plan) actions one h) (sym nothing) (record {
         state = with_plan initial_plan;
-        stands = stands_begun course one allows number_of none asked;
+        stands = stands_begun context one allows number_of none asked;
         ready = leads.ready;
         goal_is = leads.is;
       })
@@ -97,12 +97,12 @@ module _ {E H : Type 0} (allows : Allows H) (number_of : E → ℕ) (actions : L
 
   module _ (refuses : Refuses H) where
     -- a failed run, with more items that were not reached
-    refused_more : (course : RunContext) (items more : List (Item E H)) (now : JournalView)
-        (held : ResourcesView) (e : Error) → StoppedWithCause allows refuses number_of course items now held e →
-        StoppedWithCause allows refuses number_of course (items ++ more) now held e
+    refused_more : (context : RunContext) (items more : List (Item E H)) (now : JournalView)
+        (held : ResourcesView) (e : Error) → StoppedWithCause allows refuses number_of context items now held e →
+        StoppedWithCause allows refuses number_of context (items ++ more) now held e
     unfolding stopped_front
-    refused_more course items more now held e refused = record {
-      stopped = stopped_front allows number_of course items more now held e refused.stopped;
+    refused_more context items more now held e refused = record {
+      stopped = stopped_front allows number_of context items more now held e refused.stopped;
       cause = λ is l later.
           let place = length (trace refused.stopped.added) in
           let entries = trace (refused.stopped.added ++ l) in
@@ -136,10 +136,10 @@ module _ {E H : Type 0} (allows : Allows H) (number_of : E → ℕ) (actions : L
     environment_refused now held fault nothing refused = (
       [],
       λ base bound plan leads.
-          let course = context_of old base bound [] in
+          let context = context_of old base bound [] in
           let grow = items_grow (with_plan {E = E} {H = H} initial_plan) actions in
           let items : AskEnvironment ∷ grow.0 ≡ plan.items = sym grow.1 ∙ ap (λ (s : State E H). s.plan.items) leads.is in
-          subst (λ (h : ResourcesView). StoppedWithCause allows refuses number_of course plan.items now h (System fault)) (sym nothing)
-          (subst (λ (l : List (Item E H)). StoppedWithCause allows refuses number_of course l now empty_resources (System fault)) items
-          (plain_refused allows refuses number_of course (AskEnvironment ∷ grow.0) now empty_resources (System fault) (λ no. no) (stopped_begun course now allows number_of grow.0 fault refused))),
+          subst (λ (h : ResourcesView). StoppedWithCause allows refuses number_of context plan.items now h (System fault)) (sym nothing)
+          (subst (λ (l : List (Item E H)). StoppedWithCause allows refuses number_of context l now empty_resources (System fault)) items
+          (plain_refused allows refuses number_of context (AskEnvironment ∷ grow.0) now empty_resources (System fault) (λ no. no) (stopped_begun context now allows number_of grow.0 fault refused))),
     )

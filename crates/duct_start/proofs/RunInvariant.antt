@@ -24,11 +24,11 @@ use Rattle.duct_start.proofs.Counts.{once_of}
 use Rattle.duct_start.proofs.Origins.{opened_numbers-append, closed_numbers-append, count_got-append, count_spent-append, trace-append, later_more}
 
 -- the trace has as many entries as the plan has items
-pub as_many : {E H : Type 0} {allows : Allows H} {number_of : E → ℕ} {course : RunContext}
+pub as_many : {E H : Type 0} {allows : Allows H} {number_of : E → ℕ} {context : RunContext}
     {state : State E H} {now : JournalView} {held : ResourcesView}
-    (stands : RunInvariant allows number_of course state now held)
+    (stands : RunInvariant allows number_of context state now held)
     → length (trace stands.added) ≡ length state.plan.items
-as_many {E} {H} {allows} {number_of} {course} {state} {now} {held} stands =
+as_many {E} {H} {allows} {number_of} {context} {state} {now} {held} stands =
     sym (length-map (trace stands.added) entry_kind) ∙ ap (λ (l : List Kind). length l) stands.kinds ∙ length-map state.plan.items item_kind
 
 module _ {E H : Type 0} (gives : Gives) (allows : Allows H) (number_of : E → ℕ) where
@@ -116,10 +116,10 @@ few_more bound old then added entry kept few books low = λ count. elim (cases_l
 ]
 
 -- the bound on the ends that are held now
-pub few_now : {E H : Type 0} (allows : Allows H) (number_of : E → ℕ) (course : RunContext)
+pub few_now : {E H : Type 0} (allows : Allows H) (number_of : E → ℕ) (context : RunContext)
     (state : State E H) (now : JournalView) (held : ResourcesView)
-    → RunInvariant allows number_of course state now held → length (open_ends held) ≤ course.bound + 8
-few_now allows number_of course state now held stands =
+    → RunInvariant allows number_of context state now held → length (open_ends held) ≤ context.bound + 8
+few_now allows number_of context state now held stands =
     let whole = ap (λ l. length (opened_numbers l)) (take_whole stands.added (length stands.added) (omega arith)) in
     let all = ap (λ l. length (closed_numbers l)) (take_whole stands.added (length stands.added) (omega arith)) in
     omega (arith, stands.few (length stands.added), whole, all, stands.books.long)
@@ -134,83 +134,83 @@ pub few_of : (bound : ℕ) (held : ResourcesView) → length held.stack ≤ boun
 few_of bound held low =
     omega (arith, low, pair_few held.out, pair_few held.err, length-append held.stack (pipe_ends held.out ++ pipe_ends held.err), length-append (pipe_ends held.out) (pipe_ends held.err))
 
-module _ {E H : Type 0} (allows : Allows H) (number_of : E → ℕ) (course : RunContext) (state then_state : State E H) (asked : List (Item E H)) (now then : JournalView) (held kept : ResourcesView)
-    (entry : EntryView) (stands : RunInvariant allows number_of course state now held) (items_are : then_state.plan.items ≡ state.plan.items ++ asked) (ch : Changes entry now then held kept) where
+module _ {E H : Type 0} (allows : Allows H) (number_of : E → ℕ) (context : RunContext) (state then_state : State E H) (asked : List (Item E H)) (now then : JournalView) (held kept : ResourcesView)
+    (entry : EntryView) (stands : RunInvariant allows number_of context state now held) (items_are : then_state.plan.items ≡ state.plan.items ++ asked) (ch : Changes entry now then held kept) where
   abbrev pub then_added : List EntryView
   then_added = stands.added ++ entry ∷ []
 
   -- where the held ends come from, whatever entries come after this one
-  pub sources_now : (more : List EntryView) → IsLater course then.next more
-      → HasOrigins (IsEarly course) number_of (then_added ++ more) state held
+  pub sources_now : (more : List EntryView) → IsLater context then.next more
+      → HasOrigins (IsEarly context) number_of (then_added ++ more) state held
   sources_now more later =
-      subst (λ (l : List EntryView). HasOrigins (IsEarly course) number_of l state held) (sym (append_assoc stands.added (entry ∷ []) more))
-      (stands.sources (entry ∷ more) (later_more course now.next then.next entry more ch.fresh later))
+      subst (λ (l : List EntryView). HasOrigins (IsEarly context) number_of l state held) (sym (append_assoc stands.added (entry ∷ []) more))
+      (stands.sources (entry ∷ more) (later_more context now.next then.next entry more ch.fresh later))
 
-  answers_then : ((more : List EntryView) → IsLater course then.next more → AnswersUnder course allows number_of (then_added ++ more) (length state.plan.items) asked (trace (entry ∷ []))) →
-      (more : List EntryView) → IsLater course then.next more → AnswersUnder course allows number_of (then_added ++ more) 0 then_state.plan.items (trace then_added)
+  answers_then : ((more : List EntryView) → IsLater context then.next more → AnswersUnder context allows number_of (then_added ++ more) (length state.plan.items) asked (trace (entry ∷ []))) →
+      (more : List EntryView) → IsLater context then.next more → AnswersUnder context allows number_of (then_added ++ more) 0 then_state.plan.items (trace then_added)
   answers_then matches = λ more later.
-      let before : AnswersUnder course allows number_of (then_added ++ more) 0 state.plan.items (trace stands.added) =
-      subst (λ (l : List EntryView). AnswersUnder course allows number_of l 0 state.plan.items (trace stands.added)) (sym (append_assoc stands.added (entry ∷ []) more))
-      (stands.answers (entry ∷ more) (later_more course now.next then.next entry more ch.fresh later)) in
-      subst (λ (l : List (Item E H)). AnswersUnder course allows number_of (then_added ++ more) 0 l (trace then_added)) (sym items_are)
-      (subst (λ (l : List EntryView). AnswersUnder course allows number_of (then_added ++ more) 0 (state.plan.items ++ asked) l) (sym (trace-append stands.added (entry ∷ [])))
-      (answers-append (GivesUnder (IsEarly course) (then_added ++ more)) allows number_of (then_added ++ more) 0 state.plan.items asked (trace stands.added) (trace (entry ∷ [])) (as_many stands) before
-      (subst (λ (k : ℕ). AnswersUnder course allows number_of (then_added ++ more) k asked (trace (entry ∷ []))) (omega arith) (matches more later))))
+      let before : AnswersUnder context allows number_of (then_added ++ more) 0 state.plan.items (trace stands.added) =
+      subst (λ (l : List EntryView). AnswersUnder context allows number_of l 0 state.plan.items (trace stands.added)) (sym (append_assoc stands.added (entry ∷ []) more))
+      (stands.answers (entry ∷ more) (later_more context now.next then.next entry more ch.fresh later)) in
+      subst (λ (l : List (Item E H)). AnswersUnder context allows number_of (then_added ++ more) 0 l (trace then_added)) (sym items_are)
+      (subst (λ (l : List EntryView). AnswersUnder context allows number_of (then_added ++ more) 0 (state.plan.items ++ asked) l) (sym (trace-append stands.added (entry ∷ [])))
+      (answers-append (GivesUnder (IsEarly context) (then_added ++ more)) allows number_of (then_added ++ more) 0 state.plan.items asked (trace stands.added) (trace (entry ∷ [])) (as_many stands) before
+      (subst (λ (k : ℕ). AnswersUnder context allows number_of (then_added ++ more) k asked (trace (entry ∷ []))) (omega arith) (matches more later))))
 
   -- one more entry, without a fault
-  pub stands_more : length (open_ends kept) ≤ course.bound + 8 → IsShaped then_state kept
+  pub stands_more : length (open_ends kept) ≤ context.bound + 8 → IsShaped then_state kept
       → fault_of entry ≡ None
       → map entry_kind (trace (entry ∷ [])) ≡ map item_kind asked
-      → ((more : List EntryView) → IsLater course then.next more
-      → AnswersUnder course allows number_of (then_added ++ more) (length state.plan.items) asked
+      → ((more : List EntryView) → IsLater context then.next more
+      → AnswersUnder context allows number_of (then_added ++ more) (length state.plan.items) asked
       (trace (entry ∷ [])))
-      → ((more : List EntryView) → IsLater course then.next more
-      → HasOrigins (IsEarly course) number_of (then_added ++ more) then_state kept)
-      → RunInvariant allows number_of course then_state then kept
+      → ((more : List EntryView) → IsLater context then.next more
+      → HasOrigins (IsEarly context) number_of (then_added ++ more) then_state kept)
+      → RunInvariant allows number_of context then_state then kept
   stands_more few shaped clean kinds matches sourced = record {
     added = then_added;
-    books = books_more course.old now then stands.added entry held kept ch stands.books;
-    few = few_more course.bound course.old then stands.added entry kept stands.few (books_more course.old now then stands.added entry held kept ch stands.books) few;
+    books = books_more context.old now then stands.added entry held kept ch stands.books;
+    few = few_more context.bound context.old then stands.added entry kept stands.few (books_more context.old now then stands.added entry held kept ch stands.books) few;
     kinds = ap (λ (l : List EntryView). map entry_kind l) (trace-append stands.added (entry ∷ [])) ∙ map-append entry_kind (trace stands.added) (trace (entry ∷ []))
         ∙ (λ i. stands.kinds i ++ kinds i) ∙ sym (ap (λ (l : List (Item E H)). map item_kind l) items_are ∙ map-append item_kind state.plan.items asked);
     shaped = shaped;
     begins = λ more. ap (λ (l : List EntryView). pairs_in (trace l)) (append_assoc stands.added (entry ∷ []) more) ∙ stands.begins (entry ∷ more);
-    starts = (stands.starts.0 ++ entry ∷ [], ap (λ (l : List EntryView). l ++ entry ∷ []) stands.starts.1 ∙ append_assoc course.front stands.starts.0 (entry ∷ []));
+    starts = (stands.starts.0 ++ entry ∷ [], ap (λ (l : List EntryView). l ++ entry ∷ []) stands.starts.1 ∙ append_assoc context.front stands.starts.0 (entry ∷ []));
     answers = answers_then matches;
     sources = sourced;
     clean = clean_more stands.added entry stands.clean clean;
   }
 
   -- one more entry, with a fault
-  pub stops_more : length (open_ends kept) ≤ course.bound + 8 → (fault : Fault)
+  pub stops_more : length (open_ends kept) ≤ context.bound + 8 → (fault : Fault)
       → fault_of entry ≡ Some fault
-      → ((more : List EntryView) → IsLater course then.next more
-      → AnswersUnder course allows number_of (then_added ++ more) (length state.plan.items) asked
+      → ((more : List EntryView) → IsLater context then.next more
+      → AnswersUnder context allows number_of (then_added ++ more) (length state.plan.items) asked
       (trace (entry ∷ [])))
-      → StopInvariant allows number_of course then_state.plan.items then kept (System fault)
+      → StopInvariant allows number_of context then_state.plan.items then kept (System fault)
   stops_more few fault refuses matches = record {
     added = then_added;
-    books = books_more course.old now then stands.added entry held kept ch stands.books;
-    few = few_more course.bound course.old then stands.added entry kept stands.few (books_more course.old now then stands.added entry held kept ch stands.books) few;
+    books = books_more context.old now then stands.added entry held kept ch stands.books;
+    few = few_more context.bound context.old then stands.added entry kept stands.few (books_more context.old now then stands.added entry held kept ch stands.books) few;
     answers = answers_then matches;
     ended = refused stands.added entry fault stands.clean refuses;
   }
 
 -- entries that are later than a number are later than a smaller one
-later_still : (course : RunContext) (next then : ℕ) (more : List EntryView) → next ≤ then
-    → IsLater course then more → IsLater course next more
-later_still course next then more le later = record { fresh = λ n lt. let lt' : n < then = omega (arith, le) in later.fresh n lt' }
+later_still : (context : RunContext) (next then : ℕ) (more : List EntryView) → next ≤ then
+    → IsLater context then more → IsLater context next more
+later_still context next then more le later = record { fresh = λ n lt. let lt' : n < then = omega (arith, le) in later.fresh n lt' }
 
 -- no request was made, since an allocation failed
-pub stops_unasked : {E H : Type 0} (allows : Allows H) (number_of : E → ℕ) (course : RunContext)
+pub stops_unasked : {E H : Type 0} (allows : Allows H) (number_of : E → ℕ) (context : RunContext)
     (state : State E H) (items more_items : List (Item E H))
     (now then : JournalView) (held : ResourcesView) (error : Error) →
-    RunInvariant allows number_of course state now held → items ≡ state.plan.items ++ more_items
+    RunInvariant allows number_of context state now held → items ≡ state.plan.items ++ more_items
     → AddsNothing now then → IsAllocationFailure error
-    → StopInvariant allows number_of course items then held error
-stops_unasked {E} {H} allows number_of course state items more_items now then held error stands is nothing un =
+    → StopInvariant allows number_of context items then held error
+stops_unasked {E} {H} allows number_of context state items more_items now then held error stands is nothing un =
     let b = stands.books in
-    let later = λ (more : List EntryView) (l : IsLater course then.next more). later_still course now.next then.next more nothing.next_grows l in
+    let later = λ (more : List EntryView) (l : IsLater context then.next more). later_still context now.next then.next more nothing.next_grows l in
     record {
       added = stands.added;
       books = record {
@@ -228,7 +228,7 @@ stops_unasked {E} {H} allows number_of course state items more_items now then he
         drains_are = b.drains_are;
       };
       few = stands.few;
-      answers = λ more l. subst (λ (x : List (Item E H)). AnswersUnder course allows number_of (stands.added ++ more) 0 x (trace stands.added)) (sym is)
-          (answers_front (GivesUnder (IsEarly course) (stands.added ++ more)) allows number_of (stands.added ++ more) 0 state.plan.items more_items (trace stands.added) (stands.answers more (later more l)));
+      answers = λ more l. subst (λ (x : List (Item E H)). AnswersUnder context allows number_of (stands.added ++ more) 0 x (trace stands.added)) (sym is)
+          (answers_front (GivesUnder (IsEarly context) (stands.added ++ more)) allows number_of (stands.added ++ more) 0 state.plan.items more_items (trace stands.added) (stands.answers more (later more l)));
       ended = unasked stands.clean un;
     }

@@ -32,13 +32,13 @@ environment_held bound entry none closed_numbers zero = omega arith
 environment_held bound entry none closed_numbers (suc count) =
     omega (arith, take_none count, length-append (opened_by entry) (opened_numbers (take count [])), ap (λ (l : List ℕ). length l) none)
 
-module _ (course : RunContext) (now : JournalView) where
-  begun_books : (entry : EntryView) → Asks entry course.old now → opened_by entry ≡ []
+module _ (context : RunContext) (now : JournalView) where
+  begun_books : (entry : EntryView) → Asks entry context.old now → opened_by entry ≡ []
       → closed_by entry ≡ [] → child_by entry ≡ [] → feed_by entry ≡ [] → drain_by entry ≡ [] →
-      LedgerInvariant course.old now (entry ∷ []) empty_resources
+      LedgerInvariant context.old now (entry ∷ []) empty_resources
   begun_books entry asks none closed_numbers no_child no_feed no_drain =
-      books_more course.old course.old now [] entry empty_resources empty_resources (none_changes entry course.old now empty_resources asks none closed_numbers no_child no_feed no_drain) (record {
-        entries_are = sym (append-nil course.old.entries);
+      books_more context.old context.old now [] entry empty_resources empty_resources (none_changes entry context.old now empty_resources asks none closed_numbers no_child no_feed no_drain) (record {
+        entries_are = sym (append-nil context.old.entries);
         counted = omega arith;
         even = λ n. refl;
         once = λ n. omega arith;
@@ -54,28 +54,28 @@ module _ (course : RunContext) (now : JournalView) where
 
   module _ {E H : Type 0} (allows : Allows H) (number_of : E → ℕ) where
     -- if the environment was returned
-    pub stands_begun : course.front ≡ [] → Asks (Environment (Ok course.pairs)) course.old now
-        → RunInvariant allows number_of course (with_plan initial_plan) now empty_resources
+    pub stands_begun : context.front ≡ [] → Asks (Environment (Ok context.pairs)) context.old now
+        → RunInvariant allows number_of context (with_plan initial_plan) now empty_resources
     stands_begun none asks = record {
-      added = Environment (Ok course.pairs) ∷ [];
-      books = begun_books (Environment (Ok course.pairs)) asks refl refl refl refl refl;
-      few = environment_held course.bound (Environment (Ok course.pairs)) refl refl;
+      added = Environment (Ok context.pairs) ∷ [];
+      books = begun_books (Environment (Ok context.pairs)) asks refl refl refl refl refl;
+      few = environment_held context.bound (Environment (Ok context.pairs)) refl refl;
       kinds = refl;
       shaped = record { stack = refl; out = refl; err = refl };
       begins = λ more. refl;
-      starts = (_, ap (λ l. l ++ Environment (Ok course.pairs) ∷ []) (sym none));
+      starts = (_, ap (λ l. l ++ Environment (Ok context.pairs) ∷ []) (sym none));
       answers = λ more later. (tt, tt);
       sources = λ more later. record { stack = tt; out = tt; err = tt };
       clean = (refl, tt);
     }
 
     -- if no request was made
-    pub stopped_unasked : (items : List (Item E H)) (error : Error) → AddsNothing course.old now
-        → IsAllocationFailure error → StopInvariant allows number_of course items now empty_resources error
+    pub stopped_unasked : (items : List (Item E H)) (error : Error) → AddsNothing context.old now
+        → IsAllocationFailure error → StopInvariant allows number_of context items now empty_resources error
     stopped_unasked items error nothing un = record {
       added = [];
       books = record {
-        entries_are = nothing.entries_are ∙ sym (append-nil course.old.entries);
+        entries_are = nothing.entries_are ∙ sym (append-nil context.old.entries);
         counted = omega (arith, nothing.added_is);
         even = λ n. refl;
         once = λ n. omega arith;
@@ -95,12 +95,12 @@ module _ (course : RunContext) (now : JournalView) where
 
     -- if the request for the environment was refused
     pub stopped_begun : (items : List (Item E H)) (fault : Fault)
-        → IsRefused (Environment (Err fault)) 0 fault course.old now
-        → StopInvariant allows number_of course (AskEnvironment ∷ items) now empty_resources (System fault)
+        → IsRefused (Environment (Err fault)) 0 fault context.old now
+        → StopInvariant allows number_of context (AskEnvironment ∷ items) now empty_resources (System fault)
     stopped_begun items fault (inl asks) = record {
       added = Environment (Err fault) ∷ [];
       books = begun_books (Environment (Err fault)) asks refl refl refl refl refl;
-      few = environment_held course.bound (Environment (Err fault)) refl refl;
+      few = environment_held context.bound (Environment (Err fault)) refl refl;
       answers = λ more later. (tt, tt);
       ended = refused [] (Environment (Err fault)) fault tt refl;
     }
@@ -145,9 +145,9 @@ items_grow st (act ∷ actions) =
     let rest = items_grow (advance st act) actions in
     (one.0 ++ rest.0, rest.1 ∙ ap (λ (l : List (Item _ _)). l ++ rest.0) one.1 ∙ append_assoc st.plan.items one.0 rest.0)
 
-module _ {E H : Type 0} (allows : Allows H) (number_of : E → ℕ) (course : RunContext) where
+module _ {E H : Type 0} (allows : Allows H) (number_of : E → ℕ) (context : RunContext) where
   can : (st : State E H) (held : ResourcesView) (act : Action E H) → IsShaped st held
-      → action.Needs number_of course.base course.bound st act → FindsItsEnds act held
+      → action.Needs number_of context.base context.bound st act → FindsItsEnds act held
   can st held (action.duplicate depth) shaped needs = omega (arith, shaped.stack, needs)
   can st held (action.duplicate_capture side.Out) shaped needs = shaped.out ∙ needs
   can st held (action.duplicate_capture side.Err) shaped needs = shaped.err ∙ needs
@@ -155,15 +155,15 @@ module _ {E H : Type 0} (allows : Allows H) (number_of : E → ℕ) (course : Ru
 
   -- a run holds what a ready action needs
   pub can_do : (st : State E H) (now : JournalView) (held : ResourcesView) (act : Action E H)
-      → RunInvariant allows number_of course st now held
-      → IsReady number_of course.base course.bound st act
+      → RunInvariant allows number_of context st now held
+      → IsReady number_of context.base context.bound st act
       → (pop_count act ≤ length held.stack) × FindsItsEnds act held
   can_do st now held act stands ready = (omega (arith, ready.full, stands.shaped.stack), can st held act stands.shaped ready.needs)
 
-  module _ (goal : State E H) (actions rest : List (Action E H)) (act : Action E H) (now : JournalView) (kept : ResourcesView) (stood : ReadyForActions allows number_of course goal actions now kept)
+  module _ (goal : State E H) (actions rest : List (Action E H)) (act : Action E H) (now : JournalView) (kept : ResourcesView) (stood : ReadyForActions allows number_of context goal actions now kept)
       (is : actions ≡ act ∷ rest) where
-    ready_now : AreReady number_of course.base course.bound stood.state (act ∷ rest)
-    ready_now = subst (λ (l : List (Action E H)). AreReady number_of course.base course.bound stood.state l) is stood.ready
+    ready_now : AreReady number_of context.base context.bound stood.state (act ∷ rest)
+    ready_now = subst (λ (l : List (Action E H)). AreReady number_of context.base context.bound stood.state l) is stood.ready
 
     goal_now : after_actions stood.state (act ∷ rest) ≡ goal
     goal_now = ap (λ (l : List (Action E H)). after_actions stood.state l) (sym is) ∙ stood.goal_is
@@ -173,17 +173,17 @@ module _ {E H : Type 0} (allows : Allows H) (number_of : E → ℕ) (course : Ru
 
     pub goes_on : (next : JournalView) (other : ResourcesView)
         → ActionSucceeds allows number_of act now next kept other
-        → ReadyForActions allows number_of course goal rest next other
+        → ReadyForActions allows number_of context goal rest next other
     goes_on next other goes = record {
       state = advance stood.state act;
-      stands = goes course stood.state ready_now.0 stood.stands;
+      stands = goes context stood.state ready_now.0 stood.stands;
       ready = ready_now.1;
       goal_is = goal_now;
     }
 
     pub memory_now : (next : JournalView) (error : Error) → AddsNothing now next → IsAllocationFailure error
-        → StopInvariant allows number_of course goal.plan.items next kept error
+        → StopInvariant allows number_of context goal.plan.items next kept error
     memory_now next error nothing un =
         let more = items_grow stood.state (act ∷ rest) in
-        stops_unasked allows number_of course stood.state goal.plan.items more.0 now next kept error stood.stands
+        stops_unasked allows number_of context stood.state goal.plan.items more.0 now next kept error stood.stands
         (ap (λ (x : State E H). x.plan.items) (sym goal_now) ∙ more.1) nothing un

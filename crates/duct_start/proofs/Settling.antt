@@ -50,13 +50,13 @@ split_second (x ∷ xs) (u ∷ us) ys vs same is =
 
 module _ {E H : Type 0} (allows : Allows H) (number_of : E → ℕ) where
   -- two groups of ends on the stack, one after the other, are swapped
-  pub swapped : (course : RunContext) (state : State E H) (now : JournalView) (held : ResourcesView)
+  pub swapped : (context : RunContext) (state : State E H) (now : JournalView) (held : ResourcesView)
       (a b c : List ℕ) (x y z : List (Target E)) → length a ≡ length x → length b ≡ length y
-      → RunInvariant allows number_of course (with_stack (x ++ (y ++ z)) state) now
+      → RunInvariant allows number_of context (with_stack (x ++ (y ++ z)) state) now
       (resources_with_stack (a ++ (b ++ c)) held)
-      → RunInvariant allows number_of course (with_stack (y ++ (x ++ z)) state) now
+      → RunInvariant allows number_of context (with_stack (y ++ (x ++ z)) state) now
       (resources_with_stack (b ++ (a ++ c)) held)
-  swapped course state now held a b c x y z one other stands =
+  swapped context state now held a b c x y z one other stands =
       let pairs = pipe_ends held.out ++ pipe_ends held.err in
       let same : (n : ℕ) → count_of n (open_ends (resources_with_stack (b ++ (a ++ c)) held)) ≡ count_of n (open_ends (resources_with_stack (a ++ (b ++ c)) held)) =
       λ n. omega (arith, count-append n (a ++ (b ++ c)) pairs, count-append n (b ++ (a ++ c)) pairs, count-append n a (b ++ c), count-append n b c, count-append n b (a ++ c), count-append n a c) in
@@ -89,18 +89,18 @@ module _ {E H : Type 0} (allows : Allows H) (number_of : E → ℕ) where
         begins = stands.begins;
         starts = stands.starts;
         answers = stands.answers;
-        sources = λ more later. let s = stands.sources more later in record { stack = pair_swapped (IsFrom (IsEarly course) number_of (stands.added ++ more)) a b c x y z one other s.stack; out = s.out; err = s.err };
+        sources = λ more later. let s = stands.sources more later in record { stack = pair_swapped (IsFrom (IsEarly context) number_of (stands.added ++ more)) a b c x y z one other s.stack; out = s.out; err = s.err };
         clean = stands.clean;
       }
 
   -- the end of a stream is closed
   pub lets_go : (n : ℕ) (now then : JournalView) → GivesEnds (Close n) 1 now then
       → CloseSucceeds {E = E} {H = H} allows number_of now then (End n)
-  lets_go n now then gives course state held over under above below Inherit alike same stands low = absurd alike
-  lets_go n now then gives course state held over under above below Null alike same stands low = absurd alike
-  lets_go n now then gives course state held over under above below (End t) alike same stands low =
-      let first = swapped course state now held over (n ∷ []) under above (t ∷ []) below same refl stands in
-      close_succeeds allows number_of n (over ++ under) now then (resources_with_stack (n ∷ (over ++ under)) held) refl gives course (with_stack (t ∷ (above ++ below)) state)
+  lets_go n now then gives context state held over under above below Inherit alike same stands low = absurd alike
+  lets_go n now then gives context state held over under above below Null alike same stands low = absurd alike
+  lets_go n now then gives context state held over under above below (End t) alike same stands low =
+      let first = swapped context state now held over (n ∷ []) under above (t ∷ []) below same refl stands in
+      close_succeeds allows number_of n (over ++ under) now then (resources_with_stack (n ∷ (over ++ under)) held) refl gives context (with_stack (t ∷ (above ++ below)) state)
       (record { full = omega arith; needs = tt; low = omega (arith, low, length-append above (t ∷ below), length-append above below) }) first
 
   lower_at : (base : ℕ) (open_ends : List E) (place : ℕ) (end : E) → All (λ e. number_of e < base) open_ends
@@ -115,18 +115,18 @@ module _ {E H : Type 0} (allows : Allows H) (number_of : E → ℕ) where
       → GetsEnd (Duplicate (number_of end) (Ok n)) n now mid
       → CloseSucceeds {E = E} {H = H} allows number_of mid then old
       → SettleSucceeds {E = E} {H = H} allows number_of open_ends (port.Place place) now then old (End n)
-  settles_place open_ends place n end old now mid then at gets goes = λ course state held over under above below target alike same lower low stands.
+  settles_place open_ends place n end old now mid then at gets goes = λ context state held over under above below target alike same lower low stands.
       let stack = above ++ (end_of target ++ below) in
-      let ready : action.IsReady number_of course.base course.bound (with_stack stack state) (action.duplicate_caller_end end) =
-      record { full = omega arith; needs = lower_at course.base open_ends place end lower at; low = omega (arith, low) } in
-      let lent = lend_succeeds allows number_of end n now mid (resources_with_stack (over ++ (end_of old ++ under)) held) gets course (with_stack stack state) ready stands in
+      let ready : action.IsReady number_of context.base context.bound (with_stack stack state) (action.duplicate_caller_end end) =
+      record { full = omega arith; needs = lower_at context.base open_ends place end lower at; low = omega (arith, low) } in
+      let lent = lend_succeeds allows number_of end n now mid (resources_with_stack (over ++ (end_of old ++ under)) held) gets context (with_stack stack state) ready stands in
       let more : length (n ∷ over) ≡ length (Lends end ∷ above) = omega (arith, same) in
-      let le : length (Lends end ∷ stack) ≤ course.bound = omega (arith, low) in
-      let left = goes course state held (n ∷ over) under (Lends end ∷ above) below target alike more lent le in
+      let le : length (Lends end ∷ stack) ≤ context.bound = omega (arith, low) in
+      let left = goes context state held (n ∷ over) under (Lends end ∷ above) below target alike more lent le in
       let is : End (Lends end) ≡ stream_after_hook (map Lends open_ends) (port.Place place) target = sym (ap end_of_place (slice_get-map Lends open_ends place ∙ ap (λ o. option_map Lends o) at)) in (
         subst (λ (t : Stdio (Target E)). IsAlike (End n) t) is tt,
-        subst (λ (t : Stdio (Target E)). RunInvariant allows number_of course (with_stack (above ++ (end_of t ++ below)) state) then (resources_with_stack (over ++ (n ∷ under)) held)) is
-            (swapped course state then held (n ∷ []) over under (Lends end ∷ []) above below refl same left),
+        subst (λ (t : Stdio (Target E)). RunInvariant allows number_of context (with_stack (above ++ (end_of t ++ below)) state) then (resources_with_stack (over ++ (n ∷ under)) held)) is
+            (swapped context state then held (n ∷ []) over under (Lends end ∷ []) above below refl same left),
       )
 
   -- the request for the duplicate was refused
@@ -134,10 +134,10 @@ module _ {E H : Type 0} (allows : Allows H) (number_of : E → ℕ) where
       → slice_get open_ends place ≡ Some end
       → IsRefused (Duplicate (number_of end) (Err fault)) 0 fault now then
       → SettleFails {E = E} {H = H} allows number_of open_ends now then (System fault)
-  unsettled open_ends place end fault now then at refused = λ course state held stack targets lower low stands. (
+  unsettled open_ends place end fault now then at refused = λ context state held stack targets lower low stands. (
     (λ no. no),
-    duplicate_fails allows number_of fault now then (resources_with_stack stack held) (action.duplicate_caller_end end) (number_of end) (λ st. refl) refused course (with_stack targets state)
-        (record { full = omega arith; needs = lower_at course.base open_ends place end lower at; low = omega (arith, low) }) stands,
+    duplicate_fails allows number_of fault now then (resources_with_stack stack held) (action.duplicate_caller_end end) (number_of end) (λ st. refl) refused context (with_stack targets state)
+        (record { full = omega arith; needs = lower_at context.base open_ends place end lower at; low = omega (arith, low) }) stands,
   )
 
 -- the end at a place that a hook has

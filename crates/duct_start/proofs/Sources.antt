@@ -142,16 +142,16 @@ module _ {E H : Type 0} (one other : Gives) (allows : Allows H) (number_of : E �
   answers_as place [] (entry ∷ entries) all = absurd all
   answers_as place (item ∷ items) (entry ∷ entries) all = (answer_as place item entry all.0, answers_as (place + 1) items entries all.1)
 
-module _ {E H : Type 0} (course : RunContext) (allows : Allows H) (number_of : E → ℕ) (L : List EntryView) (items : List (Item E H)) (entries : List EntryView) where
+module _ {E H : Type 0} (context : RunContext) (allows : Allows H) (number_of : E → ℕ) (L : List EntryView) (items : List (Item E H)) (entries : List EntryView) where
   -- entries that match some items make their requests
-  pub plan_asked : AnswersUnder course allows number_of L 0 items entries
+  pub plan_asked : AnswersUnder context allows number_of L 0 items entries
       → AnswersFromBy (λ io wanted. Pairwise (IsGivenFrom L) io wanted) allows number_of L 0 items
       entries
   plan_asked all =
-      answers_as (GivesUnder (IsEarly course) L) (λ io wanted. Pairwise (IsGivenFrom L) io wanted) allows number_of L (λ io wanted is. is.0) 0 items entries all
+      answers_as (GivesUnder (IsEarly context) L) (λ io wanted. Pairwise (IsGivenFrom L) io wanted) allows number_of L (λ io wanted is. is.0) 0 items entries all
 
   -- if the caller's ends came from before the run, the streams have exactly these origins
-  pub exactly_answered : IsEarly course → AnswersUnder course allows number_of L 0 items entries
+  pub exactly_answered : IsEarly context → AnswersUnder context allows number_of L 0 items entries
       → AnswersFrom allows number_of L 0 items entries
   exactly_answered early all =
-      answers_as (GivesUnder (IsEarly course) L) (GivesExactly L) allows number_of L (λ io wanted is. is.1 early) 0 items entries all
+      answers_as (GivesUnder (IsEarly context) L) (GivesExactly L) allows number_of L (λ io wanted is. is.1 early) 0 items entries all

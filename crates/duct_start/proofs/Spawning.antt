@@ -52,20 +52,20 @@ get_within (x ∷ xs) ys (suc n) low = get_within xs ys n (omega (arith, low))
 
 -- a run in which these entries were added first
 abbrev pub onwards : RunContext → List EntryView → RunContext
-onwards course front = record course { front = front }
+onwards context front = record context { front = front }
 
-module _ {E H : Type 0} (allows : Allows H) (number_of : E → ℕ) (course : RunContext) (front : List EntryView) where
-  later_as : (next : ℕ) (more : List EntryView) → IsLater course next more
-      → IsLater (onwards course front) next more
+module _ {E H : Type 0} (allows : Allows H) (number_of : E → ℕ) (context : RunContext) (front : List EntryView) where
+  later_as : (next : ℕ) (more : List EntryView) → IsLater context next more
+      → IsLater (onwards context front) next more
   later_as next more later = record { fresh = later.fresh }
 
-  later_back : (next : ℕ) (more : List EntryView) → IsLater (onwards course front) next more
-      → IsLater course next more
+  later_back : (next : ℕ) (more : List EntryView) → IsLater (onwards context front) next more
+      → IsLater context next more
   later_back next more later = record { fresh = later.fresh }
 
   pub stands_onwards : (state : State E H) (now : JournalView) (held : ResourcesView)
-      (stands : RunInvariant allows number_of course state now held) → stands.added ≡ front
-      → RunInvariant allows number_of (onwards course front) state now held
+      (stands : RunInvariant allows number_of context state now held) → stands.added ≡ front
+      → RunInvariant allows number_of (onwards context front) state now held
   stands_onwards state now held stands is = record {
     added = stands.added;
     books = stands.books;
@@ -79,14 +79,14 @@ module _ {E H : Type 0} (allows : Allows H) (number_of : E → ℕ) (course : Ru
     clean = stands.clean;
   }
 
-  module _ (from : (later : List EntryView) × (front ≡ course.front ++ later)) where
+  module _ (from : (later : List EntryView) × (front ≡ context.front ++ later)) where
     begins_back : (added later : List EntryView) → added ≡ front ++ later
-        → (l : List EntryView) × (added ≡ course.front ++ l)
-    begins_back added later is = (from.0 ++ later, is ∙ ap (λ l. l ++ later) from.1 ∙ append_assoc course.front from.0 later)
+        → (l : List EntryView) × (added ≡ context.front ++ l)
+    begins_back added later is = (from.0 ++ later, is ∙ ap (λ l. l ++ later) from.1 ∙ append_assoc context.front from.0 later)
 
     pub stands_back : (state : State E H) (now : JournalView) (held : ResourcesView)
-        → RunInvariant allows number_of (onwards course front) state now held
-        → RunInvariant allows number_of course state now held
+        → RunInvariant allows number_of (onwards context front) state now held
+        → RunInvariant allows number_of context state now held
     stands_back state now held stands = record {
       added = stands.added;
       books = stands.books;
@@ -101,8 +101,8 @@ module _ {E H : Type 0} (allows : Allows H) (number_of : E → ℕ) (course : Ru
     }
 
   pub stopped_back : (items : List (Item E H)) (now : JournalView) (held : ResourcesView) (e : Error)
-      → StopInvariant allows number_of (onwards course front) items now held e
-      → StopInvariant allows number_of course items now held e
+      → StopInvariant allows number_of (onwards context front) items now held e
+      → StopInvariant allows number_of context items now held e
   stopped_back items now held e stopped = record {
     added = stopped.added;
     books = stopped.books;
@@ -217,23 +217,23 @@ none_handed s rest none =
 
 -- a stopped run, with more items that were not reached
 unfoldable pub stopped_front : {E H : Type 0} (allows : Allows H) (number_of : E → ℕ)
-    (course : RunContext) (items more : List (Item E H)) (now : JournalView) (held : ResourcesView)
-    (e : Error) → StopInvariant allows number_of course items now held e
-    → StopInvariant allows number_of course (items ++ more) now held e
-stopped_front allows number_of course items more now held e stopped = record {
+    (context : RunContext) (items more : List (Item E H)) (now : JournalView) (held : ResourcesView)
+    (e : Error) → StopInvariant allows number_of context items now held e
+    → StopInvariant allows number_of context (items ++ more) now held e
+stopped_front allows number_of context items more now held e stopped = record {
   added = stopped.added;
   books = stopped.books;
   few = stopped.few;
-  answers = λ l later. answers_front (GivesUnder (IsEarly course) (stopped.added ++ l)) allows number_of (stopped.added ++ l) 0 items more (trace stopped.added) (stopped.answers l later);
+  answers = λ l later. answers_front (GivesUnder (IsEarly context) (stopped.added ++ l)) allows number_of (stopped.added ++ l) 0 items more (trace stopped.added) (stopped.answers l later);
   ended = stopped.ended;
 }
 
 -- a run that stopped with an error that is not a hook's
 pub plain_refused : {E H : Type 0} (allows : Allows H) (refuses : Refuses H) (number_of : E → ℕ)
-    (course : RunContext) (items : List (Item E H)) (now : JournalView) (held : ResourcesView) (e : Error)
-    → (IsHookError e → ⊥) → StopInvariant allows number_of course items now held e
-    → StoppedWithCause allows refuses number_of course items now held e
-plain_refused allows refuses number_of course items now held e plain stopped = record { stopped = stopped; cause = λ is. absurd (plain is) }
+    (context : RunContext) (items : List (Item E H)) (now : JournalView) (held : ResourcesView) (e : Error)
+    → (IsHookError e → ⊥) → StopInvariant allows number_of context items now held e
+    → StoppedWithCause allows refuses number_of context items now held e
+plain_refused allows refuses number_of context items now held e plain stopped = record { stopped = stopped; cause = λ is. absurd (plain is) }
 
 -- the error that stops a chain is a hook's
 chain_hooks : {H O : Type 0} (allows : Allows H) (refuses : Refuses H) (hooks : List (H × List O))
@@ -244,11 +244,11 @@ chain_hooks allows refuses (hook ∷ hooks) before (error.HookEnd place) stops =
 chain_hooks allows refuses (hook ∷ hooks) before e (inl stops) = absurd stops
 chain_hooks allows refuses (hook ∷ hooks) before e (inr rest) = chain_hooks allows refuses hooks rest.0 e rest.2
 
-module _ {E H : Type 0} (allows : Allows H) (number_of : E → ℕ) (course : RunContext) (scope : Scope E H) (words : List (List ℕ)) (ports : PerStream Port) (state : State E H) (held : ResourcesView)
+module _ {E H : Type 0} (allows : Allows H) (number_of : E → ℕ) (context : RunContext) (scope : Scope E H) (words : List (List ℕ)) (ports : PerStream Port) (state : State E H) (held : ResourcesView)
     (asked : SpecView) (program : List ℕ) (front : List EntryView) (full : port_end_count ports.input + (port_end_count ports.output + port_end_count ports.error) ≤ length state.stack)
-    (can : action.CanSpawn number_of course.base course.bound state.stack scope ports) (asked_is : IsAsked course.pairs program (surroundings_by scope ports state.stack) words asked)
+    (can : action.CanSpawn number_of context.base context.bound state.stack scope ports) (asked_is : IsAsked context.pairs program (surroundings_by scope ports state.stack) words asked)
     (long_is : length (trace front) ≡ length (after_canonical_path scope words state).plan.items) (named_is : program_in (asks_canonical_path scope words) (trace front) words ≡ program)
-    (tops : (L : List EntryView) × (numbers : List ℕ) × Pairwise (IsFrom (IsEarly course) number_of L) numbers state.stack) where
+    (tops : (L : List EntryView) × (numbers : List ℕ) × Pairwise (IsFrom (IsEarly context) number_of L) numbers state.stack) where
   abbrev found : Surroundings E H
   found = surroundings_by scope ports state.stack
 
@@ -265,7 +265,7 @@ module _ {E H : Type 0} (allows : Allows H) (number_of : E → ℕ) (course : Ru
   low = resources_with_stack (stack_after_ports ports held.stack) held
 
   asked_at : (L rest : List EntryView) → trace L ≡ trace front ++ rest
-      → pairs_in (trace L) ≡ course.pairs →
+      → pairs_in (trace L) ≡ context.pairs →
       IsAskedAt (trace L) number_of (length (after_canonical_path scope words state).plan.items) found words (wired_as (origin_of (trace L) number_of) before)
   asked_at L rest is pairs =
       let entries = trace L in
@@ -274,11 +274,11 @@ module _ {E H : Type 0} (allows : Allows H) (number_of : E → ℕ) (course : Ru
       ap (λ l. program_at l place found words) is
       ∙ program_there (asks_canonical_path scope words) (trace front) rest words place long_is (named_positive (asks_canonical_path scope words) state.plan (AskCanonicalize (program_of words))) ∙ named_is in
       let spec : IsAsked (pairs_in entries) (program_at entries place found words) found words asked =
-      subst (λ ps. IsAsked ps (program_at entries place found words) found words asked) (sym pairs) (subst (λ p. IsAsked course.pairs p found words asked) (sym there) asked_is) in
-      record { spec_is = spec; streams_are = streams_taken entries number_of scope ports state.stack full can.ports_are (origins_any (IsEarly course) number_of tops.0 entries tops.1 state.stack tops.2) }
+      subst (λ ps. IsAsked ps (program_at entries place found words) found words asked) (sym pairs) (subst (λ p. IsAsked context.pairs p found words asked) (sym there) asked_is) in
+      record { spec_is = spec; streams_are = streams_taken entries number_of scope ports state.stack full can.ports_are (origins_any (IsEarly context) number_of tops.0 entries tops.1 state.stack tops.2) }
 
   -- a command after all of its hooks
-  module _ (now next : JournalView) (spec : SpecView) (s : PerStream (Stdio ℕ)) (staged : HooksInvariant allows number_of (onwards course front) below low before scope.hooks now spec s) where
+  module _ (now next : JournalView) (spec : SpecView) (s : PerStream (Stdio ℕ)) (staged : HooksInvariant allows number_of (onwards context front) below low before scope.hooks now spec s) where
     abbrev entry : Result ℕ Fault → EntryView
     entry answer = Spawn spec (s.input ∷ s.output ∷ s.error ∷ []) answer
 
@@ -291,34 +291,34 @@ module _ {E H : Type 0} (allows : Allows H) (number_of : E → ℕ) (course : Ru
     abbrev ends_with : State E H
     ends_with = action.advance state (action.spawn scope words ports)
 
-    module _ (answer : Result ℕ Fault) (kept : ResourcesView) (ch : Changes (entry answer) now next handed_now kept) (more : List EntryView) (later : IsLater (onwards course front) next.next more) where
+    module _ (answer : Result ℕ Fault) (kept : ResourcesView) (ch : Changes (entry answer) now next handed_now kept) (more : List EntryView) (later : IsLater (onwards context front) next.next more) where
       abbrev whole : List EntryView
       whole = (staged.stands.added ++ entry answer ∷ []) ++ more
 
-      sourced : HasOrigins (IsEarly course) number_of whole begins_with handed_now
-      sourced = sources_now allows number_of (onwards course front) begins_with ends_with (AskSpawn found words ∷ []) now next handed_now kept (entry answer) staged.stands refl ch more later
+      sourced : HasOrigins (IsEarly context) number_of whole begins_with handed_now
+      sourced = sources_now allows number_of (onwards context front) begins_with ends_with (AskSpawn found words ∷ []) now next handed_now kept (entry answer) staged.stands refl ch more later
 
-      origins : GivesUnder (IsEarly course) whole (s.input ∷ s.output ∷ s.error ∷ [])
+      origins : GivesUnder (IsEarly context) whole (s.input ∷ s.output ∷ s.error ∷ [])
           (map (stream_of (origin_of (trace whole) number_of))
           (staged.wired.input ∷ staged.wired.output ∷ staged.wired.error ∷ []))
-          × Pairwise (IsFrom (IsEarly course) number_of whole) low.stack below.stack
-      origins = alike_origins (IsEarly course) number_of whole s (streams_in staged.wired) low.stack below.stack staged.alike sourced.stack
+          × Pairwise (IsFrom (IsEarly context) number_of whole) low.stack below.stack
+      origins = alike_origins (IsEarly context) number_of whole s (streams_in staged.wired) low.stack below.stack staged.alike sourced.stack
 
       given_there : IsSpawnedBy
-          (λ wanted. GivesUnder (IsEarly course) whole (s.input ∷ s.output ∷ s.error ∷ []) wanted)
+          (λ wanted. GivesUnder (IsEarly context) whole (s.input ∷ s.output ∷ s.error ∷ []) wanted)
           allows number_of (trace whole) (length below.plan.items) found words spec
       given_there =
           let rest = staged.stands.starts.0 ++ entry answer ∷ more in
           let split : whole ≡ front ++ rest =
           append_assoc staged.stands.added (entry answer ∷ []) more ∙ ap (λ l. l ++ entry answer ∷ more) staged.stands.starts.1 ∙ append_assoc front staged.stands.starts.0 (entry answer ∷ more) in
           let traced : trace whole ≡ trace front ++ trace rest = ap (λ l. trace l) split ∙ trace-append front rest in
-          let pairs : pairs_in (trace whole) ≡ course.pairs = ap (λ l. pairs_in (trace l)) (append_assoc staged.stands.added (entry answer ∷ []) more) ∙ staged.stands.begins (entry answer ∷ more) in
+          let pairs : pairs_in (trace whole) ≡ context.pairs = ap (λ l. pairs_in (trace l)) (append_assoc staged.stands.added (entry answer ∷ []) more) ∙ staged.stands.begins (entry answer ∷ more) in
           let f = origin_of (trace whole) number_of in
           let chain : HooksChange allows (hooks_by_origin number_of scope.hooks) (wired_as f before) (wired_as f staged.wired) =
           subst (λ l. HooksChange allows l (wired_as f before) (wired_as f staged.wired)) (lends_lent (trace whole) number_of scope.hooks) (chain_as f allows (hooks_by_target scope.hooks) before staged.wired staged.chain) in
           (wired_as f before, wired_as f staged.wired, asked_at whole (trace rest) traced pairs, chain, sym staged.spec_is, origins.0)
 
-    low_few : length low.stack + 3 < course.bound
+    low_few : length low.stack + 3 < context.bound
     low_few =
         omega (
           arith,
@@ -346,13 +346,13 @@ module _ {E H : Type 0} (allows : Allows H) (number_of : E → ℕ) (course : Ru
     -- the child was started
     pub spawn_succeeds : (number count : ℕ) → GivesEnds (entry (Ok number)) count now next
         → count ≡ length (closed_by (entry (Ok number)))
-        → RunInvariant allows number_of (onwards course front) ends_with next
+        → RunInvariant allows number_of (onwards context front) ends_with next
         (record low { children = held.children ++ number ∷ [] })
     spawn_succeeds number count gives port_end_count =
         let kept : ResourcesView = record low { children = held.children ++ number ∷ [] } in
         let ch = spawn_changes spec s (Ok number) count now next low kept.children gives port_end_count refl in
-        stands_more allows number_of (onwards course front) begins_with ends_with (AskSpawn found words ∷ []) now next handed_now kept (entry (Ok number)) staged.stands refl ch
-        (few_of course.bound kept (omega (arith, low_few))) (record { stack = low_long; out = staged.stands.shaped.out; err = staged.stands.shaped.err }) refl refl
+        stands_more allows number_of (onwards context front) begins_with ends_with (AskSpawn found words ∷ []) now next handed_now kept (entry (Ok number)) staged.stands refl ch
+        (few_of context.bound kept (omega (arith, low_few))) (record { stack = low_long; out = staged.stands.shaped.out; err = staged.stands.shaped.err }) refl refl
         (λ more later. (given_there (Ok number) kept ch more later, tt))
         (λ more later. let z = sourced (Ok number) kept ch more later in record { stack = (origins (Ok number) kept ch more later).1; out = z.out; err = z.err })
 
@@ -360,34 +360,34 @@ module _ {E H : Type 0} (allows : Allows H) (number_of : E → ℕ) (course : Ru
     pub spawn_fails : (fault : Fault) (count : ℕ)
         → IsRefused (entry (Err fault)) count fault now next
         → count ≡ length (closed_by (entry (Err fault)))
-        → StopInvariant allows number_of (onwards course front) ends_with.plan.items next low (System fault)
+        → StopInvariant allows number_of (onwards context front) ends_with.plan.items next low (System fault)
     spawn_fails fault count (inl gives) port_end_count =
         let ch = spawn_changes spec s (Err fault) count now next low low.children gives port_end_count (sym (append-nil low.children)) in
-        stops_more allows number_of (onwards course front) begins_with ends_with (AskSpawn found words ∷ []) now next handed_now low (entry (Err fault)) staged.stands refl ch
-        (few_of course.bound low (omega (arith, low_few))) fault refl (λ more later. (given_there (Err fault) low ch more later, tt))
+        stops_more allows number_of (onwards context front) begins_with ends_with (AskSpawn found words ∷ []) now next handed_now low (entry (Err fault)) staged.stands refl ch
+        (few_of context.bound low (omega (arith, low_few))) fault refl (λ more later. (given_there (Err fault) low ch more later, tt))
     spawn_fails fault count (inr nothing) port_end_count =
         let none : length (closed_by (entry (Err fault))) ≡ 0 = sym port_end_count ∙ nothing.0 in
         let same : stack_with_streams s low.stack ≡ low.stack = none_handed s low.stack none in
-        subst (λ (l : List ℕ). StopInvariant allows number_of (onwards course front) ends_with.plan.items next (resources_with_stack l low) (System fault)) same
-        (stops_unasked allows number_of (onwards course front) begins_with ends_with.plan.items (AskSpawn found words ∷ []) now next handed_now (System fault) staged.stands refl nothing.1 nothing.2)
+        subst (λ (l : List ℕ). StopInvariant allows number_of (onwards context front) ends_with.plan.items next (resources_with_stack l low) (System fault)) same
+        (stops_unasked allows number_of (onwards context front) begins_with ends_with.plan.items (AskSpawn found words ∷ []) now next handed_now (System fault) staged.stands refl nothing.1 nothing.2)
 
   -- a hook stopped the command, or a request failed while its hooks ran
   pub halts_refused : (refuses : Refuses H)
-      (from : (later : List EntryView) × (front ≡ course.front ++ later))
+      (from : (later : List EntryView) × (front ≡ context.front ++ later))
       (now : JournalView) (s : PerStream (Stdio ℕ)) (e : Error)
-      → StopsAmongHooks allows refuses number_of (onwards course front) below low before scope.hooks now s e
-      → StoppedWithCause allows refuses number_of course
+      → StopsAmongHooks allows refuses number_of (onwards context front) below low before scope.hooks now s e
+      → StoppedWithCause allows refuses number_of context
       (action.advance state (action.spawn scope words ports)).plan.items now
       (resources_with_stack (stack_with_streams s low.stack) low) e
   unfolding stopped_front stopped_back
-  halts_refused refuses from now s e (inl plain) = plain_refused allows refuses number_of course _ now (resources_with_stack (stack_with_streams s low.stack) low) e plain.0
-      (stopped_front allows number_of course below.plan.items (AskSpawn found words ∷ []) now (resources_with_stack (stack_with_streams s low.stack) low) e (stopped_back allows number_of course front below.plan.items now (resources_with_stack (stack_with_streams s low.stack) low) e plain.1))
+  halts_refused refuses from now s e (inl plain) = plain_refused allows refuses number_of context _ now (resources_with_stack (stack_with_streams s low.stack) low) e plain.0
+      (stopped_front allows number_of context below.plan.items (AskSpawn found words ∷ []) now (resources_with_stack (stack_with_streams s low.stack) low) e (stopped_back allows number_of context front below.plan.items now (resources_with_stack (stack_with_streams s low.stack) low) e plain.1))
   halts_refused refuses from now s e (inr stopping) =
       let stands = stopping.stands in
       let items = below.plan.items ++ AskSpawn found words ∷ [] in
-      let stopped : StopInvariant allows number_of course items now (resources_with_stack (stack_with_streams s low.stack) low) e =
-      stopped_front allows number_of course below.plan.items (AskSpawn found words ∷ []) now (resources_with_stack (stack_with_streams s low.stack) low) e
-      (stopped_back allows number_of course front below.plan.items now (resources_with_stack (stack_with_streams s low.stack) low) e (record {
+      let stopped : StopInvariant allows number_of context items now (resources_with_stack (stack_with_streams s low.stack) low) e =
+      stopped_front allows number_of context below.plan.items (AskSpawn found words ∷ []) now (resources_with_stack (stack_with_streams s low.stack) low) e
+      (stopped_back allows number_of context front below.plan.items now (resources_with_stack (stack_with_streams s low.stack) low) e (record {
         added = stands.added;
         books = stands.books;
         few = stands.few;

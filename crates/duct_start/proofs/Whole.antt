@@ -41,47 +41,47 @@ grows_by_added old new added entries_are counted next room =
     }
 
 -- no entry comes later
-pub nothing_later : (course : RunContext) (next : ℕ) → IsLater course next []
-nothing_later course next = record { fresh = λ number lt. refl }
+pub nothing_later : (context : RunContext) (next : ℕ) → IsLater context next []
+nothing_later context next = record { fresh = λ number lt. refl }
 
-module _ {E H : Type 0} (allows : Allows H) (number_of : E → ℕ) (tree : TreeView E H) (plan : Plan E H) (course : RunContext) (state : State E H) (old now : JournalView) (held : ResourcesView)
-    (stands : RunInvariant allows number_of course state now held)
-    (old_is : course.old ≡ old) (base_is : course.base ≡ ceiling number_of tree) (bound_is : course.bound ≡ 2 * depth tree + 4) (items_are : state.plan.items ≡ plan.items) (all_spent : open_ends held ≡ []) where
+module _ {E H : Type 0} (allows : Allows H) (number_of : E → ℕ) (tree : TreeView E H) (plan : Plan E H) (context : RunContext) (state : State E H) (old now : JournalView) (held : ResourcesView)
+    (stands : RunInvariant allows number_of context state now held)
+    (old_is : context.old ≡ old) (base_is : context.base ≡ ceiling number_of tree) (bound_is : context.bound ≡ 2 * depth tree + 4) (items_are : state.plan.items ≡ plan.items) (all_spent : open_ends held ≡ []) where
   none_held : (n : ℕ) → count_of n (open_ends held) ≡ 0
   none_held n = ap (λ (l : List ℕ). count_of n l) all_spent
 
-  early : AreEarlier number_of course.old tree → course.base ≤ course.old.next
-  early earlier = omega (arith, base_is, ceiling_low number_of tree course.old earlier)
+  early : AreEarlier number_of context.old tree → context.base ≤ context.old.next
+  early earlier = omega (arith, base_is, ceiling_low number_of tree context.old earlier)
 
-  answered : AnswersUnder course allows number_of stands.added 0 plan.items (trace stands.added)
+  answered : AnswersUnder context allows number_of stands.added 0 plan.items (trace stands.added)
   answered =
-      subst (λ (items : List (Item E H)). AnswersUnder course allows number_of stands.added 0 items (trace stands.added)) items_are
-      (subst (λ (l : List EntryView). AnswersUnder course allows number_of l 0 state.plan.items (trace stands.added)) (append-nil stands.added) (stands.answers [] (nothing_later course now.next)))
+      subst (λ (items : List (Item E H)). AnswersUnder context allows number_of stands.added 0 items (trace stands.added)) items_are
+      (subst (λ (l : List EntryView). AnswersUnder context allows number_of l 0 state.plan.items (trace stands.added)) (append-nil stands.added) (stands.answers [] (nothing_later context now.next)))
 
   asks : AsksPlan allows number_of plan stands.added
-  asks = plan_asked course allows number_of stands.added plan.items (trace stands.added) answered
+  asks = plan_asked context allows number_of stands.added plan.items (trace stands.added) answered
 
-  whole : AreEarlier number_of course.old tree → FollowsWhole allows number_of plan stands.added
+  whole : AreEarlier number_of context.old tree → FollowsWhole allows number_of plan stands.added
   whole earlier = record {
     follows = record {
-      answers = exactly_answered course allows number_of stands.added plan.items (trace stands.added) (early earlier) answered;
+      answers = exactly_answered context allows number_of stands.added plan.items (trace stands.added) (early earlier) answered;
       stops = clean_stops stands.added stands.clean;
     };
     whole = as_many stands ∙ ap (λ (items : List (Item E H)). length items) items_are;
     clean = stands.clean;
   }
 
-  succeeds : StartSucceeds allows number_of tree plan course.old now
+  succeeds : StartSucceeds allows number_of tree plan context.old now
   succeeds =
       let books = stands.books in
-      let same = sym (segment_is course.old.entries now.entries stands.added books.entries_are) in record {
-        grows = grows_by_added course.old now stands.added books.entries_are books.counted books.next_grows (omega (arith, books.room_is));
+      let same = sym (segment_is context.old.entries now.entries stands.added books.entries_are) in record {
+        grows = grows_by_added context.old now stands.added books.entries_are books.counted books.next_grows (omega (arith, books.room_is));
         clean = subst IsClean same stands.clean;
         kinds = ap (λ (l : List EntryView). map entry_kind (trace l)) (sym same) ∙ stands.kinds ∙ ap (λ (l : List (Item E H)). map item_kind l) items_are;
         asks = subst (λ (l : List EntryView). AsksPlan allows number_of plan l) same asks;
         whole = λ earlier. subst (λ (l : List EntryView). FollowsWhole allows number_of plan l) same (whole earlier);
         balanced = subst IsBalanced same (λ n. (omega (arith, books.even n, none_held n), books.once n));
-        got_new = subst (λ (l : List EntryView). GotNew course.old l) same books.above;
+        got_new = subst (λ (l : List EntryView). GotNew context.old l) same books.above;
         few = subst (λ (l : List EntryView). KeepsFewOpen tree l) same (λ count. omega (arith, bound_is, stands.few count));
       }
 

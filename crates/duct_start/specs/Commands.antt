@@ -76,14 +76,14 @@ resources_with_stack stack held = record held { stack = stack }
 abbrev pub CloseSucceeds : {E H : Type 0} → Allows H → (E → ℕ) → JournalView → JournalView → Stdio ℕ
     → Type 0
 CloseSucceeds {E} {H} allows number_of now next stream =
-    (course : RunContext) (state : State E H) (held : ResourcesView) (over under : List ℕ)
+    (context : RunContext) (state : State E H) (held : ResourcesView) (over under : List ℕ)
     (above below : List (Target E)) (target : Stdio (Target E)) → IsAlike stream target
     → length over ≡ length above
-    → RunInvariant allows number_of course (with_stack (above ++ (end_of target ++ below)) state)
+    → RunInvariant allows number_of context (with_stack (above ++ (end_of target ++ below)) state)
     now
     (resources_with_stack (over ++ (end_of stream ++ under)) held)
-    → length (above ++ (end_of target ++ below)) ≤ course.bound
-    → RunInvariant allows number_of course (with_stack (above ++ below) state) next
+    → length (above ++ (end_of target ++ below)) ≤ context.bound
+    → RunInvariant allows number_of context (with_stack (above ++ below) state) next
     (resources_with_stack (over ++ under) held)
 
 -- a stream is changed to what the port of a hook's spec says, and its old end is closed if it is
@@ -91,16 +91,16 @@ CloseSucceeds {E} {H} allows number_of now next stream =
 abbrev pub SettleSucceeds : {E H : Type 0} → Allows H → (E → ℕ) → List E → Port → JournalView
     → JournalView → Stdio ℕ → Stdio ℕ → Type 0
 SettleSucceeds {E} {H} allows number_of ends p now next old new =
-    (course : RunContext) (state : State E H) (held : ResourcesView) (over under : List ℕ)
+    (context : RunContext) (state : State E H) (held : ResourcesView) (over under : List ℕ)
     (above below : List (Target E)) (target : Stdio (Target E)) → IsAlike old target
-    → length over ≡ length above → All (λ end. number_of end < course.base) ends
-    → length (above ++ (end_of target ++ below)) < course.bound
-    → RunInvariant allows number_of course (with_stack (above ++ (end_of target ++ below)) state)
+    → length over ≡ length above → All (λ end. number_of end < context.base) ends
+    → length (above ++ (end_of target ++ below)) < context.bound
+    → RunInvariant allows number_of context (with_stack (above ++ (end_of target ++ below)) state)
     now
     (resources_with_stack (over ++ (end_of old ++ under)) held)
     → let settles = stream_after_hook (map Lends ends) p target in
     IsAlike new settles
-    × RunInvariant allows number_of course (with_stack (above ++ (end_of settles ++ below)) state)
+    × RunInvariant allows number_of context (with_stack (above ++ (end_of settles ++ below)) state)
     next
     (resources_with_stack (over ++ (end_of new ++ under)) held)
 
@@ -108,24 +108,25 @@ SettleSucceeds {E} {H} allows number_of ends p now next old new =
 abbrev pub FailsWithoutHook : {E H : Type 0} → Allows H → (E → ℕ) → RunContext → State E H
     → JournalView
     → ResourcesView → Error → Type 0
-FailsWithoutHook allows number_of course state next held error =
-    (IsHookError error → ⊥) × StopInvariant allows number_of course state.plan.items next held error
+FailsWithoutHook allows number_of context state next held error =
+    (IsHookError error → ⊥) × StopInvariant allows number_of context state.plan.items next held
+    error
 
 -- changing a stream failed with an error that is not a hook's, and the stack is as it was
 abbrev pub SettleFails : {E H : Type 0} → Allows H → (E → ℕ) → List E → JournalView → JournalView
     → Error → Type 0
 SettleFails {E} {H} allows number_of ends now next error =
-    (course : RunContext) (state : State E H) (held : ResourcesView) (stack : List ℕ)
-    (targets : List (Target E)) → All (λ end. number_of end < course.base) ends
-    → length targets < course.bound
-    → RunInvariant allows number_of course (with_stack targets state) now
+    (context : RunContext) (state : State E H) (held : ResourcesView) (stack : List ℕ)
+    (targets : List (Target E)) → All (λ end. number_of end < context.base) ends
+    → length targets < context.bound
+    → RunInvariant allows number_of context (with_stack targets state) now
     (resources_with_stack stack held)
-    → FailsWithoutHook allows number_of course state next (resources_with_stack stack held) error
+    → FailsWithoutHook allows number_of context state next (resources_with_stack stack held) error
 
 -- these hooks of a command have run: they led from `before` to this spec and these streams, and
 -- nothing else has changed
 pub record HooksInvariant {E H : Type 0} (allows : Allows H) (number_of : E → ℕ)
-    (course : RunContext)
+    (context : RunContext)
     (state : State E H) (held : ResourcesView) (before : SpecWithStreams (Target E))
     (hooks : List (H × List E))
     (now : JournalView) (spec : SpecView) (streams : PerStream (Stdio ℕ)) : Type 0 where
@@ -133,7 +134,7 @@ pub record HooksInvariant {E H : Type 0} (allows : Allows H) (number_of : E → 
   pub spec_is : wired.spec ≡ spec
   pub alike : AreAlike streams (streams_in wired)
   pub chain : HooksChange allows (hooks_by_target hooks) before wired
-  pub stands : RunInvariant allows number_of course
+  pub stands : RunInvariant allows number_of context
       (with_stack (stack_with_streams (streams_in wired) state.stack) state) now
       (resources_with_stack (stack_with_streams streams held.stack) held)
 
@@ -141,12 +142,12 @@ pub record HooksInvariant {E H : Type 0} (allows : Allows H) (number_of : E → 
 -- was made since
 pub record StoppedByHook {E H : Type 0} (allows : Allows H) (refuses : Refuses H)
     (number_of : E → ℕ)
-    (course : RunContext) (state : State E H) (held : ResourcesView)
+    (context : RunContext) (state : State E H) (held : ResourcesView)
     (before : SpecWithStreams (Target E))
     (hooks : List (H × List E)) (next : JournalView) (streams : PerStream (Stdio ℕ)) (error : Error)
     : Type 0 where
   pub targets : List (Target E)
-  pub stands : RunInvariant allows number_of course (with_stack targets state) next
+  pub stands : RunInvariant allows number_of context (with_stack targets state) next
       (resources_with_stack (stack_with_streams streams held.stack) held)
   pub stops : HooksStop allows refuses (hooks_by_target hooks) before error
 
@@ -156,43 +157,43 @@ abbrev pub StopsAmongHooks : {E H : Type 0} → Allows H → Refuses H → (E �
     → State E H → ResourcesView
     → SpecWithStreams (Target E) → List (H × List E) → JournalView → PerStream (Stdio ℕ) → Error
     → Type 0
-StopsAmongHooks allows refuses number_of course state held before hooks next streams error =
-    FailsWithoutHook allows number_of course state next (resources_with_stack
+StopsAmongHooks allows refuses number_of context state held before hooks next streams error =
+    FailsWithoutHook allows number_of context state next (resources_with_stack
     (stack_with_streams streams held.stack) held) error
-    ⊎ StoppedByHook allows refuses number_of course state held before hooks next streams error
+    ⊎ StoppedByHook allows refuses number_of context state held before hooks next streams error
 
 -- some hooks run after any earlier hooks of a command, and change its spec and its streams from the
 -- old ones to the new ones
 abbrev pub HooksSucceed : {E H : Type 0} → Allows H → (E → ℕ) → List (H × List E) → JournalView
     → JournalView → SpecView → SpecView → PerStream (Stdio ℕ) → PerStream (Stdio ℕ) → Type 0
 HooksSucceed {E} {H} allows number_of more now next spec made old new =
-    (course : RunContext) (state : State E H) (held : ResourcesView)
+    (context : RunContext) (state : State E H) (held : ResourcesView)
     (before : SpecWithStreams (Target E))
-    (hooks : List (H × List E)) → length state.stack + 3 < course.bound
-    → AreBelow number_of course.base more
-    → HooksInvariant allows number_of course state held before hooks now spec old
-    → HooksInvariant allows number_of course state held before (hooks ++ more) next made new
+    (hooks : List (H × List E)) → length state.stack + 3 < context.bound
+    → AreBelow number_of context.base more
+    → HooksInvariant allows number_of context state held before hooks now spec old
+    → HooksInvariant allows number_of context state held before (hooks ++ more) next made new
 
 -- some hooks run after any earlier hooks of a command, and the command stops with this error
 abbrev pub HooksFail : {E H : Type 0} → Allows H → Refuses H → (E → ℕ) → List (H × List E)
     → JournalView → JournalView → SpecView → PerStream (Stdio ℕ) → PerStream (Stdio ℕ) → Error
     → Type 0
 HooksFail {E} {H} allows refuses number_of more now next spec old new error =
-    (course : RunContext) (state : State E H) (held : ResourcesView)
+    (context : RunContext) (state : State E H) (held : ResourcesView)
     (before : SpecWithStreams (Target E))
-    (hooks : List (H × List E)) → length state.stack + 3 < course.bound
-    → AreBelow number_of course.base more
-    → HooksInvariant allows number_of course state held before hooks now spec old
-    → StopsAmongHooks allows refuses number_of course state held before
+    (hooks : List (H × List E)) → length state.stack + 3 < context.bound
+    → AreBelow number_of context.base more
+    → HooksInvariant allows number_of context state held before hooks now spec old
+    → StopsAmongHooks allows refuses number_of context state held before
     (hooks ++ more) next new error
 
 -- a run failed; if the error is a hook's, it is a hook of the command whose spawn is the next item
 pub record StoppedWithCause {E H : Type 0} (allows : Allows H) (refuses : Refuses H)
     (number_of : E → ℕ)
-    (course : RunContext) (items : List (Item E H)) (now : JournalView) (held : ResourcesView)
+    (context : RunContext) (items : List (Item E H)) (now : JournalView) (held : ResourcesView)
     (error : Error) : Type 0 where
-  pub stopped : StopInvariant allows number_of course items now held error
-  pub cause : IsHookError error → (more : List EntryView) → IsLater course now.next more
+  pub stopped : StopInvariant allows number_of context items now held error
+  pub cause : IsHookError error → (more : List EntryView) → IsLater context now.next more
       → let place = length (trace stopped.added) in
       StoppedBy allows refuses number_of (trace (stopped.added ++ more)) place
       (slice_get items place) error
@@ -224,9 +225,9 @@ abbrev pub NameSucceeds : {E H : Type 0} → Allows H → (E → ℕ) → Scope 
     → JournalView
     → JournalView → List ℕ → Type 0
 NameSucceeds {E} {H} allows number_of scope words now next program =
-    (course : RunContext) (state : State E H) (held : ResourcesView)
-    → RunInvariant allows number_of course state now held
-    → (stands : RunInvariant allows number_of course (after_canonical_path scope words state) next
+    (context : RunContext) (state : State E H) (held : ResourcesView)
+    → RunInvariant allows number_of context state now held
+    → (stands : RunInvariant allows number_of context (after_canonical_path scope words state) next
     held)
     × (program_in (asks_canonical_path scope words) (trace stands.added) words ≡ program)
 
@@ -235,17 +236,17 @@ abbrev pub ActionSucceedsWith : {E H : Type 0} → Allows H → (E → ℕ) → 
     → JournalView
     → JournalView → ResourcesView → ResourcesView → Type 0
 ActionSucceedsWith {E} {H} allows number_of pairs action now next held kept =
-    (course : RunContext) (state : State E H) → course.pairs ≡ pairs
-    → IsReady number_of course.base course.bound state action
-    → RunInvariant allows number_of course state now held
-    → RunInvariant allows number_of course (advance state action) next kept
+    (context : RunContext) (state : State E H) → context.pairs ≡ pairs
+    → IsReady number_of context.base context.bound state action
+    → RunInvariant allows number_of context state now held
+    → RunInvariant allows number_of context (advance state action) next kept
 
 -- an action fails in a run for which the system returned these variables
 abbrev pub ActionFailsWith : {E H : Type 0} → Allows H → Refuses H → (E → ℕ) → Vars → Action E H
     → JournalView → JournalView → ResourcesView → ResourcesView → Error → Type 0
 ActionFailsWith {E} {H} allows refuses number_of pairs action now next held kept error =
-    (course : RunContext) (state : State E H) → course.pairs ≡ pairs
-    → IsReady number_of course.base course.bound state action
-    → RunInvariant allows number_of course state now held
-    → StoppedWithCause allows refuses number_of course (advance state action).plan.items next kept
+    (context : RunContext) (state : State E H) → context.pairs ≡ pairs
+    → IsReady number_of context.base context.bound state action
+    → RunInvariant allows number_of context state now held
+    → StoppedWithCause allows refuses number_of context (advance state action).plan.items next kept
     error

@@ -72,7 +72,8 @@ row (stderr_file end) = record idle_row { error = to_lent end }
 row stderr_null = record idle_row { error = to_nothing }
 row stderr_capture = record idle_row { opens = opens_capture side.Err; error = to_opened }
 row stderr_to_stdout = record idle_row { error = as_outside side.Out }
-row stdout_stderr_swap = record idle_row { output = as_outside side.Err; error = as_outside side.Out }
+row stdout_stderr_swap =
+    record idle_row { output = as_outside side.Err; error = as_outside side.Out }
 row (dir path) = record idle_row { says = Some (says_folder path) }
 row (env name value) = record idle_row { says = Some (says_change (Sets name value)) }
 row (env_remove name) = record idle_row { says = Some (says_change (Removes name)) }

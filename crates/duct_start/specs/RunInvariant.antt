@@ -56,10 +56,10 @@ pub record RunContext : Type 0 where
 
 -- the caller's ends came from before the run
 abbrev pub IsEarly : RunContext → Type 0
-IsEarly course = course.base ≤ course.old.next
+IsEarly context = context.base ≤ context.old.next
 
 -- none of these entries got a number below this one
-pub record IsLater (course : RunContext) (next : ℕ) (more : List EntryView) : Type 0 where
+pub record IsLater (context : RunContext) (next : ℕ) (more : List EntryView) : Type 0 where
   pub fresh : (number : ℕ) → number < next → count_of number (opened_numbers more) ≡ 0
 
 -- the ends of a capture pipe, if it is open, are those that the request at its place got
@@ -91,8 +91,8 @@ GivesUnder early added io wanted =
 -- should
 abbrev pub AnswersUnder : {E H : Type 0} → RunContext → Allows H → (E → ℕ) → List EntryView → ℕ
     → List (Item E H) → List EntryView → Type 0
-AnswersUnder course allows number_of added place items entries =
-    AnswersFromBy (GivesUnder (IsEarly course) added) allows number_of added place items entries
+AnswersUnder context allows number_of added place items entries =
+    AnswersFromBy (GivesUnder (IsEarly context) added) allows number_of added place items entries
 
 -- each open end comes from its target
 pub record HasOrigins {E H : Type 0} (early : Type 0) (number_of : E → ℕ) (added : List EntryView)
@@ -135,19 +135,20 @@ pub record IsShaped {E H : Type 0} (state : State E H) (held : ResourcesView) : 
 -- the run has succeeded so far: no entry has a fault, the trace begins with the variables and
 -- matches the items of the plan, and each open end comes from where it should, whatever entries
 -- come later
-pub record RunInvariant {E H : Type 0} (allows : Allows H) (number_of : E → ℕ) (course : RunContext)
+pub record RunInvariant {E H : Type 0} (allows : Allows H) (number_of : E → ℕ)
+    (context : RunContext)
     (state : State E H) (now : JournalView) (held : ResourcesView) : Type 0 where
   pub added : List EntryView
-  pub books : LedgerInvariant course.old now added held
-  pub few : OpenEndsWithin course.bound added
+  pub books : LedgerInvariant context.old now added held
+  pub few : OpenEndsWithin context.bound added
   pub kinds : map entry_kind (trace added) ≡ map item_kind state.plan.items
   pub shaped : IsShaped state held
-  pub begins : (more : List EntryView) → pairs_in (trace (added ++ more)) ≡ course.pairs
-  pub starts : (later : List EntryView) × (added ≡ course.front ++ later)
-  pub answers : (more : List EntryView) → IsLater course now.next more
-      → AnswersUnder course allows number_of (added ++ more) 0 state.plan.items (trace added)
-  pub sources : (more : List EntryView) → IsLater course now.next more
-      → HasOrigins (IsEarly course) number_of (added ++ more) state held
+  pub begins : (more : List EntryView) → pairs_in (trace (added ++ more)) ≡ context.pairs
+  pub starts : (later : List EntryView) × (added ≡ context.front ++ later)
+  pub answers : (more : List EntryView) → IsLater context now.next more
+      → AnswersUnder context allows number_of (added ++ more) 0 state.plan.items (trace added)
+  pub sources : (more : List EntryView) → IsLater context now.next more
+      → HasOrigins (IsEarly context) number_of (added ++ more) state held
   pub clean : IsClean added
 
 -- an error that comes without an entry: an allocation failure
@@ -175,14 +176,14 @@ pub data StopReason : List EntryView → Error → Type 0 where
 -- a run stopped with an error: the trace matches a prefix of the items, and the ledger of the run
 -- agrees with the resources
 pub record StopInvariant {E H : Type 0} (allows : Allows H) (number_of : E → ℕ)
-    (course : RunContext)
+    (context : RunContext)
     (items : List (Item E H)) (now : JournalView) (held : ResourcesView)
     (error : Error) : Type 0 where
   pub added : List EntryView
-  pub books : LedgerInvariant course.old now added held
-  pub few : OpenEndsWithin course.bound added
-  pub answers : (more : List EntryView) → IsLater course now.next more
-      → AnswersUnder course allows number_of (added ++ more) 0 items (trace added)
+  pub books : LedgerInvariant context.old now added held
+  pub few : OpenEndsWithin context.bound added
+  pub answers : (more : List EntryView) → IsLater context now.next more
+      → AnswersUnder context allows number_of (added ++ more) 0 items (trace added)
   pub ended : StopReason added error
 
 -- an action succeeds, from any state of a run in which it is ready
@@ -190,20 +191,20 @@ abbrev pub ActionSucceeds : {E H : Type 0} → Allows H → (E → ℕ) → Acti
     → JournalView
     → ResourcesView → ResourcesView → Type 0
 ActionSucceeds {E} {H} allows number_of action now then held kept =
-    (course : RunContext) (state : State E H)
-    → IsReady number_of course.base course.bound state action
-    → RunInvariant allows number_of course state now held
-    → RunInvariant allows number_of course (advance state action) then kept
+    (context : RunContext) (state : State E H)
+    → IsReady number_of context.base context.bound state action
+    → RunInvariant allows number_of context state now held
+    → RunInvariant allows number_of context (advance state action) then kept
 
 -- an action fails with this error, from any state of a run in which it is ready
 abbrev pub ActionFails : {E H : Type 0} → Allows H → (E → ℕ) → Action E H → JournalView
     → JournalView
     → ResourcesView → ResourcesView → Error → Type 0
 ActionFails {E} {H} allows number_of action now then held kept error =
-    (course : RunContext) (state : State E H)
-    → IsReady number_of course.base course.bound state action
-    → RunInvariant allows number_of course state now held
-    → StopInvariant allows number_of course (advance state action).plan.items then kept error
+    (context : RunContext) (state : State E H)
+    → IsReady number_of context.base context.bound state action
+    → RunInvariant allows number_of context state now held
+    → StopInvariant allows number_of context (advance state action).plan.items then kept error
 
 -- what an action needs of the resources, besides the ends that it pops
 abbrev pub FindsItsEnds : {E H : Type 0} → Action E H → ResourcesView → Type 0
@@ -224,10 +225,10 @@ FindsItsEnds (action.finish which) held = Unit {0}
 
 -- a run that has succeeded so far is about to perform these actions, which lead to its goal
 pub record ReadyForActions {E H : Type 0} (allows : Allows H) (number_of : E → ℕ)
-    (course : RunContext)
+    (context : RunContext)
     (goal : State E H) (actions : List (Action E H)) (now : JournalView) (held : ResourcesView)
     : Type 0 where
   pub state : State E H
-  pub stands : RunInvariant allows number_of course state now held
-  pub ready : AreReady number_of course.base course.bound state actions
+  pub stands : RunInvariant allows number_of context state now held
+  pub ready : AreReady number_of context.base context.bound state actions
   pub goal_is : after_actions state actions ≡ goal

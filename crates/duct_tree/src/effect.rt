@@ -31,8 +31,8 @@ impl Clone for Opening<'_> {
 
 impl Copy for Opening<'_> {}
 
-/// Where a stream goes inside a node. `K` names the streams that it may follow: stdin follows itself
-/// alone, stdout and stderr follow either of the two.
+/// Where a stream goes inside a node. `K` names the streams that it may follow: stdin follows
+/// itself alone, and stdout and stderr follow either of the two.
 pub(crate) enum Route<'a, K, E> {
     /// Where this stream goes outside the node.
     Outside(K),

@@ -13,7 +13,7 @@ use Rattle.duct_run.proofs.run.perform_all.Goals as goal
 
 pub loop-action-init : goal.loop-action-init
 loop-action-init g c = record {
-  stood = λ course to same first. first;
+  stood = λ context to same first. first;
   new = λ new. new;
   workers = record { output_worker = refl; error_worker = refl };
   pool = leaves_same _ _;
@@ -34,9 +34,9 @@ returns-in_err-make_room-clause-err g c =
     let is : before ≡ act ∷ rest = rest_is scopes c.args.actions.now c.loop-action.action-index c.action-item.result c.loop-action-test.true c.action-item.is in
     let pairs = map pair_text c.args.pairs.now.items in
     let kept = resources_view num child feed drain c.make_room.new.held in
-    rw (p.1, p.2) (λ course to same first.
-    let stood = stood_same num child feed drain c.loop-action.held c.make_room.new.held c.make_room.ensures.same g.H.Hook.allows course to before now (c.loop-action.invariant.stood course to same first) in
-    memory_refused g.H.Hook.allows g.H.Hook.refuses num course pairs same to before rest act now kept stood is _ c.in_err-make_room.ensures.memory)
+    rw (p.1, p.2) (λ context to same first.
+    let stood = stood_same num child feed drain c.loop-action.held c.make_room.new.held c.make_room.ensures.same g.H.Hook.allows context to before now (c.loop-action.invariant.stood context to same first) in
+    memory_refused g.H.Hook.allows g.H.Hook.refuses num context pairs same to before rest act now kept stood is _ c.in_err-make_room.ensures.memory)
 
 pub perform-requires-clause-within : goal.perform-requires-clause-within
 perform-requires-clause-within g c = within_at _ c.args.actions.now c.loop-action.action-index c.action-item.result c.loop-action-test.true c.action-item.is c.requires.within
@@ -110,9 +110,9 @@ returns-in_err-perform-clause-err g c =
     let is : before ≡ act ∷ rest = rest_is scopes c.args.actions.now c.loop-action.action-index c.action-item.result c.loop-action-test.true c.action-item.is in
     let pairs = map pair_text c.args.pairs.now.items in
     let kept = resources_view num child feed drain c.make_room.new.held in
-    rw (p.1, p.2) (λ course to same first.
-    let stood = stood_same num child feed drain c.loop-action.held c.make_room.new.held c.make_room.ensures.same g.H.Hook.allows course to before now (c.loop-action.invariant.stood course to same first) in
-    refused_now g.H.Hook.allows g.H.Hook.refuses num course pairs same to before rest act now kept stood is _ _ _ c.in_err-perform.ensures.performed.err)
+    rw (p.1, p.2) (λ context to same first.
+    let stood = stood_same num child feed drain c.loop-action.held c.make_room.new.held c.make_room.ensures.same g.H.Hook.allows context to before now (c.loop-action.invariant.stood context to same first) in
+    refused_now g.H.Hook.allows g.H.Hook.refuses num context pairs same to before rest act now kept stood is _ _ _ c.in_err-perform.ensures.performed.err)
 
 pub returns-in_err-perform-clause-new : goal.returns-in_err-perform-clause-new
 returns-in_err-perform-clause-new g c = λ new. c.perform.ensures.performed.new
@@ -137,9 +137,9 @@ loop-action-preserved g c =
     let kept = resources_view num child feed drain c.make_room.new.held in
     let same_held = c.make_room.ensures.same in
     record {
-      stood = λ course to same first.
-          let stood = stood_same num child feed drain c.loop-action.held c.make_room.new.held c.make_room.ensures.same g.H.Hook.allows course to before now (c.loop-action.invariant.stood course to same first) in
-          goes_on_saying g.H.Hook.allows g.H.Hook.refuses num course pairs same to before rest act now kept stood is _ _ c.in_ok-perform.ensures.performed.ok;
+      stood = λ context to same first.
+          let stood = stood_same num child feed drain c.loop-action.held c.make_room.new.held c.make_room.ensures.same g.H.Hook.allows context to before now (c.loop-action.invariant.stood context to same first) in
+          goes_on_saying g.H.Hook.allows g.H.Hook.refuses num context pairs same to before rest act now kept stood is _ _ c.in_ok-perform.ensures.performed.ok;
       new = λ new. c.perform.ensures.performed.new (new_same num child feed drain c.loop-action.held c.make_room.new.held same_held (c.loop-action.invariant.new new));
       workers = workers_on c.args.held.now c.make_room.new.held c.perform.new.held
           (workers_on c.args.held.now c.loop-action.held c.make_room.new.held c.loop-action.invariant.workers (workers_same c.loop-action.held c.make_room.new.held same_held)) c.perform.ensures.performed.workers;
@@ -147,6 +147,6 @@ loop-action-preserved g c =
     }
 
 pub returns-clause-ok : goal.returns-clause-ok
-returns-clause-ok g c = λ course to same first.
-    stands_done g.H.Hook.allows g.H.Hook.refuses g.S.End.Numbered.number_of course to _ _ _ (rest_none (all_scopes c.args.scopes.now) c.args.actions.now c.loop-action.action-index (omega (arith, c.loop-action-test.false)))
-    (c.loop-action.invariant.stood course to same first)
+returns-clause-ok g c = λ context to same first.
+    stands_done g.H.Hook.allows g.H.Hook.refuses g.S.End.Numbered.number_of context to _ _ _ (rest_none (all_scopes c.args.scopes.now) c.args.actions.now c.loop-action.action-index (omega (arith, c.loop-action-test.false)))
+    (c.loop-action.invariant.stood context to same first)

@@ -17,9 +17,9 @@ invariant-loop-action g l =
     let feed = g.S.Feed.Job.job_view in
     let drain = g.S.Drain.Job.job_view in
     let journal = g.S.System.journal_view in record {
-      stood : (course : RunContext) (goal : State _ _) → course.pairs ≡ map pair_text l.pairs.items
-          → ReadyForActions g.H.Hook.allows num course goal (resolved_all (all_scopes l.scopes) (actions_view l.actions)) (journal l.fn.sys) (resources_view num child feed drain l.fn.held)
-          → ReadyForActions g.H.Hook.allows num course goal (resolved_all (all_scopes l.scopes) (actions_view (drop l.action-index l.actions))) (journal l.sys) (resources_view num child feed drain l.held);
+      stood : (context : RunContext) (goal : State _ _) → context.pairs ≡ map pair_text l.pairs.items
+          → ReadyForActions g.H.Hook.allows num context goal (resolved_all (all_scopes l.scopes) (actions_view l.actions)) (journal l.fn.sys) (resources_view num child feed drain l.fn.held)
+          → ReadyForActions g.H.Hook.allows num context goal (resolved_all (all_scopes l.scopes) (actions_view (drop l.action-index l.actions))) (journal l.sys) (resources_view num child feed drain l.held);
       new : AreNew child feed drain l.fn.held → AreNew child feed drain l.held;
       workers : HasSameWorkers l.fn.held l.held;
       pool : Leaves g.S.Child.Child.may_answer [] (pool_view child l.fn.pool) (pool_view child l.pool);

@@ -31,8 +31,8 @@ perform_all-requires-clause-stood g c =
     let acts = resolved_all (all_scopes c.args.scopes.now) (actions_view c.args.actions.now) in
     let old = g.S.System.journal_view c.args.sys.now in
     let l = c.requires.leads in
-    let course = context_of old l.0 l.1 (map pair_text c.in_ok-pairs.pairs.items) in
-    (course, with_plan l.2, refl, stood_begun allows num acts old course l.2 _ _ c.requires.begun refl l.3 c.in_ok-pairs.ensures.ok)
+    let context = context_of old l.0 l.1 (map pair_text c.in_ok-pairs.pairs.items) in
+    (context, with_plan l.2, refl, stood_begun allows num acts old context l.2 _ _ c.requires.begun refl l.3 c.in_ok-pairs.ensures.ok)
 
 pub returns-clause-ok : goal.returns-clause-ok
 returns-clause-ok g c =
@@ -44,8 +44,8 @@ returns-clause-ok g c =
     on_ok_weaker c.perform_all.result (λ done. (
       pairs,
       λ base bound plan leads.
-          let course = context_of old base bound pairs in
-          done course (with_plan plan) refl (stood_begun allows num acts old course plan _ _ c.requires.begun refl leads c.in_ok-pairs.ensures.ok),
+          let context = context_of old base bound pairs in
+          done context (with_plan plan) refl (stood_begun allows num acts old context plan _ _ c.requires.begun refl leads c.in_ok-pairs.ensures.ok),
     )) c.perform_all.ensures.ok
 
 pub returns-clause-err : goal.returns-clause-err
@@ -58,6 +58,6 @@ returns-clause-err g c =
     IfErr-weaker c.perform_all.result _ _ (λ e refused. (
       pairs,
       λ base bound plan leads.
-          let course = context_of old base bound pairs in
-          refused course (with_plan plan) refl (stood_begun allows num acts old course plan _ _ c.requires.begun refl leads c.in_ok-pairs.ensures.ok),
+          let context = context_of old base bound pairs in
+          refused context (with_plan plan) refl (stood_begun allows num acts old context plan _ _ c.requires.begun refl leads c.in_ok-pairs.ensures.ok),
     )) c.perform_all.ensures.err
