@@ -6,27 +6,13 @@ use Rattle.std.specs.declared.option.Option.{Option}
 use Rattle.duct_system.specs.declared.spec.Stream.TheVariants.{In, Out, Err}
 use Rattle.duct_start.specs.Surroundings as outwards
 use Rattle.duct_start.specs.Step as node
+use Rattle.duct_tree.specs.EffectView.{opening_view}
+use Rattle.duct_tree.specs.declared.effect.Opening.TheVariants as opening
 use Rattle.duct_plan.specs.Found.{change_of, hook_of}
 use Rattle.duct_plan.specs.declared.found.VariableChange.{VariableChange}
-use Rattle.duct_plan.specs.declared.step.Opening.{Opening}
-use Rattle.duct_plan.specs.declared.step.Opening.TheVariants as opening
 use Rattle.duct_plan.specs.declared.step.NodeStep.{NodeStep}
 use Rattle.duct_plan.specs.declared.step.Turn.{Turn}
 use Rattle.duct_plan.specs.declared.step.Turn.TheVariants as turn
-
--- the request that a node makes before those of its inner expression
-abbrev pub opening_of : {E H : Type 0} → Opening → node.Opening E H
-opening_of opening.Nothing = node.OpensNothing
-opening_of opening.Pipe = node.Opens node.AskPipe
-opening_of (opening.OpenRead path) = node.Opens (node.AskOpenRead path.now)
-opening_of (opening.Create path) = node.Opens (node.AskCreate path.now)
-opening_of opening.CapturesOut = node.CapturesOut
-opening_of opening.CapturesErr = node.CapturesErr
-
--- the requests that a node makes after those of its inner expression, by its place
-abbrev pub closing_of : {E H : Type 0} → Option (Bor (List ℕ)) → ℕ → List (node.Item E H)
-closing_of None place = []
-closing_of (Some bytes) place = node.AskFeed place bytes.now ∷ []
 
 -- where a stream goes inside a node, by the node's place
 abbrev pub turn_of : {E : Type 0} → Turn E → ℕ → node.Turn E
@@ -51,7 +37,6 @@ hooks_of (Some hook) = hook_of hook ∷ []
 abbrev pub idle : {E H : Type 0} → NodeStep E H
 idle = record {
   opening = opening.Nothing;
-  feed = None;
   input = turn.Follows In;
   output = turn.Follows Out;
   error = turn.Follows Err;
@@ -62,8 +47,9 @@ idle = record {
 
 -- the result is what this node does
 pub record IsStep {E H : Type 0} (step : node.NodeStep E H) (answer : NodeStep E H) : Type 0 where
-  pub opening_is : opening_of answer.opening ≡ step.opening
-  pub closing_is : (place : ℕ) → closing_of answer.feed place ≡ step.closing place
+  pub opening_is : node.opening_of (opening_view answer.opening) ≡ step.opening
+  pub closing_is : (place : ℕ)
+      → node.closing_of (opening_view answer.opening) place ≡ step.closing place
   pub input_is : (place : ℕ) → turn_of answer.input place ≡ step.turn place In
   pub output_is : (place : ℕ) → turn_of answer.output place ≡ step.turn place Out
   pub error_is : (place : ℕ) → turn_of answer.error place ≡ step.turn place Err

@@ -1,20 +1,22 @@
 //! The requests of a start, computed from the tree alone.
 ghost use Rattle.std.specs.Prelude.{◌≡◌, IfOk, map, string_bytes};
 ghost use Rattle.duct_start.specs.Plan.{with_item, with_output_capture, with_error_capture, with_opening, place_for, with_closing, program_of, is_canonical, with_command, plan_of_subtree, initial_plan, with_drain, with_reader, plan_of, plan_of_reader};
+ghost use Rattle.duct_start.specs.Step.{opening_of, closing_of};
+ghost use Rattle.duct_tree.specs.EffectView.{opening_view};
 ghost use Rattle.duct_tree.specs.NodeView.{node_view};
 ghost use Rattle.duct.specs.TreeView.{tree_view};
 ghost use Rattle.duct_plan.specs.Found.{found_of};
 ghost use Rattle.duct_plan.specs.PlanView.{item_of, plan_view};
-ghost use Rattle.duct_plan.specs.Step.{opening_of, closing_of};
 ghost use Rattle.duct_plan.specs.Way.{way_of};
 
 use crate::found::Surroundings;
 use crate::items::{Item, Plan};
 use crate::lookup::surroundings_on;
-use crate::step::{Opening, modifier_step};
+use crate::step::modifier_step;
 use crate::way::{PathSegment, below};
 use duct::tree::Node;
-use duct::{Expression, asks_canonical};
+use duct::{Expression, Side, asks_canonical};
+use duct_tree::effect::Opening;
 use std::alloc::{AllocError, Global};
 
 /// Returns the plan of a start. The workers of the capture pipes come after all commands, stdout's
@@ -187,7 +189,7 @@ fn plan_of_subtree<'t, E: Drop, H: Drop>(
             let inner_way = below(alloc, PathSegment::Within(place, modifier), way)?;
             let plan = with_opening(step.opening, plan)?;
             let plan = plan_of_subtree(alloc, inner_way.as_slice(), inner, plan)?;
-            with_closing(step.feed, place, plan)
+            with_closing(step.opening, place, plan)
         }
     }
 }
@@ -211,49 +213,52 @@ fn with_command<'t, E: Drop, H: Drop>(
     with_item(Item::Spawn(found, words), plan)
 }
 
-/// Adds to the plan the request that a node makes before those of its inner expression.
+/// Adds to the plan the request that a node which opens this makes before those of its inner
+/// expression.
 fn with_opening<'t, E: Drop, H: Drop>(
     opening: Opening<'t>,
     plan: Plan<'t, E, H>,
 ) -> Result<Plan<'t, E, H>, AllocError>
     ensures { IfOk result
-        (λ more. plan_view more ≡ with_opening (opening_of opening.entry) (plan_view plan.entry)) }
+        (λ more. plan_view more
+        ≡ with_opening (opening_of (opening_view opening.entry)) (plan_view plan.entry)) }
 {
     match opening {
         Opening::Nothing => Ok(plan),
-        Opening::Pipe => with_item(Item::Pipe, plan),
-        Opening::OpenRead(path) => with_item(Item::OpenRead(path), plan),
+        Opening::Input(_) => with_item(Item::Pipe, plan),
+        Opening::Read(path) => with_item(Item::OpenRead(path), plan),
         Opening::Create(path) => with_item(Item::Create(path), plan),
-        Opening::CapturesOut => with_output_capture(plan),
-        Opening::CapturesErr => with_error_capture(plan),
+        Opening::Capture(Side::Out) => with_output_capture(plan),
+        Opening::Capture(Side::Err) => with_error_capture(plan),
     }
 }
 
-/// Returns the place of the node that comes next: that of the item that it adds or, for a capture,
-/// that of its stream's one pipe.
+/// Returns the place of the node that comes next and opens this: that of the item that it adds or,
+/// for a capture, that of its stream's one pipe.
 fn place_for<E, H>(opening: Opening<'_>, plan: &Plan<'_, E, H>) -> usize
-    ensures { result ≡ place_for (opening_of opening.entry) (plan_view plan.now) }
+    ensures { result ≡ place_for (opening_of (opening_view opening.entry)) (plan_view plan.now) }
 {
     let next = plan.items.len();
     match opening {
-        Opening::Nothing | Opening::Pipe | Opening::OpenRead(_) | Opening::Create(_) => next,
-        Opening::CapturesOut => plan.out.unwrap_or(next),
-        Opening::CapturesErr => plan.err.unwrap_or(next),
+        Opening::Nothing | Opening::Input(_) | Opening::Read(_) | Opening::Create(_) => next,
+        Opening::Capture(Side::Out) => plan.out.unwrap_or(next),
+        Opening::Capture(Side::Err) => plan.err.unwrap_or(next),
     }
 }
 
-/// Adds to the plan the request that a node at this place makes after those of its inner
-/// expression: the worker that feeds these bytes to its pipe.
+/// Adds to the plan the request that a node at this place which opens this makes after those of its
+/// inner expression: for an input, the worker that feeds the bytes to its pipe.
 fn with_closing<'t, E: Drop, H: Drop>(
-    feed: Option<&'t [u8]>,
+    opening: Opening<'t>,
     place: usize,
     plan: Plan<'t, E, H>,
 ) -> Result<Plan<'t, E, H>, AllocError>
-    ensures { IfOk result (λ more. plan_view more ≡ with_closing (closing_of feed.entry place)
-        (plan_view plan.entry)) }
+    ensures { IfOk result
+        (λ more. plan_view more
+        ≡ with_closing (closing_of (opening_view opening.entry) place) (plan_view plan.entry)) }
 {
-    match feed {
-        None => Ok(plan),
-        Some(bytes) => with_item(Item::Feed(place, bytes), plan),
+    match opening {
+        Opening::Nothing | Opening::Read(_) | Opening::Create(_) | Opening::Capture(_) => Ok(plan),
+        Opening::Input(bytes) => with_item(Item::Feed(place, bytes.as_slice()), plan),
     }
 }

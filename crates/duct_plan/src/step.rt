@@ -1,27 +1,19 @@
-//! What one node of a tree does: its requests, where it sends streams, and the folder, the change
+//! What one node of a tree does: what it opens, where it sends streams, and the folder, the change
 //! of variables and the hook that it sets.
-ghost use Rattle.std.specs.Prelude.{◌≡◌, Some};
-ghost use Rattle.duct_start.specs.Step.{step};
+ghost use Rattle.std.specs.Prelude.{ℕ, ◌≡◌, Some};
+ghost use Rattle.duct_system.specs.declared.spec.Stream.TheVariants.{In};
+ghost use Rattle.duct_start.specs.Step as node;
+ghost use Rattle.duct_start.specs.Step.{step, step_if_setting, step_of_row};
+ghost use Rattle.duct_tree.specs.EffectView.{effect_view, opening_view, route_view, says_view};
 ghost use Rattle.duct_tree.specs.NodeView.{modifier_view};
-ghost use Rattle.duct_plan.specs.Step.{idle, IsStep};
+ghost use Rattle.duct_plan.specs.Step.{idle, turn_of, IsStep};
 
 use crate::found::VariableChange;
-use duct::Stream;
 use duct::tree::Modifier;
+use duct::{Side, Stream};
+use duct_run::scope::Setting;
+use duct_tree::effect::{Effect, Opening, Route, effect_of};
 use std::convert::AsStr;
-
-/// The request that a node makes before those of its inner expression.
-#[derive(Clone, Copy)]
-pub(crate) enum Opening<'t> {
-    Nothing,
-    Pipe,
-    OpenRead(&'t str),
-    Create(&'t str),
-    /// The one capture pipe of stdout.
-    CapturesOut,
-    /// The one capture pipe of stderr.
-    CapturesErr,
-}
 
 /// Where a stream goes inside a node.
 #[derive_where(Clone, Copy)]
@@ -44,9 +36,8 @@ pub(crate) enum Turn<'t, E> {
 /// of its stream's one pipe.
 #[derive_where(Clone, Copy)]
 pub(crate) struct NodeStep<'t, E, H> {
+    /// What it opens before its inner expression.
     pub opening: Opening<'t>,
-    /// The bytes that are fed to the pipe at its place, after the requests of its inner expression.
-    pub feed: Option<&'t [u8]>,
     /// Where stdin goes.
     pub input: Turn<'t, E>,
     /// Where stdout goes.
@@ -58,13 +49,12 @@ pub(crate) struct NodeStep<'t, E, H> {
     pub hook: Option<(&'t H, &'t [E])>,
 }
 
-/// Returns the step of a node that only makes this request before those of its inner expression.
-fn only<'t, E, H>(opening: Opening<'t>) -> NodeStep<'t, E, H>
-    ensures { result ≡ record idle { opening = opening.entry } }
+/// Returns the step of a node that does nothing.
+fn idle<'t, E, H>() -> NodeStep<'t, E, H>
+    ensures { result ≡ idle }
 {
     NodeStep {
-        opening,
-        feed: None,
+        opening: Opening::Nothing,
         input: Turn::Follows(Stream::In),
         output: Turn::Follows(Stream::Out),
         error: Turn::Follows(Stream::Err),
@@ -74,33 +64,101 @@ fn only<'t, E, H>(opening: Opening<'t>) -> NodeStep<'t, E, H>
     }
 }
 
-/// Returns the step of a node that makes this request and sends stdin there.
-pub(crate) fn at_stdin<'t, E, H>(opening: Opening<'t>, input: Turn<'t, E>) -> NodeStep<'t, E, H>
-    ensures { result ≡ record idle { opening = opening.entry; input = input.entry } }
+/// Returns the step of a node that only sends stdin there.
+pub(crate) fn at_stdin<'t, E, H>(input: Turn<'t, E>) -> NodeStep<'t, E, H>
+    ensures { result ≡ record idle { input = input.entry } }
 {
-    NodeStep {
-        input,
-        ..only(opening)
-    }
+    NodeStep { input, ..idle() }
 }
 
-/// Returns the step of a node that makes this request and sends stdout there.
+/// Returns the step of a node that opens this and sends stdout there.
 pub(crate) fn at_stdout<'t, E, H>(opening: Opening<'t>, output: Turn<'t, E>) -> NodeStep<'t, E, H>
     ensures { result ≡ record idle { opening = opening.entry; output = output.entry } }
 {
     NodeStep {
+        opening,
         output,
-        ..only(opening)
+        ..idle()
     }
 }
 
-/// Returns the step of a node that makes this request and sends stderr there.
-pub(crate) fn at_stderr<'t, E, H>(opening: Opening<'t>, error: Turn<'t, E>) -> NodeStep<'t, E, H>
-    ensures { result ≡ record idle { opening = opening.entry; error = error.entry } }
+/// Returns the step of a modifier.
+pub(crate) fn modifier_step<'t, E, H>(modifier: &'t Modifier<E, H>) -> NodeStep<'t, E, H>
+    ensures { IsStep (step (modifier_view modifier.now)) result }
+{
+    effect_step(effect_of(modifier))
+}
+
+/// Returns the step of a node that has this effect.
+fn effect_step<'t, E, H>(effect: Effect<'t, E, H>) -> NodeStep<'t, E, H>
+    ensures { IsStep (step_of_row (effect_view effect.entry)) result }
 {
     NodeStep {
-        error,
-        ..only(opening)
+        opening: effect.opening,
+        input: input_turn(effect.input, effect.opening),
+        output: side_turn(effect.output, effect.opening),
+        error: side_turn(effect.error, effect.opening),
+        ..setting_step(effect.setting)
+    }
+}
+
+/// Returns where stdin goes that takes this route inside a node that opens this.
+fn input_turn<'t, E>(route: Route<'t, (), E>, opening: Opening<'t>) -> Turn<'t, E>
+    ensures { (place : ℕ) → turn_of result place ≡ node.turn_of (λ stream. In)
+        (opening_view opening.entry) place (route_view route.entry) }
+{
+    match route {
+        Route::Outside(()) => Turn::Follows(Stream::In),
+        Route::Nothing => Turn::Nothing,
+        Route::Lent(end) => Turn::Lends(end),
+        Route::Opened => opened_turn(opening),
+    }
+}
+
+/// Returns where stdout or stderr goes that takes this route inside a node that opens this.
+fn side_turn<'t, E>(route: Route<'t, Side, E>, opening: Opening<'t>) -> Turn<'t, E>
+    ensures { (place : ℕ) → turn_of result place ≡ node.turn_of node.stream_on
+        (opening_view opening.entry) place (route_view route.entry) }
+{
+    match route {
+        Route::Outside(Side::Out) => Turn::Follows(Stream::Out),
+        Route::Outside(Side::Err) => Turn::Follows(Stream::Err),
+        Route::Nothing => Turn::Nothing,
+        Route::Lent(end) => Turn::Lends(end),
+        Route::Opened => opened_turn(opening),
+    }
+}
+
+/// Returns where a stream goes that leads to what a node opens.
+fn opened_turn<'t, E>(opening: Opening<'t>) -> Turn<'t, E>
+    ensures { (place : ℕ) → turn_of {E = E} result place
+        ≡ node.Decides (node.opened_target (opening_view opening.entry) place) }
+{
+    match opening {
+        Opening::Nothing => Turn::Nothing,
+        Opening::Input(_) => Turn::Reads,
+        Opening::Read(_) | Opening::Create(_) => Turn::Opened,
+        Opening::Capture(_) => Turn::Writes,
+    }
+}
+
+/// Returns the step of a node that only sets this, if it sets something.
+fn setting_step<'t, E, H>(setting: Option<Setting<'t, E, H>>) -> NodeStep<'t, E, H>
+    ensures { IsStep (step_if_setting (says_view setting.entry)) result }
+{
+    match setting {
+        None => idle(),
+        Some(Setting::Dir(path)) => NodeStep {
+            folder: Some(path),
+            ..idle()
+        },
+        Some(Setting::Env(name, value)) => changing(VariableChange::Sets(name.as_str(), value)),
+        Some(Setting::EnvRemove(name)) => changing(VariableChange::Removes(name.as_str())),
+        Some(Setting::FullEnv(vars)) => changing(VariableChange::Replaces(vars)),
+        Some(Setting::BeforeSpawn(hook, ends)) => NodeStep {
+            hook: Some((hook, ends)),
+            ..idle()
+        },
     }
 }
 
@@ -110,48 +168,6 @@ fn changing<'t, E, H>(change: VariableChange<'t>) -> NodeStep<'t, E, H>
 {
     NodeStep {
         change: Some(change),
-        ..only(Opening::Nothing)
-    }
-}
-
-/// Returns the step of a modifier.
-pub(crate) fn modifier_step<'t, E, H>(modifier: &'t Modifier<E, H>) -> NodeStep<'t, E, H>
-    ensures { IsStep (step (modifier_view modifier.now)) result }
-{
-    match modifier {
-        Modifier::StdinBytes(bytes) => NodeStep {
-            feed: Some(bytes.as_slice()),
-            ..at_stdin(Opening::Pipe, Turn::Reads)
-        },
-        Modifier::StdinPath(path) => at_stdin(Opening::OpenRead(path.as_str()), Turn::Opened),
-        Modifier::StdinFile(end) => at_stdin(Opening::Nothing, Turn::Lends(end)),
-        Modifier::StdinNull => at_stdin(Opening::Nothing, Turn::Nothing),
-        Modifier::StdoutPath(path) => at_stdout(Opening::Create(path.as_str()), Turn::Opened),
-        Modifier::StdoutFile(end) => at_stdout(Opening::Nothing, Turn::Lends(end)),
-        Modifier::StdoutNull => at_stdout(Opening::Nothing, Turn::Nothing),
-        Modifier::StdoutCapture => at_stdout(Opening::CapturesOut, Turn::Writes),
-        Modifier::StdoutToStderr => at_stdout(Opening::Nothing, Turn::Follows(Stream::Err)),
-        Modifier::StderrPath(path) => at_stderr(Opening::Create(path.as_str()), Turn::Opened),
-        Modifier::StderrFile(end) => at_stderr(Opening::Nothing, Turn::Lends(end)),
-        Modifier::StderrNull => at_stderr(Opening::Nothing, Turn::Nothing),
-        Modifier::StderrCapture => at_stderr(Opening::CapturesErr, Turn::Writes),
-        Modifier::StderrToStdout => at_stderr(Opening::Nothing, Turn::Follows(Stream::Out)),
-        Modifier::StdoutStderrSwap => NodeStep {
-            output: Turn::Follows(Stream::Err),
-            error: Turn::Follows(Stream::Out),
-            ..only(Opening::Nothing)
-        },
-        Modifier::Dir(path) => NodeStep {
-            folder: Some(path.as_str()),
-            ..only(Opening::Nothing)
-        },
-        Modifier::Env(name, value) => changing(VariableChange::Sets(name.as_str(), value.as_str())),
-        Modifier::EnvRemove(name) => changing(VariableChange::Removes(name.as_str())),
-        Modifier::FullEnv(vars) => changing(VariableChange::Replaces(vars)),
-        Modifier::Unchecked => only(Opening::Nothing),
-        Modifier::BeforeSpawn(hook, ends) => NodeStep {
-            hook: Some((hook, ends.as_slice())),
-            ..only(Opening::Nothing)
-        },
+        ..idle()
     }
 }

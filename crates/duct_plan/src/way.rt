@@ -4,8 +4,10 @@ ghost use Rattle.duct_start.specs.Path.{segment_place, step_of};
 ghost use Rattle.duct_plan.specs.Step.{IsStep};
 ghost use Rattle.duct_plan.specs.Way.{crumb_of};
 
-use crate::step::{NodeStep, Opening, Turn, at_stdin, at_stdout, modifier_step};
+use crate::step::{NodeStep, Turn, at_stdin, at_stdout, modifier_step};
+use duct::Side;
 use duct::tree::Modifier;
+use duct_tree::effect::Opening;
 use std::alloc::{AllocError, Global};
 
 /// One node around a command, with its place in the plan. A path to the root is a slice of these,
@@ -40,9 +42,9 @@ pub(crate) fn step_of<'t, E, H>(crumb: &PathSegment<'t, E, H>) -> NodeStep<'t, E
 {
     match crumb {
         PathSegment::LeftOf(_) => at_stdout(Opening::Nothing, Turn::Writes),
-        PathSegment::RightOf(_) => at_stdin(Opening::Nothing, Turn::Reads),
+        PathSegment::RightOf(_) => at_stdin(Turn::Reads),
         PathSegment::Within(_, modifier) => modifier_step(modifier),
-        PathSegment::Captured(_) => at_stdout(Opening::CapturesOut, Turn::Writes),
+        PathSegment::Captured(_) => at_stdout(Opening::Capture(Side::Out), Turn::Writes),
     }
 }
 

@@ -11,7 +11,8 @@ use std::alloc::AllocError;
 use std::sync::Arc;
 
 /// What a node opens before its inner expression.
-pub(crate) enum Opening<'a> {
+pub enum Opening<'a> {
+    /// Nothing.
     Nothing,
     /// A pipe that the inner expression reads from, and to which a worker writes these bytes.
     Input(&'a Arc<Vec<u8>>),
@@ -33,7 +34,7 @@ impl Copy for Opening<'_> {}
 
 /// Where a stream goes inside a node. `K` names the streams that it may follow: stdin follows
 /// itself alone, and stdout and stderr follow either of the two.
-pub(crate) enum Route<'a, K, E> {
+pub enum Route<'a, K, E> {
     /// Where this stream goes outside the node.
     Outside(K),
     /// To nothing.
@@ -54,14 +55,17 @@ impl<K: Copy, E> Copy for Route<'_, K, E> {}
 
 /// What the shape of a start shows of a node.
 #[derive(Clone, Copy)]
-pub(crate) enum Mark {
+pub enum Mark {
+    /// Nothing: the shape leaves the node out.
     Plain,
+    /// That the node has an input worker.
     Input,
+    /// That the failure of the inner expression is no error.
     Unchecked,
 }
 
-/// A row: what a node does.
-pub(crate) struct Effect<'a, E, H> {
+/// What a node does.
+pub struct Effect<'a, E, H> {
     /// What it opens.
     pub opening: Opening<'a>,
     /// Where stdin goes.
@@ -84,8 +88,8 @@ impl<E, H> Clone for Effect<'_, E, H> {
 
 impl<E, H> Copy for Effect<'_, E, H> {}
 
-/// Returns the row of a modifier.
-pub(crate) fn effect_of<E, H>(modifier: &Modifier<E, H>) -> Effect<'_, E, H>
+/// Returns what a modifier does: the row of its kind.
+pub fn effect_of<E, H>(modifier: &Modifier<E, H>) -> Effect<'_, E, H>
     ensures { effect_view result ≡ row (modifier_view modifier.now) }
 {
     let idle = Effect {

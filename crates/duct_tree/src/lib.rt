@@ -1,8 +1,8 @@
-//! The tree of an expression, and what is made from it: its debug text, its shape, and the list of
-//! actions that runs it. Nothing here makes a request to a system.
+//! The tree of an expression, and what is made from it: its debug text, what each modifier does,
+//! its shape, and the list of actions that runs it. Nothing here makes a request to a system.
 #![tactic(auto)]
 
-mod effect;
+pub mod effect;
 pub mod flatten;
 pub mod shape;
 pub mod tree;
