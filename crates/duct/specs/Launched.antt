@@ -107,23 +107,23 @@ module _ {S E C F D V W : Type 0} (views : SystemViews S E C F D V W) where
 module _ {S E C F D : Type 0} (views : SystemViews S E C F D (Unit {0}) Bytes) where
   -- the wait for what was started returns this output
   abbrev pub Returns : {H : Type 0} → Output → MadeBy E H
-  Returns output kind tree added = WaitReturns views.may_answer views.feed_may_say
-      views.drain_may_say tree (drains_output kind tree) (drains_error kind tree) added
+  Returns output kind tree added = WaitReturns views.may_answer views.feed_says
+      views.drain_says tree (drains_output kind tree) (drains_error kind tree) added
       (answered output.status output.stdout.items output.stderr.items)
 
   -- the wait for what was started fails with this error
   abbrev pub Fails : {H : Type 0} → Error → MadeBy E H
-  Fails error kind tree added = WaitFails views.may_answer views.feed_may_say
-      views.drain_may_say tree (drains_output kind tree) (drains_error kind tree) added error
+  Fails error kind tree added = WaitFails views.may_answer views.feed_says
+      views.drain_says tree (drains_output kind tree) (drains_error kind tree) added error
 
   -- the text is that of what was started
   abbrev pub Reads : {H R : Type 0} → (ℕ → R → Type 0) → (R → Option (List ℕ)) → String Global
       → MadeBy E H
-  Reads may remaining text kind tree added = ReadReturns views.may_answer views.feed_may_say
-      views.drain_may_say tree may remaining (drains_error kind tree) added (Ok text)
+  Reads may remaining text kind tree added = ReadReturns views.may_answer views.feed_says
+      views.drain_says tree may remaining (drains_error kind tree) added (Ok text)
 
   -- the reading of what was started fails with this error
   abbrev pub ReadFails : {H R : Type 0} → (ℕ → R → Type 0) → (R → Option (List ℕ)) → Error
       → MadeBy E H
-  ReadFails may remaining error kind tree added = ReadReturns views.may_answer views.feed_may_say
-      views.drain_may_say tree may remaining (drains_error kind tree) added (Err error)
+  ReadFails may remaining error kind tree added = ReadReturns views.may_answer views.feed_says
+      views.drain_says tree may remaining (drains_error kind tree) added (Err error)

@@ -1,48 +1,49 @@
 -- An order to all commands of a handle: each one that has ended returns Ok, each other one what it
 -- may return.
-use Rattle.std.specs.Prelude.{ℕ, Bool, List, [], ◌∷◌, All, IfSome, MatchOption, map, Ok, Some, None}
+use Rattle.std.specs.Prelude.{ℕ, List, [], ◌∷◌, All, IfSome, MatchOption, map, Ok, Some, None}
 use Rattle.std.specs.List.{AllZip}
 use Rattle.std.specs.declared.option.Option.{Option}
 use Rattle.std.specs.declared.result.Result.{Result}
 use Rattle.std.proofs.Common.{◌≡◌, subst, inl, inr}
 use Rattle.std.proofs.lemmas.List.Elements.{All-head, All-tail}
 use mathlib.Core.Logic.{∥∥₁_map}
-use Rattle.duct_system.specs.Child.{Answer, ChildView, Obeyed, OrdersChild}
+use Rattle.duct_system.specs.Child.{ChildView, Obeyed, OrdersChild}
 use Rattle.duct_system.specs.declared.error.Error.{Error}
 use Rattle.duct_system.specs.declared.system.ExitStatus.{ExitStatus}
 use Rattle.duct_system.specs.declared.system.Order.{Order}
+use Rattle.duct_run.specs.SystemViews.{SystemViews}
 use Rattle.duct_running.specs.Ordered.{AllOrdered, IsOrdered}
 use Rattle.duct_running.specs.Allowed.{ChildAnswersAllowed}
 use Rattle.duct_handle.specs.Obeyed.{IsObeyed, CommandAnswers}
 
-module _ (answer : ℕ → Answer → Type 0) (obey : ℕ → Order → Bool → Obeyed → Type 0) (order : Order) where
+module _ {S E C F D V W : Type 0} (views : SystemViews S E C F D V W) (order : Order) where
   -- one command
   obeyed_by : (before after : ChildView) (heard : Obeyed) (ending : Option ExitStatus)
-      → IfSome ending (λ status. answer before.number (Ok (Some status)))
-      → MatchOption ending (OrdersChild obey order before heard after) (λ status. (heard ≡ Ok tt) × (after ≡ before))
-      → CommandAnswers answer obey order before.number heard
+      → IfSome ending (λ status. views.may_answer before.number (Ok (Some status)))
+      → MatchOption ending (OrdersChild views.may_obey order before heard after) (λ status. (heard ≡ Ok tt) × (after ≡ before))
+      → CommandAnswers views order before.number heard
   obeyed_by before after heard (Some status) told ordered = inl (status, told, ordered.0)
   obeyed_by before after heard None told (inl (may, noted)) = inr (inl may)
   obeyed_by before after heard None told (inr (may, unasked, none)) = inr (inr (may, none))
 
   all_obeyed : (befores : List ChildView) (answers : List Obeyed) (afters : List ChildView)
-      → AllOrdered obey order befores answers afters → All (ChildAnswersAllowed answer) befores
-      → AllZip (CommandAnswers answer obey order) (map (λ (c : ChildView). c.number) befores) answers
+      → AllOrdered views.may_obey order befores answers afters → All (ChildAnswersAllowed views.may_answer) befores
+      → AllZip (CommandAnswers views order) (map (λ (c : ChildView). c.number) befores) answers
   all_obeyed [] [] [] ordered told = tt
   all_obeyed [] [] (after ∷ afters) ordered told = absurd ordered
   all_obeyed [] (heard ∷ answers) afters ordered told = absurd ordered
   all_obeyed (before ∷ befores) [] afters ordered told = absurd ordered
   all_obeyed (before ∷ befores) (heard ∷ answers) [] ordered told = absurd ordered
   all_obeyed (before ∷ befores) (heard ∷ answers) (after ∷ afters) ordered told = (
-    obeyed_by before after heard before.ending (All-head (ChildAnswersAllowed answer) before befores told).ended ordered.0,
-    all_obeyed befores answers afters ordered.1 (All-tail (ChildAnswersAllowed answer) before befores told),
+    obeyed_by before after heard before.ending (All-head (ChildAnswersAllowed views.may_answer) before befores told).ended ordered.0,
+    all_obeyed befores answers afters ordered.1 (All-tail (ChildAnswersAllowed views.may_answer) before befores told),
   )
 
   -- all commands, by the numbers that the handle keeps
   pub order_obeyed : (befores afters : List ChildView) (numbers : List ℕ)
-      (result : Result (Unit {0}) Error) → IsOrdered obey order befores result afters
-      → ∥ All (ChildAnswersAllowed answer) befores ∥₁ → map (λ (c : ChildView). c.number) befores ≡ numbers
-      → IsObeyed answer obey order numbers result
+      (result : Result (Unit {0}) Error) → IsOrdered views.may_obey order befores result afters
+      → ∥ All (ChildAnswersAllowed views.may_answer) befores ∥₁ → map (λ (c : ChildView). c.number) befores ≡ numbers
+      → IsObeyed views order numbers result
   order_obeyed befores afters numbers result ordered told are =
-      subst (λ (ns : List ℕ). IsObeyed answer obey order ns result) are
+      subst (λ (ns : List ℕ). IsObeyed views order ns result) are
       (inr (∥∥₁_map told (λ t. (ordered.0, all_obeyed befores ordered.0 afters ordered.1 t, ordered.2))))

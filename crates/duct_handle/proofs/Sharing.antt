@@ -10,6 +10,7 @@ use Rattle.duct_system.specs.declared.error.Error.{Error}
 use Rattle.duct_system.specs.declared.error.Error.TheVariants as error
 use Rattle.duct_status.specs.ShapeView.{ShapeView, shape_view}
 use Rattle.once_cell.specs.Once.{Agrees}
+use Rattle.duct_run.specs.SystemViews.{SystemViews}
 use Rattle.duct_running.specs.Answered.{Concluded, IsAnswer, WasConcluded}
 use Rattle.duct_running.specs.Polled.{Polled}
 use Rattle.duct_running.specs.Allowed.{OneRuns}
@@ -30,7 +31,7 @@ concluded answer feed drain here there mine its found ending is same alike told 
     subst (λ (X : Type 0). X) (λ i. Concluded answer feed drain (alike i) (same i) (answer_view ending)) t')
 
 -- a wait that returns what its token then knows
-module _ (answer : ℕ → child.Answer → Type 0) (feed : ℕ → Said (Unit {0}) → Type 0) (drain : ℕ → Said Bytes → Type 0) {X : Type 0} (view : X → PublishedView) (handle : HandleView) where
+module _ {S E C F D : Type 0} (views : SystemViews S E C F D (Unit {0}) Bytes) {X : Type 0} (view : X → PublishedView) (handle : HandleView) where
   knows_same : (cell other : ℕ) (known : Option PublishedView) (polled : Polled)
       → KnowsIfEnded handle (record { cell = cell; known = known }) polled
       → KnowsIfEnded handle (record { cell = other; known = known }) polled
@@ -57,11 +58,11 @@ module _ (answer : ℕ → child.Answer → Type 0) (feed : ℕ → Said (Unit {
 
   pub shared : (before cell : ℕ) (old new : Option X) (x : X) (polled : Polled) → new ≡ Some x
       → Agrees old x → cell ≡ handle.cell
-      → IsAnswer answer feed drain (shape_view handle.shape) handle.numbers polled
+      → IsAnswer views (shape_view handle.shape) handle.numbers polled
       → (polled ≡ Ok None → ⊥)
       → KnowsIfEnded handle (record { cell = handle.cell; known = Some (view x) }) polled
       → GivesAgain handle (view x) polled
-      → Waited answer feed drain handle (record { cell = before; known = option_map view old }) (record { cell = cell; known = option_map view new }) polled
+      → Waited views handle (record { cell = before; known = option_map view old }) (record { cell = cell; known = option_map view new }) polled
   shared before cell old new x polled is agrees same told ended knows again = record {
     cell = same;
     told = told;
@@ -73,10 +74,10 @@ module _ (answer : ℕ → child.Answer → Type 0) (feed : ℕ → Said (Unit {
 
   -- a wait with a token that knew nothing
   pub unknown : (before cell : ℕ) (old new : Option X) (polled : Polled) → old ≡ None
-      → cell ≡ handle.cell → IsAnswer answer feed drain
+      → cell ≡ handle.cell → IsAnswer views
       (shape_view handle.shape) handle.numbers polled
-      → (polled ≡ Ok None → OneRuns answer feed drain handle.numbers) → KnowsIfEnded handle (record { cell = cell; known = option_map view new }) polled
-      → Waited answer feed drain handle (record { cell = before; known = option_map view old }) (record { cell = cell; known = option_map view new }) polled
+      → (polled ≡ Ok None → OneRuns views handle.numbers) → KnowsIfEnded handle (record { cell = cell; known = option_map view new }) polled
+      → Waited views handle (record { cell = before; known = option_map view old }) (record { cell = cell; known = option_map view new }) polled
   unknown before cell old new polled none same told pending knows = record {
     cell = same;
     told = told;
@@ -97,18 +98,18 @@ module _ (answer : ℕ → child.Answer → Type 0) (feed : ℕ → Said (Unit {
 
   -- a wait that fails, with a token that knew nothing
   pub refused : (before cell : ℕ) (old new : Option X) (e : Error) → old ≡ None
-      → cell ≡ handle.cell → IsAnswer answer feed drain (shape_view handle.shape) handle.numbers
+      → cell ≡ handle.cell → IsAnswer views (shape_view handle.shape) handle.numbers
       (Err e) → IsNoEnding e
-      → Waited answer feed drain handle (record { cell = before; known = option_map view old }) (record { cell = cell; known = option_map view new }) (Err e)
+      → Waited views handle (record { cell = before; known = option_map view old }) (record { cell = cell; known = option_map view new }) (Err e)
   refused before cell old new e none same told fault =
       unknown before cell old new (Err e) none same told (λ is. absurd (cc)) (unended (record { cell = cell; known = option_map view new }) e fault)
 
   -- a wait with a token that knows nothing and learns nothing
   pub still_unknown : (seen : SeenView) (polled : Polled) → seen.known ≡ None
       → seen.cell ≡ handle.cell
-      → IsAnswer answer feed drain (shape_view handle.shape) handle.numbers polled
-      → (polled ≡ Ok None → OneRuns answer feed drain handle.numbers)
-      → KnowsIfEnded handle seen polled → Waited answer feed drain handle seen seen polled
+      → IsAnswer views (shape_view handle.shape) handle.numbers polled
+      → (polled ≡ Ok None → OneRuns views handle.numbers)
+      → KnowsIfEnded handle seen polled → Waited views handle seen seen polled
   still_unknown seen polled none same told pending knows = record {
     cell = same;
     told = told;
@@ -119,8 +120,8 @@ module _ (answer : ℕ → child.Answer → Type 0) (feed : ℕ → Said (Unit {
   }
 
   pub still_refused : (seen : SeenView) (e : Error) → seen.known ≡ None → seen.cell ≡ handle.cell
-      → IsAnswer answer feed drain (shape_view handle.shape) handle.numbers (Err e)
-      → IsNoEnding e → Waited answer feed drain handle seen seen (Err e)
+      → IsAnswer views (shape_view handle.shape) handle.numbers (Err e)
+      → IsNoEnding e → Waited views handle seen seen (Err e)
   still_refused seen e none same told fault =
       still_unknown seen (Err e) none same told (λ is. absurd (cc)) (unended seen e fault)
 

@@ -1,14 +1,13 @@
 -- What a wait returns, and what its token knows then.
-use Rattle.std.specs.Prelude.{ℕ, ◌≡◌, ◌⊎◌, IfSome, IsSomeAnd, Ok, Err, Some, None}
+use Rattle.std.specs.Prelude.{◌≡◌, ◌⊎◌, IfSome, IsSomeAnd, Ok, Err, Some, None}
 use Rattle.std.specs.declared.alloc.Global.{Global}
 use Rattle.std.specs.declared.result.Result.{Result}
 use Rattle.std.specs.declared.sync.Arc.{Arc}
-use Rattle.duct_system.specs.Child.{Answer}
 use Rattle.duct_system.specs.declared.error.Error.{Error}
 use Rattle.duct_system.specs.declared.error.Error.TheVariants as error
 use Rattle.duct_system.specs.declared.system.Output.{Output}
-use Rattle.duct_system.specs.declared.system.Said.{Said}
 use Rattle.duct_status.specs.ShapeView.{shape_view}
+use Rattle.duct_run.specs.SystemViews.{SystemViews}
 use Rattle.duct_running.specs.Answered.{IsAnswer}
 use Rattle.duct_running.specs.Polled.{Gives, Polled}
 use Rattle.duct_running.specs.Stored.{Bytes}
@@ -48,14 +47,14 @@ abbrev pub at_end : Result (Arc Output Global) Error → Polled
 at_end (Ok output) = Ok (Some output)
 at_end (Err e) = Err e
 
--- the result is one for the handle's shape and numbers; while it is none, one of its numbers may
--- say that it runs; the token knows an ending that was returned, and returns it again
-pub record Waited (answer : ℕ → Answer → Type 0) (feed : ℕ → Said (Unit {0}) → Type 0)
-    (drain : ℕ → Said Bytes → Type 0) (handle : HandleView) (before after : SeenView)
-    (polled : Polled) : Type 0 where
-  pub cell : after.cell ≡ handle.cell
-  pub told : IsAnswer answer feed drain (shape_view handle.shape) handle.numbers polled
-  pub pending : polled ≡ Ok None → OneRuns answer feed drain handle.numbers
-  pub knows : KnowsIfEnded handle after polled
-  pub kept : IfSome before.known (λ known. after.known ≡ Some known)
-  pub again : IfSome before.known (λ known. GivesAgain handle known polled)
+module _ {S E C F D : Type 0} (views : SystemViews S E C F D (Unit {0}) Bytes) where
+  -- the result is one for the handle's shape and numbers; while it is none, one of its numbers may
+  -- say that it runs; the token knows an ending that was returned, and returns it again
+  pub record Waited (handle : HandleView) (before after : SeenView) (polled : Polled)
+      : Type 0 where
+    pub cell : after.cell ≡ handle.cell
+    pub told : IsAnswer views (shape_view handle.shape) handle.numbers polled
+    pub pending : polled ≡ Ok None → OneRuns views handle.numbers
+    pub knows : KnowsIfEnded handle after polled
+    pub kept : IfSome before.known (λ known. after.known ≡ Some known)
+    pub again : IfSome before.known (λ known. GivesAgain handle known polled)

@@ -1,8 +1,9 @@
 //! How a handle is made of what runs, and how it is given up.
 ghost use Rattle.std.specs.Prelude.{◌≡◌, ◌≤◌, List, [], length, vec_capacity, IfOk, IsOkUnless, None};
-ghost use Rattle.duct_base.specs.Pool.{IsGiven};
 ghost use Rattle.duct_status.specs.ShapeView.{command_count, input_count, shape_view};
-ghost use Rattle.duct_running.specs.NumbersView.{HaveRoom, numbers_in, numbers_view};
+ghost use Rattle.duct_run.specs.Requested.{PoolGets};
+ghost use Rattle.duct_running.specs.NumbersView.{HaveRoom, numbers_of, numbers_view};
+ghost use Rattle.duct_running.specs.Stored.{AreUnasked};
 
 use crate::handle::Handle;
 use crate::poll::HandleState;
@@ -10,7 +11,8 @@ use crate::published::Published;
 use duct_base::error::Error;
 use duct_base::pool::Pool;
 use duct_base::status::Shape;
-use duct_base::system::{Child, Job, System};
+use duct_base::system::System;
+use duct_run::views::Seen;
 use duct_running::numbers::Numbers;
 use duct_running::running::Running;
 use once_cell::race::OnceBox;
@@ -97,7 +99,8 @@ fn copy_ids(ids: &mut Vec<u32>, from: &[u32])
     }
 }
 
-/// Makes a handle of what runs, in these buffers. It allocates nothing.
+/// Makes a handle of what runs, in these buffers. It allocates nothing. `running` is as its start left
+/// it: no child was polled or given an order, and no worker was polled.
 pub fn handle_of<S: System>(alloc: Global, running: Running<S>, room: HandleBuffers<S>) -> Handle<S>
     requires shape { shape_view room.shape ≡ shape_view running.shape }
     requires empty { room.ids.items ≡ [] }
@@ -105,9 +108,10 @@ pub fn handle_of<S: System>(alloc: Global, running: Running<S>, room: HandleBuff
     requires numbers { HaveRoom (shape_view running.shape) room.numbers }
     requires spare { HaveRoom (shape_view running.shape) room.spare.value.numbers }
     requires silent { room.spare.value.answer ≡ None }
+    requires unasked { AreUnasked ⟦<S as Seen>⟧.views running.children running.feeds
+        running.output running.error }
     ensures shape { shape_view result.shape ≡ shape_view running.shape }
-    ensures numbers { result.numbers
-        ≡ numbers_in S.Child.child_view S.Feed.job_view S.Drain.job_view running }
+    ensures numbers { result.numbers ≡ numbers_of ⟦<S as Seen>⟧.views running }
 {
     let HandleBuffers {
         shape,
@@ -160,7 +164,7 @@ impl<S: System> Handle<S> {
     /// nothing and can't fail.
     pub fn give_up(self, pool: &mut Pool<S::Child>)
         ensures { (children : List S.Child)
-            × IsGiven S.Child.may_answer S.Child.child_view children pool.old pool.new }
+            × PoolGets ⟦<S as Seen>⟧.views children pool.old pool.new }
     {
         let (running, shape, numbers) = into_locked(self);
         drop((shape, numbers));

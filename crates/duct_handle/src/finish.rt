@@ -1,30 +1,27 @@
 //! The wait for a start that no thread shares: as a handle waits, but without a lock.
 ghost use Rattle.std.specs.Prelude.{◌≡◌, IfErr, IfOk, OnErr, OnOk, Err};
-ghost use Rattle.duct_base.specs.Pool.{IsGiven};
-ghost use Rattle.duct_start.specs.Running.{RunningView};
 ghost use Rattle.duct_status.specs.ReplyView.{answered};
 ghost use Rattle.duct_status.specs.ShapeView.{shape_view};
-ghost use Rattle.duct_running.specs.Answered.{IsEnding, WasConcluded};
-ghost use Rattle.duct_running.specs.NumbersView.{numbers_in};
-ghost use Rattle.duct_running.specs.Stays.{Stays};
+ghost use Rattle.duct_running.specs.Answered.{EndsAs, IsConcluded};
+ghost use Rattle.duct_running.specs.NumbersView.{numbers_of};
+ghost use Rattle.duct_running.specs.Ordered.{IsUnordered};
+ghost use Rattle.duct_running.specs.Stays.{PoolGetsWaited, StaysSame};
 ghost use Rattle.duct_handle.specs.Waited.{at_end};
 
 use crate::output::output_or_give_up;
 use crate::pause::Pause;
 use duct_base::error::Error;
 use duct_base::pool::Pool;
-use duct_base::system::{Child, Job, Output, System};
+use duct_base::system::{Output, System};
+use duct_run::views::Seen;
 use duct_running::running::Running;
 use std::alloc::Global;
 use std::sync::{Arc, Wait};
 
 // Polls what runs. The result is concluded from what was reported under its numbers.
 fn polled<S: System>(running: &mut Running<S>) -> Result<Option<Arc<Output>>, Error>
-    ensures stays { Stays S.Child.child_view S.Feed.job_view S.Drain.job_view
-        running.old running.new }
-    ensures ending { IsEnding S.Child.may_answer S.Feed.may_say S.Drain.may_say
-        (shape_view running.new.shape)
-        (numbers_in S.Child.child_view S.Feed.job_view S.Drain.job_view running.new) result }
+    ensures stays { StaysSame ⟦<S as Seen>⟧.views running.old running.new }
+    ensures ending { EndsAs ⟦<S as Seen>⟧.views running.new result }
 {
     let polled = running.poll();
     running.answers_allowed();
@@ -33,14 +30,11 @@ fn polled<S: System>(running: &mut Running<S>) -> Result<Option<Arc<Output>>, Er
 
 /// Waits until the expression has ended and returns how, as `Handle::wait` does. A fault is
 /// returned by the first poll that finds one while no command says that it runs. It blocks, and
-/// gives the children no order.
+/// gives the children no order. None of them may have been given one before.
 pub fn wait_for<S: System>(rt: &impl Wait, running: &mut Running<S>) -> Result<Arc<Output>, Error>
-    ensures stays { Stays S.Child.child_view S.Feed.job_view S.Drain.job_view
-        running.old running.new }
-    ensures ending { IsEnding S.Child.may_answer S.Feed.may_say S.Drain.may_say
-        (shape_view running.old.shape)
-        (numbers_in S.Child.child_view S.Feed.job_view S.Drain.job_view running.old)
-        (at_end result) }
+    requires { IsUnordered ⟦<S as Seen>⟧.views running.old }
+    ensures stays { StaysSame ⟦<S as Seen>⟧.views running.old running.new }
+    ensures ending { EndsAs ⟦<S as Seen>⟧.views running.old (at_end result) }
 {
     let mut pause = Pause::new();
     for _ in rt.forever() {
@@ -65,17 +59,13 @@ pub fn finish<S: System>(
     mut running: Running<S>,
     pool: &mut Pool<S::Child>,
 ) -> Result<Output, Error>
-    ensures output { IfOk result (λ output. WasConcluded S.Child.may_answer S.Feed.may_say
-        S.Drain.may_say (shape_view running.shape)
-        (numbers_in S.Child.child_view S.Feed.job_view S.Drain.job_view running)
+    requires { IsUnordered ⟦<S as Seen>⟧.views running }
+    ensures output { IfOk result (λ output. IsConcluded ⟦<S as Seen>⟧.views
+        (shape_view running.shape) (numbers_of ⟦<S as Seen>⟧.views running)
         (answered output.status output.stdout.items output.stderr.items)) }
-    ensures err { IfErr result (λ e. IsEnding S.Child.may_answer S.Feed.may_say S.Drain.may_say
-        (shape_view running.shape)
-        (numbers_in S.Child.child_view S.Feed.job_view S.Drain.job_view running) (Err e)) }
+    ensures err { IfErr result (λ e. EndsAs ⟦<S as Seen>⟧.views running (Err e)) }
     ensures kept { OnOk result (pool.new ≡ pool.old) }
-    ensures given { OnErr result ((waited : RunningView S.Child S.Feed S.Drain)
-        × Stays S.Child.child_view S.Feed.job_view S.Drain.job_view running waited
-        × IsGiven S.Child.may_answer S.Child.child_view waited.children pool.old pool.new) }
+    ensures given { OnErr result (PoolGetsWaited ⟦<S as Seen>⟧.views running pool.old pool.new) }
 {
     let waited = wait_for(rt, &mut running);
     output_or_give_up(alloc, running, waited, pool)

@@ -11,7 +11,8 @@ use crate::poll::{HandleState, mismatch_error, poll_and_publish, same};
 use crate::published::{Answer, Published};
 use duct_base::error::Error;
 use duct_base::status::Shape;
-use duct_base::system::{Child, Job, Output, System};
+use duct_base::system::{Output, System};
+use duct_run::views;
 use duct_running::numbers::Numbers;
 use once_cell::race::{Note, OnceBox};
 use std::alloc::Global;
@@ -126,8 +127,7 @@ impl<S: System> Handle<S> {
         seen: &mut Seen<S>,
     ) -> Result<Option<Arc<Output>>, Error>
         requires { seen.old.cell ≡ self.now.cell }
-        ensures { Waited S.Child.may_answer S.Feed.may_say S.Drain.may_say self.now
-            seen.old seen.new result }
+        ensures { Waited ⟦<S as views::Seen>⟧.views self.now seen.old seen.new result }
     {
         let mut busy = false;
         self.poll_as(rt, seen, &mut busy)
@@ -135,10 +135,10 @@ impl<S: System> Handle<S> {
 
     /// Does what `try_wait_as` does, with a token of its own.
     pub fn try_wait(&self, rt: &impl Wait) -> Result<Option<Arc<Output>>, Error>
-        ensures told { IsAnswer S.Child.may_answer S.Feed.may_say S.Drain.may_say
-            (shape_view self.now.shape) self.now.numbers result }
-        ensures pending { result ≡ Ok None → OneRuns S.Child.may_answer S.Feed.may_say
-            S.Drain.may_say self.now.numbers }
+        ensures told { IsAnswer ⟦<S as views::Seen>⟧.views (shape_view self.now.shape)
+            self.now.numbers result }
+        ensures pending { result ≡ Ok None
+            → OneRuns ⟦<S as views::Seen>⟧.views self.now.numbers }
     {
         let mut seen = self.seen();
         self.try_wait_as(rt, &mut seen)
@@ -152,8 +152,7 @@ impl<S: System> Handle<S> {
         busy: &mut bool,
     ) -> Result<Option<Arc<Output>>, Error>
         requires { seen.old.cell ≡ self.now.cell }
-        ensures { Waited S.Child.may_answer S.Feed.may_say S.Drain.may_say self.now
-            seen.old seen.new result }
+        ensures { Waited ⟦<S as views::Seen>⟧.views self.now seen.old seen.new result }
     {
         if let Some(answer) = self.recall(seen) {
             return answer;
@@ -168,8 +167,8 @@ impl<S: System> Handle<S> {
     // The result, if it is published already.
     fn recall(&self, seen: &mut Seen<S>) -> Option<Result<Option<Arc<Output>>, Error>>
         requires { seen.old.cell ≡ self.now.cell }
-        ensures known { IfSome result (Waited S.Child.may_answer S.Feed.may_say S.Drain.may_say
-            self.now seen.old seen.new) }
+        ensures known { IfSome result
+            (Waited ⟦<S as views::Seen>⟧.views self.now seen.old seen.new) }
         ensures unknown { IfNone result ((seen.old.known ≡ None) × (seen.new ≡ seen.old)) }
     {
         if let Some(published) = self.cell.get_as(&mut seen.note) {
@@ -188,8 +187,7 @@ impl<S: System> Handle<S> {
     ) -> Result<Option<Arc<Output>>, Error>
         requires cell { seen.old.cell ≡ self.now.cell }
         requires unknown { seen.old.known ≡ None }
-        ensures { Waited S.Child.may_answer S.Feed.may_say S.Drain.may_say self.now
-            seen.old seen.new result }
+        ensures { Waited ⟦<S as views::Seen>⟧.views self.now seen.old seen.new result }
     {
         let looked = poll_and_publish(locked, &self.shape, &self.numbers);
         *busy = locked.running.is_busy();
@@ -206,8 +204,8 @@ impl<S: System> Handle<S> {
 
     // Returns what was published, with one more owner.
     fn share(&self, published: &Published<S>) -> Result<Option<Arc<Output>>, Error>
-        ensures told { IsAnswer S.Child.may_answer S.Feed.may_say S.Drain.may_say
-            (shape_view self.now.shape) self.now.numbers result }
+        ensures told { IsAnswer ⟦<S as views::Seen>⟧.views (shape_view self.now.shape)
+            self.now.numbers result }
         ensures pending { result ≡ Ok None → ⊥ }
         ensures knows { KnowsIfEnded self.now (record {
           cell = self.now.cell;

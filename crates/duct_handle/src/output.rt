@@ -1,9 +1,9 @@
 //! The output itself, once no thread shares the handle.
 ghost use Rattle.std.specs.Prelude.{◌≡◌, ◌⊎◌, OnErr, OnOk, IfOk, IfErr, IsOkAnd, IsOkUnless, Err};
 ghost use Rattle.std.specs.Arc.{arc_value};
-ghost use Rattle.duct_base.specs.Pool.{IsGiven};
 ghost use Rattle.duct_status.specs.ShapeView.{shape_view};
-ghost use Rattle.duct_running.specs.Answered.{IsAnswer, WasConcluded};
+ghost use Rattle.duct_run.specs.Requested.{PoolGets};
+ghost use Rattle.duct_running.specs.Answered.{IsAnswer, IsConcluded};
 ghost use Rattle.duct_running.specs.Polled.{IsOutput};
 ghost use Rattle.duct_status.specs.ReplyView.{answered};
 ghost use Rattle.duct_running.specs.NumbersView.{numbers_view};
@@ -15,8 +15,9 @@ use crate::poll::mismatch_error;
 use duct_base::error::Error;
 use duct_base::pool::Pool;
 use duct_base::status::Shape;
-use duct_base::system::{Child, Job, Kind, Output, System};
+use duct_base::system::{Kind, Output, System};
 use duct_run::ending::give_all;
+use duct_run::views::Seen;
 use duct_running::numbers::Numbers;
 use duct_running::running::Running;
 use std::alloc::{AllocError, Global};
@@ -61,8 +62,8 @@ pub(crate) fn output_or_give_up<S: System>(
         (arc_value output).stdout.items (arc_value output).stderr.items own)) }
     ensures err { IfErr result (λ e. (waited ≡ Err e) ⊎ (e ≡ Error.Memory)) }
     ensures kept { OnOk result (pool.new ≡ pool.old) }
-    ensures given { OnErr result (IsGiven S.Child.may_answer S.Child.child_view running.children
-        pool.old pool.new) }
+    ensures given { OnErr result
+        (PoolGets ⟦<S as Seen>⟧.views running.children pool.old pool.new) }
 {
     let output = match waited {
         Ok(output) => output,
@@ -98,8 +99,8 @@ fn checked_output_or_give_up<S: System>(
     ensures err { IfErr result (λ e. (waited ≡ Err e) ⊎ (e ≡ Error.Memory)
         ⊎ (e ≡ Error.System (record { kind = Kind.Other }))) }
     ensures kept { OnOk result (pool.new ≡ pool.old) }
-    ensures given { IfErr result (λ e. AreGiven S.Child.may_answer S.Child.child_view
-        (numbers_view released.2) e pool.old pool.new) }
+    ensures given { IfErr result (λ e. AreGiven ⟦<S as Seen>⟧.views (numbers_view released.2) e
+        pool.old pool.new) }
 {
     let (ran, shape, numbers) = released;
     if !ran.is_of(&shape, &numbers) {
@@ -117,14 +118,14 @@ impl<S: System> Handle<S> {
     /// children are then given to the pool, as `give_up` gives them. After `Error::Checked` the
     /// captured bytes are lost.
     pub fn into_output(self, rt: &impl Wait, pool: &mut Pool<S::Child>) -> Result<Output, Error>
-        ensures output { IfOk result (λ output. WasConcluded S.Child.may_answer S.Feed.may_say
-            S.Drain.may_say (shape_view self.shape) self.numbers
+        ensures output { IfOk result
+            (λ output. IsConcluded ⟦<S as Seen>⟧.views (shape_view self.shape) self.numbers
             (answered output.status output.stdout.items output.stderr.items)) }
-        ensures err { IfErr result (λ e. IsAnswer S.Child.may_answer S.Feed.may_say S.Drain.may_say
-            (shape_view self.shape) self.numbers (Err e)) }
+        ensures err { IfErr result
+            (λ e. IsAnswer ⟦<S as Seen>⟧.views (shape_view self.shape) self.numbers (Err e)) }
         ensures kept { OnOk result (pool.new ≡ pool.old) }
-        ensures given { IfErr result (λ e. AreGiven S.Child.may_answer S.Child.child_view
-            self.numbers e pool.old pool.new) }
+        ensures given { IfErr result
+            (λ e. AreGiven ⟦<S as Seen>⟧.views self.numbers e pool.old pool.new) }
     {
         let waited = self.wait(rt);
         let alloc = self.alloc;

@@ -1,7 +1,7 @@
 //! What the lock of a handle holds, and one poll of it.
 ghost use Rattle.std.specs.Prelude.{◌≡◌, ◌↔◌, IfOk, IfErr, IfSome, IsTrue, is_some, true, Ok, Err, None};
 ghost use Rattle.duct_status.specs.ShapeView.{shape_view};
-ghost use Rattle.duct_running.specs.Answered.{IsAnswer, WasConcluded};
+ghost use Rattle.duct_running.specs.Answered.{IsAnswer, IsConcluded};
 ghost use Rattle.duct_running.specs.NumbersView.{numbers_view};
 ghost use Rattle.duct_running.specs.Allowed.{OneRuns};
 ghost use Rattle.duct_handle.specs.AnswerView.{answer_view};
@@ -10,7 +10,8 @@ ghost use Rattle.duct_handle.specs.Waited.{IsNoEnding};
 use crate::published::{Answer, Published};
 use duct_base::error::Error;
 use duct_base::status::Shape;
-use duct_base::system::{Child, Fault, Job, Kind, System};
+use duct_base::system::{Fault, Kind, System};
+use duct_run::views::Seen;
 use duct_running::numbers::Numbers;
 use duct_running::running::Running;
 
@@ -33,15 +34,14 @@ fn poll_checked<S: System>(
     shape: &Shape,
     numbers: &Numbers,
 ) -> Result<Option<Answer>, Error>
-    ensures answer { IfOk result (λ o. IfSome o (λ a. WasConcluded S.Child.may_answer S.Feed.may_say
-        S.Drain.may_say (shape_view shape.now) (numbers_view numbers.now) (answer_view a))) }
-    ensures runs { result ≡ Ok None → OneRuns S.Child.may_answer S.Feed.may_say
-        S.Drain.may_say (numbers_view numbers.now) }
-    ensures waits { result ≡ Ok None → IsAnswer S.Child.may_answer S.Feed.may_say
-        S.Drain.may_say (shape_view shape.now) (numbers_view numbers.now) (Ok None) }
+    ensures answer { IfOk result (λ o. IfSome o (λ a. IsConcluded ⟦<S as Seen>⟧.views
+        (shape_view shape.now) (numbers_view numbers.now) (answer_view a))) }
+    ensures runs { result ≡ Ok None → OneRuns ⟦<S as Seen>⟧.views (numbers_view numbers.now) }
+    ensures waits { result ≡ Ok None → IsAnswer ⟦<S as Seen>⟧.views (shape_view shape.now)
+        (numbers_view numbers.now) (Ok None) }
     ensures fault { IfErr result IsNoEnding }
-    ensures err { IfErr result (λ e. IsAnswer S.Child.may_answer S.Feed.may_say S.Drain.may_say
-        (shape_view shape.now) (numbers_view numbers.now) (Err e)) }
+    ensures err { IfErr result (λ e. IsAnswer ⟦<S as Seen>⟧.views (shape_view shape.now)
+        (numbers_view numbers.now) (Err e)) }
 {
     let polled = running.poll();
     running.answers_allowed();
@@ -63,13 +63,12 @@ pub(crate) fn poll_and_publish<S: System>(
     numbers: &Numbers,
 ) -> Result<Option<Box<Published<S>>>, Error>
     ensures ended { IfOk result (λ o. IfSome o (λ b. is_some b.value.answer ≡ true)) }
-    ensures runs { result ≡ Ok None → OneRuns S.Child.may_answer S.Feed.may_say
-        S.Drain.may_say (numbers_view numbers.now) }
-    ensures waits { result ≡ Ok None → IsAnswer S.Child.may_answer S.Feed.may_say
-        S.Drain.may_say (shape_view shape.now) (numbers_view numbers.now) (Ok None) }
+    ensures runs { result ≡ Ok None → OneRuns ⟦<S as Seen>⟧.views (numbers_view numbers.now) }
+    ensures waits { result ≡ Ok None → IsAnswer ⟦<S as Seen>⟧.views (shape_view shape.now)
+        (numbers_view numbers.now) (Ok None) }
     ensures fault { IfErr result IsNoEnding }
-    ensures err { IfErr result (λ e. IsAnswer S.Child.may_answer S.Feed.may_say S.Drain.may_say
-        (shape_view shape.now) (numbers_view numbers.now) (Err e)) }
+    ensures err { IfErr result (λ e. IsAnswer ⟦<S as Seen>⟧.views (shape_view shape.now)
+        (numbers_view numbers.now) (Err e)) }
 {
     let Some(answer) = poll_checked(&mut locked.running, shape, numbers)? else {
         return Ok(None);

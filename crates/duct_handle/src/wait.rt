@@ -10,7 +10,8 @@ ghost use Rattle.duct_handle.specs.Waited.{Waited, at_end};
 use crate::handle::{Handle, Seen};
 use crate::pause::Pause;
 use duct_base::error::Error;
-use duct_base::system::{Child, Clock, Job, Output, System};
+use duct_base::system::{Clock, Output, System};
+use duct_run::views;
 use std::sync::{Arc, Wait};
 use std::time::Duration;
 
@@ -25,8 +26,7 @@ impl<S: System> Handle<S> {
     /// may be repeated.
     pub fn wait_as(&self, rt: &impl Wait, seen: &mut Seen<S>) -> Result<Arc<Output>, Error>
         requires { seen.old.cell ≡ self.now.cell }
-        ensures { Waited S.Child.may_answer S.Feed.may_say S.Drain.may_say self.now
-            seen.old seen.new (at_end result) }
+        ensures { Waited ⟦<S as views::Seen>⟧.views self.now seen.old seen.new (at_end result) }
     {
         let mut pause = Pause::new();
         for _ in rt.forever() {
@@ -44,8 +44,8 @@ impl<S: System> Handle<S> {
 
     /// Waits as `wait_as` does, with a token of its own.
     pub fn wait(&self, rt: &impl Wait) -> Result<Arc<Output>, Error>
-        ensures { IsAnswer S.Child.may_answer S.Feed.may_say S.Drain.may_say
-            (shape_view self.now.shape) self.now.numbers (at_end result) }
+        ensures { IsAnswer ⟦<S as views::Seen>⟧.views (shape_view self.now.shape)
+            self.now.numbers (at_end result) }
     {
         let mut seen = self.seen();
         self.wait_as(rt, &mut seen)
@@ -64,8 +64,7 @@ impl<S: System> Handle<S> {
         seen: &mut Seen<S>,
     ) -> Result<Option<Arc<Output>>, Error>
         requires { seen.old.cell ≡ self.now.cell }
-        ensures { Waited S.Child.may_answer S.Feed.may_say S.Drain.may_say self.now
-            seen.old seen.new result }
+        ensures { Waited ⟦<S as views::Seen>⟧.views self.now seen.old seen.new result }
     {
         let mut pause = Pause::new();
         for _ in rt.forever() {
@@ -86,8 +85,8 @@ impl<S: System> Handle<S> {
         seen: &mut Seen<S>,
     ) -> Option<Result<Option<Arc<Output>>, Error>>
         requires { seen.old.cell ≡ self.now.cell }
-        ensures ends { IfSome result (Waited S.Child.may_answer S.Feed.may_say S.Drain.may_say
-            self.now seen.old seen.new) }
+        ensures ends { IfSome result
+            (Waited ⟦<S as views::Seen>⟧.views self.now seen.old seen.new) }
         ensures cell { seen.new.cell ≡ self.now.cell }
         ensures kept { IfSome seen.old.known (λ known. seen.new.known ≡ Some known) }
     {
@@ -106,10 +105,10 @@ impl<S: System> Handle<S> {
         clock: &C,
         moment: Duration,
     ) -> Result<Option<Arc<Output>>, Error>
-        ensures told { IsAnswer S.Child.may_answer S.Feed.may_say S.Drain.may_say
-            (shape_view self.now.shape) self.now.numbers result }
-        ensures pending { result ≡ Ok None → OneRuns S.Child.may_answer S.Feed.may_say
-            S.Drain.may_say self.now.numbers }
+        ensures told { IsAnswer ⟦<S as views::Seen>⟧.views (shape_view self.now.shape)
+            self.now.numbers result }
+        ensures pending { result ≡ Ok None
+            → OneRuns ⟦<S as views::Seen>⟧.views self.now.numbers }
     {
         let mut seen = self.seen();
         self.wait_deadline_as(rt, clock, moment, &mut seen)
@@ -134,8 +133,7 @@ impl<S: System> Handle<S> {
         ensures timely { (result ≡ Err Error.Deadline)
             ⊎ (is_some seen.old.known ≡ true) ⊎ IsTimely (C.may_show clock.now) timeout }
         ensures waited { (result ≡ Err Error.Deadline)
-            ⊎ Waited S.Child.may_answer S.Feed.may_say S.Drain.may_say self.now
-            seen.old seen.new result }
+            ⊎ Waited ⟦<S as views::Seen>⟧.views self.now seen.old seen.new result }
     {
         if seen.knows {
             return self.try_wait_as(rt, seen);
@@ -156,10 +154,10 @@ impl<S: System> Handle<S> {
         ensures late { result ≡ Err Error.Deadline → IsLate (C.may_show clock.now) timeout }
         ensures timely { (result ≡ Err Error.Deadline) ⊎ IsTimely (C.may_show clock.now) timeout }
         ensures told { (result ≡ Err Error.Deadline)
-            ⊎ IsAnswer S.Child.may_answer S.Feed.may_say S.Drain.may_say
-            (shape_view self.now.shape) self.now.numbers result }
-        ensures pending { result ≡ Ok None → OneRuns S.Child.may_answer S.Feed.may_say
-            S.Drain.may_say self.now.numbers }
+            ⊎ IsAnswer ⟦<S as views::Seen>⟧.views (shape_view self.now.shape) self.now.numbers
+            result }
+        ensures pending { result ≡ Ok None
+            → OneRuns ⟦<S as views::Seen>⟧.views self.now.numbers }
     {
         let mut seen = self.seen();
         self.wait_timeout_as(rt, clock, timeout, &mut seen)

@@ -12,9 +12,11 @@ use Rattle.duct_system.specs.declared.system.ExitStatus.{ExitStatus}
 use Rattle.duct_system.specs.declared.system.Fault.{Fault}
 use Rattle.duct_system.specs.declared.system.Said.{Said}
 use Rattle.duct_status.specs.ReplyView.{answered}
-use Rattle.duct_status.specs.ShapeView.{ShapeView}
+use Rattle.duct_status.specs.ShapeView.{ShapeView, shape_view}
+use Rattle.duct_start.specs.Running.{RunningView}
+use Rattle.duct_run.specs.SystemViews.{SystemViews}
 use Rattle.duct_running.specs.Answered.{IsEnding, WasConcluded}
-use Rattle.duct_running.specs.NumbersView.{NumbersView}
+use Rattle.duct_running.specs.NumbersView.{NumbersView, numbers_of}
 use Rattle.duct_running.specs.Stored.{Bytes}
 use Rattle.duct_reader.specs.Trimmed.{trimmed}
 
@@ -39,3 +41,10 @@ module _ (answer : ℕ → Answer → Type 0) (feed : ℕ → Said (Unit {0}) �
       ⊎ ((e ≡ error.NotUtf8)
       × ((bytes : List ℕ) × IfSome left (λ all. bytes ≡ all) × (IsUtf8 (trimmed bytes) → ⊥))
       × EndsWell)
+
+-- what is returned of all bytes of a reader, where this ran
+abbrev pub ReadsOutput : {S E C F D : Type 0} → SystemViews S E C F D (Unit {0}) Bytes
+    → RunningView C F D → Option (List ℕ) → Result (String Global) Error → Type 0
+ReadsOutput views running left result =
+    ReadsText views.may_answer views.feed_says views.drain_says (shape_view running.shape)
+    (numbers_of views running) left result

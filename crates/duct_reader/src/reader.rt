@@ -1,10 +1,10 @@
 //! The handle of an expression whose stdout is read from a pipe while it runs.
-ghost use Rattle.std.specs.Prelude.{◌≡◌, ◌<◌, ◌≤◌, List, length, IfOk, IfErr, OnErr, Ok, None};
-ghost use Rattle.duct_base.specs.Pool.{IsGiven};
+ghost use Rattle.std.specs.Prelude.{ℕ, ◌≡◌, ◌<◌, ◌≤◌, List, length, IfOk, IfErr, OnErr, Ok, None};
 ghost use Rattle.duct_system.specs.declared.error.Error.TheVariants as error;
 ghost use Rattle.duct_system.specs.declared.system.Fault.{Fault};
 ghost use Rattle.duct_system.specs.declared.system.Order.TheVariants.{Kill};
 ghost use Rattle.duct_status.specs.ShapeView.{shape_view};
+ghost use Rattle.duct_run.specs.Requested.{PoolGets};
 ghost use Rattle.duct_running.specs.Answered.{IsAnswer};
 ghost use Rattle.duct_running.specs.Allowed.{OneRuns};
 ghost use Rattle.duct_handle.specs.Obeyed.{IsObeyed};
@@ -12,8 +12,9 @@ ghost use Rattle.duct_reader.specs.Reads.{ClosesAs, KnowsOutput, ReadsAs};
 
 use duct_base::error::Error;
 use duct_base::pool::Pool;
-use duct_base::system::{Child, Fault, Job, Output, System};
+use duct_base::system::{Fault, Output, System};
 use duct_handle::handle::{Handle, Seen};
+use duct_run::views;
 use duct_worker::transfer::read_retried;
 use std::marker::Model;
 use std::sync::{Arc, Mutex, Wait};
@@ -49,13 +50,14 @@ impl<S: System, R> Model for ReaderHandle<S, R> {
     ghost view = { λ r. r.handle };
 }
 
-/// Makes a reader handle of a handle and the reader of its stdout. Reads and waits take locks and
-/// pause by the runtime.
+/// Makes a reader handle of a handle and the reader of its stdout, of which nothing was read. Reads
+/// and waits take locks and pause by the runtime.
 pub fn reader_handle_of<S: System, R>(
     rt: R,
     handle: Handle<S>,
     reader: S::Reader,
 ) -> ReaderHandle<S, R>
+    requires { (number : ℕ) × S.may_read number reader }
     ensures { result ≡ handle }
 {
     ReaderHandle {
@@ -87,10 +89,10 @@ impl<S: System, R: Wait> ReaderHandle<S, R> {
     /// `Handle::try_wait` does. It doesn't read and doesn't wait for a read. The output's `stdout`
     /// is empty: those bytes come out of the reads.
     pub fn try_wait(&self) -> Result<Option<Arc<Output>>, Error>
-        ensures told { IsAnswer S.Child.may_answer S.Feed.may_say S.Drain.may_say
-            (shape_view self.now.shape) self.now.numbers result }
-        ensures pending { result ≡ Ok None → OneRuns S.Child.may_answer S.Feed.may_say
-            S.Drain.may_say self.now.numbers }
+        ensures told { IsAnswer ⟦<S as views::Seen>⟧.views (shape_view self.now.shape)
+            self.now.numbers result }
+        ensures pending { result ≡ Ok None
+            → OneRuns ⟦<S as views::Seen>⟧.views self.now.numbers }
     {
         self.handle.try_wait(&self.rt)
     }
@@ -101,8 +103,7 @@ impl<S: System, R: Wait> ReaderHandle<S, R> {
     ///
     /// Fails with `Error::System`, the leftmost fault.
     pub fn kill(&self) -> Result<(), Error>
-        ensures { IsObeyed S.Child.may_answer S.Child.may_obey Kill
-            self.now.numbers.children result }
+        ensures { IsObeyed ⟦<S as views::Seen>⟧.views Kill self.now.numbers.children result }
     {
         self.handle.kill(&self.rt)
     }
@@ -118,8 +119,8 @@ impl<S: System, R: Wait> ReaderHandle<S, R> {
     pub fn read_as(&self, buf: &mut [u8], seen: &mut Seen<S>) -> Result<usize, Error>
         requires { seen.old.cell ≡ self.now.cell }
         ensures bound { IfOk result (λ read. read ≤ length buf.new) }
-        ensures reads { ReadsAs S.Child.may_answer S.Feed.may_say S.Drain.may_say self.now
-            (length buf.old) seen.old seen.new result }
+        ensures reads { ReadsAs ⟦<S as views::Seen>⟧.views self.now (length buf.old) seen.old
+            seen.new result }
         ensures ended { result ≡ Ok 0 → 0 < length buf.old → KnowsOutput self.now seen.new }
     {
         let read = self.read_pipe(buf)?;
@@ -132,8 +133,7 @@ impl<S: System, R: Wait> ReaderHandle<S, R> {
     // Waits for what runs, as a read does at EOF.
     fn close_as(&self, seen: &mut Seen<S>) -> Result<usize, Error>
         requires { seen.old.cell ≡ self.now.cell }
-        ensures { ClosesAs S.Child.may_answer S.Feed.may_say S.Drain.may_say self.now seen.old
-            seen.new result }
+        ensures { ClosesAs ⟦<S as views::Seen>⟧.views self.now seen.old seen.new result }
     {
         drop(self.handle.wait_as(&self.rt, seen)?);
         Ok(0)
@@ -162,7 +162,7 @@ impl<S: System, R: Drop> ReaderHandle<S, R> {
     /// goes on writing to the pipe gets a broken pipe. It doesn't block and can't fail.
     pub fn give_up(self, pool: &mut Pool<S::Child>)
         ensures { (children : List S.Child)
-            × IsGiven S.Child.may_answer S.Child.child_view children pool.old pool.new }
+            × PoolGets ⟦<S as views::Seen>⟧.views children pool.old pool.new }
     {
         let ReaderHandle { rt, handle, pipe } = self;
         drop((rt, pipe));

@@ -8,4 +8,5 @@ pub mod Outwards
 pub mod Pushed
 pub mod Requesting
 pub mod Saying
+pub mod Seeing
 pub mod Turns

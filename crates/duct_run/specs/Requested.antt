@@ -7,7 +7,7 @@ use Rattle.duct_start.specs.ResourcesView.{ResourcesView}
 use Rattle.duct_start.specs.RunInvariant.{ActionSucceeds, IsHookError, ActionFails}
 use Rattle.duct_system.specs.declared.error.Error.{Error}
 use Rattle.std.specs.Prelude.{List, []}
-use Rattle.duct_base.specs.Pool.{PoolView}
+use Rattle.duct_base.specs.Pool.{PoolView, IsGiven}
 use Rattle.duct_system.specs.SpecView.{Vars}
 use Rattle.duct_start.specs.Commands.{ActionSucceedsWith, ActionFailsWith}
 use Rattle.duct_start.specs.Left.{Leaves, pool_view}
@@ -78,6 +78,10 @@ module _ {S E C F D V W : Type 0} (views : SystemViews S E C F D V W) where
   abbrev pub PoolLeaves : PoolView C → PoolView C → Type 0
   PoolLeaves before after = Leaves views.may_answer [] (pool_view views.child before)
       (pool_view views.child after)
+
+  -- these children were given to the pool, which polled each once: it keeps those that run
+  abbrev pub PoolGets : List C → PoolView C → PoolView C → Type 0
+  PoolGets children before after = IsGiven views.may_answer views.child children before after
 
   -- the actions succeeded, and then the requests of the tail
   abbrev pub RunSucceeds : {H : Type 0} → Allows H → PlanTail E H → List (Action E H) → S → S

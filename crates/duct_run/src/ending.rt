@@ -1,12 +1,14 @@
 //! How a run gives up its resources: it closes its ends and gives its children to a pool.
-ghost use Rattle.std.specs.Prelude.{◌≡◌, ◌≤◌, length, map};
+ghost use Rattle.std.specs.Prelude.{◌≤◌, length, map};
 ghost use Rattle.std.specs.Option.{option_map};
 ghost use Rattle.duct_base.specs.Pool.{IsGiven};
 ghost use Rattle.duct_start.specs.Closes.{Closes};
 ghost use Rattle.duct_start.specs.ResourcesView.{pipe_ends};
+ghost use Rattle.duct_run.specs.Requested.{PoolGets};
 ghost use Rattle.duct_run.specs.ResourceEnds.{ends_of_resources};
 
 use crate::resources::Resources;
+use crate::views::Seen;
 use duct_base::pool::{Place, Pool, pool_take};
 use duct_base::system::{Child, System};
 
@@ -57,8 +59,7 @@ pub(crate) fn give_up<S: System>(
         ≤ (S.journal_view sys.old).room }
     ensures closes { Closes (ends_of_resources S.End.number_of held) (S.journal_view sys.old)
         (S.journal_view sys.new) }
-    ensures given { IsGiven S.Child.may_answer S.Child.child_view held.children.items
-        pool.old pool.new }
+    ensures given { PoolGets ⟦<S as Seen>⟧.views held.children.items pool.old pool.new }
 {
     close_stack(sys, held.stack);
     close_pair(sys, held.output);

@@ -21,9 +21,14 @@ impl<S: System> Seen for S {
       number_of = S.End.number_of;
       child = S.Child.child_view;
       may_answer = S.Child.may_answer;
+      may_obey = S.Child.may_obey;
       feed = S.Feed.job_view;
+      feed_says = S.Feed.may_say;
+      feed_same = S.Feed.same;
+      feed_refusable = S.Feed.refusable;
       drain = S.Drain.job_view;
-      feed_may_say = S.Feed.may_say;
-      drain_may_say = S.Drain.may_say;
+      drain_says = S.Drain.may_say;
+      drain_same = S.Drain.same;
+      drain_refusable = S.Drain.refusable;
     } };
 }

@@ -1,6 +1,7 @@
 pub mod InTurn
 pub mod Jobs
 pub mod Kept
+pub mod Launched
 pub mod Numbered
 pub mod Orders
 pub mod Pending

@@ -19,6 +19,7 @@ use Rattle.duct_status.specs.ReplyView.{ReplyView, noted, unknown, pending, faul
 use Rattle.duct_status.specs.ShapeView.{ShapeView, command, pipe, input, unchecked, command_count, input_count}
 use Rattle.duct_status.specs.declared.status.Word.{Word}
 use Rattle.duct_status.specs.declared.status.Word.TheVariants as word
+use Rattle.duct_run.specs.SystemViews.{SystemViews}
 use Rattle.duct_running.specs.Polled.{AllAsked, AllPolled, AskedIfDue, Gives, IsOutcome, IsPolled, IsThereAndPolled, PolledWhere, WhileRuns}
 use Rattle.duct_running.specs.Stored.{Bytes, stored_latest, stored_word}
 use Rattle.duct_running.specs.Allowed.{OneRuns, SomeSays}
@@ -226,15 +227,14 @@ module _ (may : ℕ → Said Bytes → Type 0) (same : Bytes → Bytes → Type 
   error_runs None before after left wait runs = absurd (let e : None ≡ Some side.Err = wait (ap (λ o. captured (bytes_in o)) (sym left) ∙ runs) in cc)
 
 -- where a poll returns nothing yet, one of these children and workers may return that it runs
-module _ (answer : ℕ → Answer → Type 0) (feed : ℕ → Said (Unit {0}) → Type 0) (feed_same : Unit {0} → Unit {0} → Type 0) (feed_refusable : Type 0)
-    (drain : ℕ → Said Bytes → Type 0) (drain_same : Bytes → Bytes → Type 0) (drain_refusable : Type 0) (shape : ShapeView)
+module _ {S E C F D : Type 0} (views : SystemViews S E C F D (Unit {0}) Bytes) (shape : ShapeView)
     (children asked : List ChildView) (feeds fed : List (JobView (Unit {0}))) (output read error drained : Option (JobView Bytes)) where
-  pub one_runs : AllAsked answer children asked → AllPolled feed feed_same feed_refusable feeds fed
-      → PolledWhere drain drain_same drain_refusable side.Out (awaited shape (stored_latest asked fed output error)) output read
-      → PolledWhere drain drain_same drain_refusable side.Err (awaited shape (stored_latest asked fed read error)) error drained
+  pub one_runs : AllAsked views.may_answer children asked → AllPolled views.feed_says views.feed_same views.feed_refusable feeds fed
+      → PolledWhere views.drain_says views.drain_same views.drain_refusable side.Out (awaited shape (stored_latest asked fed output error)) output read
+      → PolledWhere views.drain_says views.drain_same views.drain_refusable side.Err (awaited shape (stored_latest asked fed read error)) error drained
       → command_count shape ≤ length asked → input_count shape ≤ length fed
       → IsOutcome shape (stored_latest asked fed read drained) (Ok None)
-      → OneRuns answer feed drain (record {
+      → OneRuns views (record {
         children = map (λ (c : ChildView). c.number) asked;
         feeds = map (λ (j : JobView (Unit {0})). j.number) fed;
         output = option_map (λ (j : JobView Bytes). j.number) read;
@@ -248,13 +248,13 @@ module _ (answer : ℕ → Answer → Type 0) (feed : ℕ → Said (Unit {0}) �
       let pending = waits_for (outcome shape words) _ is.0 is.1 is.2 in
       either (waits_where fault runs (with_bytes (captured words.output) (λ o. with_bytes (captured words.error) (λ e. finished o e))) pending)
       (λ some. either (has_running shape 0 0 words.commands words.inputs (omega (arith, commands, length-map asked (λ (c : ChildView). stored_word c.ending c.last))) (omega (arith, inputs, length-map fed (λ (j : JobView (Unit {0})). j.kept))) some)
-      (λ one. inl (children_run answer children asked one.0 ask one.1)) (λ one. inr (inl (feeds_run feed feed_same feed_refusable feeds fed one.0 poll one.1))))
+      (λ one. inl (children_run views.may_answer children asked one.0 ask one.1)) (λ one. inr (inl (feeds_run views.feed_says views.feed_same views.feed_refusable feeds fed one.0 poll one.1))))
       (λ ended. either (waits_for_bytes (captured words.output) (captured words.error) ended.2)
       (λ here.
-      let wait : captured (bytes_in drain drain_same drain_refusable output) ≡ said.Running → awaited shape (stored_latest asked fed output error) ≡ Some side.Out =
-      λ before. (λ i. awaited_by (ended.0 i) (ended.1 i) (before i) (captured (bytes_in drain drain_same drain_refusable error))) in
-      inr (inr (says_left drain said.Running (numbers drain drain_same drain_refusable read) (numbers drain drain_same drain_refusable drained) (output_runs drain drain_same drain_refusable _ output read out wait here))))
+      let wait : captured (bytes_in views.drain_says views.drain_same views.drain_refusable output) ≡ said.Running → awaited shape (stored_latest asked fed output error) ≡ Some side.Out =
+      λ before. (λ i. awaited_by (ended.0 i) (ended.1 i) (before i) (captured (bytes_in views.drain_says views.drain_same views.drain_refusable error))) in
+      inr (inr (says_left views.drain_says said.Running (numbers views.drain_says views.drain_same views.drain_refusable read) (numbers views.drain_says views.drain_same views.drain_refusable drained) (output_runs views.drain_says views.drain_same views.drain_refusable _ output read out wait here))))
       (λ here.
-      let wait : captured (bytes_in drain drain_same drain_refusable error) ≡ said.Running → awaited shape (stored_latest asked fed read error) ≡ Some side.Err =
+      let wait : captured (bytes_in views.drain_says views.drain_same views.drain_refusable error) ≡ said.Running → awaited shape (stored_latest asked fed read error) ≡ Some side.Err =
       λ before. (λ i. awaited_by (ended.0 i) (ended.1 i) (here.1.1 i) (before i)) in
-      inr (inr (says_right drain said.Running (numbers drain drain_same drain_refusable read) (numbers drain drain_same drain_refusable drained) (error_runs drain drain_same drain_refusable _ error drained err wait here.0)))))
+      inr (inr (says_right views.drain_says said.Running (numbers views.drain_says views.drain_same views.drain_refusable read) (numbers views.drain_says views.drain_same views.drain_refusable drained) (error_runs views.drain_says views.drain_same views.drain_refusable _ error drained err wait here.0)))))

@@ -11,6 +11,7 @@ use Rattle.duct_system.specs.declared.system.ExitStatus.{ExitStatus}
 use Rattle.duct_system.specs.declared.system.Order.{Order}
 use Rattle.duct_system.specs.declared.system.Said.{Said}
 use Rattle.duct_system.specs.declared.system.Said.TheVariants as said
+use Rattle.duct_run.specs.SystemViews.{SystemViews}
 use Rattle.duct_running.specs.Polled.{WhileRuns}
 use Rattle.duct_running.specs.Stored.{AreUnasked, Bytes}
 use Rattle.duct_running.specs.Allowed.{AnswersAllowed, WorkerResultAllowed, ChildAnswersAllowed}
@@ -160,12 +161,13 @@ module _ (answer : ℕ → Answer → Type 0) (feed : ℕ → Said (Unit {0}) �
     drain_silent None unpolled = tt
     drain_silent (Some d) unpolled = silent_job drain (worker d) (All-head (λ d. worker d ≡ unpolled_job (worker d).number) d [] unpolled)
 
-    pub none_told : (children : List C) (feeds : List F) (output error : Option D)
-        → AreUnasked child job worker children feeds output error →
-        ∥ AnswersAllowed answer feed drain (map child children) (map job feeds) (option_map worker output) (option_map worker error) ∥₁
-    none_told children feeds output error unasked = ∣ record {
-      children_told = children_silent children unasked.children_unasked;
-      feeds_told = feeds_silent feeds unasked.feeds_unpolled;
-      output_told = drain_silent output unasked.output_unpolled;
-      error_told = drain_silent error unasked.error_unpolled;
-    } ∣₁
+-- children and workers that were never polled store what may be returned
+module _ {S E C F D : Type 0} (views : SystemViews S E C F D (Unit {0}) Bytes) (children : List C) (feeds : List F) (output error : Option D) where
+  pub none_told : AreUnasked views children feeds output error
+      → ∥ AnswersAllowed views.may_answer views.feed_says views.drain_says (map views.child children) (map views.feed feeds) (option_map views.drain output) (option_map views.drain error) ∥₁
+  none_told unasked = ∣ record {
+    children_told = children_silent views.may_answer views.feed_says views.drain_says views.child views.feed views.drain children unasked.children_unasked;
+    feeds_told = feeds_silent views.may_answer views.feed_says views.drain_says views.child views.feed views.drain feeds unasked.feeds_unpolled;
+    output_told = drain_silent views.may_answer views.feed_says views.drain_says views.child views.feed views.drain output unasked.output_unpolled;
+    error_told = drain_silent views.may_answer views.feed_says views.drain_says views.child views.feed views.drain error unasked.error_unpolled;
+  } ∣₁

@@ -15,6 +15,7 @@ use Rattle.duct_status.specs.Latest.{Latest, latest_told}
 use Rattle.duct_status.specs.ShapeView.{ShapeView, command_count, input_count}
 use Rattle.duct_status.specs.declared.status.Word.{Word}
 use Rattle.duct_status.specs.declared.status.Word.TheVariants as word
+use Rattle.duct_run.specs.SystemViews.{SystemViews}
 use Rattle.duct_running.specs.Stored.{Bytes, AreUnasked, stored_word, stored_latest}
 
 silent : (child : ChildView) → IsUnasked child → stored_word child.ending child.last ≡ word.Running
@@ -47,15 +48,17 @@ module _ {C F D : Type 0} (child : C → ChildView) (feed : F → JobView (Unit 
   capture None unpolled = refl
   capture (Some worker) unpolled = ap (λ (j : JobView Bytes). Some (bytes_said j.kept)) (sym (All-head (λ d. drain d ≡ unpolled_job (drain d).number) worker [] unpolled))
 
-  pub unasked_words : (shape : ShapeView) (words : Latest) (children : List C) (feeds : List F)
-      (output error : Option D) →
-      words ≡ latest_told shape (record { out = is_some output; err = is_some error }) [] →
-      length children ≡ command_count shape → length feeds ≡ input_count shape → AreUnasked child feed drain children feeds output error →
-      words ≡ stored_latest (map child children) (map feed feeds) (option_map drain output) (option_map drain error)
-  unasked_words shape words children feeds output error told as_commands as_inputs unasked =
-      told ∙ rw (
-        sym (commands children 0 (command_count shape) as_commands unasked.children_unasked),
-        sym (inputs feeds 0 (input_count shape) as_inputs unasked.feeds_unpolled),
-        sym (capture output unasked.output_unpolled),
-        sym (capture error unasked.error_unpolled),
-      ) refl
+-- the words that they store, by the views of their system
+pub unasked_words : {S E C F D : Type 0} (views : SystemViews S E C F D (Unit {0}) Bytes)
+    (shape : ShapeView) (words : Latest) (children : List C) (feeds : List F) (output error : Option D)
+    → words ≡ latest_told shape (record { out = is_some output; err = is_some error }) []
+    → length children ≡ command_count shape → length feeds ≡ input_count shape
+    → AreUnasked views children feeds output error
+    → words ≡ stored_latest (map views.child children) (map views.feed feeds) (option_map views.drain output) (option_map views.drain error)
+unasked_words views shape words children feeds output error told as_commands as_inputs unasked =
+    told ∙ rw (
+      sym (commands views.child views.feed views.drain children 0 (command_count shape) as_commands unasked.children_unasked),
+      sym (inputs views.child views.feed views.drain feeds 0 (input_count shape) as_inputs unasked.feeds_unpolled),
+      sym (capture views.child views.feed views.drain output unasked.output_unpolled),
+      sym (capture views.child views.feed views.drain error unasked.error_unpolled),
+    ) refl

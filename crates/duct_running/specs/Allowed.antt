@@ -1,12 +1,14 @@
 -- Each result that a child or a worker stores is one that a child or a worker of its number may
 -- return.
-use Rattle.std.specs.Prelude.{ℕ, ◌⊎◌, ◌++◌, List, All, Contains, IfSome, Ok, Some, None}
-use Rattle.std.specs.Option.{option_to_list}
+use Rattle.std.specs.Prelude.{ℕ, ◌⊎◌, ◌++◌, List, All, Contains, IfSome, map, Ok, Some, None}
+use Rattle.std.specs.Option.{option_map, option_to_list}
 use Rattle.std.specs.declared.option.Option.{Option}
 use Rattle.duct_system.specs.Child.{Answer, ChildView}
 use Rattle.duct_system.specs.Job.{JobView}
 use Rattle.duct_system.specs.declared.system.Said.{Said}
 use Rattle.duct_system.specs.declared.system.Said.TheVariants as said
+use Rattle.duct_start.specs.Running.{RunningView}
+use Rattle.duct_run.specs.SystemViews.{SystemViews}
 use Rattle.duct_running.specs.Polled.{WhileRuns}
 use Rattle.duct_running.specs.NumbersView.{NumbersView}
 use Rattle.duct_running.specs.Stored.{Bytes}
@@ -33,10 +35,18 @@ pub record AnswersAllowed (answer : ℕ → Answer → Type 0) (feed : ℕ → S
 abbrev pub SomeSays : {A : Type 0} → (ℕ → A → Type 0) → A → List ℕ → Type 0
 SomeSays may answer numbers = (number : ℕ) × Contains numbers number × may number answer
 
--- a child, an input worker or a capture worker of these numbers may return that it runs
-abbrev pub OneRuns : (ℕ → Answer → Type 0) → (ℕ → Said (Unit {0}) → Type 0)
-    → (ℕ → Said Bytes → Type 0) → NumbersView → Type 0
-OneRuns answer feed drain numbers =
-    SomeSays answer (Ok None) numbers.children ⊎ SomeSays feed said.Running numbers.feeds
-    ⊎ SomeSays drain said.Running
-    (option_to_list numbers.output ++ option_to_list numbers.error)
+module _ {S E C F D : Type 0} (views : SystemViews S E C F D (Unit {0}) Bytes) where
+  -- each result that a running expression stores is one that may be returned
+  abbrev pub StoresAllowed : RunningView C F D → Type 0
+  StoresAllowed running =
+      AnswersAllowed views.may_answer views.feed_says views.drain_says
+      (map views.child running.children) (map views.feed running.feeds)
+      (option_map views.drain running.output) (option_map views.drain running.error)
+
+  -- a child, an input worker or a capture worker of these numbers may return that it runs
+  abbrev pub OneRuns : NumbersView → Type 0
+  OneRuns numbers =
+      SomeSays views.may_answer (Ok None) numbers.children
+      ⊎ SomeSays views.feed_says said.Running numbers.feeds
+      ⊎ SomeSays views.drain_says said.Running
+      (option_to_list numbers.output ++ option_to_list numbers.error)

@@ -9,8 +9,10 @@ use Rattle.duct_system.specs.declared.system.Kind.TheVariants.{Other}
 use Rattle.duct_system.specs.declared.system.Said.{Said}
 use Rattle.duct_status.specs.Outcome.{Concludes}
 use Rattle.duct_status.specs.ReplyView.{ReplyView}
-use Rattle.duct_status.specs.ShapeView.{ShapeView}
-use Rattle.duct_running.specs.NumbersView.{NumbersView}
+use Rattle.duct_status.specs.ShapeView.{ShapeView, shape_view}
+use Rattle.duct_start.specs.Running.{RunningView}
+use Rattle.duct_run.specs.SystemViews.{SystemViews}
+use Rattle.duct_running.specs.NumbersView.{NumbersView, numbers_of}
 use Rattle.duct_running.specs.Polled.{Gives, Polled}
 use Rattle.duct_running.specs.Stored.{Bytes, stored_latest}
 use Rattle.duct_running.specs.Allowed.{AnswersAllowed}
@@ -46,10 +48,21 @@ IsEnding answer feed drain shape numbers polled =
     × Gives reply polled)
     ⊎ (polled ≡ Err error.Memory)
 
--- a poll returned what was concluded, or `Error::Memory`, or the error `Other` because the shape or
--- the numbers differ
-abbrev pub IsAnswer : (ℕ → Answer → Type 0) → (ℕ → Said (Unit {0}) → Type 0)
-    → (ℕ → Said Bytes → Type 0) → ShapeView → NumbersView → Polled → Type 0
-IsAnswer answer feed drain shape numbers polled =
-    IsEnding answer feed drain shape numbers polled
-    ⊎ (polled ≡ Err (error.System (record { kind = Other })))
+module _ {S E C F D : Type 0} (views : SystemViews S E C F D (Unit {0}) Bytes) where
+  -- the reply was concluded from what the children and workers of these numbers may return
+  abbrev pub IsConcluded : ShapeView → NumbersView → ReplyView → Type 0
+  IsConcluded shape numbers reply =
+      WasConcluded views.may_answer views.feed_says views.drain_says shape numbers reply
+
+  -- a poll of a running expression returned what was concluded, or `Error::Memory`
+  abbrev pub EndsAs : RunningView C F D → Polled → Type 0
+  EndsAs running polled =
+      IsEnding views.may_answer views.feed_says views.drain_says (shape_view running.shape)
+      (numbers_of views running) polled
+
+  -- a poll returned what was concluded, or `Error::Memory`, or the error `Other` because the shape
+  -- or the numbers differ
+  abbrev pub IsAnswer : ShapeView → NumbersView → Polled → Type 0
+  IsAnswer shape numbers polled =
+      IsEnding views.may_answer views.feed_says views.drain_says shape numbers polled
+      ⊎ (polled ≡ Err (error.System (record { kind = Other })))

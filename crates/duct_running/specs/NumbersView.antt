@@ -6,6 +6,7 @@ use Rattle.duct_system.specs.Child.{ChildView}
 use Rattle.duct_system.specs.Job.{JobView}
 use Rattle.duct_status.specs.ShapeView.{ShapeView, command_count, input_count}
 use Rattle.duct_start.specs.Running.{RunningView}
+use Rattle.duct_run.specs.SystemViews.{SystemViews}
 use Rattle.duct_running.specs.declared.numbers.Numbers.{Numbers}
 
 -- the numbers of the children from left to right, of the input workers in tree order, and of the
@@ -25,6 +26,11 @@ numbers_in child feed drain running = record {
   output = option_map (λ d. d.number) (option_map drain running.output);
   error = option_map (λ d. d.number) (option_map drain running.error);
 }
+
+-- the numbers of a running expression, by the views of its system
+abbrev pub numbers_of : {S E C F D V W : Type 0} → SystemViews S E C F D V W → RunningView C F D
+    → NumbersView
+numbers_of views running = numbers_in views.child views.feed views.drain running
 
 -- what contracts see of a `Numbers`
 abbrev pub numbers_view : Numbers → NumbersView

@@ -1,10 +1,13 @@
 -- An order to each command of a start that has not ended, and the leftmost fault of the results.
-use Rattle.std.specs.Prelude.{ℕ, Bool, List, [], ◌∷◌, ◌≡◌, MatchOption, Ok, Err}
+use Rattle.std.specs.Prelude.{ℕ, Bool, List, [], ◌∷◌, ◌≡◌, All, MatchOption, map, Ok, Err}
 use Rattle.std.specs.declared.result.Result.{Result}
 use Rattle.duct_system.specs.Child.{ChildView, Obeyed, OrdersChild}
 use Rattle.duct_system.specs.declared.error.Error.{Error}
 use Rattle.duct_system.specs.declared.error.Error.TheVariants as error
 use Rattle.duct_system.specs.declared.system.Order.{Order}
+use Rattle.duct_start.specs.Running.{RunningView}
+use Rattle.duct_run.specs.SystemViews.{SystemViews}
+use Rattle.duct_running.specs.Polled.{ChangedAt}
 
 -- a child was given an order; or it had ended, the result is Ok and the child is as before
 abbrev pub OrderedIfDue : (ℕ → Order → Bool → Obeyed → Type 0) → Order → ChildView → Obeyed
@@ -41,3 +44,23 @@ abbrev pub IsOrdered : (ℕ → Order → Bool → Obeyed → Type 0) → Order 
 IsOrdered may order befores result afters =
     (answers : List Obeyed) × AllOrdered may order befores answers afters
     × OrderAnswers (leftmost answers) result
+
+module _ {S E C F D V W : Type 0} (views : SystemViews S E C F D V W) where
+  -- no child of a running expression was given an order
+  abbrev pub IsUnordered : RunningView C F D → Type 0
+  IsUnordered running = All (λ c. (views.child c).orders ≡ []) running.children
+
+  -- the child at this place was given the order, with this result; or it had ended, the result is
+  -- Ok and the child is as before
+  abbrev pub ChildOrderedAt : Order → ℕ → RunningView C F D → Obeyed → RunningView C F D → Type 0
+  ChildOrderedAt order at before answer after =
+      ChangedAt (λ child. OrderedIfDue views.may_obey order child answer) at
+      (map views.child before.children) (map views.child after.children)
+
+  -- each child of a running expression was given the order if it had not ended, and the result is
+  -- the leftmost fault
+  abbrev pub ChildrenOrdered : Order → RunningView C F D → Result (Unit {0}) Error
+      → RunningView C F D → Type 0
+  ChildrenOrdered order before result after =
+      IsOrdered views.may_obey order (map views.child before.children) result
+      (map views.child after.children)

@@ -1,6 +1,7 @@
 -- What a poll of a running expression polls, and what it returns for the outcome of the stored
 -- words.
-use Rattle.std.specs.Prelude.{ℕ, zero, suc, List, [], ◌∷◌, ◌≡◌, MatchOption, string_bytes, Ok, Err, Some, None, IsOkAnd, IsErrAnd, IsSomeAnd}
+use Rattle.std.specs.Prelude.{ℕ, zero, suc, List, [], ◌∷◌, ◌≡◌, MatchOption, map, string_bytes, Ok, Err, Some, None, IsOkAnd, IsErrAnd, IsSomeAnd}
+use Rattle.std.specs.Option.{option_map}
 use Rattle.std.specs.declared.option.Option.{Option}
 use Rattle.std.specs.declared.result.Result.{Result}
 use Rattle.std.specs.declared.alloc.Global.{Global}
@@ -9,8 +10,8 @@ use Rattle.std.specs.Arc.{arc_value}
 use Rattle.std.specs.List.{AllZip}
 use Rattle.duct_system.specs.Child.{Answer, ChildView, PollsChild}
 use Rattle.duct_system.specs.Job.{JobView, PollsJob}
-use Rattle.duct_status.specs.Outcome.{Concludes}
-use Rattle.duct_status.specs.ShapeView.{ShapeView}
+use Rattle.duct_status.specs.Outcome.{Concludes, awaited}
+use Rattle.duct_status.specs.ShapeView.{ShapeView, shape_view}
 use Rattle.duct_status.specs.ReplyView.{ReplyView, noted, unknown, pending, faulted, answered, failed, no_memory}
 use Rattle.duct_status.specs.Latest.{Latest}
 use Rattle.duct_system.specs.declared.error.Error.{Error}
@@ -21,6 +22,9 @@ use Rattle.duct_system.specs.declared.system.Said.{Said}
 use Rattle.duct_system.specs.declared.system.Said.TheVariants as said
 use Rattle.duct_system.specs.declared.system.Side.{Side}
 use Rattle.duct_system.specs.declared.system.Side.TheVariants as side
+use Rattle.duct_start.specs.Running.{RunningView}
+use Rattle.duct_run.specs.SystemViews.{SystemViews}
+use Rattle.duct_running.specs.Stored.{Bytes, stored_in}
 
 -- what a poll returns: nothing yet, an output, or an error
 abbrev pub Polled : Type 0
@@ -127,3 +131,41 @@ ChangedAt changes zero (before ∷ befores) (after ∷ afters) =
 ChangedAt changes (suc at) (before ∷ befores) [] = ⊥
 ChangedAt changes (suc at) (before ∷ befores) (after ∷ afters) =
     (after ≡ before) × ChangedAt changes at befores afters
+
+module _ {S E C F D : Type 0} (views : SystemViews S E C F D (Unit {0}) Bytes) where
+  -- the child at this place was polled once, or had ended and is as before
+  abbrev pub ChildAskedAt : ℕ → RunningView C F D → RunningView C F D → Type 0
+  ChildAskedAt at before after =
+      ChangedAt (AskedIfDue views.may_answer) at (map views.child before.children)
+      (map views.child after.children)
+
+  -- each child of a running expression was polled once, or had ended and is as before
+  abbrev pub ChildrenAsked : RunningView C F D → RunningView C F D → Type 0
+  ChildrenAsked before after =
+      AllAsked views.may_answer (map views.child before.children) (map views.child after.children)
+
+  -- the input worker at this place was polled once, or had finished and is as before
+  abbrev pub FeedPolledAt : ℕ → RunningView C F D → RunningView C F D → Type 0
+  FeedPolledAt at before after =
+      ChangedAt (PolledIfRuns views.feed_says views.feed_same views.feed_refusable) at
+      (map views.feed before.feeds) (map views.feed after.feeds)
+
+  -- each input worker was polled once, or had finished and is as before
+  abbrev pub FeedsPolled : RunningView C F D → RunningView C F D → Type 0
+  FeedsPolled before after =
+      AllPolled views.feed_says views.feed_same views.feed_refusable (map views.feed before.feeds)
+      (map views.feed after.feeds)
+
+  -- a stream's capture worker was polled once where the outcome of what this running expression
+  -- stores waited for it, else it is as before
+  abbrev pub DrainPolled : Side → RunningView C F D → Option D → Option D → Type 0
+  DrainPolled stream running before after =
+      PolledWhere views.drain_says views.drain_same views.drain_refusable stream
+      (awaited (shape_view running.shape) (stored_in views.child views.feed views.drain running))
+      (option_map views.drain before) (option_map views.drain after)
+
+  -- a poll returned the outcome of what a running expression stores
+  abbrev pub ReturnsOutcome : RunningView C F D → Polled → Type 0
+  ReturnsOutcome running polled =
+      IsOutcome (shape_view running.shape)
+      (stored_in views.child views.feed views.drain running) polled

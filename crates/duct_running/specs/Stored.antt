@@ -8,6 +8,7 @@ use Rattle.std.specs.declared.vec.Vec.{Vec}
 use Rattle.duct_system.specs.Child.{Answer, ChildView, IsUnasked}
 use Rattle.duct_system.specs.Job.{JobView, unpolled_job}
 use Rattle.duct_start.specs.Running.{RunningView}
+use Rattle.duct_run.specs.SystemViews.{SystemViews}
 use Rattle.duct_status.specs.EventView.{bytes_said}
 use Rattle.duct_status.specs.Latest.{Latest}
 use Rattle.duct_status.specs.declared.status.Word.{Word}
@@ -48,11 +49,13 @@ stored_in child feed drain running =
     stored_latest (map child running.children) (map feed running.feeds)
     (option_map drain running.output) (option_map drain running.error)
 
--- no child was polled or given an order, and no worker was polled
-pub record AreUnasked {C F D V W : Type 0} (child : C → ChildView) (feed : F → JobView V)
-    (drain : D → JobView W) (children : List C) (feeds : List F) (output error : Option D)
-    : Type 0 where
-  pub children_unasked : All (λ c. IsUnasked (child c)) children
-  pub feeds_unpolled : All (λ f. feed f ≡ unpolled_job (feed f).number) feeds
-  pub output_unpolled : All (λ d. drain d ≡ unpolled_job (drain d).number) (option_to_list output)
-  pub error_unpolled : All (λ d. drain d ≡ unpolled_job (drain d).number) (option_to_list error)
+module _ {S E C F D V W : Type 0} (views : SystemViews S E C F D V W) where
+  -- no child was polled or given an order, and no worker was polled
+  pub record AreUnasked (children : List C) (feeds : List F) (output error : Option D)
+      : Type 0 where
+    pub children_unasked : All (λ c. IsUnasked (views.child c)) children
+    pub feeds_unpolled : All (λ f. views.feed f ≡ unpolled_job (views.feed f).number) feeds
+    pub output_unpolled : All (λ d. views.drain d ≡ unpolled_job (views.drain d).number)
+        (option_to_list output)
+    pub error_unpolled : All (λ d. views.drain d ≡ unpolled_job (views.drain d).number)
+        (option_to_list error)

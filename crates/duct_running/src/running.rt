@@ -1,16 +1,15 @@
 //! A running expression: its children, its workers, and the results so far.
 ghost use Rattle.std.specs.Prelude.{◌≡◌, ◌<◌, ◌≤◌, [], ◌++◌, length, map, is_some, vec_capacity, Ok, None};
-ghost use Rattle.std.specs.Option.{option_map, option_to_list};
+ghost use Rattle.std.specs.Option.{option_to_list};
 ghost use Rattle.duct_system.specs.declared.system.Side.TheVariants.{Out, Err};
 ghost use Rattle.duct_status.specs.CoreView.{latest_in, shape_in};
 ghost use Rattle.duct_status.specs.Latest.{latest_told};
-ghost use Rattle.duct_status.specs.Outcome.{awaited};
 ghost use Rattle.duct_status.specs.ReplyView.{reply_view};
 ghost use Rattle.duct_status.specs.ShapeView.{command_count, input_count, shape_view};
-ghost use Rattle.duct_running.specs.Polled.{IsConclusion, Gives, IsOutcome, AskedIfDue, AllAsked, PolledIfRuns, AllPolled, PolledWhere, ChangedAt};
-ghost use Rattle.duct_running.specs.Stored.{AreUnasked, word_of, stored_in};
-ghost use Rattle.duct_running.specs.NumbersView.{numbers_in};
-ghost use Rattle.duct_running.specs.Allowed.{AnswersAllowed, OneRuns};
+ghost use Rattle.duct_running.specs.Polled.{IsConclusion, Gives, ReturnsOutcome, ChildAskedAt, ChildrenAsked, FeedPolledAt, FeedsPolled, DrainPolled};
+ghost use Rattle.duct_running.specs.Stored.{AreUnasked, word_of};
+ghost use Rattle.duct_running.specs.NumbersView.{numbers_of};
+ghost use Rattle.duct_running.specs.Allowed.{OneRuns, StoresAllowed};
 
 mod orders;
 
@@ -18,6 +17,7 @@ use duct_base::error::Error;
 use duct_base::pool::Place;
 use duct_base::status::{Core, Event, Reply, Word};
 use duct_base::system::{Child, ExitStatus, Fault, Job, Output, Side, System};
+use duct_run::views::Seen;
 use std::marker::Model;
 use std::sync::Arc;
 
@@ -109,8 +109,7 @@ pub fn running_of<S: System>(
         ≡ latest_told (shape_in core) (record { out = is_some output; err = is_some error }) [] }
     requires commands { length children.items ≡ command_count (shape_in core) }
     requires inputs { length feeds.items ≡ input_count (shape_in core) }
-    requires unasked { AreUnasked S.Child.child_view S.Feed.job_view S.Drain.job_view
-        children.items feeds.items output error }
+    requires unasked { AreUnasked ⟦<S as Seen>⟧.views children.items feeds.items output error }
     requires empty { room.drains.items ≡ [] }
     requires unnamed { room.ids.items ≡ [] }
     requires named { length children.items ≤ vec_capacity room.ids }
@@ -157,10 +156,7 @@ impl<S: System> Running<S> {
     /// Does nothing. Its contract says that each result which a child or a worker stores is one
     /// that a child or a worker of its number may return.
     pub fn answers_allowed(&self)
-        ensures { ∥ AnswersAllowed S.Child.may_answer S.Feed.may_say S.Drain.may_say
-            (map S.Child.child_view self.now.children) (map S.Feed.job_view self.now.feeds)
-            (option_map S.Drain.job_view self.now.output)
-            (option_map S.Drain.job_view self.now.error) ∥₁ }
+        ensures { ∥ StoresAllowed ⟦<S as Seen>⟧.views self.now ∥₁ }
     {
         let _ = &self.core;
     }
@@ -197,8 +193,7 @@ impl<S: System> Running<S> {
     fn ask(&mut self, at: usize)
         requires { at < length self.old.children }
         ensures shape { shape_view self.new.shape ≡ shape_view self.old.shape }
-        ensures asked { ChangedAt (AskedIfDue S.Child.may_answer) at
-            (map S.Child.child_view self.old.children) (map S.Child.child_view self.new.children) }
+        ensures asked { ChildAskedAt ⟦<S as Seen>⟧.views at self.old self.new }
         ensures feeds { self.new.feeds ≡ self.old.feeds }
         ensures output { self.new.output ≡ self.old.output }
         ensures error { self.new.error ≡ self.old.error }
@@ -221,8 +216,7 @@ impl<S: System> Running<S> {
     // Polls each child that has not ended, once and from left to right.
     fn ask_children(&mut self)
         ensures shape { shape_view self.new.shape ≡ shape_view self.old.shape }
-        ensures asked { AllAsked S.Child.may_answer (map S.Child.child_view self.old.children)
-            (map S.Child.child_view self.new.children) }
+        ensures asked { ChildrenAsked ⟦<S as Seen>⟧.views self.old self.new }
         ensures feeds { self.new.feeds ≡ self.old.feeds }
         ensures output { self.new.output ≡ self.old.output }
         ensures error { self.new.error ≡ self.old.error }
@@ -238,9 +232,7 @@ impl<S: System> Running<S> {
         requires { at < length self.old.feeds }
         ensures shape { shape_view self.new.shape ≡ shape_view self.old.shape }
         ensures children { self.new.children ≡ self.old.children }
-        ensures asked { ChangedAt
-            (PolledIfRuns S.Feed.may_say S.Feed.same S.Feed.refusable) at
-            (map S.Feed.job_view self.old.feeds) (map S.Feed.job_view self.new.feeds) }
+        ensures asked { FeedPolledAt ⟦<S as Seen>⟧.views at self.old self.new }
         ensures output { self.new.output ≡ self.old.output }
         ensures error { self.new.error ≡ self.old.error }
     {
@@ -255,8 +247,7 @@ impl<S: System> Running<S> {
     fn ask_feeds(&mut self)
         ensures shape { shape_view self.new.shape ≡ shape_view self.old.shape }
         ensures children { self.new.children ≡ self.old.children }
-        ensures asked { AllPolled S.Feed.may_say S.Feed.same S.Feed.refusable
-            (map S.Feed.job_view self.old.feeds) (map S.Feed.job_view self.new.feeds) }
+        ensures asked { FeedsPolled ⟦<S as Seen>⟧.views self.old self.new }
         ensures output { self.new.output ≡ self.old.output }
         ensures error { self.new.error ≡ self.old.error }
     {
@@ -271,11 +262,8 @@ impl<S: System> Running<S> {
         ensures shape { shape_view self.new.shape ≡ shape_view self.old.shape }
         ensures children { self.new.children ≡ self.old.children }
         ensures feeds { self.new.feeds ≡ self.old.feeds }
-        ensures asked { PolledWhere S.Drain.may_say S.Drain.same S.Drain.refusable Out
-            (awaited (shape_view self.old.shape)
-            (stored_in S.Child.child_view S.Feed.job_view S.Drain.job_view self.old))
-            (option_map S.Drain.job_view self.old.output)
-            (option_map S.Drain.job_view self.new.output) }
+        ensures asked { DrainPolled ⟦<S as Seen>⟧.views Out self.old self.old.output
+            self.new.output }
         ensures error { self.new.error ≡ self.old.error }
     {
         let Some(Side::Out) = self.core.awaited() else {
@@ -295,11 +283,8 @@ impl<S: System> Running<S> {
         ensures children { self.new.children ≡ self.old.children }
         ensures feeds { self.new.feeds ≡ self.old.feeds }
         ensures output { self.new.output ≡ self.old.output }
-        ensures asked { PolledWhere S.Drain.may_say S.Drain.same S.Drain.refusable Err
-            (awaited (shape_view self.old.shape)
-            (stored_in S.Child.child_view S.Feed.job_view S.Drain.job_view self.old))
-            (option_map S.Drain.job_view self.old.error)
-            (option_map S.Drain.job_view self.new.error) }
+        ensures asked { DrainPolled ⟦<S as Seen>⟧.views Err self.old self.old.error
+            self.new.error }
     {
         let Some(Side::Err) = self.core.awaited() else {
             return;
@@ -324,33 +309,22 @@ impl<S: System> Running<S> {
     /// tries again.
     pub fn poll(&mut self) -> Result<Option<Arc<Output>>, Error>
         ensures shape { shape_view self.new.shape ≡ shape_view self.old.shape }
-        ensures asked { AllAsked S.Child.may_answer (map S.Child.child_view self.old.children)
-            (map S.Child.child_view self.new.children) }
-        ensures asked_feeds { AllPolled S.Feed.may_say S.Feed.same S.Feed.refusable
-            (map S.Feed.job_view self.old.feeds) (map S.Feed.job_view self.new.feeds) }
+        ensures asked { ChildrenAsked ⟦<S as Seen>⟧.views self.old self.new }
+        ensures asked_feeds { FeedsPolled ⟦<S as Seen>⟧.views self.old self.new }
 
         // Whether it is polled depends on what the children and input workers store now, and on
         // what the capture workers stored before.
-        ensures asked_output { PolledWhere S.Drain.may_say S.Drain.same S.Drain.refusable Out
-            (awaited (shape_view self.new.shape)
-            (stored_in S.Child.child_view S.Feed.job_view S.Drain.job_view
-            (record self.new { output = self.old.output; error = self.old.error })))
-            (option_map S.Drain.job_view self.old.output)
-            (option_map S.Drain.job_view self.new.output) }
+        ensures asked_output { DrainPolled ⟦<S as Seen>⟧.views Out
+            (record self.new { output = self.old.output; error = self.old.error })
+            self.old.output self.new.output }
 
         // Whether it is polled depends on what the children, the input workers and stdout's capture
         // worker store now, and on what stderr's stored before.
-        ensures asked_error { PolledWhere S.Drain.may_say S.Drain.same S.Drain.refusable Err
-            (awaited (shape_view self.new.shape)
-            (stored_in S.Child.child_view S.Feed.job_view S.Drain.job_view
-            (record self.new { error = self.old.error })))
-            (option_map S.Drain.job_view self.old.error)
-            (option_map S.Drain.job_view self.new.error) }
-        ensures outcome { IsOutcome (shape_view self.new.shape)
-            (stored_in S.Child.child_view S.Feed.job_view S.Drain.job_view self.new) result }
+        ensures asked_error { DrainPolled ⟦<S as Seen>⟧.views Err
+            (record self.new { error = self.old.error }) self.old.error self.new.error }
+        ensures outcome { ReturnsOutcome ⟦<S as Seen>⟧.views self.new result }
         ensures pending { result ≡ Ok None
-            → OneRuns S.Child.may_answer S.Feed.may_say S.Drain.may_say
-            (numbers_in S.Child.child_view S.Feed.job_view S.Drain.job_view self.new) }
+            → OneRuns ⟦<S as Seen>⟧.views (numbers_of ⟦<S as Seen>⟧.views self.new) }
     {
         self.begin_poll();
         self.ask_children();
@@ -369,8 +343,7 @@ impl<S: System> Running<S> {
         ensures feeds { self.new.feeds ≡ self.old.feeds }
         ensures output { self.new.output ≡ self.old.output }
         ensures error { self.new.error ≡ self.old.error }
-        ensures outcome { IsOutcome (shape_view self.new.shape)
-            (stored_in S.Child.child_view S.Feed.job_view S.Drain.job_view self.new) result }
+        ensures outcome { ReturnsOutcome ⟦<S as Seen>⟧.views self.new result }
     {
         answer(self.core.step(Event::Conclude))
     }

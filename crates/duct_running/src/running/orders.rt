@@ -1,16 +1,16 @@
 //! The orders to the commands of a running expression, and how it is given up.
-ghost use Rattle.std.specs.Prelude.{◌≡◌, ◌<◌, length, map};
-ghost use Rattle.duct_base.specs.Pool.{IsGiven};
+ghost use Rattle.std.specs.Prelude.{◌≡◌, ◌<◌, length};
 ghost use Rattle.duct_system.specs.Child.{OrdersChild};
 ghost use Rattle.duct_system.specs.declared.system.Order.TheVariants.{Kill, Signal};
-ghost use Rattle.duct_running.specs.Ordered.{OrderAnswers, OrderedIfDue, IsOrdered};
-ghost use Rattle.duct_running.specs.Polled.{ChangedAt};
+ghost use Rattle.duct_run.specs.Requested.{PoolGets};
+ghost use Rattle.duct_running.specs.Ordered.{ChildOrderedAt, ChildrenOrdered, OrderAnswers};
 
 use crate::running::Running;
 use duct_base::error::Error;
 use duct_base::pool::Pool;
 use duct_base::system::{Child, Fault, Order, System};
 use duct_run::ending::give_all;
+use duct_run::views::Seen;
 
 // Gives a child an order.
 fn give<C: Child>(child: &mut C, order: Order) -> Result<(), Fault>
@@ -38,9 +38,7 @@ impl<S: System> Running<S> {
     /// for a command, the command is not killed and its fault is `OutOfMemory`.
     pub fn kill(&mut self) -> Result<(), Error>
         ensures shape { self.new.shape ≡ self.old.shape }
-        ensures ordered { IsOrdered S.Child.may_obey Kill
-            (map S.Child.child_view self.old.children) result
-            (map S.Child.child_view self.new.children) }
+        ensures ordered { ChildrenOrdered ⟦<S as Seen>⟧.views Kill self.old result self.new }
         ensures feeds { self.new.feeds ≡ self.old.feeds }
         ensures output { self.new.output ≡ self.old.output }
         ensures error { self.new.error ≡ self.old.error }
@@ -53,9 +51,8 @@ impl<S: System> Running<S> {
     /// does.
     pub fn signal(&mut self, signal: i32) -> Result<(), Error>
         ensures shape { self.new.shape ≡ self.old.shape }
-        ensures ordered { IsOrdered S.Child.may_obey (Signal signal)
-            (map S.Child.child_view self.old.children) result
-            (map S.Child.child_view self.new.children) }
+        ensures ordered { ChildrenOrdered ⟦<S as Seen>⟧.views (Signal signal) self.old result
+            self.new }
         ensures feeds { self.new.feeds ≡ self.old.feeds }
         ensures output { self.new.output ≡ self.old.output }
         ensures error { self.new.error ≡ self.old.error }
@@ -69,7 +66,7 @@ impl<S: System> Running<S> {
     /// children: one that runs and finds no room is dropped and counts as lost. It allocates
     /// nothing and doesn't block.
     pub fn give_up(self, pool: &mut Pool<S::Child>)
-        ensures { IsGiven S.Child.may_answer S.Child.child_view self.children pool.old pool.new }
+        ensures { PoolGets ⟦<S as Seen>⟧.views self.children pool.old pool.new }
     {
         let (children, feeds, drains) = self.into_parts();
         drop((feeds, drains));
@@ -80,9 +77,7 @@ impl<S: System> Running<S> {
     fn order(&mut self, at: usize, order: Order) -> Result<(), Fault>
         requires { at < length self.old.children }
         ensures shape { self.new.shape ≡ self.old.shape }
-        ensures ordered { ChangedAt
-            (λ before. OrderedIfDue S.Child.may_obey order before result) at
-            (map S.Child.child_view self.old.children) (map S.Child.child_view self.new.children) }
+        ensures ordered { ChildOrderedAt ⟦<S as Seen>⟧.views order at self.old result self.new }
         ensures feeds { self.new.feeds ≡ self.old.feeds }
         ensures output { self.new.output ≡ self.old.output }
         ensures error { self.new.error ≡ self.old.error }
@@ -97,9 +92,7 @@ impl<S: System> Running<S> {
     // fault.
     fn order_all(&mut self, order: Order) -> Result<(), Error>
         ensures shape { self.new.shape ≡ self.old.shape }
-        ensures ordered { IsOrdered S.Child.may_obey order
-            (map S.Child.child_view self.old.children) result
-            (map S.Child.child_view self.new.children) }
+        ensures ordered { ChildrenOrdered ⟦<S as Seen>⟧.views order self.old result self.new }
         ensures feeds { self.new.feeds ≡ self.old.feeds }
         ensures output { self.new.output ≡ self.old.output }
         ensures error { self.new.error ≡ self.old.error }

@@ -9,7 +9,9 @@ use Rattle.std.specs.declared.alloc.Global.{Global}
 use Rattle.std.specs.declared.result.Result.{Result}
 use Rattle.std.specs.declared.string.String.{String}
 use Rattle.duct_start.specs.Plan.{plan_of_reader}
+use Rattle.duct_run.proofs.Seeing.{views_of}
 use Rattle.duct_running.specs.NumbersView.{numbers_in}
+use Rattle.duct_running.proofs.Launched.{launched_unordered}
 use Rattle.duct_reader.specs.ReadsText.{ReadsText}
 use Rattle.duct.specs.TreeView.{tree_view}
 use Rattle.duct.proofs.Finished.{given_after, given_started, started_numbers, told_err_both, told_ok_both}
@@ -77,3 +79,7 @@ returns-clause-failed g c =
       given = λ fits. given_after child feed drain tree false (is_some (plan_of_reader tree).err) added running l.makes.0
           g.S.Child.Child.may_answer given.0 c.args.pool.now c.launch_reader.new.pool c.read_text.new.pool l.swept given.1 given.2 fits;
     }) c.read_text.ensures.text c.read_text.ensures.given
+
+pub read_text-requires : goal.read_text-requires
+read_text-requires g c =
+    launched_unordered (views_of g.S.System g.E.Numbered g.S.Child.Child g.S.Feed.Job g.S.Drain.Job) c.in_ok-running.ensures.launched.makes.0

@@ -5,6 +5,8 @@ use Rattle.duct_system.specs.Trace.{segment}
 use Rattle.duct_start.specs.Plan.{plan_of_reader}
 use Rattle.duct_start.proofs.Launched.{unasked_launch}
 use Rattle.duct_start.proofs.Leaving.{leaves_unasked}
+use Rattle.duct_run.proofs.Seeing.{views_of}
+use Rattle.duct_running.proofs.Launched.{launched_unasked}
 use Rattle.duct.specs.TreeView.{tree_view}
 use Rattle.duct_handle.specs.HandleView.{HandleView}
 use Rattle.duct_handle.proofs.Beginning.{is_handle}
@@ -37,3 +39,12 @@ returns-clause-launched g c =
           c.in_ok-running.running c.handle_of.result l.makes.0 c.handle_of.ensures.shape c.handle_of.ensures.numbers);
       swept = l.swept;
     }
+
+pub handle_of-requires-clause-unasked : goal.handle_of-requires-clause-unasked
+handle_of-requires-clause-unasked g c =
+    launched_unasked (views_of g.S.System g.E.Numbered g.S.Child.Child g.S.Feed.Job g.S.Drain.Job) c.in_ok-running.ensures.launched.makes.0
+
+pub reader_handle_of-requires : goal.reader_handle_of-requires
+reader_handle_of-requires g c =
+    let made = c.in_ok-running.ensures.launched.makes.1 in
+    (made.1, made.3)

@@ -6,8 +6,10 @@ use Rattle.duct_system.specs.Trace.{segment}
 use Rattle.duct_status.specs.ReplyView.{answered}
 use Rattle.duct_status.specs.ShapeView.{ShapeView}
 use Rattle.duct_start.specs.Plan.{plan_of}
+use Rattle.duct_run.proofs.Seeing.{views_of}
 use Rattle.duct_running.specs.Answered.{IsEnding, WasConcluded}
 use Rattle.duct_running.specs.NumbersView.{numbers_in}
+use Rattle.duct_running.proofs.Launched.{launched_unordered}
 use Rattle.duct.specs.TreeView.{tree_view}
 use Rattle.duct.proofs.Finished.{given_after, given_started, if_err_both, if_ok_both, started_numbers}
 use Rattle.duct.proofs.expression.Expression.run.Goals as goal
@@ -65,3 +67,7 @@ returns-clause-failed g c =
       given = λ fits. given_after child feed drain tree (is_some (plan_of tree).out) (is_some (plan_of tree).err) added running l.makes
           g.S.Child.Child.may_answer given.0 c.args.pool.now c.launch.new.pool c.finish.new.pool l.swept given.1 given.2 fits;
     }) c.finish.ensures.err c.finish.ensures.given
+
+pub finish-requires : goal.finish-requires
+finish-requires g c =
+    launched_unordered (views_of g.S.System g.E.Numbered g.S.Child.Child g.S.Feed.Job g.S.Drain.Job) c.in_ok-running.ensures.launched.makes

@@ -4,9 +4,11 @@ use Rattle.duct_system.specs.Trace.{segment}
 use Rattle.duct_start.specs.Plan.{plan_of}
 use Rattle.duct_start.proofs.Launched.{unasked_launch}
 use Rattle.duct_start.proofs.Leaving.{leaves_unasked}
+use Rattle.duct_run.proofs.Seeing.{views_of}
+use Rattle.duct_running.proofs.Launched.{launched_unasked}
 use Rattle.duct.specs.TreeView.{tree_view}
 use Rattle.duct_handle.proofs.Beginning.{is_handle}
-use Rattle.duct.specs.Launched.{added_between, draining, drains_error, drains_output}
+use Rattle.duct.specs.Launched.{draining, drains_error, drains_output}
 use Rattle.duct.proofs.expression.Expression.start.Goals as goal
 
 pub returns-in_err-room-clause-refused : goal.returns-in_err-room-clause-refused
@@ -34,3 +36,7 @@ returns-clause-launched g c =
           l.makes c.handle_of.ensures.shape c.handle_of.ensures.numbers;
       swept = l.swept;
     }
+
+pub handle_of-requires-clause-unasked : goal.handle_of-requires-clause-unasked
+handle_of-requires-clause-unasked g c =
+    launched_unasked (views_of g.S.System g.E.Numbered g.S.Child.Child g.S.Feed.Job g.S.Drain.Job) c.in_ok-running.ensures.launched.makes

@@ -1,8 +1,10 @@
 use Rattle.std.proofs.Common.{subst}
+use Rattle.duct_run.proofs.Seeing.{views_of}
 use Rattle.duct_handle.specs.HandleView.{HandleView}
 use Rattle.duct_handle.specs.Obeyed.{IsObeyed}
 use Rattle.duct_handle.proofs.handle.Handle.order.Goals as goal
 
 pub returns : goal.returns
 returns g c =
-    subst (λ (h : HandleView). IsObeyed g.S.Child.Child.may_answer g.S.Child.Child.may_obey c.args.order h.numbers.children c.ordered.result) c.self.view_is c.ordered.ensures
+    let views = views_of g.S.System g.S.End.Numbered g.S.Child.Child g.S.Feed.Job g.S.Drain.Job in
+    subst (λ (h : HandleView). IsObeyed views c.args.order h.numbers.children c.ordered.result) c.self.view_is c.ordered.ensures

@@ -1,6 +1,7 @@
 -- A token that knows what is published.
-use Rattle.std.proofs.Common.{◌≡◌, ap, subst, sym, ◌∙◌}
+use Rattle.std.proofs.Common.{ap, subst, ◌∙◌}
 use Rattle.std.specs.Option.{option_map}
+use Rattle.duct_run.proofs.Seeing.{views_of}
 use Rattle.duct_running.specs.NumbersView.{numbers_view}
 use Rattle.duct_handle.specs.HandleView.{SeenView}
 use Rattle.duct_handle.specs.Waited.{Waited}
@@ -9,11 +10,9 @@ use Rattle.duct_handle.proofs.handle.Handle.recall.Goals as goal
 
 pub returns-in-Some-clause-known : goal.returns-in-Some-clause-known
 returns-in-Some-clause-known g c =
-    let may = g.S.Child.Child.may_answer in
-    let feed = g.S.Feed.Job.may_say in
-    let drain = g.S.Drain.Job.may_say in
+    let views = views_of g.S.System g.S.End.Numbered g.S.Child.Child g.S.Feed.Job g.S.Drain.Job in
     let s = c.share.ensures in
     let after : SeenView = record { cell = c.get_as.new.note.cell; known = option_map (λ p. record { shape = p.shape; numbers = numbers_view p.numbers; answer = p.answer }) c.get_as.new.note.known } in
-    subst (λ seen. Waited may feed drain c.args.self.now seen after c.share.result) c.seen.view_is
-    (shared may feed drain (λ p. record { shape = p.shape; numbers = numbers_view p.numbers; answer = p.answer }) c.args.self.now c.seen.inside.note.cell c.get_as.new.note.cell c.seen.inside.note.known c.get_as.new.note.known c.in-Some.published.now c.share.result
+    subst (λ seen. Waited views c.args.self.now seen after c.share.result) c.seen.view_is
+    (shared views (λ p. record { shape = p.shape; numbers = numbers_view p.numbers; answer = p.answer }) c.args.self.now c.seen.inside.note.cell c.get_as.new.note.cell c.seen.inside.note.known c.get_as.new.note.known c.in-Some.published.now c.share.result
     c.in-Some.ensures.value.0 c.in-Some.ensures.value.1 (c.in-Some.ensures.cell ∙ ap (λ (v : SeenView). v.cell) c.seen.view_is ∙ c.requires) s.told s.pending s.knows s.again)

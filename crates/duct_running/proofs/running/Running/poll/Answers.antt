@@ -5,6 +5,7 @@ use Rattle.std.specs.Option.{option_map}
 use Rattle.duct_system.specs.declared.system.Side.TheVariants as side
 use Rattle.duct_status.specs.Outcome.{awaited}
 use Rattle.duct_status.specs.ShapeView.{shape_view}
+use Rattle.duct_run.proofs.Seeing.{views_of}
 use Rattle.duct_running.specs.Polled.{AllAsked, AllPolled, IsOutcome, PolledWhere}
 use Rattle.duct_running.specs.Stored.{stored_in, stored_latest}
 use Rattle.duct_running.proofs.Pending.{one_runs}
@@ -32,8 +33,7 @@ returns-clause-pending g c = λ none.
     let third = sym (children ∙ c.ask_output.ensures.children) in
     let whole = sym (shapes ∙ c.ask_output.ensures.shape) in
     let Polled = PolledWhere g.S.Drain.Job.may_say g.S.Drain.Job.same g.S.Drain.Job.refusable in
-    one_runs g.S.Child.Child.may_answer g.S.Feed.Job.may_say g.S.Feed.Job.same g.S.Feed.Job.refusable g.S.Drain.Job.may_say g.S.Drain.Job.same g.S.Drain.Job.refusable
-    (shape_view now.shape) (map child c.begin_poll.new.self.children) (map child now.children) (map feed c.ask_children.new.self.feeds) (map feed now.feeds)
+    one_runs (views_of g.S.System g.S.End.Numbered g.S.Child.Child g.S.Feed.Job g.S.Drain.Job) (shape_view now.shape) (map child c.begin_poll.new.self.children) (map child now.children) (map feed c.ask_children.new.self.feeds) (map feed now.feeds)
     (option_map drain one.output) (option_map drain now.output) (option_map drain one.error) (option_map drain now.error)
     (subst (λ cs. AllAsked g.S.Child.Child.may_answer (map child c.begin_poll.new.self.children) (map child cs)) first c.ask_children.ensures.asked)
     (subst (λ fs. AllPolled g.S.Feed.Job.may_say g.S.Feed.Job.same g.S.Feed.Job.refusable (map feed c.ask_children.new.self.feeds) (map feed fs)) second c.ask_feeds.ensures.asked)
