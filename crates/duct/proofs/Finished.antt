@@ -76,6 +76,11 @@ module _ {E H C F D V W : Type 0} (child : C → ChildView) (feed : F → JobVie
       )
 
 -- two properties of a value, or of an error, give a third
+pub if_ok_two : {T F : Type 0} (r : Result T F) {P Q R : T → Type 0}
+    → ((value : T) → P value → Q value → R value) → IfOk r P → IfOk r Q → IfOk r R
+if_ok_two (Ok value) step holds other = step value holds other
+if_ok_two (Err error) step holds other = tt
+
 pub if_ok_both : {T F Q : Type 0} (r : Result T F) {P R : T → Type 0}
     → ((value : T) → P value → Q → R value) → IfOk r P → OnOk r Q → IfOk r R
 if_ok_both (Ok value) step holds other = step value holds other

@@ -4,12 +4,11 @@ ghost use Rattle.std.specs.Prelude.{IfOk, IfErr};
 ghost use Rattle.duct.specs.Launched.{Fails, Handles, LaunchRefused, Launched, ReadFails, Reads, Returns, RunFailed, draining, reading};
 
 use crate::expression::Expression;
-use crate::start::handle_buffers_of;
 use duct_base::error::Error;
 use duct_base::pool::Pool;
 use duct_base::spec::Hook;
 use duct_base::system::{Child, Job, Output, System};
-use duct_handle::buffers::handle_of;
+use duct_handle::buffers::{handle_buffers, handle_of};
 use duct_handle::finish::finish;
 use duct_reader::read::read_text;
 use duct_reader::reader::{ReaderHandle, reader_handle_of};
@@ -39,8 +38,10 @@ impl<E: Drop, H: Hook> Expression<E, H> {
             self.now sys.old sys.new pool.old pool.new) }
     {
         let alloc = self.allocator();
-        let room = handle_buffers_of(alloc, self.root())?;
-        let (running, reader) = self.launch_reader(sys, pool)?;
+        let ready = self.ready_captured()?;
+        let list = &ready.compiled.list;
+        let room = handle_buffers(alloc, &ready.compiled.shape, list.commands, list.inputs)?;
+        let (running, reader) = self.launch_ready_reader(sys, pool, ready)?;
         Ok(reader_handle_of(rt, handle_of(alloc, running, room), reader))
     }
 

@@ -19,7 +19,7 @@ use Rattle.duct_system.specs.declared.system.Child
 use Rattle.duct_system.specs.declared.system.Job
 use Rattle.duct_system.specs.declared.system.Numbered
 use Rattle.duct_system.specs.declared.system.System
-use Rattle.duct_status.proofs.Threads.{shape_field_send, shape_field_sync}
+use Rattle.duct_status.proofs.Threads.{shared_shape_send, shared_shape_sync}
 use Rattle.duct_running.proofs.numbers.Numbers.TheSendSync as numbers
 use Rattle.duct_running.proofs.Threads.{running_send}
 use Rattle.duct_handle.specs.contracts.published.Published
@@ -38,11 +38,11 @@ module _ (S E C F D R : RattleType)
     (r : Read.Ghosts R.Denot) where
   published_field_send : IsSend (Published.the_field S E C F D R s e c cn f fn d dn r).row
   published_field_send = struct_send (shape (Published.the_type S E C F D R s e c cn f fn d dn r))
-      (shape_field_send, (numbers.the_field_send, (search (answer.the_send, sendable) depth 20, (search sendable depth 20, tt))))
+      (shared_shape_send, (numbers.the_field_send, (search (answer.the_send, sendable) depth 20, (search sendable depth 20, tt))))
 
   published_field_sync : IsSync (Published.the_field S E C F D R s e c cn f fn d dn r).row
   published_field_sync = struct_sync (shape (Published.the_type S E C F D R s e c cn f fn d dn r))
-      (shape_field_sync, (numbers.the_field_sync, (search (answer.the_sync, sendable) depth 20, (search sendable depth 20, tt))))
+      (shared_shape_sync, (numbers.the_field_sync, (search (answer.the_sync, sendable) depth 20, (search sendable depth 20, tt))))
 
   published_send : IsSend (Published.the_row S E C F D R s e c cn f fn d dn r)
   published_send = recorded_send _ _ _ (Published.the_type S E C F D R s e c cn f fn d dn r).to_one published_field_send
@@ -73,7 +73,7 @@ module _ (S E C F D R : RattleType)
       (shape (TheInside.the_type S E C F D R s e c cn f fn d dn r)) (
         search sendable depth 20,
         (
-          shape_field_sync,
+          shared_shape_sync,
           (
             numbers.the_field_sync,
             (

@@ -1,5 +1,6 @@
 //! How a handle is made of what runs, and how it is given up.
 ghost use Rattle.std.specs.Prelude.{◌≡◌, ◌≤◌, List, [], length, vec_capacity, IfOk, IsOkUnless, None};
+ghost use Rattle.std.specs.Arc.{arc_value};
 ghost use Rattle.duct_status.specs.ShapeView.{command_count, input_count, shape_view};
 ghost use Rattle.duct_run.specs.Requested.{PoolGets};
 ghost use Rattle.duct_running.specs.NumbersView.{HaveRoom, numbers_of, numbers_view};
@@ -18,14 +19,13 @@ use duct_running::running::Running;
 use once_cell::race::OnceBox;
 use std::alloc::Global;
 use std::marker::PhantomData;
-use std::sync::Mutex;
+use std::sync::{Arc, Mutex};
 
 /// What a handle keeps outside its lock, and its result, allocated before the first request of a
-/// start: the shape of its tree twice, with room for the numbers and the ids of its children and
-/// workers.
+/// start: the shape of its tree, with room for the numbers and the ids of its children and workers.
 #[derive(Drop)]
 pub struct HandleBuffers<S: System> {
-    pub shape: Shape,
+    pub shape: Arc<Shape>,
     pub numbers: Numbers,
     pub ids: Vec<u32>,
     pub spare: Box<Published<S>>,
@@ -53,35 +53,37 @@ fn lists(
     Ok((numbers, spare, ids))
 }
 
-/// Allocates the buffers for a handle of a tree with this many commands and inputs. Fails with
-/// `Error::Memory`, and only at an allocation failure.
+/// Allocates the buffers for a handle of a tree of this shape, with this many commands and inputs.
+/// Fails only with `Error::Memory`, on allocation failure or where the shape has too many owners.
 pub fn handle_buffers<S: System>(
     alloc: Global,
-    shape: Shape,
-    again: Shape,
+    shape: &Arc<Shape>,
     commands: usize,
     inputs: usize,
 ) -> Result<HandleBuffers<S>, Error>
-    requires commands { commands ≡ command_count (shape_view shape) }
-    requires inputs { inputs ≡ input_count (shape_view shape) }
-    ensures shape { IfOk result (λ room. room.shape ≡ shape) }
+    requires commands { commands ≡ command_count (shape_view (arc_value shape.now)) }
+    requires inputs { inputs ≡ input_count (shape_view (arc_value shape.now)) }
+    ensures shape { IfOk result (λ room. arc_value room.shape ≡ arc_value shape.now) }
     ensures empty { IfOk result (λ room. room.ids.items ≡ []) }
-    ensures ids { IfOk result (λ room. command_count (shape_view shape) ≤ vec_capacity room.ids) }
-    ensures numbers { IfOk result (λ room. HaveRoom (shape_view shape) room.numbers) }
-    ensures spare { IfOk result (λ room. HaveRoom (shape_view shape) room.spare.value.numbers) }
+    ensures ids { IfOk result
+        (λ room. command_count (shape_view (arc_value shape.now)) ≤ vec_capacity room.ids) }
+    ensures numbers { IfOk result
+        (λ room. HaveRoom (shape_view (arc_value shape.now)) room.numbers) }
+    ensures spare { IfOk result
+        (λ room. HaveRoom (shape_view (arc_value shape.now)) room.spare.value.numbers) }
     ensures silent { IfOk result (λ room. room.spare.value.answer ≡ None) }
     ensures memory { IsOkUnless result Error.Memory }
 {
-    let (numbers, spare, ids) = lists(alloc, &shape, commands, inputs)?;
+    let (numbers, spare, ids) = lists(alloc, shape, commands, inputs)?;
     let published = Published {
-        shape: again,
+        shape: shape.clone()?,
         numbers: spare,
         answer: None,
         of: PhantomData,
     };
     let spare = Box::new(alloc, published)?;
     Ok(HandleBuffers {
-        shape,
+        shape: shape.clone()?,
         numbers,
         ids,
         spare,
@@ -99,10 +101,10 @@ fn copy_ids(ids: &mut Vec<u32>, from: &[u32])
     }
 }
 
-/// Makes a handle of what runs, in these buffers. It allocates nothing. `running` is as its start left
-/// it: no child was polled or given an order, and no worker was polled.
+/// Makes a handle of what runs, in these buffers. It allocates nothing. `running` is as its start
+/// left it: no child was polled or given an order, and no worker was polled.
 pub fn handle_of<S: System>(alloc: Global, running: Running<S>, room: HandleBuffers<S>) -> Handle<S>
-    requires shape { shape_view room.shape ≡ shape_view running.shape }
+    requires shape { shape_view (arc_value room.shape) ≡ shape_view running.shape }
     requires empty { room.ids.items ≡ [] }
     requires ids { command_count (shape_view running.shape) ≤ vec_capacity room.ids }
     requires numbers { HaveRoom (shape_view running.shape) room.numbers }
@@ -136,8 +138,8 @@ pub fn handle_of<S: System>(alloc: Global, running: Running<S>, room: HandleBuff
 }
 
 // What the lock of a handle held, with the shape and the numbers that were kept outside it.
-pub(crate) fn into_locked<S: System>(handle: Handle<S>) -> (Running<S>, Shape, Numbers)
-    ensures shape { result.1 ≡ handle.shape }
+pub(crate) fn into_locked<S: System>(handle: Handle<S>) -> (Running<S>, Arc<Shape>, Numbers)
+    ensures shape { arc_value result.1 ≡ handle.shape }
     ensures numbers { numbers_view result.2 ≡ handle.numbers }
 {
     let Handle {

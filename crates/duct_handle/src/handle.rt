@@ -1,6 +1,7 @@
 //! The handle: a lock around what runs, and outside the lock the shape, the numbers, the ids and
 //! the result.
 ghost use Rattle.std.specs.Prelude.{◌≡◌, IfNone, IfSome, Ok, Some, None};
+ghost use Rattle.std.specs.Arc.{arc_value};
 ghost use Rattle.duct_status.specs.ShapeView.{shape_view};
 ghost use Rattle.duct_running.specs.Answered.{IsAnswer};
 ghost use Rattle.duct_running.specs.NumbersView.{numbers_view};
@@ -27,7 +28,7 @@ use std::sync::{Arc, Mutex, Wait};
 /// the compiler rejects a program that drops one.
 pub struct Handle<S: System> {
     pub(crate) alloc: Global,
-    pub(crate) shape: Shape,
+    pub(crate) shape: Arc<Shape>,
     pub(crate) numbers: Numbers,
     pub(crate) ids: Vec<u32>,
     pub(crate) lock: Mutex<HandleState<S>>,
@@ -35,6 +36,7 @@ pub struct Handle<S: System> {
 }
 
 impl<S: System> Model for Handle<S> {
+    ghost use Rattle.std.specs.Arc.{arc_value};
     ghost use Rattle.std.specs.Coded.{codes};
     ghost use Rattle.duct_status.specs.contracts.status.Shape as shapes;
     ghost use Rattle.duct_running.specs.NumbersView.{numbers_view};
@@ -46,7 +48,7 @@ impl<S: System> Model for Handle<S> {
     ghost coded = { Prim.hlevel (codes, shapes.the_row.coded) };
 
     ghost view = { λ h. record {
-      shape = h.shape;
+      shape = arc_value h.shape;
       numbers = numbers_view h.numbers;
       cell = cell_name h.cell;
     } };
@@ -63,6 +65,7 @@ pub struct Seen<S: System> {
 }
 
 impl<S: System> Model for Seen<S> {
+    ghost use Rattle.std.specs.Arc.{arc_value};
     ghost use Rattle.std.specs.Coded.{codes};
     ghost use Rattle.std.specs.Prelude.{◌≡◌, is_some};
     ghost use Rattle.std.specs.Option.{option_map};
@@ -80,7 +83,7 @@ impl<S: System> Model for Seen<S> {
     ghost view = { λ s. record {
       cell = s.note.cell;
       known = option_map (λ p. record {
-        shape = p.shape;
+        shape = arc_value p.shape;
         numbers = numbers_view p.numbers;
         answer = p.answer;
       }) s.note.known;
@@ -210,13 +213,13 @@ impl<S: System> Handle<S> {
         ensures knows { KnowsIfEnded self.now (record {
           cell = self.now.cell;
           known = Some (record {
-            shape = published.now.shape;
+            shape = arc_value published.now.shape;
             numbers = numbers_view published.now.numbers;
             answer = published.now.answer;
           });
         }) result }
         ensures again { GivesAgain self.now (record {
-          shape = published.now.shape;
+          shape = arc_value published.now.shape;
           numbers = numbers_view published.now.numbers;
           answer = published.now.answer;
         }) result }

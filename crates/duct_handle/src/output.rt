@@ -90,7 +90,7 @@ pub(crate) fn output_or_give_up<S: System>(
 // the lock.
 fn checked_output_or_give_up<S: System>(
     alloc: Global,
-    released: (Running<S>, Shape, Numbers),
+    released: (Running<S>, Arc<Shape>, Numbers),
     waited: Result<Arc<Output>, Error>,
     pool: &mut Pool<S::Child>,
 ) -> Result<Output, Error>

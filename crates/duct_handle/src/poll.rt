@@ -1,5 +1,6 @@
 //! What the lock of a handle holds, and one poll of it.
 ghost use Rattle.std.specs.Prelude.{◌≡◌, ◌↔◌, IfOk, IfErr, IfSome, IsTrue, is_some, true, Ok, Err, None};
+ghost use Rattle.std.specs.Arc.{arc_value};
 ghost use Rattle.duct_status.specs.ShapeView.{shape_view};
 ghost use Rattle.duct_running.specs.Answered.{IsAnswer, IsConcluded};
 ghost use Rattle.duct_running.specs.NumbersView.{numbers_view};
@@ -85,7 +86,7 @@ pub(crate) fn poll_and_publish<S: System>(
 
 // Whether this has the given shape and the given numbers.
 pub(crate) fn same<S: System>(published: &Published<S>, shape: &Shape, numbers: &Numbers) -> bool
-    ensures { IsTrue result ↔ ((shape_view published.now.shape ≡ shape_view shape.now)
+    ensures { IsTrue result ↔ ((shape_view (arc_value published.now.shape) ≡ shape_view shape.now)
         × (numbers_view published.now.numbers ≡ numbers_view numbers.now)) }
 {
     published.shape.is_same(shape) && published.numbers.is_same(numbers)

@@ -1,4 +1,5 @@
 //! The result that a handle publishes, with the shape and the numbers of what gave it.
+ghost use Rattle.std.specs.Arc.{arc_value};
 ghost use Rattle.std.specs.Prelude.{IfSome};
 ghost use Rattle.duct_status.specs.ShapeView.{shape_view};
 ghost use Rattle.duct_running.specs.Answered.{Concluded};
@@ -22,10 +23,10 @@ pub enum Answer {
 /// published.
 #[derive(Drop)]
 pub struct Published<S: System> {
-    pub shape: Shape,
+    pub shape: Arc<Shape>,
     pub numbers: Numbers,
     pub answer: Option<Answer>,
     pub of: PhantomData<S>,
     pub ghost told: { ∥ IfSome answer (λ a. Concluded S.Child.may_answer S.Feed.may_say
-        S.Drain.may_say (shape_view shape) (numbers_view numbers) (answer_view a)) ∥₁ },
+        S.Drain.may_say (shape_view (arc_value shape)) (numbers_view numbers) (answer_view a)) ∥₁ },
 }

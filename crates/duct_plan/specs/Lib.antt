@@ -1,8 +1,8 @@
 pub mod AskedOf
 pub mod Commands
 pub mod EntryViews
-pub mod Surroundings
+pub mod Found
 pub mod PlanView
-pub mod NodeStep
+pub mod Step
 pub mod Variables
 pub mod Way

@@ -37,9 +37,9 @@ module _ {E : Type 0} (f : E → ℕ) where
   pushed_two t u v x y one two = pushed u v y two ∙ ap (λ (l : List ℕ). f y ∷ l) (pushed t u x one)
 
   -- the item at an index of the vector is at that depth of the stack
-  pub at_depth : (t : List E) (n : ℕ) (x d : E) → n < length t → x ≡ get_or t n d
+  pub item_at_depth : (t : List E) (n : ℕ) (x d : E) → n < length t → x ≡ get_or t n d
       → at_depth (stack_view f t) n ≡ Some (f x)
-  at_depth t n x d within is =
+  item_at_depth t n x d within is =
       ap (λ l. slice_get l n) (reverse-reverse (map f t)) ∙ slice_get-map f t n ∙ ap (λ o. option_map f o) (slice_get-get_or t n d within) ∙ ap (λ y. Some (f y)) (sym is)
 
   pub pushed_number : (t u : List E) (x : E) → u ≡ t ++ x ∷ [] → map f u ≡ map f t ++ f x ∷ []

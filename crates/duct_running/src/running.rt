@@ -1,5 +1,6 @@
 //! A running expression: its children, its workers, and the results so far.
 ghost use Rattle.std.specs.Prelude.{◌≡◌, ◌<◌, ◌≤◌, [], ◌++◌, length, map, is_some, vec_capacity, Ok, None};
+ghost use Rattle.std.specs.Arc.{arc_value};
 ghost use Rattle.std.specs.Option.{option_to_list};
 ghost use Rattle.duct_system.specs.declared.system.Side.TheVariants.{Out, Err};
 ghost use Rattle.duct_status.specs.CoreView.{latest_in, shape_in};
@@ -39,6 +40,7 @@ pub struct Running<S: System> {
 }
 
 impl<S: System> Model for Running<S> {
+    ghost use Rattle.std.specs.Arc.{arc_value};
     ghost use Rattle.std.specs.Coded.{codes};
     ghost use Rattle.duct_status.specs.CoreView.{latest_in, shape_in};
     ghost use Rattle.duct_status.specs.contracts.status.Shape as shape;
@@ -50,7 +52,7 @@ impl<S: System> Model for Running<S> {
     ghost coded = { Prim.hlevel (codes, shape.the_row.coded) };
 
     ghost view = { λ r. record {
-      shape = r.core.shape;
+      shape = arc_value r.core.shape;
       children = r.children.items;
       feeds = r.feeds.items;
       output = r.output;
@@ -116,7 +118,7 @@ pub fn running_of<S: System>(
     requires drained { length (option_to_list output ++ option_to_list error)
         ≤ vec_capacity room.drains }
     ensures { result ≡ record {
-      shape = core.shape;
+      shape = arc_value core.shape;
       children = children.items;
       feeds = feeds.items;
       output = output;

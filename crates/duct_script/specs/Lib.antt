@@ -1,5 +1,5 @@
 pub mod Answers
-pub mod SpecChange
+pub mod Change
 pub mod Next
 pub mod Obeying
 pub mod Paths

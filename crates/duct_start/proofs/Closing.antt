@@ -77,14 +77,14 @@ module _ (added : List EntryView) (numbers : List ℕ) where
   closed_few : (bound : ℕ) → OpenEndsWithin bound added → OpenEndsWithin bound closed
   closed_few bound few = λ count. elim (cases_lt (length added) count) [
     | inl lt ↦ past (count - length added) count (omega (arith, lt))
-    | inr le ↦ let same = ap (λ l. held l) (take-append-le count added (map Close numbers) le) in omega (arith, few count, same)
+    | inr le ↦ let same = ap (λ l. open_count l) (take-append-le count added (map Close numbers) le) in omega (arith, few count, same)
   ]
     where
       past : (more count : ℕ) → count ≡ length added + more → open_count (take count closed) ≤ bound + 8
       past more count is =
           let front : take count closed ≡ added ++ take more (map Close numbers) = ap (λ (k : ℕ). take k closed) is ∙ take-append-add added (map Close numbers) more in
           let rest = take more (map Close numbers) in
-          let whole = ap (λ (l : List EntryView). held l) (take-length added) in
+          let whole = ap (λ (l : List EntryView). open_count l) (take-length added) in
           omega (
             arith,
             few (length added),

@@ -112,7 +112,7 @@ few_more bound old then added entry kept few books low = λ count. elim (cases_l
       let whole = ap (λ l. length (opened_numbers l)) (take_whole (added ++ entry ∷ []) count (omega (arith, lt, length-append added (entry ∷ [])))) in
       let all = ap (λ l. length (closed_numbers l)) (take_whole (added ++ entry ∷ []) count (omega (arith, lt, length-append added (entry ∷ [])))) in
       omega (arith, whole, all, books.long, low)
-  | inr le ↦ let same = ap (λ l. held l) (take_front added (entry ∷ []) count le) in omega (arith, few count, same)
+  | inr le ↦ let same = ap (λ l. open_count l) (take_front added (entry ∷ []) count le) in omega (arith, few count, same)
 ]
 
 -- the bound on the ends that are held now

@@ -1,4 +1,5 @@
 -- What contracts see of a core: its shape, the latest reports, and the final reply.
+use Rattle.std.specs.Arc.{arc_value}
 use Rattle.std.specs.declared.option.Option.{Option}
 use Rattle.duct_status.specs.declared.status.Core.{Core}
 use Rattle.duct_status.specs.Fits.{latest_of, standing_of}
@@ -8,7 +9,7 @@ use Rattle.duct_status.specs.Latest.{Latest}
 
 -- the shape of a core
 abbrev pub shape_in : Core → ShapeView
-shape_in core = shape_view core.shape
+shape_in core = shape_view (arc_value core.shape)
 
 -- the latest reports in a core
 abbrev pub latest_in : Core → Latest

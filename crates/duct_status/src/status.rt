@@ -100,21 +100,19 @@ pub enum Reply {
 #[derive(Drop)]
 pub struct Core {
     alloc: Global,
-    shape: Shape,
+    shape: Arc<Shape>,
     commands: Vec<Word>,
     inputs: Vec<Said<()>>,
     output: Option<Said<Arc<Vec<u8>>>>,
     error: Option<Said<Arc<Vec<u8>>>>,
     answer: Option<Arc<Output>>,
     failure: Option<Arc<String>>,
-    pub ghost commands_fit: { vec_len commands ≡ command_count (shape_view shape) },
-    pub ghost inputs_fit: { vec_len inputs ≡ input_count (shape_view shape) },
-    pub ghost answer_fits: { ForSome answer
-        (λ a. FitsAnswer (shape_view shape) (latest_of commands.items inputs.items output error)
-        (arc_value a)) },
-    pub ghost failure_fits: { ForSome failure
-        (λ a. FitsMessage (shape_view shape) (latest_of commands.items inputs.items output error)
-        (arc_value a)) },
+    pub ghost commands_fit: { vec_len commands ≡ command_count (shape_view (arc_value shape)) },
+    pub ghost inputs_fit: { vec_len inputs ≡ input_count (shape_view (arc_value shape)) },
+    pub ghost answer_fits: { ForSome answer (λ a. FitsAnswer (shape_view (arc_value shape))
+        (latest_of commands.items inputs.items output error) (arc_value a)) },
+    pub ghost failure_fits: { ForSome failure (λ a. FitsMessage (shape_view (arc_value shape))
+        (latest_of commands.items inputs.items output error) (arc_value a)) },
 }
 
 impl Core {
@@ -373,6 +371,7 @@ impl Core {
 }
 
 impl Core {
+    ghost use Rattle.std.specs.Arc.{arc_value};
     ghost use Rattle.std.specs.Prelude.{◌≡◌, [], map, IfOk, IfErr, None};
     ghost use Rattle.duct_system.specs.declared.error.Error.TheVariants.{Memory};
     ghost use Rattle.duct_status.specs.Outcome.{RespondsToAll};
@@ -388,6 +387,18 @@ impl Core {
         ensures shape { IfOk result (λ core. shape_in core ≡ shape_view shape) }
         ensures words { IfOk result
             (λ core. latest_in core ≡ latest_told (shape_view shape) drains []) }
+        ensures standing { IfOk result (λ core. standing_in core ≡ None) }
+        ensures err { IfErr result (λ error. error ≡ Memory) }
+    {
+        Core::sharing(alloc, Arc::new(alloc, shape)?, drains)
+    }
+
+    /// Returns a core without reports that shares its shape with other owners. Fails only with
+    /// `Error::Memory`, at an allocation failure.
+    pub fn sharing(alloc: Global, shape: Arc<Shape>, drains: Drains) -> Result<Core, Error>
+        ensures shape { IfOk result (λ core. shape_in core ≡ shape_view (arc_value shape)) }
+        ensures words { IfOk result
+            (λ core. latest_in core ≡ latest_told (shape_view (arc_value shape)) drains []) }
         ensures standing { IfOk result (λ core. standing_in core ≡ None) }
         ensures err { IfErr result (λ error. error ≡ Memory) }
     {

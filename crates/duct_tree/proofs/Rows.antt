@@ -9,7 +9,7 @@ use Rattle.duct_start.specs.Row.{RowOpening, Row, SettingView, opens_nothing, op
 use Rattle.duct_start.specs.TreeView.{ModifierView, TreeView, around}
 use Rattle.duct_tree.specs.NodeContextView.{sources_view}
 use Rattle.duct_tree.specs.ActionListView.{closings, openings, with_ending, with_scope, with_tree}
-use Rattle.duct_tree.specs.declared.flatten.context.NodeContext.{NodeContext}
+use Rattle.duct_tree.specs.declared.compile.context.NodeContext.{NodeContext}
 
 module _ {E : Type 0} where
   -- the actions around those of the inner expression

@@ -9,8 +9,8 @@ use Rattle.duct_start.specs.TreeView.{ModifierView, TreeView}
 use Rattle.duct_run.specs.ActionView.{actions_view}
 use Rattle.duct_run.specs.ScopeView.{scopes_view}
 use Rattle.duct_tree.specs.NodeContextView.{sources_view}
-use Rattle.duct_tree.specs.declared.flatten.context.NodeContext.{NodeContext}
-use Rattle.duct_tree.specs.declared.flatten.action_list.ActionList.{ActionList}
+use Rattle.duct_tree.specs.declared.compile.context.NodeContext.{NodeContext}
+use Rattle.duct_tree.specs.declared.compile.action_list.ActionList.{ActionList}
 
 -- the actions and the scopes of a list
 abbrev pub action_list_view : {E H : Type 0} → ActionList E H → ActionListView E H

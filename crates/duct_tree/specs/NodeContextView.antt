@@ -1,9 +1,9 @@
 -- The context of a node, as contracts see it.
 use Rattle.duct_start.specs.Actions.{PerStream}
 use Rattle.duct_start.specs.Flat as flat
-use Rattle.duct_tree.specs.declared.flatten.context.StreamSource.{StreamSource}
-use Rattle.duct_tree.specs.declared.flatten.context.StreamSource.TheVariants.{Parents, Nothing, Slot, Captured, Lent}
-use Rattle.duct_tree.specs.declared.flatten.context.NodeContext.{NodeContext}
+use Rattle.duct_tree.specs.declared.compile.context.StreamSource.{StreamSource}
+use Rattle.duct_tree.specs.declared.compile.context.StreamSource.TheVariants.{Parents, Nothing, Slot, Captured, Lent}
+use Rattle.duct_tree.specs.declared.compile.context.NodeContext.{NodeContext}
 
 -- where a command gets the end of a stream from
 abbrev pub source_view : {E : Type 0} → StreamSource E → flat.StreamSource E

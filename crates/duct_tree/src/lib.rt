@@ -2,7 +2,7 @@
 //! its shape, and the list of actions that runs it. Nothing here makes a request to a system.
 #![tactic(auto)]
 
+pub mod compile;
 pub mod effect;
-pub mod flatten;
-pub mod shape;
+mod shape;
 pub mod tree;

@@ -51,4 +51,4 @@ returns-clause-ok g c =
     let e = settles_at g.H.Hook.allows num c.args.ends.now _ made.error _ _ _ _ c.port-3.ensures c.in_ok-settle-3.ensures.ok in
     let makes : HookMakes g.H.Hook.allows c.args.hook.now c.args.spec.now made = record { allowed = c.in_default.ensures.ok; gives_nothing = c.in_default.ensures.given } in
     rw c.find.ensures (alters_one g.H.Hook.allows num c.args.hook.now c.args.ends.now c.args.spec.now made (streams_view num c.args.streams.now)
-    (stream_of num c.settle.new.stream) (stream_of num c.settle-2.new.stream) (stream_of num c.settle-3.new.stream) _ _ _ _ makes (sym c.missing_place.ensures ∙ c.in_default-missing.is) i o e)
+    (stream_of num c.settle.new.stream) (stream_of num c.settle-2.new.stream) (stream_of num c.settle-3.new.stream) _ _ _ _ makes (sym c.missing_place.ensures ∙ c.in_default-missing_place.is) i o e)

@@ -2,7 +2,7 @@ use Rattle.std.proofs.lemmas.Result.{err_from_is_err_and}
 use Rattle.duct_run.specs.ResourcesView.{resources_view}
 use Rattle.duct_start.specs.Actions as action
 use Rattle.std.proofs.Common.{rules, refl}
-use Rattle.duct_run.proofs.Pushed.{at_depth}
+use Rattle.duct_run.proofs.Pushed.{item_at_depth}
 use Rattle.duct_start.proofs.Going.{duplicate_succeeds, duplicate_fails}
 use Rattle.duct_run.proofs.Pushed.{pushed, goes_over}
 use Rattle.duct_run.proofs.Requesting.{goes_on, stops}
@@ -19,4 +19,4 @@ returns g c =
     let allows = g.H.Hook.allows in
     let h = resources_view num g.S.Child.Child.child_view g.S.Feed.Job.job_view g.S.Drain.Job.job_view c.args.held.now in
     goes_on (goes_over allows num (action.duplicate c.args.depth) _ _ h _ _ (pushed num c.args.held.now.stack.items c.push_reserved.new.self.items c.in_ok-end.end c.push_reserved.ensures.items)
-    (duplicate_succeeds allows num c.args.depth _ (num c.in_ok-end.end) _ _ h (at_depth num c.args.held.now.stack.items c.args.depth _ c.index.result.now c.requires.within c.index.ensures) c.in_ok-end.ensures.ok)) (search rules) (search rules)
+    (duplicate_succeeds allows num c.args.depth _ (num c.in_ok-end.end) _ _ h (item_at_depth num c.args.held.now.stack.items c.args.depth _ c.index.result.now c.requires.within c.index.ensures) c.in_ok-end.ensures.ok)) (search rules) (search rules)

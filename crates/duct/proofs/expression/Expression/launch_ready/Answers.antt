@@ -2,6 +2,7 @@
 use Rattle.std.proofs.Common.{◌≡◌, ◌+◌, ◌*◌, ◌∙◌, [], ap, sym, refl}
 use Rattle.std.proofs.lemmas.List.{length-map}
 use Rattle.std.proofs.lemmas.Result.{err_from_is_err_and}
+use Rattle.std.specs.Arc.{arc_value}
 use Rattle.std.specs.Prelude.{is_some}
 use Rattle.duct_status.specs.CoreView.{shape_in}
 use Rattle.duct_status.specs.Latest.{latest_told}
@@ -9,7 +10,6 @@ use Rattle.duct_status.specs.ShapeView.{command_count, input_count}
 use Rattle.duct_start.specs.ActionList.{list_of, resolved_all}
 use Rattle.duct_start.specs.Plan.{initial_plan, plan_of, plan_of_subtree}
 use Rattle.duct_start.specs.RunContract.{drain_tail}
-use Rattle.duct_start.specs.ShapeOfTree.{shape_of_tree}
 use Rattle.duct_start.specs.Start.{ceiling, depth}
 use Rattle.duct_start.proofs.Counted.{started_counts}
 use Rattle.duct_start.proofs.Launched.{drained_items, drained_pipes, launched, list_leads, refused_launched, some_leads, stands_launched}
@@ -119,7 +119,7 @@ running-requires-clause-commands g c =
     let kept = c.in_ok-kept.kept in
     let new = g.S.System.journal_view c.start.new.sys in
     let stands = stands_launched allows num tree acts same drain_tail old new (resources_view num child feed drain kept) c.in_ok-kept.ensures.ok in
-    let shapes = c.requires.prepared.shape in
+    let shapes = c.requires.prepared.shape_is in
     let counts = started_counts allows num _ _ new (resources_view num child feed drain kept) tree stands (drained_items (plan_of_subtree [] tree initial_plan)) in
     sym (length-map kept.children.items _) ∙ counts.0 ∙ ap (λ s. command_count s) (sym shapes)
 
@@ -141,7 +141,7 @@ running-requires-clause-inputs g c =
     let kept = c.in_ok-kept.kept in
     let new = g.S.System.journal_view c.start.new.sys in
     let stands = stands_launched allows num tree acts same drain_tail old new (resources_view num child feed drain kept) c.in_ok-kept.ensures.ok in
-    let shapes = c.requires.prepared.shape in
+    let shapes = c.requires.prepared.shape_is in
     let counts = started_counts allows num _ _ new (resources_view num child feed drain kept) tree stands (drained_items (plan_of_subtree [] tree initial_plan)) in
     sym (length-map kept.feeds.items _) ∙ counts.1 ∙ ap (λ s. input_count s) (sym shapes)
 
@@ -163,13 +163,13 @@ returns-clause-launched g c =
     let kept = c.in_ok-kept.kept in
     let new = g.S.System.journal_view c.start.new.sys in
     let stands = stands_launched allows num tree acts same drain_tail old new (resources_view num child feed drain kept) c.in_ok-kept.ensures.ok in
-    let shapes = c.requires.prepared.shape in
+    let shapes = c.requires.prepared.shape_is in
     let workers = c.in_ok-kept.ensures.workers (ceiling num tree) (2 * depth tree + 4) (plan_of_subtree [] tree initial_plan) (list_leads allows num tree acts same) in
     let pipes = drained_pipes (plan_of_subtree [] tree initial_plan) in
     let out : is_some kept.output_worker ≡ is_some (plan_of tree).out = workers.0 ∙ pipes.0 in
     let err : is_some kept.error_worker ≡ is_some (plan_of tree).err = workers.1 ∙ pipes.1 in
     record {
       asked = launched allows num tree acts same old new (resources_view num child feed drain kept) c.in_ok-kept.ensures.ok;
-      makes = rw (c.running.ensures, ← out, ← err) (runs_started child feed drain num tree c.args.ready.core.shape kept c.in_ok-kept.ensures.kept shapes allows _ _ new stands);
+      makes = rw (c.running.ensures, ← out, ← err) (runs_started child feed drain num tree (arc_value c.args.ready.core.shape) kept c.in_ok-kept.ensures.kept shapes allows _ _ new stands);
       swept = c.in_ok-kept.ensures.swept;
     }

@@ -2,6 +2,7 @@
 use Rattle.std.proofs.Common.{◌≡◌, ◌+◌, ◌*◌, ◌∙◌, [], ap, sym, refl, arith}
 use Rattle.std.proofs.lemmas.List.{length-map}
 use Rattle.std.proofs.lemmas.Result.{err_from_is_err_and}
+use Rattle.std.specs.Arc.{arc_value}
 use Rattle.std.specs.Prelude.{false, is_some}
 use Rattle.duct_status.specs.CoreView.{shape_in}
 use Rattle.duct_status.specs.Latest.{latest_told}
@@ -9,7 +10,6 @@ use Rattle.duct_status.specs.ShapeView.{command_count, input_count}
 use Rattle.duct_start.specs.ActionList.{list_of, resolved_all}
 use Rattle.duct_start.specs.Plan.{initial_plan, plan_of_reader, plan_of_subtree}
 use Rattle.duct_start.specs.RunContract.{drain_and_reader_tail}
-use Rattle.duct_start.specs.ShapeOfTree.{shape_of_tree}
 use Rattle.duct_start.specs.Start.{ceiling, depth}
 use Rattle.duct_start.specs.TreeView.{around, stdout_capture}
 use Rattle.duct_start.proofs.Counted.{reader_counts}
@@ -132,7 +132,7 @@ running-requires-clause-commands g c =
     let kept = c.in_ok-kept.kept in
     let new = g.S.System.journal_view c.start_reader.new.sys in
     let stands = stands_launched allows num (around stdout_capture tree) acts same drain_and_reader_tail old new (resources_view num child feed drain kept) c.in_ok-kept.ensures.ok in
-    let shapes = c.requires.prepared.shape in
+    let shapes = c.requires.prepared.shape_is in
     let counts = reader_counts allows num _ _ new (resources_view num child feed drain kept) tree stands (read_items (plan_of_subtree [] (around stdout_capture tree) initial_plan)) in
     sym (length-map kept.children.items _) ∙ counts.0 ∙ ap (λ s. command_count s) (sym shapes)
 
@@ -154,7 +154,7 @@ running-requires-clause-inputs g c =
     let kept = c.in_ok-kept.kept in
     let new = g.S.System.journal_view c.start_reader.new.sys in
     let stands = stands_launched allows num (around stdout_capture tree) acts same drain_and_reader_tail old new (resources_view num child feed drain kept) c.in_ok-kept.ensures.ok in
-    let shapes = c.requires.prepared.shape in
+    let shapes = c.requires.prepared.shape_is in
     let counts = reader_counts allows num _ _ new (resources_view num child feed drain kept) tree stands (read_items (plan_of_subtree [] (around stdout_capture tree) initial_plan)) in
     sym (length-map kept.feeds.items _) ∙ counts.1 ∙ ap (λ s. input_count s) (sym shapes)
 
@@ -176,12 +176,12 @@ returns-clause-launched g c =
     let kept = c.in_ok-kept.kept in
     let new = g.S.System.journal_view c.start_reader.new.sys in
     let stands = stands_launched allows num (around stdout_capture tree) acts same drain_and_reader_tail old new (resources_view num child feed drain kept) c.in_ok-kept.ensures.ok in
-    let shapes = c.requires.prepared.shape in
+    let shapes = c.requires.prepared.shape_is in
     let workers = c.in_ok-kept.ensures.workers (ceiling num (around stdout_capture tree)) (2 * depth (around stdout_capture tree) + 4) (plan_of_subtree [] (around stdout_capture tree) initial_plan) (list_leads allows num (around stdout_capture tree) acts same) in
     let out : is_some kept.output_worker ≡ false = ap (λ o. is_some o) c.in_ok-kept.ensures.output in
     let err : is_some kept.error_worker ≡ is_some (plan_of_reader tree).err = workers.1 ∙ read_pipe (plan_of_subtree [] (around stdout_capture tree) initial_plan) in
     record {
       asked = read_launched allows num tree acts same old new (resources_view num child feed drain kept) c.in_ok-kept.ensures.ok;
-      makes = (rw (c.running.ensures, ← out, ← err) (runs_started child feed drain num tree c.args.ready.core.shape kept c.in_ok-kept.ensures.kept shapes allows _ _ new stands), c.in_ok-kept.ensures.reader);
+      makes = (rw (c.running.ensures, ← out, ← err) (runs_started child feed drain num tree (arc_value c.args.ready.core.shape) kept c.in_ok-kept.ensures.kept shapes allows _ _ new stands), c.in_ok-kept.ensures.reader);
       swept = c.in_ok-kept.ensures.swept;
     }

@@ -13,9 +13,18 @@ use Rattle.duct_handle.proofs.Beginning.{is_handle}
 use Rattle.duct.specs.Launched.{Handles, drains_error, drains_output, reading}
 use Rattle.duct.proofs.expression.Expression.reader.Goals as goal
 
+pub returns-in_err-ready-clause-refused : goal.returns-in_err-ready-clause-refused
+returns-in_err-ready-clause-refused g c =
+    let p = err_from_is_err_and c.from_residual.result c.from_residual.ensures.1 in
+    let tree = tree_view c.args.self.now in
+    rw (p.1, p.2, c.in_err-ready.ensures.memory) (record {
+      asked = unasked_launch g.H.Hook.allows g.H.Hook.refuses g.E.Numbered.number_of tree (plan_of_reader tree) (g.S.System.journal_view c.args.sys.now);
+      given = λ fits. leaves_unasked g.S.Child.Child.may_answer g.S.Child.Child.child_view (g.S.System.journal_view c.args.sys.now).entries c.args.pool.now;
+    })
+
 pub returns-in_err-room-clause-refused : goal.returns-in_err-room-clause-refused
 returns-in_err-room-clause-refused g c =
-    let p = err_from_is_err_and c.from_residual.result c.from_residual.ensures.1 in
+    let p = err_from_is_err_and c.from_residual-in_err-room.result c.from_residual-in_err-room.ensures.1 in
     let tree = tree_view c.args.self.now in
     rw (p.1, p.2, c.in_err-room.ensures.memory) (record {
       asked = unasked_launch g.H.Hook.allows g.H.Hook.refuses g.E.Numbered.number_of tree (plan_of_reader tree) (g.S.System.journal_view c.args.sys.now);
@@ -30,7 +39,7 @@ returns-in_err-running-clause-refused g c =
 pub returns-clause-launched : goal.returns-clause-launched
 returns-clause-launched g c =
     let tree = tree_view c.args.self.now in
-    let added = segment (g.S.System.journal_view c.args.sys.now).entries (g.S.System.journal_view c.launch_reader.new.sys).entries in
+    let added = segment (g.S.System.journal_view c.args.sys.now).entries (g.S.System.journal_view c.launch_ready_reader.new.sys).entries in
     let l = c.in_ok-running.ensures.launched in
     record {
       asked = l.asked;

@@ -11,9 +11,18 @@ use Rattle.duct_handle.proofs.Beginning.{is_handle}
 use Rattle.duct.specs.Launched.{draining, drains_error, drains_output}
 use Rattle.duct.proofs.expression.Expression.start.Goals as goal
 
+pub returns-in_err-ready-clause-refused : goal.returns-in_err-ready-clause-refused
+returns-in_err-ready-clause-refused g c =
+    let p = err_from_is_err_and c.from_residual.result c.from_residual.ensures.1 in
+    let tree = tree_view c.args.self.now in
+    rw (p.1, p.2, c.in_err-ready.ensures.memory) (record {
+      asked = unasked_launch g.H.Hook.allows g.H.Hook.refuses g.E.Numbered.number_of tree (plan_of tree) (g.S.System.journal_view c.args.sys.now);
+      given = λ fits. leaves_unasked g.S.Child.Child.may_answer g.S.Child.Child.child_view (g.S.System.journal_view c.args.sys.now).entries c.args.pool.now;
+    })
+
 pub returns-in_err-room-clause-refused : goal.returns-in_err-room-clause-refused
 returns-in_err-room-clause-refused g c =
-    let p = err_from_is_err_and c.from_residual.result c.from_residual.ensures.1 in
+    let p = err_from_is_err_and c.from_residual-in_err-room.result c.from_residual-in_err-room.ensures.1 in
     let tree = tree_view c.args.self.now in
     rw (p.1, p.2, c.in_err-room.ensures.memory) (record {
       asked = unasked_launch g.H.Hook.allows g.H.Hook.refuses g.E.Numbered.number_of tree (plan_of tree) (g.S.System.journal_view c.args.sys.now);
@@ -32,7 +41,7 @@ returns-clause-launched g c =
     record {
       asked = l.asked;
       makes = is_handle g.S.Child.Child.child_view g.S.Feed.Job.job_view g.S.Drain.Job.job_view tree (drains_output draining tree) (drains_error draining tree)
-          (segment (g.S.System.journal_view c.args.sys.now).entries (g.S.System.journal_view c.launch.new.sys).entries) c.in_ok-running.running c.handle_of.result
+          (segment (g.S.System.journal_view c.args.sys.now).entries (g.S.System.journal_view c.launch_ready.new.sys).entries) c.in_ok-running.running c.handle_of.result
           l.makes c.handle_of.ensures.shape c.handle_of.ensures.numbers;
       swept = l.swept;
     }

@@ -1,6 +1,7 @@
 -- What a token that knows nothing yet finds under the lock.
 use Rattle.std.proofs.Common.{Ok, Err, None, ap, subst, sym, ◌∙◌}
 use Rattle.std.proofs.lemmas.Result.{err_from_is_err_and}
+use Rattle.std.specs.Arc.{arc_value}
 use Rattle.std.specs.Option.{option_map}
 use Rattle.once_cell.specs.Once.{Agrees}
 use Rattle.duct_status.specs.ShapeView.{shape_view}
@@ -16,17 +17,17 @@ use Rattle.duct_handle.proofs.handle.Handle.poll_locked.Goals as goal
 pub returns : goal.returns
 returns g c =
     let views = views_of g.S.System g.S.End.Numbered g.S.Child.Child g.S.Feed.Job g.S.Drain.Job in
-    let none = none_within (λ p. record { shape = p.shape; numbers = numbers_view p.numbers; answer = p.answer }) c.seen.inside.note.known (ap (λ (v : SeenView). v.known) c.seen.view_is ∙ c.requires.unknown) in
+    let none = none_within (λ p. record { shape = arc_value p.shape; numbers = numbers_view p.numbers; answer = p.answer }) c.seen.inside.note.known (ap (λ (v : SeenView). v.known) c.seen.view_is ∙ c.requires.unknown) in
     let s = c.share.ensures in
-    let after : SeenView = record { cell = c.get_as.new.note.cell; known = option_map (λ p. record { shape = p.shape; numbers = numbers_view p.numbers; answer = p.answer }) c.get_as.new.note.known } in
+    let after : SeenView = record { cell = c.get_as.new.note.cell; known = option_map (λ p. record { shape = arc_value p.shape; numbers = numbers_view p.numbers; answer = p.answer }) c.get_as.new.note.known } in
     subst (λ seen. Waited views c.args.self.now seen after c.share.result) c.seen.view_is
-    (shared views (λ p. record { shape = p.shape; numbers = numbers_view p.numbers; answer = p.answer }) c.args.self.now c.seen.inside.note.cell c.get_as.new.note.cell c.seen.inside.note.known c.get_as.new.note.known c.in-Some-get_as.published.now c.share.result
+    (shared views (λ p. record { shape = arc_value p.shape; numbers = numbers_view p.numbers; answer = p.answer }) c.args.self.now c.seen.inside.note.cell c.get_as.new.note.cell c.seen.inside.note.known c.get_as.new.note.known c.in-Some-get_as.published.now c.share.result
     c.in-Some-get_as.ensures.value.0 (subst (λ o. Agrees o c.in-Some-get_as.published.now) (sym none) tt) (c.in-Some-get_as.ensures.cell ∙ c.set_as.ensures.cell ∙ ap (λ (v : SeenView). v.cell) c.seen.view_is ∙ c.requires.cell) s.told s.pending s.knows s.again)
 
 pub returns-in_err-published : goal.returns-in_err-published
 returns-in_err-published g c =
     let views = views_of g.S.System g.S.End.Numbered g.S.Child.Child g.S.Feed.Job g.S.Drain.Job in
-    let shapes = ap (λ (h : HandleView). shape_view h.shape) c.self.view_is in
+    let shapes = ap (λ s. shape_view s) c.deref.ensures ∙ ap (λ (h : HandleView). shape_view h.shape) c.self.view_is in
     let numbers = ap (λ (h : HandleView). h.numbers) c.self.view_is in
     let p = err_from_is_err_and c.from_residual.result c.from_residual.ensures.1 in
     rw (p.1, p.2) (still_refused views (λ (p : PublishedView). p) c.args.self.now c.args.seen.now c.in_err-published.field-0.0 c.requires.unknown c.requires.cell
@@ -35,7 +36,7 @@ returns-in_err-published g c =
 pub returns-in_default : goal.returns-in_default
 returns-in_default g c =
     let views = views_of g.S.System g.S.End.Numbered g.S.Child.Child g.S.Feed.Job g.S.Drain.Job in
-    let shapes = ap (λ (h : HandleView). shape_view h.shape) c.self.view_is in
+    let shapes = ap (λ s. shape_view s) c.deref.ensures ∙ ap (λ (h : HandleView). shape_view h.shape) c.self.view_is in
     let numbers = ap (λ (h : HandleView). h.numbers) c.self.view_is in
     let nothing = ap (λ o. Ok o) c.in_default.is in
     still_unknown views (λ (p : PublishedView). p) c.args.self.now c.args.seen.now (Ok None) c.requires.unknown c.requires.cell

@@ -1,4 +1,5 @@
 use Rattle.std.proofs.Common.{◌≡◌, ap, refl, ◌∙◌, inl, rules}
+use Rattle.std.specs.Arc.{arc_value}
 use Rattle.duct_status.specs.ShapeView.{shape_view}
 use Rattle.duct_running.specs.NumbersView.{numbers_view}
 use Rattle.duct_handle.specs.AnswerView.{answer_view}
@@ -10,7 +11,7 @@ pub returns-in_ok-try_clone-in-Some-Output-clause-told : goal.returns-in_ok-try_
 returns-in_ok-try_clone-in-Some-Output-clause-told g c =
     let same = c.if-not-same.ensures.0 refl in
     let numbers : numbers_view c.args.published.now.numbers ≡ c.args.self.now.numbers = same.1 ∙ ap (λ (h : HandleView). h.numbers) c.self.view_is in
-    let shape : shape_view c.args.published.now.shape ≡ shape_view c.args.self.now.shape = same.0 ∙ ap (λ (h : HandleView). shape_view h.shape) c.self.view_is in
+    let shape : shape_view (arc_value c.args.published.now.shape) ≡ shape_view c.args.self.now.shape = same.0 ∙ ap (λ s. shape_view s) c.deref.ensures ∙ ap (λ (h : HandleView). shape_view h.shape) c.self.view_is in
     inl (inl (
       answer_view c.in-Some-Output.field-0,
       concluded g.S.Child.Child.may_answer g.S.Feed.Job.may_say g.S.Drain.Job.may_say _ _ _ _ c.args.published.now.answer c.in-Some-Output.field-0 c.in-Some-Output.is numbers shape c.args.published.now.told,
@@ -21,7 +22,7 @@ pub returns-in_ok-try_clone-in-Some-Failed-clause-told : goal.returns-in_ok-try_
 returns-in_ok-try_clone-in-Some-Failed-clause-told g c =
     let same = c.if-not-same.ensures.0 refl in
     let numbers : numbers_view c.args.published.now.numbers ≡ c.args.self.now.numbers = same.1 ∙ ap (λ (h : HandleView). h.numbers) c.self.view_is in
-    let shape : shape_view c.args.published.now.shape ≡ shape_view c.args.self.now.shape = same.0 ∙ ap (λ (h : HandleView). shape_view h.shape) c.self.view_is in
+    let shape : shape_view (arc_value c.args.published.now.shape) ≡ shape_view c.args.self.now.shape = same.0 ∙ ap (λ s. shape_view s) c.deref.ensures ∙ ap (λ (h : HandleView). shape_view h.shape) c.self.view_is in
     inl (inl (
       answer_view c.in-Some-Failed.field-0,
       concluded g.S.Child.Child.may_answer g.S.Feed.Job.may_say g.S.Drain.Job.may_say _ _ _ _ c.args.published.now.answer c.in-Some-Failed.field-0 c.in-Some-Failed.is numbers shape c.args.published.now.told,

@@ -1,10 +1,13 @@
-//! The first pass of a start: it turns a tree into a flat list of actions and the scopes that they
-//! name. It makes no request to a system.
+//! The first pass of a start: it compiles a tree to a flat list of actions, the scopes that they
+//! name, and the shape of the tree. It makes no request to a system.
+ghost use Rattle.std.specs.Arc.{arc_value};
 ghost use Rattle.std.specs.Prelude.{ℕ, List, ◌≡◌, ◌+◌, ◌++◌, length, map, string_bytes, IfOk, OnOk, IsOkUnless};
 ghost use Rattle.std.specs.Option.{option_map, option_to_list};
+ghost use Rattle.duct_status.specs.ShapeView.{command_count, input_count, shape_view};
 ghost use Rattle.duct_start.specs.Actions.{ActionOf};
 ghost use Rattle.duct_start.specs.Flat.{command_actions, depth_inside, on_side, opened_source, port_at, source_actions, source_inside};
 ghost use Rattle.duct_start.specs.ActionList.{list_of, scope_index};
+ghost use Rattle.duct_start.specs.ShapeOfTree.{shape_of_tree};
 ghost use Rattle.duct_start.specs.TreeView.{TreeView, around, stdout_capture};
 ghost use Rattle.duct_run.specs.ActionView.{action_view, actions_view};
 ghost use Rattle.duct_run.specs.ScopeView.{scopes_view};
@@ -16,78 +19,107 @@ ghost use Rattle.duct_tree.specs.NodeView.{modifier_view, node_view};
 mod action_list;
 mod context;
 
+use crate::compile::action_list::more;
+use crate::compile::context::{NodeContext, StreamSource};
 use crate::effect::{Opening, Route, effect_of};
-use crate::flatten::action_list::more;
-use crate::flatten::context::{NodeContext, StreamSource};
+use crate::shape::{piped, shape_around};
 use crate::tree::{Modifier, Node};
 pub use action_list::ActionList;
 use duct_base::error::Error;
 use duct_base::spec::{Port, Stream};
+use duct_base::status::Shape;
 use duct_base::system::Side;
 use duct_run::action::{Action, Ports};
 use duct_run::scope::Setting;
 use std::alloc::Global;
+use std::sync::Arc;
 
-/// Returns the list of a node's tree. Fails only with `Error::Memory`, on allocation failure or
-/// where a count does not fit in a `usize`.
-pub fn flatten<'a, E, H>(alloc: Global, root: &'a Node<E, H>) -> Result<ActionList<'a, E, H>, Error>
-    ensures actions { IfOk result (λ list.
-        actions_view list.actions.items ≡ (list_of (node_view root.now)).actions) }
-    ensures scopes { IfOk result (λ list.
-        scopes_view list.scopes.items ≡ (list_of (node_view root.now)).scopes) }
+/// What a start runs, and the shape of its tree.
+#[derive(Drop)]
+pub struct Compiled<'a, E, H> {
+    /// The actions and the scopes that they name.
+    pub list: ActionList<'a, E, H>,
+    /// The shape of the tree. It shares the words of the commands.
+    pub shape: Arc<Shape>,
+    pub ghost commands_counted: { list.commands ≡ command_count (shape_view (arc_value shape)) },
+    pub ghost inputs_counted: { list.inputs ≡ input_count (shape_view (arc_value shape)) },
+}
+
+/// Compiles a node's tree, in one pass. Fails only with `Error::Memory`, on allocation failure,
+/// where a count does not fit in a `usize`, or where the words of a command have too many owners.
+pub fn compile<'a, E, H>(alloc: Global, root: &'a Node<E, H>) -> Result<Compiled<'a, E, H>, Error>
+    ensures actions { IfOk result (λ compiled. actions_view compiled.list.actions.items
+        ≡ (list_of (node_view root.now)).actions) }
+    ensures scopes { IfOk result (λ compiled. scopes_view compiled.list.scopes.items
+        ≡ (list_of (node_view root.now)).scopes) }
+    ensures shape { IfOk result (λ compiled.
+        shape_view (arc_value compiled.shape) ≡ shape_of_tree (node_view root.now)) }
     ensures memory { IsOkUnless result Error.Memory }
 {
     let mut list = ActionList::new(alloc);
-    walk(root, NodeContext::root(), &mut list)?;
-    Ok(list)
+    let shape = walk(alloc, root, NodeContext::root(), &mut list)?;
+    let shape = Arc::new(alloc, shape)?;
+    Ok(Compiled { list, shape })
 }
 
-/// Returns the list of a node's tree, as if there were a capture of stdout around it. Fails as
-/// `flatten` does.
-pub fn flatten_captured<'a, E, H>(
+/// Compiles a node's tree as if there were a capture of stdout around it, which leaves the shape as
+/// it is. Fails as `compile` does.
+pub fn compile_captured<'a, E, H>(
     alloc: Global,
     root: &'a Node<E, H>,
-) -> Result<ActionList<'a, E, H>, Error>
-    ensures actions { IfOk result (λ list. actions_view list.actions.items
+) -> Result<Compiled<'a, E, H>, Error>
+    ensures actions { IfOk result (λ compiled. actions_view compiled.list.actions.items
         ≡ (list_of (around stdout_capture (node_view root.now))).actions) }
-    ensures scopes { IfOk result (λ list. scopes_view list.scopes.items
+    ensures scopes { IfOk result (λ compiled. scopes_view compiled.list.scopes.items
         ≡ (list_of (around stdout_capture (node_view root.now))).scopes) }
+    ensures shape { IfOk result (λ compiled.
+        shape_view (arc_value compiled.shape) ≡ shape_of_tree (node_view root.now)) }
     ensures memory { IsOkUnless result Error.Memory }
 {
     let mut list = ActionList::new(alloc);
     list.add(Action::Capture(Side::Out))?;
     let inside = NodeContext::root().with_output(StreamSource::Captured(Side::Out));
-    walk(root, inside, &mut list)?;
-    Ok(list)
+    let shape = walk(alloc, root, inside, &mut list)?;
+    let shape = Arc::new(alloc, shape)?;
+    Ok(Compiled { list, shape })
 }
 
-// Adds the actions and the scopes of a tree in this context.
+// Adds the actions and the scopes of a tree in this context. Returns the shape of the tree.
 fn walk<'a, E, H>(
+    alloc: Global,
     node: &'a Node<E, H>,
     inside: NodeContext<'a, E>,
     list: &mut ActionList<'a, E, H>,
-) -> Result<(), Error>
+) -> Result<Shape, Error>
     ensures list { OnOk result (action_list_view list.new
         ≡ with_tree inside.entry (node_view node.now) (action_list_view list.old)) }
+    ensures shape { IfOk result (λ shape. shape_view shape ≡ shape_of_tree (node_view node.now)) }
     ensures memory { IsOkUnless result Error.Memory }
 {
     match node {
-        Node::Cmd(words) => command(words.as_slice(), inside, list),
+        Node::Cmd(words) => {
+            command(words.as_slice(), inside, list)?;
+            Ok(Shape::Command(words.clone()?))
+        }
         Node::Pipe(left, right) => {
             let reader = inside.depth;
             let writer = more(reader, 1)?;
             let writing = inside.deeper(2)?.with_output(StreamSource::Slot(writer));
             let reading = inside.deeper(1)?.with_input(StreamSource::Slot(reader));
             list.add(Action::Pipe)?;
-            walk(left, writing, list)?;
+            let left = walk(alloc, left, writing, list)?;
             list.add(Action::Close)?;
-            walk(right, reading, list)?;
-            list.add(Action::Close)
+            let right = walk(alloc, right, reading, list)?;
+            let shape = piped(alloc, left, right)?;
+            list.add(Action::Close)?;
+            Ok(shape)
         }
         Node::Io(modifier, inner) => {
             let within = enter(modifier, inside, list)?;
-            walk(inner, within, list)?;
-            leave(modifier, list)
+            let inner = walk(alloc, inner, within, list)?;
+            let shape = shape_around(alloc, modifier, inner)?;
+            leave(modifier, list)?;
+            Ok(shape)
         }
     }
 }

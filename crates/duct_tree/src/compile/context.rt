@@ -3,7 +3,7 @@ ghost use Rattle.std.specs.Prelude.{◌≡◌, ◌+◌, IfOk, IsOkUnless};
 ghost use Rattle.duct_start.specs.Flat.{root_sources};
 ghost use Rattle.duct_tree.specs.NodeContextView.{sources_view};
 
-use crate::flatten::action_list::more;
+use crate::compile::action_list::more;
 use duct_base::error::Error;
 use duct_base::spec::Stream;
 use duct_base::system::Side;

@@ -4,7 +4,7 @@ use Rattle.std.proofs.lemmas.Result.{IfOk-weaker}
 use Rattle.duct_status.specs.ShapeView.{shape_view}
 use Rattle.duct_start.specs.Row.{Row}
 use Rattle.duct_start.specs.ShapeOfTree.{marked}
-use Rattle.duct_tree.proofs.shape.around.Goals as goal
+use Rattle.duct_tree.proofs.shape.shape_around.Goals as goal
 
 pub returns-clause-shape : goal.returns-clause-shape
 returns-clause-shape g c =

@@ -1,10 +1,14 @@
 //! The list that the first pass of a start makes.
-ghost use Rattle.std.specs.Prelude.{◌≡◌, ◌+◌, ◌++◌, [], ◌∷◌, length, IfOk, OnOk, IsOkUnless};
+ghost use Rattle.std.specs.Prelude.{◌≡◌, ◌+◌, ◌++◌, ◌||◌, [], ◌∷◌, length, IfOk, OnOk, IsOkUnless};
+ghost use Rattle.duct_system.specs.declared.system.Side.TheVariants as side;
+ghost use Rattle.duct_start.specs.Actions.{captures_in, is_capture};
 ghost use Rattle.duct_run.specs.ActionView.{action_view, actions_view};
 ghost use Rattle.duct_run.specs.ScopeView.{scopes_view, setting_view};
 ghost use Rattle.duct_tree.specs.ActionCounts.{feed_count, spawn_count};
 
 use duct_base::error::Error;
+use duct_base::status::Drains;
+use duct_base::system::Side;
 use duct_run::action::Action;
 use duct_run::scope::{Scope, Setting};
 use std::alloc::Global;
@@ -19,10 +23,14 @@ pub struct ActionList<'a, E, H> {
     pub commands: usize,
     /// How many input workers the actions start.
     pub inputs: usize,
+    /// Which capture pipes the actions open.
+    pub captures: Drains,
     /// The stack never has more ends than this.
     pub deepest: usize,
     pub ghost commands_counted: { commands ≡ spawn_count (actions_view actions.items) },
     pub ghost inputs_counted: { inputs ≡ feed_count (actions_view actions.items) },
+    pub ghost output_noted: { captures.out ≡ captures_in side.Out (actions_view actions.items) },
+    pub ghost error_noted: { captures.err ≡ captures_in side.Err (actions_view actions.items) },
 }
 
 impl<'a, E, H> ActionList<'a, E, H> {
@@ -36,11 +44,16 @@ impl<'a, E, H> ActionList<'a, E, H> {
             scopes: Vec::new(alloc),
             commands: 0,
             inputs: 0,
+            captures: Drains {
+                out: false,
+                err: false,
+            },
             deepest: 0,
         }
     }
 
     /// Adds an action.
+    #[tactic(auto, using(crate::proofs::Counts::captures_push))]
     pub(crate) fn add(&mut self, action: Action<'a, E>) -> Result<(), Error>
         ensures actions { OnOk result (actions_view self.new.actions.items
             ≡ actions_view self.old.actions.items ++ action_view action.entry ∷ []) }
@@ -51,9 +64,11 @@ impl<'a, E, H> ActionList<'a, E, H> {
         let feeds = usize::from(matches!(action, Action::Feed(_)));
         let commands = more(self.commands, spawns)?;
         let inputs = more(self.inputs, feeds)?;
+        let captures = noted(self.captures, action);
         self.actions.push(action)?;
         self.commands = commands;
         self.inputs = inputs;
+        self.captures = captures;
         Ok(())
     }
 
@@ -81,6 +96,34 @@ impl<'a, E, H> ActionList<'a, E, H> {
         let index = more(self.scopes.len(), 1)?;
         self.scopes.push(Scope { setting, outer })?;
         Ok(index)
+    }
+}
+
+// Returns which capture pipes are opened by an action, or were before it.
+fn noted<E>(captures: Drains, action: Action<'_, E>) -> Drains
+    ensures out { result.out ≡ (is_capture side.Out (action_view action.entry) || captures.out) }
+    ensures err { result.err ≡ (is_capture side.Err (action_view action.entry) || captures.err) }
+{
+    match action {
+        Action::Capture(Side::Out) => Drains {
+            out: true,
+            ..captures
+        },
+        Action::Capture(Side::Err) => Drains {
+            err: true,
+            ..captures
+        },
+        Action::OpenRead(_)
+        | Action::Create(_)
+        | Action::Pipe
+        | Action::Input
+        | Action::Duplicate(_)
+        | Action::DuplicateCapture(_)
+        | Action::DuplicateCallerEnd(_)
+        | Action::Parent(_)
+        | Action::Close
+        | Action::Spawn(_, _, _)
+        | Action::Feed(_) => captures,
     }
 }
 

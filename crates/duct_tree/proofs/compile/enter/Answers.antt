@@ -9,7 +9,7 @@ use Rattle.duct_tree.specs.EffectView.{effect_view}
 use Rattle.duct_tree.specs.NodeContextView.{sources_view}
 use Rattle.duct_tree.specs.ActionListView.{action_list_view, with_scope}
 use Rattle.duct_tree.specs.NodeView.{modifier_view}
-use Rattle.duct_tree.proofs.flatten.enter.Goals as goal
+use Rattle.duct_tree.proofs.compile.enter.Goals as goal
 
 pub returns-clause-list : goal.returns-clause-list
 returns-clause-list g c =

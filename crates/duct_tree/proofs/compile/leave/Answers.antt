@@ -5,7 +5,7 @@ use Rattle.duct_run.specs.ActionView.{actions_view}
 use Rattle.duct_run.specs.ScopeView.{scopes_view}
 use Rattle.duct_start.specs.Row.{Row}
 use Rattle.duct_tree.specs.ActionListView.{closings}
-use Rattle.duct_tree.proofs.flatten.leave.Goals as goal
+use Rattle.duct_tree.proofs.compile.leave.Goals as goal
 
 pub returns-clause-list : goal.returns-clause-list
 returns-clause-list g c =

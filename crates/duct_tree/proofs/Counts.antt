@@ -1,0 +1,143 @@
+-- The list of a tree starts what its shape counts: a child for each command, and an input worker for
+-- each input.
+use Rattle.std.proofs.Common.{◌≡◌, ℕ, ◌+◌, Bool, true, false, List, [], ◌∷◌, ◌++◌, length, refl, ap, ◌∙◌, arith, cond}
+use Rattle.std.specs.Prelude.{◌||◌}
+use Rattle.std.proofs.lemmas.List.Sums.{sum_by-append, sum_by-cons}
+use Rattle.duct_system.specs.declared.spec.Stream.{Stream}
+use Rattle.duct_system.specs.declared.spec.Stream.TheVariants.{In, Out, Err}
+use Rattle.duct_system.specs.declared.system.Side.{Side}
+use Rattle.duct_status.specs.ShapeView.{ShapeView, command_count, input_count}
+use Rattle.duct_start.specs.Actions as action
+use Rattle.duct_start.specs.Actions.{ActionOf, PerStream, captures_in, is_capture}
+use Rattle.duct_start.specs.ActionList.{list_of, list_of_subtree, next_index, scope_index}
+use Rattle.duct_start.specs.Flat.{StreamSource, parents, nothing, slot, captured, lent, command_actions, depth_inside, ports_at, root_sources, source_actions, sources_inside, actions_around, with_input, with_output}
+use Rattle.duct_start.specs.Row.{RowOpening, opens_nothing, opens_input, opens_read, opens_create, opens_capture, row}
+use Rattle.duct_start.specs.ShapeOfTree.{shape_around, shape_of_tree}
+use Rattle.duct_start.specs.TreeView.{ModifierView, TreeView, command, pipe, around, stdin_bytes, unchecked}
+use Rattle.duct_tree.specs.ActionCounts.{feed_count, is_feed, is_spawn, spawn_count}
+
+swapped : (a b c : Bool) → (a || (b || c)) ≡ (b || (a || c))
+swapped true true c = refl
+swapped true false c = refl
+swapped false true c = refl
+swapped false false c = refl
+
+-- a capture is opened by a list if the last action opens it, or one before
+pub captures_push : {E K : Type 0} (which : Side) (actions : List (ActionOf E K)) (last : ActionOf E K)
+    → captures_in which (actions ++ last ∷ []) ≡ (is_capture which last || captures_in which actions)
+captures_push which [] last = refl
+captures_push which (first ∷ actions) last =
+    ap (λ b. is_capture which first || b) (captures_push which actions last)
+    ∙ swapped (is_capture which first) (is_capture which last) (captures_in which actions)
+
+-- this many commands and input workers are started by these actions
+record Starts {E K : Type 0} (commands inputs : ℕ) (actions : List (ActionOf E K)) : Type 0 where
+  pub spawns : spawn_count actions ≡ commands
+  pub feeds : feed_count actions ≡ inputs
+
+module _ {E : Type 0} where
+  starts_both : {a b c d : ℕ} (xs ys : List (ActionOf E ℕ)) → Starts a b xs → Starts c d ys
+      → Starts (a + c) (b + d) (xs ++ ys)
+  starts_both xs ys one other = record {
+    spawns = omega (arith, sum_by-append (λ x. cond (is_spawn x) 1 0) xs ys, one.spawns, other.spawns);
+    feeds = omega (arith, sum_by-append (λ x. cond (is_feed x) 1 0) xs ys, one.feeds, other.feeds);
+  }
+
+  starts_as : {a b c d : ℕ} (xs : List (ActionOf E ℕ)) → a ≡ c → b ≡ d → Starts a b xs
+      → Starts c d xs
+  starts_as xs one other starts = record { spawns = starts.spawns ∙ one; feeds = starts.feeds ∙ other }
+
+  fetches_none : (source : StreamSource E) (stream : Stream)
+      → Starts 0 0 (source_actions {E = E} {K = ℕ} source stream)
+  fetches_none nothing stream = record { spawns = refl; feeds = refl }
+  fetches_none (slot depth) stream = record { spawns = refl; feeds = refl }
+  fetches_none (captured which) stream = record { spawns = refl; feeds = refl }
+  fetches_none (lent end) stream = record { spawns = refl; feeds = refl }
+  fetches_none (parents In) stream = record { spawns = refl; feeds = refl }
+  fetches_none (parents Out) In = record { spawns = refl; feeds = refl }
+  fetches_none (parents Out) Out = record { spawns = refl; feeds = refl }
+  fetches_none (parents Out) Err = record { spawns = refl; feeds = refl }
+  fetches_none (parents Err) In = record { spawns = refl; feeds = refl }
+  fetches_none (parents Err) Out = record { spawns = refl; feeds = refl }
+  fetches_none (parents Err) Err = record { spawns = refl; feeds = refl }
+
+  starts_command : (i : ℕ) (w : PerStream (StreamSource E)) (words : List (List ℕ))
+      → Starts 1 0 (command_actions {E = E} {K = ℕ} i w words)
+  starts_command i w words =
+      let last : List (ActionOf E ℕ) = action.spawn i words (ports_at w) ∷ [] in
+      let error : List (ActionOf E ℕ) = source_actions w.error Err ++ last in
+      let output : List (ActionOf E ℕ) = source_actions w.output Out ++ error in
+      let one : Starts 1 0 last = record { spawns = refl; feeds = refl } in
+      starts_both (source_actions w.input In) output (fetches_none w.input In)
+      (starts_both (source_actions w.output Out) error (fetches_none w.output Out)
+      (starts_both (source_actions w.error Err) last (fetches_none w.error Err) one))
+
+  -- actions around others start an input worker if an input is opened
+  abbrev feeds_of : RowOpening → ℕ
+  feeds_of opens_nothing = 0
+  feeds_of (opens_input bytes) = 1
+  feeds_of (opens_read path) = 0
+  feeds_of (opens_create path) = 0
+  feeds_of (opens_capture which) = 0
+
+  none_first : (first : ActionOf E ℕ) (xs : List (ActionOf E ℕ)) {a b : ℕ} → is_spawn first ≡ false
+      → is_feed first ≡ false → Starts a b xs → Starts a b (first ∷ xs)
+  none_first first xs spawn feed starts = record {
+    spawns = sum_by-cons (λ x. cond (is_spawn x) 1 0) first xs ∙ (λ j. cond (spawn j) 1 0 + starts.spawns j);
+    feeds = sum_by-cons (λ x. cond (is_feed x) 1 0) first xs ∙ (λ j. cond (feed j) 1 0 + starts.feeds j);
+  }
+
+  starts_around : (opens : RowOpening) (inside : List (ActionOf E ℕ)) {a b : ℕ} → Starts a b inside
+      → Starts a (b + feeds_of opens) (actions_around opens inside)
+  starts_around opens_nothing inside starts = starts
+  starts_around (opens_input bytes) inside starts =
+      let last : List (ActionOf E ℕ) = action.close ∷ action.feed bytes ∷ [] in
+      none_first action.input (inside ++ last) refl refl (starts_both inside last starts (record { spawns = refl; feeds = refl }))
+  starts_around (opens_read path) inside starts =
+      let last : List (ActionOf E ℕ) = action.close ∷ [] in
+      none_first (action.open_read path) (inside ++ last) refl refl (starts_both inside last starts (record { spawns = refl; feeds = refl }))
+  starts_around (opens_create path) inside starts =
+      let last : List (ActionOf E ℕ) = action.close ∷ [] in
+      none_first (action.create path) (inside ++ last) refl refl (starts_both inside last starts (record { spawns = refl; feeds = refl }))
+  starts_around (opens_capture which) inside starts =
+      none_first (action.capture which) inside refl refl starts
+
+module _ {E H : Type 0} where
+  -- a modifier adds no command, and an input if it opens one
+  commands_around : (modifier : ModifierView E H) (shape : ShapeView)
+      → command_count shape ≡ command_count (shape_around modifier shape)
+  commands_around (stdin_bytes bytes) shape = refl
+  commands_around unchecked shape = refl
+  commands_around modifier shape = refl
+
+  inputs_around : (modifier : ModifierView E H) (shape : ShapeView)
+      → input_count shape + feeds_of (row modifier).opens ≡ input_count (shape_around modifier shape)
+  inputs_around (stdin_bytes bytes) shape = refl
+  inputs_around unchecked shape = omega arith
+  inputs_around modifier shape = omega arith
+
+  starts_subtree : (tree : TreeView E H) (i : ℕ) (w : PerStream (StreamSource E)) (n next : ℕ)
+      → Starts (command_count (shape_of_tree tree)) (input_count (shape_of_tree tree)) (list_of_subtree i w tree n next).actions
+  starts_subtree (command words) i w n next = starts_command i w words
+  starts_subtree (pipe left right) i w n next =
+      let a = list_of_subtree {E = E} {H = H} i (with_output (slot (n + 1)) w) left (n + 2) next in
+      let b = list_of_subtree {E = E} {H = H} i (with_input (slot n) w) right (n + 1) (next + length a.scopes) in
+      let last : List (ActionOf E ℕ) = action.close ∷ [] in
+      let second = starts_subtree right i (with_input (slot n) w) (n + 1) (next + length a.scopes) in
+      let first = starts_subtree left i (with_output (slot (n + 1)) w) (n + 2) next in
+      let closed = starts_both b.actions last second (record { spawns = refl; feeds = refl }) in
+      let opened = starts_both a.actions (action.close ∷ (b.actions ++ last)) first (none_first action.close (b.actions ++ last) refl refl closed) in
+      starts_as _ (omega arith) (omega arith) (none_first action.pipe _ refl refl opened)
+  starts_subtree (around modifier inner) i w n next =
+      let r = row modifier in
+      let inside = starts_subtree inner (scope_index r.says i next) (sources_inside r n w) (depth_inside r.opens n) (next_index r.says next) in
+      starts_as _ (commands_around modifier (shape_of_tree inner)) (inputs_around modifier (shape_of_tree inner)) (starts_around r.opens _ inside)
+
+  -- the list of a tree starts as many commands and input workers as its shape has
+  pub list_spawns : (tree : TreeView E H)
+      → spawn_count (list_of tree).actions ≡ command_count (shape_of_tree tree)
+  list_spawns tree = (starts_subtree tree 0 root_sources 0 1).spawns
+
+  pub list_feeds : (tree : TreeView E H)
+      → feed_count (list_of tree).actions ≡ input_count (shape_of_tree tree)
+  list_feeds tree = (starts_subtree tree 0 root_sources 0 1).feeds
