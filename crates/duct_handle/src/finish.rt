@@ -10,6 +10,7 @@ ghost use Rattle.duct_handle.specs.Waited.{at_end};
 
 use crate::output::output_or_give_up;
 use crate::pause::Pause;
+use crate::poll::polled;
 use duct_base::error::Error;
 use duct_base::pool::Pool;
 use duct_base::system::{Output, System};
@@ -17,16 +18,6 @@ use duct_run::views::Seen;
 use duct_running::running::Running;
 use std::alloc::Global;
 use std::sync::{Arc, Wait};
-
-// Polls what runs. The result is concluded from what was reported under its numbers.
-fn polled<S: System>(running: &mut Running<S>) -> Result<Option<Arc<Output>>, Error>
-    ensures stays { StaysSame ⟦<S as Seen>⟧.views running.old running.new }
-    ensures ending { EndsAs ⟦<S as Seen>⟧.views running.new result }
-{
-    let polled = running.poll();
-    running.answers_allowed();
-    polled
-}
 
 /// Waits until the expression has ended and returns how, as `Handle::wait` does. A fault is
 /// returned by the first poll that finds one while no command says that it runs. It blocks, and

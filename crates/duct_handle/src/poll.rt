@@ -2,8 +2,9 @@
 ghost use Rattle.std.specs.Prelude.{◌≡◌, ◌↔◌, IfOk, IfErr, IfSome, IsTrue, is_some, true, Ok, Err, None};
 ghost use Rattle.std.specs.Arc.{arc_value};
 ghost use Rattle.duct_status.specs.ShapeView.{shape_view};
-ghost use Rattle.duct_running.specs.Answered.{IsAnswer, IsConcluded};
-ghost use Rattle.duct_running.specs.NumbersView.{numbers_view};
+ghost use Rattle.duct_running.specs.Answered.{EndsAs, IsAnswer, IsConcluded};
+ghost use Rattle.duct_running.specs.NumbersView.{numbers_of, numbers_view};
+ghost use Rattle.duct_running.specs.Stays.{StaysSame};
 ghost use Rattle.duct_running.specs.Allowed.{OneRuns};
 ghost use Rattle.duct_handle.specs.AnswerView.{answer_view};
 ghost use Rattle.duct_handle.specs.Waited.{IsNoEnding};
@@ -11,10 +12,11 @@ ghost use Rattle.duct_handle.specs.Waited.{IsNoEnding};
 use crate::published::{Answer, Published};
 use duct_base::error::Error;
 use duct_base::status::Shape;
-use duct_base::system::{Fault, Kind, System};
+use duct_base::system::{Fault, Kind, Output, System};
 use duct_run::views::Seen;
 use duct_running::numbers::Numbers;
 use duct_running::running::Running;
+use std::sync::Arc;
 
 /// What runs, and what is published once it has ended.
 pub(crate) struct HandleState<S: System> {
@@ -27,6 +29,18 @@ pub(crate) fn mismatch_error() -> Error
     ensures { result ≡ Error.System (record { kind = Kind.Other }) }
 {
     Error::System(Fault::new(Kind::Other))
+}
+
+// Polls what runs. The result is concluded from what was reported under its numbers.
+pub(crate) fn polled<S: System>(running: &mut Running<S>) -> Result<Option<Arc<Output>>, Error>
+    ensures stays { StaysSame ⟦<S as Seen>⟧.views running.old running.new }
+    ensures ending { EndsAs ⟦<S as Seen>⟧.views running.new result }
+    ensures runs { result ≡ Ok None
+        → OneRuns ⟦<S as Seen>⟧.views (numbers_of ⟦<S as Seen>⟧.views running.new) }
+{
+    let polled = running.poll();
+    running.answers_allowed();
+    polled
 }
 
 // Polls what runs, which has this shape and these numbers.
@@ -44,12 +58,11 @@ fn poll_checked<S: System>(
     ensures err { IfErr result (λ e. IsAnswer ⟦<S as Seen>⟧.views (shape_view shape.now)
         (numbers_view numbers.now) (Err e)) }
 {
-    let polled = running.poll();
-    running.answers_allowed();
+    let ended = polled(running);
     if !running.is_of(shape, numbers) {
         return Err(mismatch_error());
     }
-    match polled {
+    match ended {
         Ok(None) => Ok(None),
         Ok(Some(output)) => Ok(Some(Answer::Output(output))),
         Err(Error::Checked(text)) => Ok(Some(Answer::Failed(text))),

@@ -4,7 +4,7 @@ ghost use Rattle.std.specs.Prelude.{ℕ, ◌≡◌, Some};
 ghost use Rattle.duct_system.specs.declared.spec.Stream.TheVariants.{In};
 ghost use Rattle.duct_start.specs.Step as node;
 ghost use Rattle.duct_start.specs.Step.{step, step_if_setting, step_of_row};
-ghost use Rattle.duct_tree.specs.EffectView.{effect_view, opening_view, route_view, says_view};
+ghost use Rattle.duct_tree.specs.EffectView.{effect_view, input_route_view, opening_view, output_route_view, says_view};
 ghost use Rattle.duct_tree.specs.NodeView.{modifier_view};
 ghost use Rattle.duct_plan.specs.Step.{idle, turn_of, IsStep};
 
@@ -12,7 +12,7 @@ use crate::found::VariableChange;
 use duct::tree::Modifier;
 use duct::{Side, Stream};
 use duct_run::scope::Setting;
-use duct_tree::effect::{Effect, Opening, Route, effect_of};
+use duct_tree::effect::{Effect, InputRoute, Opening, OutputRoute, effect_of};
 use std::convert::AsStr;
 
 /// Where a stream goes inside a node.
@@ -96,36 +96,36 @@ fn effect_step<'t, E, H>(effect: Effect<'t, E, H>) -> NodeStep<'t, E, H>
     NodeStep {
         opening: effect.opening,
         input: input_turn(effect.input, effect.opening),
-        output: side_turn(effect.output, effect.opening),
-        error: side_turn(effect.error, effect.opening),
+        output: output_turn(effect.output, effect.opening),
+        error: output_turn(effect.error, effect.opening),
         ..setting_step(effect.setting)
     }
 }
 
 /// Returns where stdin goes that takes this route inside a node that opens this.
-fn input_turn<'t, E>(route: Route<'t, (), E>, opening: Opening<'t>) -> Turn<'t, E>
+fn input_turn<'t, E>(route: InputRoute<'t, E>, opening: Opening<'t>) -> Turn<'t, E>
     ensures { (place : ℕ) → turn_of result place ≡ node.turn_of (λ stream. In)
-        (opening_view opening.entry) place (route_view route.entry) }
+        (opening_view opening.entry) place (input_route_view route.entry) }
 {
     match route {
-        Route::Outside(()) => Turn::Follows(Stream::In),
-        Route::Nothing => Turn::Nothing,
-        Route::Lent(end) => Turn::Lends(end),
-        Route::Opened => opened_turn(opening),
+        InputRoute::Outside => Turn::Follows(Stream::In),
+        InputRoute::Nothing => Turn::Nothing,
+        InputRoute::Lent(end) => Turn::Lends(end),
+        InputRoute::Opened => opened_turn(opening),
     }
 }
 
 /// Returns where stdout or stderr goes that takes this route inside a node that opens this.
-fn side_turn<'t, E>(route: Route<'t, Side, E>, opening: Opening<'t>) -> Turn<'t, E>
+fn output_turn<'t, E>(route: OutputRoute<'t, E>, opening: Opening<'t>) -> Turn<'t, E>
     ensures { (place : ℕ) → turn_of result place ≡ node.turn_of node.stream_on
-        (opening_view opening.entry) place (route_view route.entry) }
+        (opening_view opening.entry) place (output_route_view route.entry) }
 {
     match route {
-        Route::Outside(Side::Out) => Turn::Follows(Stream::Out),
-        Route::Outside(Side::Err) => Turn::Follows(Stream::Err),
-        Route::Nothing => Turn::Nothing,
-        Route::Lent(end) => Turn::Lends(end),
-        Route::Opened => opened_turn(opening),
+        OutputRoute::Outside(Side::Out) => Turn::Follows(Stream::Out),
+        OutputRoute::Outside(Side::Err) => Turn::Follows(Stream::Err),
+        OutputRoute::Nothing => Turn::Nothing,
+        OutputRoute::Lent(end) => Turn::Lends(end),
+        OutputRoute::Opened => opened_turn(opening),
     }
 }
 

@@ -16,7 +16,7 @@ use duct_table::expressions::{Tree, written};
 use duct_table::scenes::{Bench, CALLS, FIRST, Scene, bench_of};
 use duct_table::stop::TableError;
 use duct_table::told::noted_text;
-use duct_tree::effect::{Opening, Route, effect_of};
+use duct_tree::effect::{InputRoute, Opening, OutputRoute, effect_of};
 use std::alloc::{AllocError, Global};
 use std::slice;
 
@@ -437,16 +437,13 @@ fn deepest<E, H>(node: &Node<E, H>) -> usize {
 /// Returns 1 for an input, a path or a caller's end, and 0 for any other node.
 fn depth<E, H>(modifier: &Modifier<E, H>) -> usize {
     let effect = effect_of(modifier);
-    let lends = is_lent(effect.input) || is_lent(effect.output) || is_lent(effect.error);
+    let lends = matches!(effect.input, InputRoute::Lent(_))
+        || matches!(effect.output, OutputRoute::Lent(_))
+        || matches!(effect.error, OutputRoute::Lent(_));
     match effect.opening {
         Opening::Input(_) | Opening::Read(_) | Opening::Create(_) => 1,
         Opening::Nothing | Opening::Capture(_) => usize::from(lends),
     }
-}
-
-/// Whether a stream that takes this route goes to a caller's end.
-fn is_lent<K, E>(route: Route<'_, K, E>) -> bool {
-    matches!(route, Route::Lent(_))
 }
 
 /// Returns the number of children, feeds and drains that a start returned, or the text of its

@@ -1,6 +1,6 @@
 -- The list of a tree starts what its shape counts: a child for each command, and an input worker for
 -- each input.
-use Rattle.std.proofs.Common.{◌≡◌, ℕ, ◌+◌, Bool, true, false, List, [], ◌∷◌, ◌++◌, length, refl, ap, ◌∙◌, arith, cond}
+use Rattle.std.proofs.Common.{◌≡◌, ℕ, ◌+◌, Bool, true, false, List, [], ◌∷◌, ◌++◌, length, refl, ap, sym, ◌∙◌, arith, cond}
 use Rattle.std.specs.Prelude.{◌||◌}
 use Rattle.std.proofs.lemmas.List.Sums.{sum_by-append, sum_by-cons}
 use Rattle.duct_system.specs.declared.spec.Stream.{Stream}
@@ -30,10 +30,38 @@ captures_push which (first ∷ actions) last =
     ap (λ b. is_capture which first || b) (captures_push which actions last)
     ∙ swapped (is_capture which first) (is_capture which last) (captures_in which actions)
 
+-- so the flag that notes it is right after the push
+pub captures_noted : {E : Type 0} (which : Side) (before after : Bool) (actions more : List (ActionOf E ℕ)) (last : ActionOf E ℕ)
+    → before ≡ captures_in which actions → after ≡ (is_capture which last || before) → more ≡ actions ++ last ∷ []
+    → after ≡ captures_in which more
+captures_noted which before after actions more last was noted pushed =
+    noted ∙ ap (λ b. is_capture which last || b) was ∙ sym (ap (λ l. captures_in which l) pushed ∙ captures_push which actions last)
+
+-- the counts after the push
+pub spawns_push : {E : Type 0} (before one after : ℕ) (actions more : List (ActionOf E ℕ)) (last : ActionOf E ℕ)
+    → before ≡ spawn_count actions → one ≡ spawn_count (last ∷ []) → after ≡ before + one → more ≡ actions ++ last ∷ []
+    → after ≡ spawn_count more
+spawns_push before one after actions more last was starts sum pushed =
+    omega (arith, was, starts, sum, sum_by-append (λ x. cond (is_spawn x) 1 0) actions (last ∷ []), ap (λ l. spawn_count l) pushed)
+
+pub feeds_push : {E : Type 0} (before one after : ℕ) (actions more : List (ActionOf E ℕ)) (last : ActionOf E ℕ)
+    → before ≡ feed_count actions → one ≡ feed_count (last ∷ []) → after ≡ before + one → more ≡ actions ++ last ∷ []
+    → after ≡ feed_count more
+feeds_push before one after actions more last was starts sum pushed =
+    omega (arith, was, starts, sum, sum_by-append (λ x. cond (is_feed x) 1 0) actions (last ∷ []), ap (λ l. feed_count l) pushed)
+
 -- this many commands and input workers are started by these actions
 record Starts {E K : Type 0} (commands inputs : ℕ) (actions : List (ActionOf E K)) : Type 0 where
   pub spawns : spawn_count actions ≡ commands
   pub feeds : feed_count actions ≡ inputs
+
+-- actions around others start an input worker if an input is opened
+abbrev feeds_of : RowOpening → ℕ
+feeds_of opens_nothing = 0
+feeds_of (opens_input bytes) = 1
+feeds_of (opens_read path) = 0
+feeds_of (opens_create path) = 0
+feeds_of (opens_capture which) = 0
 
 module _ {E : Type 0} where
   starts_both : {a b c d : ℕ} (xs ys : List (ActionOf E ℕ)) → Starts a b xs → Starts c d ys
@@ -72,35 +100,27 @@ module _ {E : Type 0} where
       (starts_both (source_actions w.output Out) error (fetches_none w.output Out)
       (starts_both (source_actions w.error Err) last (fetches_none w.error Err) one))
 
-  -- actions around others start an input worker if an input is opened
-  abbrev feeds_of : RowOpening → ℕ
-  feeds_of opens_nothing = 0
-  feeds_of (opens_input bytes) = 1
-  feeds_of (opens_read path) = 0
-  feeds_of (opens_create path) = 0
-  feeds_of (opens_capture which) = 0
-
   none_first : (first : ActionOf E ℕ) (xs : List (ActionOf E ℕ)) {a b : ℕ} → is_spawn first ≡ false
       → is_feed first ≡ false → Starts a b xs → Starts a b (first ∷ xs)
   none_first first xs spawn feed starts = record {
-    spawns = sum_by-cons (λ x. cond (is_spawn x) 1 0) first xs ∙ (λ j. cond (spawn j) 1 0 + starts.spawns j);
-    feeds = sum_by-cons (λ x. cond (is_feed x) 1 0) first xs ∙ (λ j. cond (feed j) 1 0 + starts.feeds j);
+    spawns = omega (arith, sum_by-cons (λ x. cond (is_spawn x) 1 0) first xs, ap (λ b. cond {A = ℕ} b 1 0) spawn, starts.spawns);
+    feeds = omega (arith, sum_by-cons (λ x. cond (is_feed x) 1 0) first xs, ap (λ b. cond {A = ℕ} b 1 0) feed, starts.feeds);
   }
 
   starts_around : (opens : RowOpening) (inside : List (ActionOf E ℕ)) {a b : ℕ} → Starts a b inside
       → Starts a (b + feeds_of opens) (actions_around opens inside)
-  starts_around opens_nothing inside starts = starts
+  starts_around opens_nothing inside starts = starts_as inside refl (omega arith) starts
   starts_around (opens_input bytes) inside starts =
       let last : List (ActionOf E ℕ) = action.close ∷ action.feed bytes ∷ [] in
-      none_first action.input (inside ++ last) refl refl (starts_both inside last starts (record { spawns = refl; feeds = refl }))
+      starts_as _ (omega arith) refl (none_first action.input (inside ++ last) refl refl (starts_both inside last starts (record { spawns = refl; feeds = refl })))
   starts_around (opens_read path) inside starts =
       let last : List (ActionOf E ℕ) = action.close ∷ [] in
-      none_first (action.open_read path) (inside ++ last) refl refl (starts_both inside last starts (record { spawns = refl; feeds = refl }))
+      starts_as _ (omega arith) refl (none_first (action.open_read path) (inside ++ last) refl refl (starts_both inside last starts (record { spawns = refl; feeds = refl })))
   starts_around (opens_create path) inside starts =
       let last : List (ActionOf E ℕ) = action.close ∷ [] in
-      none_first (action.create path) (inside ++ last) refl refl (starts_both inside last starts (record { spawns = refl; feeds = refl }))
+      starts_as _ (omega arith) refl (none_first (action.create path) (inside ++ last) refl refl (starts_both inside last starts (record { spawns = refl; feeds = refl })))
   starts_around (opens_capture which) inside starts =
-      none_first (action.capture which) inside refl refl starts
+      starts_as _ refl (omega arith) (none_first (action.capture which) inside refl refl starts)
 
 module _ {E H : Type 0} where
   -- a modifier adds no command, and an input if it opens one

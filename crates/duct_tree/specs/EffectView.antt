@@ -2,6 +2,7 @@
 use Rattle.std.specs.Prelude.{Some, None}
 use Rattle.std.specs.declared.option.Option.{Option}
 use Rattle.std.specs.Arc.{arc_value}
+use Rattle.duct_system.specs.declared.system.Side.{Side}
 use Rattle.duct_start.specs.Row as row
 use Rattle.duct_start.specs.Row.{Row, SettingView}
 use Rattle.duct_run.specs.ScopeView.{setting_view}
@@ -11,8 +12,10 @@ use Rattle.duct_tree.specs.declared.effect.Mark.{Mark}
 use Rattle.duct_tree.specs.declared.effect.Mark.TheVariants as mark
 use Rattle.duct_tree.specs.declared.effect.Opening.{Opening}
 use Rattle.duct_tree.specs.declared.effect.Opening.TheVariants as opening
-use Rattle.duct_tree.specs.declared.effect.Route.{Route}
-use Rattle.duct_tree.specs.declared.effect.Route.TheVariants as route
+use Rattle.duct_tree.specs.declared.effect.InputRoute.{InputRoute}
+use Rattle.duct_tree.specs.declared.effect.InputRoute.TheVariants as input_route
+use Rattle.duct_tree.specs.declared.effect.OutputRoute.{OutputRoute}
+use Rattle.duct_tree.specs.declared.effect.OutputRoute.TheVariants as output_route
 
 -- what a node opens
 abbrev pub opening_view : Opening → row.RowOpening
@@ -22,12 +25,19 @@ opening_view (opening.Read path) = row.opens_read path.now
 opening_view (opening.Create path) = row.opens_create path.now
 opening_view (opening.Capture which) = row.opens_capture which
 
--- where a stream goes
-abbrev pub route_view : {K E : Type 0} → Route K E → row.Route K E
-route_view (route.Outside stream) = row.as_outside stream
-route_view route.Nothing = row.to_nothing
-route_view (route.Lent end) = row.to_lent end.now
-route_view route.Opened = row.to_opened
+-- where stdin goes
+abbrev pub input_route_view : {E : Type 0} → InputRoute E → row.Route (Unit {0}) E
+input_route_view input_route.Outside = row.as_outside tt
+input_route_view input_route.Nothing = row.to_nothing
+input_route_view (input_route.Lent end) = row.to_lent end.now
+input_route_view input_route.Opened = row.to_opened
+
+-- where stdout or stderr goes
+abbrev pub output_route_view : {E : Type 0} → OutputRoute E → row.Route Side E
+output_route_view (output_route.Outside side) = row.as_outside side
+output_route_view output_route.Nothing = row.to_nothing
+output_route_view (output_route.Lent end) = row.to_lent end.now
+output_route_view output_route.Opened = row.to_opened
 
 -- what a node sets, if anything: the folder, a change of the variables, or a hook
 abbrev pub says_view : {E H : Type 0} → Option (Setting E H) → Option (SettingView E H)
@@ -44,9 +54,9 @@ mark_view mark.Unchecked = row.is_unchecked
 abbrev pub effect_view : {E H : Type 0} → Effect E H → Row E H
 effect_view effect = record {
   opens = opening_view effect.opening;
-  input = route_view effect.input;
-  output = route_view effect.output;
-  error = route_view effect.error;
+  input = input_route_view effect.input;
+  output = output_route_view effect.output;
+  error = output_route_view effect.error;
   says = says_view effect.setting;
   mark = mark_view effect.mark;
 }

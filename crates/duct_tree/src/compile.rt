@@ -11,7 +11,7 @@ ghost use Rattle.duct_start.specs.ShapeOfTree.{shape_of_tree};
 ghost use Rattle.duct_start.specs.TreeView.{TreeView, around, stdout_capture};
 ghost use Rattle.duct_run.specs.ActionView.{action_view, actions_view};
 ghost use Rattle.duct_run.specs.ScopeView.{scopes_view};
-ghost use Rattle.duct_tree.specs.EffectView.{opening_view, says_view, route_view};
+ghost use Rattle.duct_tree.specs.EffectView.{input_route_view, opening_view, output_route_view, says_view};
 ghost use Rattle.duct_tree.specs.NodeContextView.{source_view, sources_view};
 ghost use Rattle.duct_tree.specs.ActionListView.{closings, action_list_view, openings, with_ending, with_scope, with_tree};
 ghost use Rattle.duct_tree.specs.NodeView.{modifier_view, node_view};
@@ -21,7 +21,7 @@ mod context;
 
 use crate::compile::action_list::more;
 use crate::compile::context::{NodeContext, StreamSource};
-use crate::effect::{Opening, Route, effect_of};
+use crate::effect::{InputRoute, Opening, OutputRoute, effect_of};
 use crate::shape::{piped, shape_around};
 use crate::tree::{Modifier, Node};
 pub use action_list::ActionList;
@@ -143,8 +143,8 @@ fn enter<'a, E, H>(
     Ok(NodeContext {
         scope,
         input: input_source(effect.input, opened.source, inside),
-        output: side_source(effect.output, opened.source, inside),
-        error: side_source(effect.error, opened.source, inside),
+        output: output_source(effect.output, opened.source, inside),
+        error: output_source(effect.error, opened.source, inside),
         depth: opened.depth,
     })
 }
@@ -242,36 +242,36 @@ fn scoped<'a, E, H>(
 
 // Returns the source of stdin where it goes this way.
 fn input_source<'a, E>(
-    route: Route<'a, (), E>,
+    route: InputRoute<'a, E>,
     opened: StreamSource<'a, E>,
     inside: NodeContext<'a, E>,
 ) -> StreamSource<'a, E>
     ensures { source_view result ≡ source_inside (λ stream. (sources_view inside.entry).input)
-        (route_view route.entry) (source_view opened.entry) }
+        (input_route_view route.entry) (source_view opened.entry) }
 {
     match route {
-        Route::Outside(()) => inside.input,
-        Route::Nothing => StreamSource::Nothing,
-        Route::Lent(end) => StreamSource::Lent(end),
-        Route::Opened => opened,
+        InputRoute::Outside => inside.input,
+        InputRoute::Nothing => StreamSource::Nothing,
+        InputRoute::Lent(end) => StreamSource::Lent(end),
+        InputRoute::Opened => opened,
     }
 }
 
 // Returns the source of stdout or stderr where it goes this way.
-fn side_source<'a, E>(
-    route: Route<'a, Side, E>,
+fn output_source<'a, E>(
+    route: OutputRoute<'a, E>,
     opened: StreamSource<'a, E>,
     inside: NodeContext<'a, E>,
 ) -> StreamSource<'a, E>
     ensures { source_view result ≡ source_inside (on_side (sources_view inside.entry))
-        (route_view route.entry) (source_view opened.entry) }
+        (output_route_view route.entry) (source_view opened.entry) }
 {
     match route {
-        Route::Outside(Side::Out) => inside.output,
-        Route::Outside(Side::Err) => inside.error,
-        Route::Nothing => StreamSource::Nothing,
-        Route::Lent(end) => StreamSource::Lent(end),
-        Route::Opened => opened,
+        OutputRoute::Outside(Side::Out) => inside.output,
+        OutputRoute::Outside(Side::Err) => inside.error,
+        OutputRoute::Nothing => StreamSource::Nothing,
+        OutputRoute::Lent(end) => StreamSource::Lent(end),
+        OutputRoute::Opened => opened,
     }
 }
 

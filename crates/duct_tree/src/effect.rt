@@ -32,11 +32,10 @@ impl Clone for Opening<'_> {
 
 impl Copy for Opening<'_> {}
 
-/// Where a stream goes inside a node. `K` names the streams that it may follow: stdin follows
-/// itself alone, and stdout and stderr follow either of the two.
-pub enum Route<'a, K, E> {
-    /// Where this stream goes outside the node.
-    Outside(K),
+/// Where stdin goes inside a node.
+pub enum InputRoute<'a, E> {
+    /// Where it goes outside the node.
+    Outside,
     /// To nothing.
     Nothing,
     /// To this caller's end.
@@ -45,13 +44,33 @@ pub enum Route<'a, K, E> {
     Opened,
 }
 
-impl<K: Copy, E> Clone for Route<'_, K, E> {
+impl<E> Clone for InputRoute<'_, E> {
     fn clone(&self) -> Result<Self, AllocError> {
         Ok(*self)
     }
 }
 
-impl<K: Copy, E> Copy for Route<'_, K, E> {}
+impl<E> Copy for InputRoute<'_, E> {}
+
+/// Where stdout or stderr goes inside a node.
+pub enum OutputRoute<'a, E> {
+    /// Where this one of the two goes outside the node.
+    Outside(Side),
+    /// To nothing.
+    Nothing,
+    /// To this caller's end.
+    Lent(&'a E),
+    /// To what the node opens.
+    Opened,
+}
+
+impl<E> Clone for OutputRoute<'_, E> {
+    fn clone(&self) -> Result<Self, AllocError> {
+        Ok(*self)
+    }
+}
+
+impl<E> Copy for OutputRoute<'_, E> {}
 
 /// What the shape of a start shows of a node.
 #[derive(Clone, Copy)]
@@ -69,11 +88,11 @@ pub struct Effect<'a, E, H> {
     /// What it opens.
     pub opening: Opening<'a>,
     /// Where stdin goes.
-    pub input: Route<'a, (), E>,
+    pub input: InputRoute<'a, E>,
     /// Where stdout goes.
-    pub output: Route<'a, Side, E>,
+    pub output: OutputRoute<'a, E>,
     /// Where stderr goes.
-    pub error: Route<'a, Side, E>,
+    pub error: OutputRoute<'a, E>,
     /// What it sets, if anything: the folder, a change of the variables, or a hook.
     pub setting: Option<Setting<'a, E, H>>,
     /// What the shape shows of it.
@@ -94,79 +113,79 @@ pub fn effect_of<E, H>(modifier: &Modifier<E, H>) -> Effect<'_, E, H>
 {
     let idle = Effect {
         opening: Opening::Nothing,
-        input: Route::Outside(()),
-        output: Route::Outside(Side::Out),
-        error: Route::Outside(Side::Err),
+        input: InputRoute::Outside,
+        output: OutputRoute::Outside(Side::Out),
+        error: OutputRoute::Outside(Side::Err),
         setting: None,
         mark: Mark::Plain,
     };
     match modifier {
         Modifier::StdinBytes(bytes) => Effect {
             opening: Opening::Input(bytes),
-            input: Route::Opened,
+            input: InputRoute::Opened,
             mark: Mark::Input,
             ..idle
         },
         Modifier::StdinPath(path) => Effect {
             opening: Opening::Read(path.as_str()),
-            input: Route::Opened,
+            input: InputRoute::Opened,
             ..idle
         },
         Modifier::StdinFile(end) => Effect {
-            input: Route::Lent(end),
+            input: InputRoute::Lent(end),
             ..idle
         },
         Modifier::StdinNull => Effect {
-            input: Route::Nothing,
+            input: InputRoute::Nothing,
             ..idle
         },
         Modifier::StdoutPath(path) => Effect {
             opening: Opening::Create(path.as_str()),
-            output: Route::Opened,
+            output: OutputRoute::Opened,
             ..idle
         },
         Modifier::StdoutFile(end) => Effect {
-            output: Route::Lent(end),
+            output: OutputRoute::Lent(end),
             ..idle
         },
         Modifier::StdoutNull => Effect {
-            output: Route::Nothing,
+            output: OutputRoute::Nothing,
             ..idle
         },
         Modifier::StdoutCapture => Effect {
             opening: Opening::Capture(Side::Out),
-            output: Route::Opened,
+            output: OutputRoute::Opened,
             ..idle
         },
         Modifier::StdoutToStderr => Effect {
-            output: Route::Outside(Side::Err),
+            output: OutputRoute::Outside(Side::Err),
             ..idle
         },
         Modifier::StderrPath(path) => Effect {
             opening: Opening::Create(path.as_str()),
-            error: Route::Opened,
+            error: OutputRoute::Opened,
             ..idle
         },
         Modifier::StderrFile(end) => Effect {
-            error: Route::Lent(end),
+            error: OutputRoute::Lent(end),
             ..idle
         },
         Modifier::StderrNull => Effect {
-            error: Route::Nothing,
+            error: OutputRoute::Nothing,
             ..idle
         },
         Modifier::StderrCapture => Effect {
             opening: Opening::Capture(Side::Err),
-            error: Route::Opened,
+            error: OutputRoute::Opened,
             ..idle
         },
         Modifier::StderrToStdout => Effect {
-            error: Route::Outside(Side::Out),
+            error: OutputRoute::Outside(Side::Out),
             ..idle
         },
         Modifier::StdoutStderrSwap => Effect {
-            output: Route::Outside(Side::Err),
-            error: Route::Outside(Side::Out),
+            output: OutputRoute::Outside(Side::Err),
+            error: OutputRoute::Outside(Side::Out),
             ..idle
         },
         Modifier::Dir(path) => Effect {

@@ -53,17 +53,15 @@ impl<'a, E, H> ActionList<'a, E, H> {
     }
 
     /// Adds an action.
-    #[tactic(auto, using(crate::proofs::Counts::captures_push))]
     pub(crate) fn add(&mut self, action: Action<'a, E>) -> Result<(), Error>
         ensures actions { OnOk result (actions_view self.new.actions.items
             ≡ actions_view self.old.actions.items ++ action_view action.entry ∷ []) }
         ensures scopes { self.new.scopes ≡ self.old.scopes }
         ensures memory { IsOkUnless result Error.Memory }
     {
-        let spawns = usize::from(matches!(action, Action::Spawn(_, _, _)));
-        let feeds = usize::from(matches!(action, Action::Feed(_)));
-        let commands = more(self.commands, spawns)?;
-        let inputs = more(self.inputs, feeds)?;
+        let starts = started(action);
+        let commands = more(self.commands, starts.0)?;
+        let inputs = more(self.inputs, starts.1)?;
         let captures = noted(self.captures, action);
         self.actions.push(action)?;
         self.commands = commands;
@@ -96,6 +94,27 @@ impl<'a, E, H> ActionList<'a, E, H> {
         let index = more(self.scopes.len(), 1)?;
         self.scopes.push(Scope { setting, outer })?;
         Ok(index)
+    }
+}
+
+// Returns how many commands and how many input workers an action starts.
+fn started<E>(action: Action<'_, E>) -> (usize, usize)
+    ensures commands { result.0 ≡ spawn_count (action_view action.entry ∷ []) }
+    ensures inputs { result.1 ≡ feed_count (action_view action.entry ∷ []) }
+{
+    match action {
+        Action::Spawn(_, _, _) => (1, 0),
+        Action::Feed(_) => (0, 1),
+        Action::OpenRead(_)
+        | Action::Create(_)
+        | Action::Pipe
+        | Action::Input
+        | Action::Capture(_)
+        | Action::Duplicate(_)
+        | Action::DuplicateCapture(_)
+        | Action::DuplicateCallerEnd(_)
+        | Action::Parent(_)
+        | Action::Close => (0, 0),
     }
 }
 

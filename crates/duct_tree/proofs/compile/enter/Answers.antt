@@ -27,8 +27,8 @@ returns-clause-list g c =
       scope_is = c.in_ok-scope.ensures.index ∙ ap (λ s. scope_index r.says outer (length s + 1)) scopes;
       wires_are = λ j. record {
         input = (c.input_source.ensures ∙ ap (λ w. source_inside (λ stream. around.input) r.input w) source) j;
-        output = (c.side_source.ensures ∙ ap (λ w. source_inside (on_side around) r.output w) source) j;
-        error = (c.side_source-2.ensures ∙ ap (λ w. source_inside (on_side around) r.error w) source) j;
+        output = (c.output_source.ensures ∙ ap (λ w. source_inside (on_side around) r.output w) source) j;
+        error = (c.output_source-2.ensures ∙ ap (λ w. source_inside (on_side around) r.error w) source) j;
       };
       depth_is = c.in_ok-opened.ensures.depth;
     })

@@ -1,5 +1,5 @@
 use Rattle.duct_running.proofs.Kept.{stays}
-use Rattle.duct_handle.proofs.finish.polled.Goals as goal
+use Rattle.duct_handle.proofs.poll.polled.Goals as goal
 
 pub returns-clause-stays : goal.returns-clause-stays
 returns-clause-stays g c =
