@@ -41,9 +41,9 @@ fn prepare<'a, E: Drop, H, C: Drop, F: Drop, D: Drop>(
     compiled: Compiled<'a, E, H>,
     drains: Drains,
 ) -> Result<Ready<'a, E, H, C, F, D>, Error>
-    ensures compiled { IfOk result (λ ready. ready.compiled ≡ compiled) }
-    ensures prepared { IfOk result (λ ready. IsPrepared (shape_view (arc_value compiled.shape))
-        drains ready.core ready.room ready.held) }
+    ensures compiled { IfOk result (λ ready. ready.compiled ≡ compiled.entry) }
+    ensures prepared { IfOk result (λ ready. IsPrepared
+        (shape_view (arc_value compiled.entry.shape)) drains ready.core ready.room ready.held) }
     ensures memory { IsOkUnless result Error.Memory }
 {
     let core = Core::sharing(alloc, compiled.shape.clone()?, drains)?;

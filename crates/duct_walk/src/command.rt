@@ -1,5 +1,5 @@
 //! A command: its canonical path, its streams, its hooks, and its spawn.
-use crate::context::{Destination, Context, Variables};
+use crate::context::{Context, Destination, Variables};
 use crate::hooks::change;
 use crate::made::Made;
 use crate::requests::spawn;
@@ -77,8 +77,7 @@ fn find(goes: &mut Destination, stream: Stream, sys: &mut Script) -> Result<(), 
     let side = match (&*goes, stream) {
         (Destination::Parents(Stream::Out), Stream::Err) => Side::Out,
         (Destination::Parents(Stream::Err), Stream::Out) => Side::Err,
-        (Destination::Parents(_) | Destination::Nothing | Destination::End(_), _) =>
-            return Ok(()),
+        (Destination::Parents(_) | Destination::Nothing | Destination::End(_), _) => return Ok(()),
     };
     *goes = Destination::End(sys.parent(side)?);
     Ok(())

@@ -1,5 +1,5 @@
 //! What a hook changes.
-use crate::context::{Destination, Context};
+use crate::context::{Context, Destination};
 use duct_base::error::Error;
 use duct_base::spec::{CommandSpec, Hook, Port, Stream, give};
 use duct_base::system::System;

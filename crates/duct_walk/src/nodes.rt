@@ -1,6 +1,6 @@
 //! The walk over the nodes of a tree.
 use crate::command::command;
-use crate::context::{Destination, Context, created, lent, opened};
+use crate::context::{Context, Destination, created, lent, opened};
 use crate::made::{Made, tap};
 use crate::requests::{close, feed};
 use duct_base::error::Error;

@@ -5,7 +5,7 @@
 ghost use Rattle.std.specs.Prelude.{◌≡◌, []};
 ghost use Rattle.duct_system.specs.Streams.{end_of};
 
-use crate::context::{Destination, Context};
+use crate::context::{Context, Destination};
 use duct_base::error::Error;
 use duct_base::spec::CommandSpec;
 use duct_base::system::{Fault, Kind, Stdio, System};

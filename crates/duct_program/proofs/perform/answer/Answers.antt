@@ -13,9 +13,8 @@ returns-in-Ok-clause-text g c =
     (tree_view c.in_ok-expression.expression, search rules, (l.asked, l.makes))
 
 pub returns-clause-err : goal.returns-clause-err
-returns-clause-err g c =
-    (
-      tree_view c.in_ok-expression.expression,
-      search rules,
-      either_way (λ refused. refused.asked) (λ read. read) c.in-Err.ensures.failed.cause,
-    )
+returns-clause-err g c = (
+  tree_view c.in_ok-expression.expression,
+  search rules,
+  either_way (λ refused. refused.asked) (λ read. read) c.in-Err.ensures.failed.cause,
+)
