@@ -21,7 +21,7 @@ use duct_base::spec::Hook;
 use duct_base::system::{Entry, Fault, Kind, Numbered};
 use duct_plain::checker::{fault_of, trace};
 use duct_plan::asked::{Wired, asked_at};
-use duct_plan::found::Found;
+use duct_plan::found::Surroundings;
 use duct_plan::items::{Item, Plan};
 use duct_script::hook::ScriptHook;
 use std::alloc::Global;
@@ -148,7 +148,7 @@ fn is_stopped<E: Numbered>(
     alloc: Global,
     added: &[Entry],
     place: usize,
-    found: &Found<'_, E, ScriptHook>,
+    found: &Surroundings<'_, E, ScriptHook>,
     words: &[String],
     error: &Error,
 ) -> Result<bool, Untold>

@@ -146,18 +146,19 @@ fn opened_turn<'t, E>(opening: Opening<'t>) -> Turn<'t, E>
 fn setting_step<'t, E, H>(setting: Option<Setting<'t, E, H>>) -> NodeStep<'t, E, H>
     ensures { IsStep (step_if_setting (says_view setting.entry)) result }
 {
+    let idle = idle();
     match setting {
-        None => idle(),
+        None => idle,
         Some(Setting::Dir(path)) => NodeStep {
             folder: Some(path),
-            ..idle()
+            ..idle
         },
         Some(Setting::Env(name, value)) => changing(VariableChange::Sets(name.as_str(), value)),
         Some(Setting::EnvRemove(name)) => changing(VariableChange::Removes(name.as_str())),
         Some(Setting::FullEnv(vars)) => changing(VariableChange::Replaces(vars)),
         Some(Setting::BeforeSpawn(hook, ends)) => NodeStep {
             hook: Some((hook, ends)),
-            ..idle()
+            ..idle
         },
     }
 }
