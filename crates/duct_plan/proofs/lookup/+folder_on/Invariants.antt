@@ -2,5 +2,5 @@
 use Rattle.std.proofs.Common.{length}
 use Rattle.duct_plan.proofs.lookup.+folder_on.Given as goal
 
-abbrev pub decreases-folder : goal.decreases-folder
-decreases-folder g l = length l.way.now
+abbrev pub decreases-folder_on : goal.decreases-folder_on
+decreases-folder_on g l = length l.way.now

@@ -2,5 +2,5 @@
 use Rattle.std.proofs.Common.{length}
 use Rattle.duct_plan.proofs.lookup.+hooks_on.Given as goal
 
-abbrev pub decreases-hooks : goal.decreases-hooks
-decreases-hooks g l = length l.way.now
+abbrev pub decreases-hooks_on : goal.decreases-hooks_on
+decreases-hooks_on g l = length l.way.now

@@ -2,5 +2,5 @@
 use Rattle.std.proofs.Common.{length}
 use Rattle.duct_plan.proofs.lookup.+stream_goes.Given as goal
 
-abbrev pub decreases-goes : goal.decreases-goes
-decreases-goes g l = length l.way.now
+abbrev pub decreases-stream_goes : goal.decreases-stream_goes
+decreases-stream_goes g l = length l.way.now
