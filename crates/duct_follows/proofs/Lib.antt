@@ -6,7 +6,6 @@ pub mod SameStop
 pub mod ScriptHooks
 pub mod Specs
 pub mod Stopped
-pub mod Streams
 pub mod Texts
 pub mod Variables
 pub mod Wiring

@@ -5,6 +5,5 @@ pub mod causes;
 pub mod chain;
 pub mod follows;
 pub mod same;
-pub mod sources;
 pub mod stops;
 pub mod untold;

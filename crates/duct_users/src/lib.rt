@@ -4,8 +4,6 @@
 #![tactic(auto)]
 
 #[cfg(test)]
-mod adopted;
-#[cfg(test)]
 mod build;
 #[cfg(test)]
 mod clock;
