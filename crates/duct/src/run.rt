@@ -12,7 +12,7 @@ use duct_handle::buffers::{handle_buffers, handle_of};
 use duct_handle::finish::finish;
 use duct_reader::read::read_text;
 use duct_reader::reader::{ReaderHandle, reader_handle_of};
-use duct_run::views::Seen;
+use duct_run::views::Viewed;
 use std::io::Read;
 use std::sync::Wait;
 
@@ -32,9 +32,9 @@ impl<E: Drop, H: Hook> Expression<E, H> {
         sys: &mut S,
         pool: &mut Pool<S::Child>,
     ) -> Result<ReaderHandle<S, R>, Error>
-        ensures launched { IfOk result (λ handle. Launched ⟦<S as Seen>⟧.views H.allows reading
+        ensures launched { IfOk result (λ handle. Launched ⟦<S as Viewed>⟧.views H.allows reading
             self.now sys.old sys.new pool.old pool.new (Handles handle)) }
-        ensures refused { IfErr result (LaunchRefused ⟦<S as Seen>⟧.views H.allows H.refuses reading
+        ensures refused { IfErr result (LaunchRefused ⟦<S as Viewed>⟧.views H.allows H.refuses reading
             self.now sys.old sys.new pool.old pool.new) }
     {
         let alloc = self.allocator();
@@ -60,10 +60,10 @@ impl<E: Drop, H: Hook> Expression<E, H> {
         sys: &mut S,
         pool: &mut Pool<S::Child>,
     ) -> Result<Output, Error>
-        ensures output { IfOk result (λ output. Launched ⟦<S as Seen>⟧.views H.allows draining
-            self.now sys.old sys.new pool.old pool.new (Returns ⟦<S as Seen>⟧.views output)) }
-        ensures failed { IfErr result (RunFailed ⟦<S as Seen>⟧.views H.allows H.refuses draining
-            self.now sys.old sys.new pool.old pool.new (Fails ⟦<S as Seen>⟧.views)) }
+        ensures output { IfOk result (λ output. Launched ⟦<S as Viewed>⟧.views H.allows draining
+            self.now sys.old sys.new pool.old pool.new (Returns ⟦<S as Viewed>⟧.views output)) }
+        ensures failed { IfErr result (RunFailed ⟦<S as Viewed>⟧.views H.allows H.refuses draining
+            self.now sys.old sys.new pool.old pool.new (Fails ⟦<S as Viewed>⟧.views)) }
     {
         let running = self.launch(sys, pool)?;
         finish(self.allocator(), rt, running, pool)
@@ -86,11 +86,11 @@ impl<E: Drop, H: Hook> Expression<E, H> {
         sys: &mut S,
         pool: &mut Pool<S::Child>,
     ) -> Result<String, Error>
-        ensures text { IfOk result (λ text. Launched ⟦<S as Seen>⟧.views H.allows reading self.now
-            sys.old sys.new pool.old pool.new (Reads ⟦<S as Seen>⟧.views S.may_read
+        ensures text { IfOk result (λ text. Launched ⟦<S as Viewed>⟧.views H.allows reading self.now
+            sys.old sys.new pool.old pool.new (Reads ⟦<S as Viewed>⟧.views S.may_read
             S.Reader.remaining text)) }
-        ensures failed { IfErr result (RunFailed ⟦<S as Seen>⟧.views H.allows H.refuses reading
-            self.now sys.old sys.new pool.old pool.new (ReadFails ⟦<S as Seen>⟧.views S.may_read
+        ensures failed { IfErr result (RunFailed ⟦<S as Viewed>⟧.views H.allows H.refuses reading
+            self.now sys.old sys.new pool.old pool.new (ReadFails ⟦<S as Viewed>⟧.views S.may_read
             S.Reader.remaining)) }
     {
         let (running, reader) = self.launch_reader(sys, pool)?;

@@ -20,7 +20,7 @@ use duct_handle::buffers::{handle_buffers, handle_of};
 use duct_handle::handle::Handle;
 use duct_run::resources::{Resources, no_resources};
 use duct_run::start::{start, start_reader};
-use duct_run::views::Seen;
+use duct_run::views::Viewed;
 use duct_running::running::{Running, RunningBuffers, running_of};
 use duct_tree::compile::{Compiled, compile, compile_captured};
 use std::alloc::Global;
@@ -128,9 +128,9 @@ impl<E: Drop, H: Hook> Expression<E, H> {
         sys: &mut S,
         pool: &mut Pool<S::Child>,
     ) -> Result<Running<S>, Error>
-        ensures launched { IfOk result (λ running. Launched ⟦<S as Seen>⟧.views H.allows draining
-            self.now sys.old sys.new pool.old pool.new (Runs ⟦<S as Seen>⟧.views running)) }
-        ensures refused { IfErr result (LaunchRefused ⟦<S as Seen>⟧.views H.allows H.refuses
+        ensures launched { IfOk result (λ running. Launched ⟦<S as Viewed>⟧.views H.allows draining
+            self.now sys.old sys.new pool.old pool.new (Runs ⟦<S as Viewed>⟧.views running)) }
+        ensures refused { IfErr result (LaunchRefused ⟦<S as Viewed>⟧.views H.allows H.refuses
             draining self.now sys.old sys.new pool.old pool.new) }
     {
         let ready = self.ready()?;
@@ -147,10 +147,10 @@ impl<E: Drop, H: Hook> Expression<E, H> {
         sys: &mut S,
         pool: &mut Pool<S::Child>,
     ) -> Result<(Running<S>, S::Reader), Error>
-        ensures launched { IfOk result (λ made. Launched ⟦<S as Seen>⟧.views H.allows reading
-            self.now sys.old sys.new pool.old pool.new (RunsRead ⟦<S as Seen>⟧.views S.may_read
+        ensures launched { IfOk result (λ made. Launched ⟦<S as Viewed>⟧.views H.allows reading
+            self.now sys.old sys.new pool.old pool.new (RunsRead ⟦<S as Viewed>⟧.views S.may_read
             made.0 made.1)) }
-        ensures refused { IfErr result (LaunchRefused ⟦<S as Seen>⟧.views H.allows H.refuses reading
+        ensures refused { IfErr result (LaunchRefused ⟦<S as Viewed>⟧.views H.allows H.refuses reading
             self.now sys.old sys.new pool.old pool.new) }
     {
         let ready = self.ready_captured()?;
@@ -169,9 +169,9 @@ impl<E: Drop, H: Hook> Expression<E, H> {
         sys: &mut S,
         pool: &mut Pool<S::Child>,
     ) -> Result<Handle<S>, Error>
-        ensures launched { IfOk result (λ handle. Launched ⟦<S as Seen>⟧.views H.allows draining
+        ensures launched { IfOk result (λ handle. Launched ⟦<S as Viewed>⟧.views H.allows draining
             self.now sys.old sys.new pool.old pool.new (Handles handle)) }
-        ensures refused { IfErr result (LaunchRefused ⟦<S as Seen>⟧.views H.allows H.refuses
+        ensures refused { IfErr result (LaunchRefused ⟦<S as Viewed>⟧.views H.allows H.refuses
             draining self.now sys.old sys.new pool.old pool.new) }
     {
         let alloc = self.allocator();
@@ -218,9 +218,9 @@ impl<E: Drop, H: Hook> Expression<E, H> {
         ready: Ready<'_, E, H, Place<S::Child>, S::Feed, S::Drain>,
     ) -> Result<Running<S>, Error>
         requires { IsReady draining (tree_view self.now) ready }
-        ensures launched { IfOk result (λ running. Launched ⟦<S as Seen>⟧.views H.allows draining
-            self.now sys.old sys.new pool.old pool.new (Runs ⟦<S as Seen>⟧.views running)) }
-        ensures refused { IfErr result (LaunchRefused ⟦<S as Seen>⟧.views H.allows H.refuses
+        ensures launched { IfOk result (λ running. Launched ⟦<S as Viewed>⟧.views H.allows draining
+            self.now sys.old sys.new pool.old pool.new (Runs ⟦<S as Viewed>⟧.views running)) }
+        ensures refused { IfErr result (LaunchRefused ⟦<S as Viewed>⟧.views H.allows H.refuses
             draining self.now sys.old sys.new pool.old pool.new) }
     {
         let Ready {
@@ -242,10 +242,10 @@ impl<E: Drop, H: Hook> Expression<E, H> {
         ready: Ready<'_, E, H, Place<S::Child>, S::Feed, S::Drain>,
     ) -> Result<(Running<S>, S::Reader), Error>
         requires { IsReady reading (tree_view self.now) ready }
-        ensures launched { IfOk result (λ made. Launched ⟦<S as Seen>⟧.views H.allows reading
-            self.now sys.old sys.new pool.old pool.new (RunsRead ⟦<S as Seen>⟧.views S.may_read
+        ensures launched { IfOk result (λ made. Launched ⟦<S as Viewed>⟧.views H.allows reading
+            self.now sys.old sys.new pool.old pool.new (RunsRead ⟦<S as Viewed>⟧.views S.may_read
             made.0 made.1)) }
-        ensures refused { IfErr result (LaunchRefused ⟦<S as Seen>⟧.views H.allows H.refuses reading
+        ensures refused { IfErr result (LaunchRefused ⟦<S as Viewed>⟧.views H.allows H.refuses reading
             self.now sys.old sys.new pool.old pool.new) }
     {
         let Ready {

@@ -13,7 +13,7 @@ use duct_base::error::Error;
 use duct_base::pool::Pool;
 use duct_base::status::Shape;
 use duct_base::system::System;
-use duct_run::views::Seen;
+use duct_run::views::Viewed;
 use duct_running::numbers::Numbers;
 use duct_running::running::Running;
 use once_cell::race::OnceBox;
@@ -110,10 +110,10 @@ pub fn handle_of<S: System>(alloc: Global, running: Running<S>, room: HandleBuff
     requires numbers { HaveRoom (shape_view running.shape) room.numbers }
     requires spare { HaveRoom (shape_view running.shape) room.spare.value.numbers }
     requires silent { room.spare.value.answer ≡ None }
-    requires unasked { AreUnasked ⟦<S as Seen>⟧.views running.children running.feeds
+    requires unasked { AreUnasked ⟦<S as Viewed>⟧.views running.children running.feeds
         running.output running.error }
     ensures shape { shape_view result.shape ≡ shape_view running.shape }
-    ensures numbers { result.numbers ≡ numbers_of ⟦<S as Seen>⟧.views running }
+    ensures numbers { result.numbers ≡ numbers_of ⟦<S as Viewed>⟧.views running }
 {
     let HandleBuffers {
         shape,
@@ -166,7 +166,7 @@ impl<S: System> Handle<S> {
     /// nothing and can't fail.
     pub fn give_up(self, pool: &mut Pool<S::Child>)
         ensures { (children : List S.Child)
-            × PoolGets ⟦<S as Seen>⟧.views children pool.old pool.new }
+            × PoolGets ⟦<S as Viewed>⟧.views children pool.old pool.new }
     {
         let (running, shape, numbers) = into_locked(self);
         drop((shape, numbers));

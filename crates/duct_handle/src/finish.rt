@@ -14,7 +14,7 @@ use crate::poll::polled;
 use duct_base::error::Error;
 use duct_base::pool::Pool;
 use duct_base::system::{Output, System};
-use duct_run::views::Seen;
+use duct_run::views::Viewed;
 use duct_running::running::Running;
 use std::alloc::Global;
 use std::sync::{Arc, Wait};
@@ -23,9 +23,9 @@ use std::sync::{Arc, Wait};
 /// returned by the first poll that finds one while no command says that it runs. It blocks, and
 /// gives the children no order. None of them may have been given one before.
 pub fn wait_for<S: System>(rt: &impl Wait, running: &mut Running<S>) -> Result<Arc<Output>, Error>
-    requires { IsUnordered ⟦<S as Seen>⟧.views running.old }
-    ensures stays { StaysSame ⟦<S as Seen>⟧.views running.old running.new }
-    ensures ending { EndsAs ⟦<S as Seen>⟧.views running.old (at_end result) }
+    requires { IsUnordered ⟦<S as Viewed>⟧.views running.old }
+    ensures stays { StaysSame ⟦<S as Viewed>⟧.views running.old running.new }
+    ensures ending { EndsAs ⟦<S as Viewed>⟧.views running.old (at_end result) }
 {
     let mut pause = Pause::new();
     for _ in rt.forever() {
@@ -50,13 +50,13 @@ pub fn finish<S: System>(
     mut running: Running<S>,
     pool: &mut Pool<S::Child>,
 ) -> Result<Output, Error>
-    requires { IsUnordered ⟦<S as Seen>⟧.views running }
-    ensures output { IfOk result (λ output. IsConcluded ⟦<S as Seen>⟧.views
-        (shape_view running.shape) (numbers_of ⟦<S as Seen>⟧.views running)
+    requires { IsUnordered ⟦<S as Viewed>⟧.views running }
+    ensures output { IfOk result (λ output. IsConcluded ⟦<S as Viewed>⟧.views
+        (shape_view running.shape) (numbers_of ⟦<S as Viewed>⟧.views running)
         (answered output.status output.stdout.items output.stderr.items)) }
-    ensures err { IfErr result (λ e. EndsAs ⟦<S as Seen>⟧.views running (Err e)) }
+    ensures err { IfErr result (λ e. EndsAs ⟦<S as Viewed>⟧.views running (Err e)) }
     ensures kept { OnOk result (pool.new ≡ pool.old) }
-    ensures given { OnErr result (PoolGetsWaited ⟦<S as Seen>⟧.views running pool.old pool.new) }
+    ensures given { OnErr result (PoolGetsWaited ⟦<S as Viewed>⟧.views running pool.old pool.new) }
 {
     let waited = wait_for(rt, &mut running);
     output_or_give_up(alloc, running, waited, pool)

@@ -13,7 +13,7 @@ use crate::published::{Answer, Published};
 use duct_base::error::Error;
 use duct_base::status::Shape;
 use duct_base::system::{Output, System};
-use duct_run::views;
+use duct_run::views::Viewed;
 use duct_running::numbers::Numbers;
 use once_cell::race::{Note, OnceBox};
 use std::alloc::Global;
@@ -130,7 +130,7 @@ impl<S: System> Handle<S> {
         seen: &mut Seen<S>,
     ) -> Result<Option<Arc<Output>>, Error>
         requires { seen.old.cell ≡ self.now.cell }
-        ensures { Waited ⟦<S as views::Seen>⟧.views self.now seen.old seen.new result }
+        ensures { Waited ⟦<S as Viewed>⟧.views self.now seen.old seen.new result }
     {
         let mut busy = false;
         self.poll_as(rt, seen, &mut busy)
@@ -138,10 +138,10 @@ impl<S: System> Handle<S> {
 
     /// Does what `try_wait_as` does, with a token of its own.
     pub fn try_wait(&self, rt: &impl Wait) -> Result<Option<Arc<Output>>, Error>
-        ensures told { IsAnswer ⟦<S as views::Seen>⟧.views (shape_view self.now.shape)
+        ensures told { IsAnswer ⟦<S as Viewed>⟧.views (shape_view self.now.shape)
             self.now.numbers result }
         ensures pending { result ≡ Ok None
-            → OneRuns ⟦<S as views::Seen>⟧.views self.now.numbers }
+            → OneRuns ⟦<S as Viewed>⟧.views self.now.numbers }
     {
         let mut seen = self.seen();
         self.try_wait_as(rt, &mut seen)
@@ -155,7 +155,7 @@ impl<S: System> Handle<S> {
         busy: &mut bool,
     ) -> Result<Option<Arc<Output>>, Error>
         requires { seen.old.cell ≡ self.now.cell }
-        ensures { Waited ⟦<S as views::Seen>⟧.views self.now seen.old seen.new result }
+        ensures { Waited ⟦<S as Viewed>⟧.views self.now seen.old seen.new result }
     {
         if let Some(answer) = self.recall(seen) {
             return answer;
@@ -171,7 +171,7 @@ impl<S: System> Handle<S> {
     fn recall(&self, seen: &mut Seen<S>) -> Option<Result<Option<Arc<Output>>, Error>>
         requires { seen.old.cell ≡ self.now.cell }
         ensures known { IfSome result
-            (Waited ⟦<S as views::Seen>⟧.views self.now seen.old seen.new) }
+            (Waited ⟦<S as Viewed>⟧.views self.now seen.old seen.new) }
         ensures unknown { IfNone result ((seen.old.known ≡ None) × (seen.new ≡ seen.old)) }
     {
         if let Some(published) = self.cell.get_as(&mut seen.note) {
@@ -190,7 +190,7 @@ impl<S: System> Handle<S> {
     ) -> Result<Option<Arc<Output>>, Error>
         requires cell { seen.old.cell ≡ self.now.cell }
         requires unknown { seen.old.known ≡ None }
-        ensures { Waited ⟦<S as views::Seen>⟧.views self.now seen.old seen.new result }
+        ensures { Waited ⟦<S as Viewed>⟧.views self.now seen.old seen.new result }
     {
         let looked = poll_and_publish(locked, &self.shape, &self.numbers);
         *busy = locked.running.is_busy();
@@ -207,7 +207,7 @@ impl<S: System> Handle<S> {
 
     // Returns what was published, with one more owner.
     fn share(&self, published: &Published<S>) -> Result<Option<Arc<Output>>, Error>
-        ensures told { IsAnswer ⟦<S as views::Seen>⟧.views (shape_view self.now.shape)
+        ensures told { IsAnswer ⟦<S as Viewed>⟧.views (shape_view self.now.shape)
             self.now.numbers result }
         ensures pending { result ≡ Ok None → ⊥ }
         ensures knows { KnowsIfEnded self.now (record {

@@ -8,7 +8,7 @@ use crate::poll::mismatch_error;
 use duct_base::error::Error;
 use duct_base::status::Shape;
 use duct_base::system::{Order, System};
-use duct_run::views::Seen;
+use duct_run::views::Viewed;
 use duct_running::numbers::Numbers;
 use duct_running::running::Running;
 use std::sync::Wait;
@@ -20,7 +20,7 @@ fn ordered<S: System>(
     numbers: &Numbers,
     order: Order,
 ) -> Result<(), Error>
-    ensures { IsObeyed ⟦<S as Seen>⟧.views order (numbers_view numbers.now).children result }
+    ensures { IsObeyed ⟦<S as Viewed>⟧.views order (numbers_view numbers.now).children result }
 {
     running.answers_allowed();
     if !running.is_of(shape, numbers) {
@@ -43,14 +43,14 @@ impl<S: System> Handle<S> {
     /// Fails with `Error::System`, the leftmost fault. If the note of the order can't be allocated
     /// for a command, the command is not given the order, and its fault is `OutOfMemory`.
     pub fn kill(&self, rt: &impl Wait) -> Result<(), Error>
-        ensures { IsObeyed ⟦<S as Seen>⟧.views Kill self.now.numbers.children result }
+        ensures { IsObeyed ⟦<S as Viewed>⟧.views Kill self.now.numbers.children result }
     {
         self.order(rt, Order::Kill)
     }
 
     // Gives an order under the lock.
     pub(crate) fn order(&self, rt: &impl Wait, order: Order) -> Result<(), Error>
-        ensures { IsObeyed ⟦<S as Seen>⟧.views order self.now.numbers.children result }
+        ensures { IsObeyed ⟦<S as Viewed>⟧.views order self.now.numbers.children result }
     {
         let mut guard = self.lock.lock(rt);
         ordered(&mut guard.running, &self.shape, &self.numbers, order)

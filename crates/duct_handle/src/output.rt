@@ -17,7 +17,7 @@ use duct_base::pool::Pool;
 use duct_base::status::Shape;
 use duct_base::system::{Kind, Output, System};
 use duct_run::ending::give_all;
-use duct_run::views::Seen;
+use duct_run::views::Viewed;
 use duct_running::numbers::Numbers;
 use duct_running::running::Running;
 use std::alloc::{AllocError, Global};
@@ -63,7 +63,7 @@ pub(crate) fn output_or_give_up<S: System>(
     ensures err { IfErr result (λ e. (waited ≡ Err e) ⊎ (e ≡ Error.Memory)) }
     ensures kept { OnOk result (pool.new ≡ pool.old) }
     ensures given { OnErr result
-        (PoolGets ⟦<S as Seen>⟧.views running.children pool.old pool.new) }
+        (PoolGets ⟦<S as Viewed>⟧.views running.children pool.old pool.new) }
 {
     let output = match waited {
         Ok(output) => output,
@@ -99,7 +99,7 @@ fn checked_output_or_give_up<S: System>(
     ensures err { IfErr result (λ e. (waited ≡ Err e) ⊎ (e ≡ Error.Memory)
         ⊎ (e ≡ Error.System (record { kind = Kind.Other }))) }
     ensures kept { OnOk result (pool.new ≡ pool.old) }
-    ensures given { IfErr result (λ e. AreGiven ⟦<S as Seen>⟧.views (numbers_view released.2) e
+    ensures given { IfErr result (λ e. AreGiven ⟦<S as Viewed>⟧.views (numbers_view released.2) e
         pool.old pool.new) }
 {
     let (ran, shape, numbers) = released;
@@ -119,13 +119,13 @@ impl<S: System> Handle<S> {
     /// captured bytes are lost.
     pub fn into_output(self, rt: &impl Wait, pool: &mut Pool<S::Child>) -> Result<Output, Error>
         ensures output { IfOk result
-            (λ output. IsConcluded ⟦<S as Seen>⟧.views (shape_view self.shape) self.numbers
+            (λ output. IsConcluded ⟦<S as Viewed>⟧.views (shape_view self.shape) self.numbers
             (answered output.status output.stdout.items output.stderr.items)) }
         ensures err { IfErr result
-            (λ e. IsAnswer ⟦<S as Seen>⟧.views (shape_view self.shape) self.numbers (Err e)) }
+            (λ e. IsAnswer ⟦<S as Viewed>⟧.views (shape_view self.shape) self.numbers (Err e)) }
         ensures kept { OnOk result (pool.new ≡ pool.old) }
         ensures given { IfErr result
-            (λ e. AreGiven ⟦<S as Seen>⟧.views self.numbers e pool.old pool.new) }
+            (λ e. AreGiven ⟦<S as Viewed>⟧.views self.numbers e pool.old pool.new) }
     {
         let waited = self.wait(rt);
         let alloc = self.alloc;

@@ -13,7 +13,7 @@ use crate::published::{Answer, Published};
 use duct_base::error::Error;
 use duct_base::status::Shape;
 use duct_base::system::{Fault, Kind, Output, System};
-use duct_run::views::Seen;
+use duct_run::views::Viewed;
 use duct_running::numbers::Numbers;
 use duct_running::running::Running;
 use std::sync::Arc;
@@ -33,10 +33,10 @@ pub(crate) fn mismatch_error() -> Error
 
 // Polls what runs. The result is concluded from what was reported under its numbers.
 pub(crate) fn polled<S: System>(running: &mut Running<S>) -> Result<Option<Arc<Output>>, Error>
-    ensures stays { StaysSame ⟦<S as Seen>⟧.views running.old running.new }
-    ensures ending { EndsAs ⟦<S as Seen>⟧.views running.new result }
+    ensures stays { StaysSame ⟦<S as Viewed>⟧.views running.old running.new }
+    ensures ending { EndsAs ⟦<S as Viewed>⟧.views running.new result }
     ensures runs { result ≡ Ok None
-        → OneRuns ⟦<S as Seen>⟧.views (numbers_of ⟦<S as Seen>⟧.views running.new) }
+        → OneRuns ⟦<S as Viewed>⟧.views (numbers_of ⟦<S as Viewed>⟧.views running.new) }
 {
     let polled = running.poll();
     running.answers_allowed();
@@ -49,13 +49,13 @@ fn poll_checked<S: System>(
     shape: &Shape,
     numbers: &Numbers,
 ) -> Result<Option<Answer>, Error>
-    ensures answer { IfOk result (λ o. IfSome o (λ a. IsConcluded ⟦<S as Seen>⟧.views
+    ensures answer { IfOk result (λ o. IfSome o (λ a. IsConcluded ⟦<S as Viewed>⟧.views
         (shape_view shape.now) (numbers_view numbers.now) (answer_view a))) }
-    ensures runs { result ≡ Ok None → OneRuns ⟦<S as Seen>⟧.views (numbers_view numbers.now) }
-    ensures waits { result ≡ Ok None → IsAnswer ⟦<S as Seen>⟧.views (shape_view shape.now)
+    ensures runs { result ≡ Ok None → OneRuns ⟦<S as Viewed>⟧.views (numbers_view numbers.now) }
+    ensures waits { result ≡ Ok None → IsAnswer ⟦<S as Viewed>⟧.views (shape_view shape.now)
         (numbers_view numbers.now) (Ok None) }
     ensures fault { IfErr result IsNoEnding }
-    ensures err { IfErr result (λ e. IsAnswer ⟦<S as Seen>⟧.views (shape_view shape.now)
+    ensures err { IfErr result (λ e. IsAnswer ⟦<S as Viewed>⟧.views (shape_view shape.now)
         (numbers_view numbers.now) (Err e)) }
 {
     let ended = polled(running);
@@ -77,11 +77,11 @@ pub(crate) fn poll_and_publish<S: System>(
     numbers: &Numbers,
 ) -> Result<Option<Box<Published<S>>>, Error>
     ensures ended { IfOk result (λ o. IfSome o (λ b. is_some b.value.answer ≡ true)) }
-    ensures runs { result ≡ Ok None → OneRuns ⟦<S as Seen>⟧.views (numbers_view numbers.now) }
-    ensures waits { result ≡ Ok None → IsAnswer ⟦<S as Seen>⟧.views (shape_view shape.now)
+    ensures runs { result ≡ Ok None → OneRuns ⟦<S as Viewed>⟧.views (numbers_view numbers.now) }
+    ensures waits { result ≡ Ok None → IsAnswer ⟦<S as Viewed>⟧.views (shape_view shape.now)
         (numbers_view numbers.now) (Ok None) }
     ensures fault { IfErr result IsNoEnding }
-    ensures err { IfErr result (λ e. IsAnswer ⟦<S as Seen>⟧.views (shape_view shape.now)
+    ensures err { IfErr result (λ e. IsAnswer ⟦<S as Viewed>⟧.views (shape_view shape.now)
         (numbers_view numbers.now) (Err e)) }
 {
     let Some(answer) = poll_checked(&mut locked.running, shape, numbers)? else {

@@ -6,7 +6,7 @@ ghost use Rattle.duct_system.specs.declared.error.Error.{Error};
 use crate::handle::Handle;
 use duct_base::error::Error;
 use duct_base::system::{Order, System};
-use duct_run::views::Seen;
+use duct_run::views::Viewed;
 use std::sync::Wait;
 
 /// Signals to the commands of a handle.
@@ -32,7 +32,7 @@ impl<S: System> HandleExt for Handle<S> {
     ghost use Rattle.duct_system.specs.declared.system.Order.TheVariants.{Signal};
     ghost use Rattle.duct_handle.specs.Obeyed.{IsObeyed};
 
-    ghost obeyed = { λ handle signal result. IsObeyed ⟦<S as Seen>⟧.views (Signal signal)
+    ghost obeyed = { λ handle signal result. IsObeyed ⟦<S as Viewed>⟧.views (Signal signal)
         handle.numbers.children result };
 
     fn send_signal(&self, rt: &impl Wait, signal: i32) -> Result<(), Error> {

@@ -11,7 +11,7 @@ use crate::handle::{Handle, Seen};
 use crate::pause::Pause;
 use duct_base::error::Error;
 use duct_base::system::{Clock, Output, System};
-use duct_run::views;
+use duct_run::views::Viewed;
 use std::sync::{Arc, Wait};
 use std::time::Duration;
 
@@ -26,7 +26,7 @@ impl<S: System> Handle<S> {
     /// may be repeated.
     pub fn wait_as(&self, rt: &impl Wait, seen: &mut Seen<S>) -> Result<Arc<Output>, Error>
         requires { seen.old.cell ≡ self.now.cell }
-        ensures { Waited ⟦<S as views::Seen>⟧.views self.now seen.old seen.new (at_end result) }
+        ensures { Waited ⟦<S as Viewed>⟧.views self.now seen.old seen.new (at_end result) }
     {
         let mut pause = Pause::new();
         for _ in rt.forever() {
@@ -44,7 +44,7 @@ impl<S: System> Handle<S> {
 
     /// Waits as `wait_as` does, with a token of its own.
     pub fn wait(&self, rt: &impl Wait) -> Result<Arc<Output>, Error>
-        ensures { IsAnswer ⟦<S as views::Seen>⟧.views (shape_view self.now.shape)
+        ensures { IsAnswer ⟦<S as Viewed>⟧.views (shape_view self.now.shape)
             self.now.numbers (at_end result) }
     {
         let mut seen = self.seen();
@@ -64,7 +64,7 @@ impl<S: System> Handle<S> {
         seen: &mut Seen<S>,
     ) -> Result<Option<Arc<Output>>, Error>
         requires { seen.old.cell ≡ self.now.cell }
-        ensures { Waited ⟦<S as views::Seen>⟧.views self.now seen.old seen.new result }
+        ensures { Waited ⟦<S as Viewed>⟧.views self.now seen.old seen.new result }
     {
         let mut pause = Pause::new();
         for _ in rt.forever() {
@@ -86,7 +86,7 @@ impl<S: System> Handle<S> {
     ) -> Option<Result<Option<Arc<Output>>, Error>>
         requires { seen.old.cell ≡ self.now.cell }
         ensures ends { IfSome result
-            (Waited ⟦<S as views::Seen>⟧.views self.now seen.old seen.new) }
+            (Waited ⟦<S as Viewed>⟧.views self.now seen.old seen.new) }
         ensures cell { seen.new.cell ≡ self.now.cell }
         ensures kept { IfSome seen.old.known (λ known. seen.new.known ≡ Some known) }
     {
@@ -105,10 +105,10 @@ impl<S: System> Handle<S> {
         clock: &C,
         moment: Duration,
     ) -> Result<Option<Arc<Output>>, Error>
-        ensures told { IsAnswer ⟦<S as views::Seen>⟧.views (shape_view self.now.shape)
+        ensures told { IsAnswer ⟦<S as Viewed>⟧.views (shape_view self.now.shape)
             self.now.numbers result }
         ensures pending { result ≡ Ok None
-            → OneRuns ⟦<S as views::Seen>⟧.views self.now.numbers }
+            → OneRuns ⟦<S as Viewed>⟧.views self.now.numbers }
     {
         let mut seen = self.seen();
         self.wait_deadline_as(rt, clock, moment, &mut seen)
@@ -133,7 +133,7 @@ impl<S: System> Handle<S> {
         ensures timely { (result ≡ Err Error.Deadline)
             ⊎ (is_some seen.old.known ≡ true) ⊎ IsTimely (C.may_show clock.now) timeout }
         ensures waited { (result ≡ Err Error.Deadline)
-            ⊎ Waited ⟦<S as views::Seen>⟧.views self.now seen.old seen.new result }
+            ⊎ Waited ⟦<S as Viewed>⟧.views self.now seen.old seen.new result }
     {
         if seen.knows {
             return self.try_wait_as(rt, seen);
@@ -154,10 +154,10 @@ impl<S: System> Handle<S> {
         ensures late { result ≡ Err Error.Deadline → IsLate (C.may_show clock.now) timeout }
         ensures timely { (result ≡ Err Error.Deadline) ⊎ IsTimely (C.may_show clock.now) timeout }
         ensures told { (result ≡ Err Error.Deadline)
-            ⊎ IsAnswer ⟦<S as views::Seen>⟧.views (shape_view self.now.shape) self.now.numbers
+            ⊎ IsAnswer ⟦<S as Viewed>⟧.views (shape_view self.now.shape) self.now.numbers
             result }
         ensures pending { result ≡ Ok None
-            → OneRuns ⟦<S as views::Seen>⟧.views self.now.numbers }
+            → OneRuns ⟦<S as Viewed>⟧.views self.now.numbers }
     {
         let mut seen = self.seen();
         self.wait_timeout_as(rt, clock, timeout, &mut seen)

@@ -9,7 +9,7 @@ use duct_base::error::Error;
 use duct_base::pool::Pool;
 use duct_base::system::System;
 use duct_handle::finish::wait_for;
-use duct_run::views::Seen;
+use duct_run::views::Viewed;
 use duct_running::running::Running;
 use duct_worker::transfer::drain;
 use std::alloc::Global;
@@ -23,9 +23,9 @@ fn read_all<S: System>(
     running: &mut Running<S>,
     mut reader: S::Reader,
 ) -> Result<String, Error>
-    requires { IsUnordered ⟦<S as Seen>⟧.views running.old }
-    ensures stays { StaysSame ⟦<S as Seen>⟧.views running.old running.new }
-    ensures text { ReadsOutput ⟦<S as Seen>⟧.views running.old (S.Reader.remaining reader) result }
+    requires { IsUnordered ⟦<S as Viewed>⟧.views running.old }
+    ensures stays { StaysSame ⟦<S as Viewed>⟧.views running.old running.new }
+    ensures text { ReadsOutput ⟦<S as Viewed>⟧.views running.old (S.Reader.remaining reader) result }
 {
     let bytes = drain(alloc, &mut reader)?;
     drop(reader);
@@ -49,10 +49,10 @@ pub fn read_text<S: System>(
     reader: S::Reader,
     pool: &mut Pool<S::Child>,
 ) -> Result<String, Error>
-    requires { IsUnordered ⟦<S as Seen>⟧.views running }
-    ensures text { ReadsOutput ⟦<S as Seen>⟧.views running (S.Reader.remaining reader) result }
+    requires { IsUnordered ⟦<S as Viewed>⟧.views running }
+    ensures text { ReadsOutput ⟦<S as Viewed>⟧.views running (S.Reader.remaining reader) result }
     ensures kept { OnOk result (pool.new ≡ pool.old) }
-    ensures given { OnErr result (PoolGetsWaited ⟦<S as Seen>⟧.views running pool.old pool.new) }
+    ensures given { OnErr result (PoolGetsWaited ⟦<S as Viewed>⟧.views running pool.old pool.new) }
 {
     let text = read_all(alloc, rt, &mut running, reader);
     if text.is_ok() {

@@ -14,7 +14,7 @@ use duct_base::error::Error;
 use duct_base::pool::Pool;
 use duct_base::system::{Fault, Output, System};
 use duct_handle::handle::{Handle, Seen};
-use duct_run::views;
+use duct_run::views::Viewed;
 use duct_worker::transfer::read_retried;
 use std::marker::Model;
 use std::sync::{Arc, Mutex, Wait};
@@ -89,10 +89,10 @@ impl<S: System, R: Wait> ReaderHandle<S, R> {
     /// `Handle::try_wait` does. It doesn't read and doesn't wait for a read. The output's `stdout`
     /// is empty: those bytes come out of the reads.
     pub fn try_wait(&self) -> Result<Option<Arc<Output>>, Error>
-        ensures told { IsAnswer ⟦<S as views::Seen>⟧.views (shape_view self.now.shape)
+        ensures told { IsAnswer ⟦<S as Viewed>⟧.views (shape_view self.now.shape)
             self.now.numbers result }
         ensures pending { result ≡ Ok None
-            → OneRuns ⟦<S as views::Seen>⟧.views self.now.numbers }
+            → OneRuns ⟦<S as Viewed>⟧.views self.now.numbers }
     {
         self.handle.try_wait(&self.rt)
     }
@@ -103,7 +103,7 @@ impl<S: System, R: Wait> ReaderHandle<S, R> {
     ///
     /// Fails with `Error::System`, the leftmost fault.
     pub fn kill(&self) -> Result<(), Error>
-        ensures { IsObeyed ⟦<S as views::Seen>⟧.views Kill self.now.numbers.children result }
+        ensures { IsObeyed ⟦<S as Viewed>⟧.views Kill self.now.numbers.children result }
     {
         self.handle.kill(&self.rt)
     }
@@ -119,7 +119,7 @@ impl<S: System, R: Wait> ReaderHandle<S, R> {
     pub fn read_as(&self, buf: &mut [u8], seen: &mut Seen<S>) -> Result<usize, Error>
         requires { seen.old.cell ≡ self.now.cell }
         ensures bound { IfOk result (λ read. read ≤ length buf.new) }
-        ensures reads { ReadsAs ⟦<S as views::Seen>⟧.views self.now (length buf.old) seen.old
+        ensures reads { ReadsAs ⟦<S as Viewed>⟧.views self.now (length buf.old) seen.old
             seen.new result }
         ensures ended { result ≡ Ok 0 → 0 < length buf.old → KnowsOutput self.now seen.new }
     {
@@ -133,7 +133,7 @@ impl<S: System, R: Wait> ReaderHandle<S, R> {
     // Waits for what runs, as a read does at EOF.
     fn close_as(&self, seen: &mut Seen<S>) -> Result<usize, Error>
         requires { seen.old.cell ≡ self.now.cell }
-        ensures { ClosesAs ⟦<S as views::Seen>⟧.views self.now seen.old seen.new result }
+        ensures { ClosesAs ⟦<S as Viewed>⟧.views self.now seen.old seen.new result }
     {
         drop(self.handle.wait_as(&self.rt, seen)?);
         Ok(0)
@@ -162,7 +162,7 @@ impl<S: System, R: Drop> ReaderHandle<S, R> {
     /// goes on writing to the pipe gets a broken pipe. It doesn't block and can't fail.
     pub fn give_up(self, pool: &mut Pool<S::Child>)
         ensures { (children : List S.Child)
-            × PoolGets ⟦<S as views::Seen>⟧.views children pool.old pool.new }
+            × PoolGets ⟦<S as Viewed>⟧.views children pool.old pool.new }
     {
         let ReaderHandle { rt, handle, pipe } = self;
         drop((rt, pipe));

@@ -9,7 +9,7 @@ use Rattle.duct_system.specs.declared.system.Numbered
 use Rattle.duct_system.specs.declared.system.System
 use Rattle.duct_run.specs.SystemViews.{SystemViews}
 
--- the views that the trait `Seen` gives
+-- the views that the trait `Viewed` gives
 abbrev pub views_of : {S E C F D R : Type 0} → System.Ghosts S E C F D R → Numbered.Ghosts E
     → Child.Ghosts C → Job.Ghosts F (Unit {0}) → Job.Ghosts D (Arc (Vec ℕ Global) Global)
     → SystemViews S E C F D (Unit {0}) (Arc (Vec ℕ Global) Global)

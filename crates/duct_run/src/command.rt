@@ -24,7 +24,7 @@ use crate::change::change_all;
 use crate::resources::{Resources, top};
 use crate::scope::Scope;
 use crate::streams::Streams;
-use crate::views::Seen;
+use crate::views::Viewed;
 use duct_base::error::Error;
 use duct_base::exe::asks_canonical;
 use duct_base::pool::{Place, Seat, place_new, seat_new};
@@ -171,16 +171,16 @@ pub(crate) fn command<S: System, H: Hook>(
     requires outwards { AreOutwards (scopes_view scopes.now) }
     requires full { port_end_count ports.input + (port_end_count ports.output
         + port_end_count ports.error) ≤ vec_len held.old.stack }
-    requires room { length (open_ends (resources_of ⟦<S as Seen>⟧.views held.old))
+    requires room { length (open_ends (resources_of ⟦<S as Viewed>⟧.views held.old))
         ≤ (S.journal_view sys.old).room }
     requires reserved { HasRoom held.old }
-    ensures ok { OnOk result (CommandSucceeds ⟦<S as Seen>⟧.views H.allows (map pair_text
+    ensures ok { OnOk result (CommandSucceeds ⟦<S as Viewed>⟧.views H.allows (map pair_text
         pairs.now.items) (action.spawn (scope_in (scopes_view scopes.now) scope) (map string_bytes
         words.now) (ports_view ports)) sys.old sys.new held.old held.new) }
-    ensures err { IfErr result (CommandFails ⟦<S as Seen>⟧.views H.allows H.refuses (map pair_text
+    ensures err { IfErr result (CommandFails ⟦<S as Viewed>⟧.views H.allows H.refuses (map pair_text
         pairs.now.items) (action.spawn (scope_in (scopes_view scopes.now) scope) (map string_bytes
         words.now) (ports_view ports)) sys.old sys.new held.old held.new) }
-    ensures new { IsNew ⟦<S as Seen>⟧.views held.old → IsNew ⟦<S as Seen>⟧.views held.new }
+    ensures new { IsNew ⟦<S as Viewed>⟧.views held.old → IsNew ⟦<S as Viewed>⟧.views held.new }
     ensures workers { HasSameWorkers held.old held.new }
 {
     let (seat, mut spec) = prepared(sys, pairs, scopes, scope, words, ports)?;

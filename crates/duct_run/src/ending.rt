@@ -8,7 +8,7 @@ ghost use Rattle.duct_run.specs.Requested.{PoolGets};
 ghost use Rattle.duct_run.specs.ResourceEnds.{ends_of_resources};
 
 use crate::resources::Resources;
-use crate::views::Seen;
+use crate::views::Viewed;
 use duct_base::pool::{Place, Pool, pool_take};
 use duct_base::system::{Child, System};
 
@@ -59,7 +59,7 @@ pub(crate) fn give_up<S: System>(
         ≤ (S.journal_view sys.old).room }
     ensures closes { Closes (ends_of_resources S.End.number_of held) (S.journal_view sys.old)
         (S.journal_view sys.new) }
-    ensures given { PoolGets ⟦<S as Seen>⟧.views held.children.items pool.old pool.new }
+    ensures given { PoolGets ⟦<S as Viewed>⟧.views held.children.items pool.old pool.new }
 {
     close_stack(sys, held.stack);
     close_pair(sys, held.output);

@@ -9,7 +9,7 @@ ghost use Rattle.duct_start.specs.RunInvariant.{FindsItsEnds};
 ghost use Rattle.duct_run.specs.Requested.{IsNew, RequestSucceeds, RequestFails, Requested, resources_of};
 
 use crate::resources::{Resources, top};
-use crate::views::Seen;
+use crate::views::Viewed;
 use duct_base::error::Error;
 use duct_base::pool::Place;
 use duct_base::spec::Hook;
@@ -23,7 +23,7 @@ pub(crate) fn open_read<S: System, H: Hook>(
     held: &mut Resources<S::End, Place<S::Child>, S::Feed, S::Drain>,
 ) -> Result<(), Error>
     requires reserved { vec_len held.old.stack + 1 ≤ vec_capacity held.old.stack }
-    ensures { Requested ⟦<S as Seen>⟧.views H.allows (action.open_read path.now) result sys.old
+    ensures { Requested ⟦<S as Viewed>⟧.views H.allows (action.open_read path.now) result sys.old
         sys.new held.old held.new }
 {
     let end = sys.open_read(path)?;
@@ -38,7 +38,7 @@ pub(crate) fn create<S: System, H: Hook>(
     held: &mut Resources<S::End, Place<S::Child>, S::Feed, S::Drain>,
 ) -> Result<(), Error>
     requires reserved { vec_len held.old.stack + 1 ≤ vec_capacity held.old.stack }
-    ensures { Requested ⟦<S as Seen>⟧.views H.allows (action.create path.now) result sys.old sys.new
+    ensures { Requested ⟦<S as Viewed>⟧.views H.allows (action.create path.now) result sys.old sys.new
         held.old held.new }
 {
     let end = sys.create(path)?;
@@ -52,7 +52,7 @@ pub(crate) fn open_pipe<S: System, H: Hook>(
     held: &mut Resources<S::End, Place<S::Child>, S::Feed, S::Drain>,
 ) -> Result<(), Error>
     requires reserved { vec_len held.old.stack + 2 ≤ vec_capacity held.old.stack }
-    ensures { Requested ⟦<S as Seen>⟧.views H.allows (action.pipe) result sys.old sys.new held.old
+    ensures { Requested ⟦<S as Viewed>⟧.views H.allows (action.pipe) result sys.old sys.new held.old
         held.new }
 {
     let (reader, writer) = sys.pipe()?;
@@ -67,7 +67,7 @@ pub(crate) fn open_input<S: System, H: Hook>(
     held: &mut Resources<S::End, Place<S::Child>, S::Feed, S::Drain>,
 ) -> Result<(), Error>
     requires reserved { vec_len held.old.stack + 2 ≤ vec_capacity held.old.stack }
-    ensures { Requested ⟦<S as Seen>⟧.views H.allows (action.input) result sys.old sys.new held.old
+    ensures { Requested ⟦<S as Viewed>⟧.views H.allows (action.input) result sys.old sys.new held.old
         held.new }
 {
     let (reader, writer) = sys.pipe()?;
@@ -84,7 +84,7 @@ pub(crate) fn duplicate<S: System, H: Hook>(
 ) -> Result<(), Error>
     requires reserved { vec_len held.old.stack + 1 ≤ vec_capacity held.old.stack }
     requires within { depth < length held.old.stack.items }
-    ensures { Requested ⟦<S as Seen>⟧.views H.allows (action.duplicate depth) result sys.old sys.new
+    ensures { Requested ⟦<S as Viewed>⟧.views H.allows (action.duplicate depth) result sys.old sys.new
         held.old held.new }
 {
     let end = sys.duplicate(&held.stack[depth])?;
@@ -99,7 +99,7 @@ pub(crate) fn duplicate_caller_end<S: System, H: Hook>(
     held: &mut Resources<S::End, Place<S::Child>, S::Feed, S::Drain>,
 ) -> Result<(), Error>
     requires reserved { vec_len held.old.stack + 1 ≤ vec_capacity held.old.stack }
-    ensures { Requested ⟦<S as Seen>⟧.views H.allows (action.duplicate_caller_end end.now) result
+    ensures { Requested ⟦<S as Viewed>⟧.views H.allows (action.duplicate_caller_end end.now) result
         sys.old sys.new held.old held.new }
 {
     let made = sys.duplicate(end)?;
@@ -114,7 +114,7 @@ pub(crate) fn parent<S: System, H: Hook>(
     held: &mut Resources<S::End, Place<S::Child>, S::Feed, S::Drain>,
 ) -> Result<(), Error>
     requires reserved { vec_len held.old.stack + 1 ≤ vec_capacity held.old.stack }
-    ensures { Requested ⟦<S as Seen>⟧.views H.allows (action.parent side) result sys.old sys.new
+    ensures { Requested ⟦<S as Viewed>⟧.views H.allows (action.parent side) result sys.old sys.new
         held.old held.new }
 {
     let end = sys.parent(side)?;
@@ -129,7 +129,7 @@ pub(crate) fn close<S: System, H: Hook>(
 )
     requires full { 1 ≤ vec_len held.old.stack }
     requires room { 0 < (S.journal_view sys.old).room }
-    ensures { Requested ⟦<S as Seen>⟧.views H.allows (action.close) (Ok tt) sys.old sys.new held.old
+    ensures { Requested ⟦<S as Viewed>⟧.views H.allows (action.close) (Ok tt) sys.old sys.new held.old
         held.new }
 {
     let end = top(&mut held.stack);
@@ -141,7 +141,7 @@ pub(crate) fn capture_out<S: System, H: Hook>(
     sys: &mut S,
     held: &mut Resources<S::End, Place<S::Child>, S::Feed, S::Drain>,
 ) -> Result<(), Error>
-    ensures { Requested ⟦<S as Seen>⟧.views H.allows (action.capture side.Out) result sys.old
+    ensures { Requested ⟦<S as Viewed>⟧.views H.allows (action.capture side.Out) result sys.old
         sys.new held.old held.new }
 {
     match &held.output {
@@ -161,7 +161,7 @@ pub(crate) fn duplicate_output_capture<S: System, H: Hook>(
 ) -> Result<(), Error>
     requires reserved { vec_len held.old.stack + 1 ≤ vec_capacity held.old.stack }
     requires open { IsSome held.old.output }
-    ensures { Requested ⟦<S as Seen>⟧.views H.allows (action.duplicate_capture side.Out) result
+    ensures { Requested ⟦<S as Viewed>⟧.views H.allows (action.duplicate_capture side.Out) result
         sys.old sys.new held.old held.new }
 {
     let end = match &held.output {
@@ -177,7 +177,7 @@ pub(crate) fn capture_err<S: System, H: Hook>(
     sys: &mut S,
     held: &mut Resources<S::End, Place<S::Child>, S::Feed, S::Drain>,
 ) -> Result<(), Error>
-    ensures { Requested ⟦<S as Seen>⟧.views H.allows (action.capture side.Err) result sys.old
+    ensures { Requested ⟦<S as Viewed>⟧.views H.allows (action.capture side.Err) result sys.old
         sys.new held.old held.new }
 {
     match &held.error {
@@ -197,7 +197,7 @@ pub(crate) fn duplicate_error_capture<S: System, H: Hook>(
 ) -> Result<(), Error>
     requires reserved { vec_len held.old.stack + 1 ≤ vec_capacity held.old.stack }
     requires open { IsSome held.old.error }
-    ensures { Requested ⟦<S as Seen>⟧.views H.allows (action.duplicate_capture side.Err) result
+    ensures { Requested ⟦<S as Viewed>⟧.views H.allows (action.duplicate_capture side.Err) result
         sys.old sys.new held.old held.new }
 {
     let end = match &held.error {
@@ -214,7 +214,7 @@ pub(crate) fn capture<S: System, H: Hook>(
     side: Side,
     held: &mut Resources<S::End, Place<S::Child>, S::Feed, S::Drain>,
 ) -> Result<(), Error>
-    ensures { Requested ⟦<S as Seen>⟧.views H.allows (action.capture side) result sys.old sys.new
+    ensures { Requested ⟦<S as Viewed>⟧.views H.allows (action.capture side) result sys.old sys.new
         held.old held.new }
 {
     match side {
@@ -231,8 +231,8 @@ pub(crate) fn duplicate_capture<S: System, H: Hook>(
 ) -> Result<(), Error>
     requires reserved { vec_len held.old.stack + 1 ≤ vec_capacity held.old.stack }
     requires open { FindsItsEnds {E = S.End} {H = H} (action.duplicate_capture side)
-        (resources_of ⟦<S as Seen>⟧.views held.old) }
-    ensures { Requested ⟦<S as Seen>⟧.views H.allows (action.duplicate_capture side) result sys.old
+        (resources_of ⟦<S as Viewed>⟧.views held.old) }
+    ensures { Requested ⟦<S as Viewed>⟧.views H.allows (action.duplicate_capture side) result sys.old
         sys.new held.old held.new }
 {
     match side {
@@ -250,7 +250,7 @@ pub(crate) fn feed<S: System, H: Hook>(
     requires full { 1 ≤ vec_len held.old.stack }
     requires room { 0 < (S.journal_view sys.old).room }
     requires reserved { vec_len held.old.feeds + 1 ≤ vec_capacity held.old.feeds }
-    ensures { Requested ⟦<S as Seen>⟧.views H.allows (action.feed (arc_value bytes.now).items)
+    ensures { Requested ⟦<S as Viewed>⟧.views H.allows (action.feed (arc_value bytes.now).items)
         result sys.old sys.new held.old held.new }
 {
     let bytes = Arc::try_clone(bytes)?;
@@ -265,15 +265,15 @@ pub(crate) fn finish_out<S: System, H: Hook>(
     sys: &mut S,
     held: &mut Resources<S::End, Place<S::Child>, S::Feed, S::Drain>,
 ) -> Result<(), Error>
-    requires room { length (open_ends (resources_of ⟦<S as Seen>⟧.views held.old))
+    requires room { length (open_ends (resources_of ⟦<S as Viewed>⟧.views held.old))
         ≤ (S.journal_view sys.old).room }
     requires first { held.old.output_worker ≡ None }
     requires last { held.old.error_worker ≡ None }
-    ensures ok { OnOk result (RequestSucceeds ⟦<S as Seen>⟧.views H.allows (action.finish side.Out)
+    ensures ok { OnOk result (RequestSucceeds ⟦<S as Viewed>⟧.views H.allows (action.finish side.Out)
         sys.old sys.new held.old held.new) }
-    ensures err { IfErr result (RequestFails ⟦<S as Seen>⟧.views H.allows (action.finish side.Out)
+    ensures err { IfErr result (RequestFails ⟦<S as Viewed>⟧.views H.allows (action.finish side.Out)
         sys.old sys.new held.old held.new) }
-    ensures new { IsNew ⟦<S as Seen>⟧.views held.old → IsNew ⟦<S as Seen>⟧.views held.new }
+    ensures new { IsNew ⟦<S as Viewed>⟧.views held.old → IsNew ⟦<S as Viewed>⟧.views held.new }
     ensures last { held.new.error_worker ≡ held.old.error_worker }
     ensures worker { OnOk result (is_some held.new.output_worker ≡ is_some held.old.output) }
 {
@@ -291,14 +291,14 @@ pub(crate) fn finish_err<S: System, H: Hook>(
     sys: &mut S,
     held: &mut Resources<S::End, Place<S::Child>, S::Feed, S::Drain>,
 ) -> Result<(), Error>
-    requires room { length (open_ends (resources_of ⟦<S as Seen>⟧.views held.old))
+    requires room { length (open_ends (resources_of ⟦<S as Viewed>⟧.views held.old))
         ≤ (S.journal_view sys.old).room }
     requires last { held.old.error_worker ≡ None }
-    ensures ok { OnOk result (RequestSucceeds ⟦<S as Seen>⟧.views H.allows (action.finish side.Err)
+    ensures ok { OnOk result (RequestSucceeds ⟦<S as Viewed>⟧.views H.allows (action.finish side.Err)
         sys.old sys.new held.old held.new) }
-    ensures err { IfErr result (RequestFails ⟦<S as Seen>⟧.views H.allows (action.finish side.Err)
+    ensures err { IfErr result (RequestFails ⟦<S as Viewed>⟧.views H.allows (action.finish side.Err)
         sys.old sys.new held.old held.new) }
-    ensures new { IsNew ⟦<S as Seen>⟧.views held.old → IsNew ⟦<S as Seen>⟧.views held.new }
+    ensures new { IsNew ⟦<S as Viewed>⟧.views held.old → IsNew ⟦<S as Viewed>⟧.views held.new }
     ensures first { held.new.output_worker ≡ held.old.output_worker }
     ensures worker { OnOk result (is_some held.new.error_worker ≡ is_some held.old.error) }
 {

@@ -19,7 +19,7 @@ use crate::requests::{
 };
 use crate::resources::{Resources, make_room};
 use crate::scope::Scope;
-use crate::views::Seen;
+use crate::views::Viewed;
 use duct_base::error::Error;
 use duct_base::pool::{Place, Pool};
 use duct_base::spec::Hook;
@@ -38,14 +38,14 @@ fn perform<S: System, H: Hook>(
     requires within { IsWithin (length scopes.now) (action_view action) }
     requires full { pop_count (action_view action) ≤ vec_len held.old.stack }
     requires can { FindsItsEnds (resolved (all_scopes scopes.now) (action_view action))
-        (resources_of ⟦<S as Seen>⟧.views held.old) }
-    requires room { length (open_ends (resources_of ⟦<S as Seen>⟧.views held.old))
+        (resources_of ⟦<S as Viewed>⟧.views held.old) }
+    requires room { length (open_ends (resources_of ⟦<S as Viewed>⟧.views held.old))
         ≤ (S.journal_view sys.old).room }
     requires reserved { HasRoom held.old }
-    ensures performed { Performed ⟦<S as Seen>⟧.views H.allows H.refuses (map pair_text
+    ensures performed { Performed ⟦<S as Viewed>⟧.views H.allows H.refuses (map pair_text
         pairs.now.items) (resolved (all_scopes scopes.now) (action_view action.entry)) result
         sys.old sys.new held.old held.new }
-    ensures pool { PoolLeaves ⟦<S as Seen>⟧.views pool.old pool.new }
+    ensures pool { PoolLeaves ⟦<S as Viewed>⟧.views pool.old pool.new }
 {
     match action {
         Action::OpenRead(path) => open_read::<S, H>(sys, path, held),
@@ -82,21 +82,21 @@ pub(crate) fn perform_all<S: System, H: Hook>(
     requires within { All (IsWithin (length scopes.now)) (actions_view actions.now) }
     requires stood { SomeReadyForActions H.allows S.End.number_of (map pair_text pairs.now.items)
         (resolved_all (all_scopes scopes.now) (actions_view actions.now)) (S.journal_view sys.old)
-        (resources_of ⟦<S as Seen>⟧.views held.old) }
+        (resources_of ⟦<S as Viewed>⟧.views held.old) }
     ensures ok { OnOk result ((context : RunContext) (goal : State S.End H) → context.pairs
         ≡ map pair_text pairs.now.items → ReadyForActions H.allows S.End.number_of context goal
         (resolved_all (all_scopes scopes.now) (actions_view actions.now)) (S.journal_view sys.old)
-        (resources_of ⟦<S as Seen>⟧.views held.old) → RunInvariant H.allows S.End.number_of context
-        goal (S.journal_view sys.new) (resources_of ⟦<S as Seen>⟧.views held.new)) }
+        (resources_of ⟦<S as Viewed>⟧.views held.old) → RunInvariant H.allows S.End.number_of context
+        goal (S.journal_view sys.new) (resources_of ⟦<S as Viewed>⟧.views held.new)) }
     ensures err { IfErr result (λ error. (context : RunContext) (goal : State S.End H)
         → context.pairs ≡ map pair_text pairs.now.items → ReadyForActions H.allows S.End.number_of
         context goal (resolved_all (all_scopes scopes.now) (actions_view actions.now))
-        (S.journal_view sys.old) (resources_of ⟦<S as Seen>⟧.views held.old)
+        (S.journal_view sys.old) (resources_of ⟦<S as Viewed>⟧.views held.old)
         → StoppedWithCause H.allows H.refuses S.End.number_of context goal.plan.items
-        (S.journal_view sys.new) (resources_of ⟦<S as Seen>⟧.views held.new) error) }
-    ensures new { IsNew ⟦<S as Seen>⟧.views held.old → IsNew ⟦<S as Seen>⟧.views held.new }
+        (S.journal_view sys.new) (resources_of ⟦<S as Viewed>⟧.views held.new) error) }
+    ensures new { IsNew ⟦<S as Viewed>⟧.views held.old → IsNew ⟦<S as Viewed>⟧.views held.new }
     ensures workers { HasSameWorkers held.old held.new }
-    ensures pool { PoolLeaves ⟦<S as Seen>⟧.views pool.old pool.new }
+    ensures pool { PoolLeaves ⟦<S as Viewed>⟧.views pool.old pool.new }
 {
     for action in actions {
         make_room(held)?;

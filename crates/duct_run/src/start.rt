@@ -16,7 +16,7 @@ use crate::requests::{finish_err, finish_out};
 use crate::resources::Resources;
 use crate::run::perform_all;
 use crate::scope::Scope;
-use crate::views::Seen;
+use crate::views::Viewed;
 use duct_base::error::Error;
 use duct_base::pool::{Place, Pool};
 use duct_base::spec::Hook;
@@ -32,18 +32,18 @@ fn run_actions<S: System, H: Hook>(
 ) -> Result<(), Error>
     requires outwards { AreOutwards (scopes_view scopes.now) }
     requires within { All (IsWithin (length scopes.now)) (actions_view actions.now) }
-    requires begun { resources_of ⟦<S as Seen>⟧.views held.old ≡ empty_resources }
+    requires begun { resources_of ⟦<S as Viewed>⟧.views held.old ≡ empty_resources }
     requires leads { LeadToSomePlan S.End.number_of (resolved_all (all_scopes scopes.now)
         (actions_view actions.now)) }
-    ensures ok { OnOk result (RunSucceeds ⟦<S as Seen>⟧.views H.allows no_tail
+    ensures ok { OnOk result (RunSucceeds ⟦<S as Viewed>⟧.views H.allows no_tail
         (resolved_all (all_scopes scopes.now) (actions_view actions.now)) sys.old sys.new
         held.new) }
-    ensures err { IfErr result (RunFails ⟦<S as Seen>⟧.views H.allows H.refuses no_tail
+    ensures err { IfErr result (RunFails ⟦<S as Viewed>⟧.views H.allows H.refuses no_tail
         (resolved_all (all_scopes scopes.now) (actions_view actions.now)) sys.old sys.new
         held.new) }
     ensures workers { HasSameWorkers held.old held.new }
-    ensures new { IsNew ⟦<S as Seen>⟧.views held.old → IsNew ⟦<S as Seen>⟧.views held.new }
-    ensures pool { PoolLeaves ⟦<S as Seen>⟧.views pool.old pool.new }
+    ensures new { IsNew ⟦<S as Viewed>⟧.views held.old → IsNew ⟦<S as Viewed>⟧.views held.new }
+    ensures pool { PoolLeaves ⟦<S as Viewed>⟧.views pool.old pool.new }
 {
     let pairs = sys.environment()?;
     perform_all(sys, pool, &pairs, scopes, actions, held)
@@ -59,20 +59,20 @@ fn run<S: System, H: Hook>(
 ) -> Result<(), Error>
     requires outwards { AreOutwards (scopes_view scopes.now) }
     requires within { All (IsWithin (length scopes.now)) (actions_view actions.now) }
-    requires begun { resources_of ⟦<S as Seen>⟧.views held.old ≡ empty_resources }
+    requires begun { resources_of ⟦<S as Viewed>⟧.views held.old ≡ empty_resources }
     requires leads { LeadToSomePlan S.End.number_of (resolved_all (all_scopes scopes.now)
         (actions_view actions.now)) }
-    ensures ok { OnOk result (RunSucceeds ⟦<S as Seen>⟧.views H.allows drain_tail
+    ensures ok { OnOk result (RunSucceeds ⟦<S as Viewed>⟧.views H.allows drain_tail
         (resolved_all (all_scopes scopes.now) (actions_view actions.now)) sys.old sys.new
         held.new) }
-    ensures err { IfErr result (RunFails ⟦<S as Seen>⟧.views H.allows H.refuses drain_tail
+    ensures err { IfErr result (RunFails ⟦<S as Viewed>⟧.views H.allows H.refuses drain_tail
         (resolved_all (all_scopes scopes.now) (actions_view actions.now)) sys.old sys.new
         held.new) }
     ensures workers { OnOk result (HavePipes S.End.number_of
         (resolved_all (all_scopes scopes.now) (actions_view actions.now))
         (is_some held.new.output_worker) (is_some held.new.error_worker)) }
-    ensures new { IsNew ⟦<S as Seen>⟧.views held.old → IsNew ⟦<S as Seen>⟧.views held.new }
-    ensures pool { PoolLeaves ⟦<S as Seen>⟧.views pool.old pool.new }
+    ensures new { IsNew ⟦<S as Viewed>⟧.views held.old → IsNew ⟦<S as Viewed>⟧.views held.new }
+    ensures pool { PoolLeaves ⟦<S as Viewed>⟧.views pool.old pool.new }
 {
     run_actions(sys, pool, scopes, actions, held)?;
     finish_out::<S, H>(sys, held)?;
@@ -107,24 +107,24 @@ fn run_reader<S: System, H: Hook>(
 ) -> Result<S::Reader, Error>
     requires outwards { AreOutwards (scopes_view scopes.now) }
     requires within { All (IsWithin (length scopes.now)) (actions_view actions.now) }
-    requires begun { resources_of ⟦<S as Seen>⟧.views held.old ≡ empty_resources }
+    requires begun { resources_of ⟦<S as Viewed>⟧.views held.old ≡ empty_resources }
     requires leads { LeadToSomePlan S.End.number_of (resolved_all (all_scopes scopes.now)
         (actions_view actions.now)) }
     requires opens { OpenOutputCapture S.End.number_of (resolved_all (all_scopes scopes.now)
         (actions_view actions.now)) }
-    ensures ok { OnOk result (RunSucceeds ⟦<S as Seen>⟧.views H.allows drain_and_reader_tail
+    ensures ok { OnOk result (RunSucceeds ⟦<S as Viewed>⟧.views H.allows drain_and_reader_tail
         (resolved_all (all_scopes scopes.now) (actions_view actions.now)) sys.old sys.new
         held.new) }
     ensures reader { IfOk result (MadeReader S.may_read (segment (S.journal_view sys.old).entries
         (S.journal_view sys.new).entries)) }
-    ensures err { IfErr result (RunFails ⟦<S as Seen>⟧.views H.allows H.refuses
+    ensures err { IfErr result (RunFails ⟦<S as Viewed>⟧.views H.allows H.refuses
         drain_and_reader_tail (resolved_all (all_scopes scopes.now) (actions_view actions.now))
         sys.old sys.new held.new) }
     ensures output { OnOk result (held.new.output_worker ≡ None) }
     ensures workers { OnOk result (HavePipes S.End.number_of (resolved_all (all_scopes scopes.now)
         (actions_view actions.now)) true (is_some held.new.error_worker)) }
-    ensures new { IsNew ⟦<S as Seen>⟧.views held.old → IsNew ⟦<S as Seen>⟧.views held.new }
-    ensures pool { PoolLeaves ⟦<S as Seen>⟧.views pool.old pool.new }
+    ensures new { IsNew ⟦<S as Viewed>⟧.views held.old → IsNew ⟦<S as Viewed>⟧.views held.new }
+    ensures pool { PoolLeaves ⟦<S as Viewed>⟧.views pool.old pool.new }
 {
     run_actions(sys, pool, scopes, actions, held)?;
     finish_err::<S, H>(sys, held)?;
@@ -147,18 +147,18 @@ pub fn start<S: System, H: Hook>(
 ) -> Result<Resources<S::End, Place<S::Child>, S::Feed, S::Drain>, Error>
     requires outwards { AreOutwards (scopes_view scopes.now) }
     requires within { All (IsWithin (length scopes.now)) (actions_view actions.now) }
-    requires begun { resources_of ⟦<S as Seen>⟧.views held ≡ empty_resources }
-    requires new { IsNew ⟦<S as Seen>⟧.views held }
+    requires begun { resources_of ⟦<S as Viewed>⟧.views held ≡ empty_resources }
+    requires new { IsNew ⟦<S as Viewed>⟧.views held }
     requires leads { LeadToSomePlan S.End.number_of (resolved_all (all_scopes scopes.now)
         (actions_view actions.now)) }
-    ensures ok { IfOk result (λ kept. RunSucceeds ⟦<S as Seen>⟧.views H.allows drain_tail
+    ensures ok { IfOk result (λ kept. RunSucceeds ⟦<S as Viewed>⟧.views H.allows drain_tail
         (resolved_all (all_scopes scopes.now) (actions_view actions.now)) sys.old sys.new kept) }
-    ensures kept { IfOk result (λ kept. IsNew ⟦<S as Seen>⟧.views kept) }
+    ensures kept { IfOk result (λ kept. IsNew ⟦<S as Viewed>⟧.views kept) }
     ensures workers { IfOk result (λ kept. HavePipes S.End.number_of
         (resolved_all (all_scopes scopes.now) (actions_view actions.now))
         (is_some kept.output_worker) (is_some kept.error_worker)) }
-    ensures swept { OnOk result (PoolLeaves ⟦<S as Seen>⟧.views pool.old pool.new) }
-    ensures err { IfErr result (RunGivesUp ⟦<S as Seen>⟧.views H.allows H.refuses drain_tail
+    ensures swept { OnOk result (PoolLeaves ⟦<S as Viewed>⟧.views pool.old pool.new) }
+    ensures err { IfErr result (RunGivesUp ⟦<S as Viewed>⟧.views H.allows H.refuses drain_tail
         (resolved_all (all_scopes scopes.now) (actions_view actions.now)) sys.old sys.new pool.old
         pool.new) }
 {
@@ -192,23 +192,23 @@ pub fn start_reader<S: System, H: Hook>(
 >
     requires outwards { AreOutwards (scopes_view scopes.now) }
     requires within { All (IsWithin (length scopes.now)) (actions_view actions.now) }
-    requires begun { resources_of ⟦<S as Seen>⟧.views held ≡ empty_resources }
-    requires new { IsNew ⟦<S as Seen>⟧.views held }
+    requires begun { resources_of ⟦<S as Viewed>⟧.views held ≡ empty_resources }
+    requires new { IsNew ⟦<S as Viewed>⟧.views held }
     requires leads { LeadToSomePlan S.End.number_of (resolved_all (all_scopes scopes.now)
         (actions_view actions.now)) }
     requires opens { OpenOutputCapture S.End.number_of (resolved_all (all_scopes scopes.now)
         (actions_view actions.now)) }
-    ensures ok { IfOk result (λ made. RunSucceeds ⟦<S as Seen>⟧.views H.allows drain_and_reader_tail
+    ensures ok { IfOk result (λ made. RunSucceeds ⟦<S as Viewed>⟧.views H.allows drain_and_reader_tail
         (resolved_all (all_scopes scopes.now) (actions_view actions.now)) sys.old sys.new made.0) }
     ensures reader { IfOk result (λ made. MadeReader S.may_read
         (segment (S.journal_view sys.old).entries (S.journal_view sys.new).entries) made.1) }
-    ensures kept { IfOk result (λ made. IsNew ⟦<S as Seen>⟧.views made.0) }
+    ensures kept { IfOk result (λ made. IsNew ⟦<S as Viewed>⟧.views made.0) }
     ensures output { IfOk result (λ made. made.0.output_worker ≡ None) }
     ensures workers { IfOk result (λ made. HavePipes S.End.number_of
         (resolved_all (all_scopes scopes.now) (actions_view actions.now)) true
         (is_some made.0.error_worker)) }
-    ensures swept { OnOk result (PoolLeaves ⟦<S as Seen>⟧.views pool.old pool.new) }
-    ensures err { IfErr result (RunGivesUp ⟦<S as Seen>⟧.views H.allows H.refuses
+    ensures swept { OnOk result (PoolLeaves ⟦<S as Viewed>⟧.views pool.old pool.new) }
+    ensures err { IfErr result (RunGivesUp ⟦<S as Viewed>⟧.views H.allows H.refuses
         drain_and_reader_tail (resolved_all (all_scopes scopes.now) (actions_view actions.now))
         sys.old sys.new pool.old pool.new) }
 {

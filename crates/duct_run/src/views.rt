@@ -8,14 +8,14 @@ ghost use Rattle.duct_run.specs.SystemViews.{SystemViews};
 use duct_base::system::System;
 
 /// Every `System` has this trait, and no bound names it. Under the bound `S: System` a clause
-/// writes `⟦<S as Seen>⟧.views`.
-pub trait Seen: System {
+/// writes `⟦<S as Viewed>⟧.views`.
+pub trait Viewed: System {
     /// The views of the system and its handles.
     ghost views: { SystemViews Self Self.End Self.Child Self.Feed Self.Drain (Unit {0})
         (Arc (Vec ℕ Global) Global) };
 }
 
-impl<S: System> Seen for S {
+impl<S: System> Viewed for S {
     ghost views = { record {
       journal = S.journal_view;
       number_of = S.End.number_of;

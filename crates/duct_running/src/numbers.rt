@@ -9,7 +9,7 @@ use crate::running::Running;
 use duct_base::error::Error;
 use duct_base::status::Shape;
 use duct_base::system::{Numbered, System};
-use duct_run::views::Seen;
+use duct_run::views::Viewed;
 use std::alloc::Global;
 
 /// The numbers of a start's children and workers.
@@ -118,7 +118,7 @@ impl<S: System> Running<S> {
     /// and input workers yet, and room for them. It allocates nothing.
     pub fn note_numbers(&self, numbers: &mut Numbers)
         requires { HaveRoom (shape_view self.now.shape) numbers.old }
-        ensures { numbers_view numbers.new ≡ numbers_of ⟦<S as Seen>⟧.views self.now }
+        ensures { numbers_view numbers.new ≡ numbers_of ⟦<S as Viewed>⟧.views self.now }
     {
         note(&mut numbers.children, &self.children);
         note(&mut numbers.feeds, &self.feeds);
@@ -129,7 +129,7 @@ impl<S: System> Running<S> {
     /// Returns whether it has this shape, and children and workers with these numbers.
     pub fn is_of(&self, shape: &Shape, numbers: &Numbers) -> bool
         ensures { IsTrue result ↔ ((shape_view self.now.shape ≡ shape_view shape.now)
-            × (numbers_of ⟦<S as Seen>⟧.views self.now ≡ numbers_view numbers.now)) }
+            × (numbers_of ⟦<S as Viewed>⟧.views self.now ≡ numbers_view numbers.now)) }
     {
         let numbered = are_numbered(
             &self.children,

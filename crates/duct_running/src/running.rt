@@ -18,7 +18,7 @@ use duct_base::error::Error;
 use duct_base::pool::Place;
 use duct_base::status::{Core, Event, Reply, Word};
 use duct_base::system::{Child, ExitStatus, Fault, Job, Output, Side, System};
-use duct_run::views::Seen;
+use duct_run::views::Viewed;
 use std::marker::Model;
 use std::sync::Arc;
 
@@ -111,7 +111,7 @@ pub fn running_of<S: System>(
         ≡ latest_told (shape_in core) (record { out = is_some output; err = is_some error }) [] }
     requires commands { length children.items ≡ command_count (shape_in core) }
     requires inputs { length feeds.items ≡ input_count (shape_in core) }
-    requires unasked { AreUnasked ⟦<S as Seen>⟧.views children.items feeds.items output error }
+    requires unasked { AreUnasked ⟦<S as Viewed>⟧.views children.items feeds.items output error }
     requires empty { room.drains.items ≡ [] }
     requires unnamed { room.ids.items ≡ [] }
     requires named { length children.items ≤ vec_capacity room.ids }
@@ -158,7 +158,7 @@ impl<S: System> Running<S> {
     /// Does nothing. Its contract says that each result which a child or a worker stores is one
     /// that a child or a worker of its number may return.
     pub fn answers_allowed(&self)
-        ensures { ∥ StoresAllowed ⟦<S as Seen>⟧.views self.now ∥₁ }
+        ensures { ∥ StoresAllowed ⟦<S as Viewed>⟧.views self.now ∥₁ }
     {
         let _ = &self.core;
     }
@@ -195,7 +195,7 @@ impl<S: System> Running<S> {
     fn ask(&mut self, at: usize)
         requires { at < length self.old.children }
         ensures shape { shape_view self.new.shape ≡ shape_view self.old.shape }
-        ensures asked { ChildAskedAt ⟦<S as Seen>⟧.views at self.old self.new }
+        ensures asked { ChildAskedAt ⟦<S as Viewed>⟧.views at self.old self.new }
         ensures feeds { self.new.feeds ≡ self.old.feeds }
         ensures output { self.new.output ≡ self.old.output }
         ensures error { self.new.error ≡ self.old.error }
@@ -218,7 +218,7 @@ impl<S: System> Running<S> {
     // Polls each child that has not ended, once and from left to right.
     fn ask_children(&mut self)
         ensures shape { shape_view self.new.shape ≡ shape_view self.old.shape }
-        ensures asked { ChildrenAsked ⟦<S as Seen>⟧.views self.old self.new }
+        ensures asked { ChildrenAsked ⟦<S as Viewed>⟧.views self.old self.new }
         ensures feeds { self.new.feeds ≡ self.old.feeds }
         ensures output { self.new.output ≡ self.old.output }
         ensures error { self.new.error ≡ self.old.error }
@@ -234,7 +234,7 @@ impl<S: System> Running<S> {
         requires { at < length self.old.feeds }
         ensures shape { shape_view self.new.shape ≡ shape_view self.old.shape }
         ensures children { self.new.children ≡ self.old.children }
-        ensures asked { FeedPolledAt ⟦<S as Seen>⟧.views at self.old self.new }
+        ensures asked { FeedPolledAt ⟦<S as Viewed>⟧.views at self.old self.new }
         ensures output { self.new.output ≡ self.old.output }
         ensures error { self.new.error ≡ self.old.error }
     {
@@ -249,7 +249,7 @@ impl<S: System> Running<S> {
     fn ask_feeds(&mut self)
         ensures shape { shape_view self.new.shape ≡ shape_view self.old.shape }
         ensures children { self.new.children ≡ self.old.children }
-        ensures asked { FeedsPolled ⟦<S as Seen>⟧.views self.old self.new }
+        ensures asked { FeedsPolled ⟦<S as Viewed>⟧.views self.old self.new }
         ensures output { self.new.output ≡ self.old.output }
         ensures error { self.new.error ≡ self.old.error }
     {
@@ -264,7 +264,7 @@ impl<S: System> Running<S> {
         ensures shape { shape_view self.new.shape ≡ shape_view self.old.shape }
         ensures children { self.new.children ≡ self.old.children }
         ensures feeds { self.new.feeds ≡ self.old.feeds }
-        ensures asked { DrainPolled ⟦<S as Seen>⟧.views Out self.old self.old.output
+        ensures asked { DrainPolled ⟦<S as Viewed>⟧.views Out self.old self.old.output
             self.new.output }
         ensures error { self.new.error ≡ self.old.error }
     {
@@ -285,7 +285,7 @@ impl<S: System> Running<S> {
         ensures children { self.new.children ≡ self.old.children }
         ensures feeds { self.new.feeds ≡ self.old.feeds }
         ensures output { self.new.output ≡ self.old.output }
-        ensures asked { DrainPolled ⟦<S as Seen>⟧.views Err self.old self.old.error
+        ensures asked { DrainPolled ⟦<S as Viewed>⟧.views Err self.old self.old.error
             self.new.error }
     {
         let Some(Side::Err) = self.core.awaited() else {
@@ -311,22 +311,22 @@ impl<S: System> Running<S> {
     /// tries again.
     pub fn poll(&mut self) -> Result<Option<Arc<Output>>, Error>
         ensures shape { shape_view self.new.shape ≡ shape_view self.old.shape }
-        ensures asked { ChildrenAsked ⟦<S as Seen>⟧.views self.old self.new }
-        ensures asked_feeds { FeedsPolled ⟦<S as Seen>⟧.views self.old self.new }
+        ensures asked { ChildrenAsked ⟦<S as Viewed>⟧.views self.old self.new }
+        ensures asked_feeds { FeedsPolled ⟦<S as Viewed>⟧.views self.old self.new }
 
         // Whether it is polled depends on what the children and input workers store now, and on
         // what the capture workers stored before.
-        ensures asked_output { DrainPolled ⟦<S as Seen>⟧.views Out
+        ensures asked_output { DrainPolled ⟦<S as Viewed>⟧.views Out
             (record self.new { output = self.old.output; error = self.old.error })
             self.old.output self.new.output }
 
         // Whether it is polled depends on what the children, the input workers and stdout's capture
         // worker store now, and on what stderr's stored before.
-        ensures asked_error { DrainPolled ⟦<S as Seen>⟧.views Err
+        ensures asked_error { DrainPolled ⟦<S as Viewed>⟧.views Err
             (record self.new { error = self.old.error }) self.old.error self.new.error }
-        ensures outcome { ReturnsOutcome ⟦<S as Seen>⟧.views self.new result }
+        ensures outcome { ReturnsOutcome ⟦<S as Viewed>⟧.views self.new result }
         ensures pending { result ≡ Ok None
-            → OneRuns ⟦<S as Seen>⟧.views (numbers_of ⟦<S as Seen>⟧.views self.new) }
+            → OneRuns ⟦<S as Viewed>⟧.views (numbers_of ⟦<S as Viewed>⟧.views self.new) }
     {
         self.begin_poll();
         self.ask_children();
@@ -345,7 +345,7 @@ impl<S: System> Running<S> {
         ensures feeds { self.new.feeds ≡ self.old.feeds }
         ensures output { self.new.output ≡ self.old.output }
         ensures error { self.new.error ≡ self.old.error }
-        ensures outcome { ReturnsOutcome ⟦<S as Seen>⟧.views self.new result }
+        ensures outcome { ReturnsOutcome ⟦<S as Viewed>⟧.views self.new result }
     {
         answer(self.core.step(Event::Conclude))
     }

@@ -10,7 +10,7 @@ use duct_base::error::Error;
 use duct_base::pool::Pool;
 use duct_base::system::{Child, Fault, Order, System};
 use duct_run::ending::give_all;
-use duct_run::views::Seen;
+use duct_run::views::Viewed;
 
 // Gives a child an order.
 fn give<C: Child>(child: &mut C, order: Order) -> Result<(), Fault>
@@ -38,7 +38,7 @@ impl<S: System> Running<S> {
     /// for a command, the command is not killed and its fault is `OutOfMemory`.
     pub fn kill(&mut self) -> Result<(), Error>
         ensures shape { self.new.shape ≡ self.old.shape }
-        ensures ordered { ChildrenOrdered ⟦<S as Seen>⟧.views Kill self.old result self.new }
+        ensures ordered { ChildrenOrdered ⟦<S as Viewed>⟧.views Kill self.old result self.new }
         ensures feeds { self.new.feeds ≡ self.old.feeds }
         ensures output { self.new.output ≡ self.old.output }
         ensures error { self.new.error ≡ self.old.error }
@@ -51,7 +51,7 @@ impl<S: System> Running<S> {
     /// does.
     pub fn signal(&mut self, signal: i32) -> Result<(), Error>
         ensures shape { self.new.shape ≡ self.old.shape }
-        ensures ordered { ChildrenOrdered ⟦<S as Seen>⟧.views (Signal signal) self.old result
+        ensures ordered { ChildrenOrdered ⟦<S as Viewed>⟧.views (Signal signal) self.old result
             self.new }
         ensures feeds { self.new.feeds ≡ self.old.feeds }
         ensures output { self.new.output ≡ self.old.output }
@@ -66,7 +66,7 @@ impl<S: System> Running<S> {
     /// children: one that runs and finds no room is dropped and counts as lost. It allocates
     /// nothing and doesn't block.
     pub fn give_up(self, pool: &mut Pool<S::Child>)
-        ensures { PoolGets ⟦<S as Seen>⟧.views self.children pool.old pool.new }
+        ensures { PoolGets ⟦<S as Viewed>⟧.views self.children pool.old pool.new }
     {
         let (children, feeds, drains) = self.into_parts();
         drop((feeds, drains));
@@ -77,7 +77,7 @@ impl<S: System> Running<S> {
     fn order(&mut self, at: usize, order: Order) -> Result<(), Fault>
         requires { at < length self.old.children }
         ensures shape { self.new.shape ≡ self.old.shape }
-        ensures ordered { ChildOrderedAt ⟦<S as Seen>⟧.views order at self.old result self.new }
+        ensures ordered { ChildOrderedAt ⟦<S as Viewed>⟧.views order at self.old result self.new }
         ensures feeds { self.new.feeds ≡ self.old.feeds }
         ensures output { self.new.output ≡ self.old.output }
         ensures error { self.new.error ≡ self.old.error }
@@ -92,7 +92,7 @@ impl<S: System> Running<S> {
     // fault.
     fn order_all(&mut self, order: Order) -> Result<(), Error>
         ensures shape { self.new.shape ≡ self.old.shape }
-        ensures ordered { ChildrenOrdered ⟦<S as Seen>⟧.views order self.old result self.new }
+        ensures ordered { ChildrenOrdered ⟦<S as Viewed>⟧.views order self.old result self.new }
         ensures feeds { self.new.feeds ≡ self.old.feeds }
         ensures output { self.new.output ≡ self.old.output }
         ensures error { self.new.error ≡ self.old.error }
