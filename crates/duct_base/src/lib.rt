@@ -2,7 +2,7 @@
 //! errors, statuses and abandoned children. It knows nothing about expressions.
 #![tactic(auto)]
 
-pub use duct_status::status;
+pub use duct_status::{per_side, status};
 pub use duct_system::{error, journal, names, spec, system};
 
 pub mod exe;

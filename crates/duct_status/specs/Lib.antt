@@ -6,8 +6,10 @@ pub mod EventView
 pub mod Fits
 pub mod Latest
 pub mod Laws
+pub mod LendsSide
 pub mod Message
 pub mod Outcome
+pub mod PerSide
 pub mod Quoted
 pub mod ReplyView
 pub mod ShapeView
