@@ -1,7 +1,6 @@
 -- What a start that was waited for returns, and what it leaves of the pool.
-use Rattle.std.proofs.Common.{◌≡◌, ℕ, ◌+◌, ◌^◌, ◌<◌, Bool, List, [], ◌∷◌, length, refl, ap, sym, ◌∙◌, arith}
+use Rattle.std.proofs.Common.{◌≡◌, ℕ, Bool, List, [], ◌∷◌, refl, ap, ◌∙◌}
 use Rattle.std.proofs.lemmas.Simd.{map-map}
-use Rattle.std.proofs.lemmas.List.{length-map}
 use Rattle.std.proofs.lemmas.List.Elements.{All-cons, All-nil, All-head, All-tail}
 use Rattle.std.specs.List.{All}
 use Rattle.std.specs.Prelude.{map, IfOk, IfErr, OnOk, OnErr, Ok, Err}
@@ -14,12 +13,12 @@ use Rattle.duct_system.specs.Started.{children_in}
 use Rattle.duct_start.specs.Left.{Leaves, LeavesStarted, pool_view}
 use Rattle.duct_start.specs.Running.{IsRunning, RunningView}
 use Rattle.duct_start.specs.TreeView.{TreeView}
-use Rattle.duct_start.proofs.Leaving.{keeps_fewer, leaves_on, leaves_taken}
+use Rattle.duct_start.proofs.Leaving.{takes_in}
 use Rattle.duct_running.specs.NumbersView.{numbers_in}
 use Rattle.duct_running.specs.Stays.{Stays}
 use Rattle.duct_handle.specs.Started.{AreNumbers}
 use Rattle.duct_handle.proofs.Beginning.{are_numbers}
-use Rattle.duct.specs.RunResults.{PoolHasRoom, LeavesGiven}
+use Rattle.duct.specs.RunResults.{LeavesGiven}
 
 abbrev IsUnordered : ChildView → Type 0
 IsUnordered child = child.orders ≡ []
@@ -62,18 +61,13 @@ module _ {E H C F D V W : Type 0} (child : C → ChildView) (feed : F → JobVie
       → Leaves may [] (pool_view child before) (pool_view child mid)
       → Stays child feed drain running waited
       → IsGiven may child waited.children mid after
-      → PoolHasRoom added before → LeavesGiven may child added before after
-  given_after may waited before mid after swept stays given fits =
-      let numbers : map (λ c. c.number) (map child waited.children) ≡ children_in added =
-      ap (λ n. n.children) stays.numbers_are ∙ map-map (λ (c : ChildView). c.number) child running.children ∙ runs.children_are in
-      let many : length waited.children ≡ length (children_in added) =
-      sym (length-map waited.children child) ∙ sym (length-map (map child waited.children) (λ c. c.number)) ∙ ap (λ (l : List ℕ). length l) numbers in
-      let low : length mid.children + length waited.children < 2 ^ 63 = omega (arith, fits, many, keeps_fewer may child before mid swept) in (
-        map child waited.children,
-        numbers,
-        still_unordered child running.children waited.children stays.orders_are runs.unasked,
-        leaves_on may (map child waited.children) (pool_view child before) (pool_view child mid) (pool_view child after) swept (leaves_taken may child waited.children mid after (given.takes low)),
-      )
+      → LeavesGiven may child added before after
+  given_after may waited before mid after swept stays given = (
+    map child waited.children,
+    ap (λ n. n.children) stays.numbers_are ∙ map-map (λ (c : ChildView). c.number) child running.children ∙ runs.children_are,
+    still_unordered child running.children waited.children stays.orders_are runs.unasked,
+    takes_in may child waited.children before mid after swept given,
+  )
 
 -- two properties of a value, or of an error, give a third
 pub if_ok_two : {T F : Type 0} (r : Result T F) {P Q R : T → Type 0}

@@ -23,7 +23,7 @@ use Rattle.duct_handle.specs.HandleView.{HandleView}
 use Rattle.duct_handle.specs.Started.{IsHandle}
 use Rattle.duct.specs.TreeView.{tree_view}
 use Rattle.duct.specs.declared.expression.Expression.{Expression}
-use Rattle.duct.specs.RunResults.{LeavesGiven, PoolHasRoom, ReadReturns, WaitFails, WaitReturns}
+use Rattle.duct.specs.RunResults.{LeavesGiven, ReadReturns, WaitFails, WaitReturns}
 
 -- a start that ends with the workers of the capture pipes, or with the reader of stdout's
 pub data StartKind : Type 0 where
@@ -89,8 +89,7 @@ module _ {S E C F D V W : Type 0} (views : SystemViews S E C F D V W) where
       (error : Error) : Type 0 where
     pub asked : StartRefused allows refuses views.number_of (tree_view root)
         (plan_for kind (tree_view root)) (views.journal sys) (views.journal after) error
-    pub given : PoolHasRoom (added_between sys after) before
-        → LeavesStarted views.may_answer views.child (added_between sys after) before left
+    pub given : LeavesStarted views.may_answer views.child (added_between sys after) before left
 
   -- a start that was waited for and failed with an error, at the start or after it: the pool was
   -- given the children that were started, none of them with an order
@@ -101,8 +100,7 @@ module _ {S E C F D V W : Type 0} (views : SystemViews S E C F D V W) where
         ⊎ (StartSucceeds allows views.number_of (tree_view root) (plan_for kind (tree_view root))
         (views.journal sys) (views.journal after)
         × returned error kind (tree_view root) (added_between sys after))
-    pub given : PoolHasRoom (added_between sys after) before
-        → LeavesGiven views.may_answer views.child (added_between sys after) before left
+    pub given : LeavesGiven views.may_answer views.child (added_between sys after) before left
 
 module _ {S E C F D : Type 0} (views : SystemViews S E C F D (Unit {0}) Bytes) where
   -- the wait for what was started returns this output

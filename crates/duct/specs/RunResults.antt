@@ -1,5 +1,5 @@
 -- What is returned of a start that was waited for, by what its journal names.
-use Rattle.std.specs.Prelude.{ℕ, ◌+◌, ◌<◌, ◌^◌, ◌≡◌, Bool, List, [], All, length, map, Err, false}
+use Rattle.std.specs.Prelude.{ℕ, ◌≡◌, Bool, List, [], All, map, Err, false}
 use Rattle.std.specs.declared.alloc.Global.{Global}
 use Rattle.std.specs.declared.option.Option.{Option}
 use Rattle.std.specs.declared.result.Result.{Result}
@@ -11,7 +11,7 @@ use Rattle.duct_system.specs.Started.{children_in}
 use Rattle.duct_system.specs.declared.error.Error.{Error}
 use Rattle.duct_system.specs.declared.system.Said.{Said}
 use Rattle.duct_status.specs.ReplyView.{ReplyView}
-use Rattle.duct_start.specs.Left.{Leaves, pool_view}
+use Rattle.duct_start.specs.Left.{TakesIn, pool_view}
 use Rattle.duct_start.specs.RunContract.{MadeReader}
 use Rattle.duct_start.specs.ShapeOfTree.{shape_of_tree}
 use Rattle.duct_start.specs.TreeView.{TreeView}
@@ -51,9 +51,4 @@ abbrev pub LeavesGiven : {C : Type 0} → (ℕ → Answer → Type 0) → (C →
 LeavesGiven may view added before after =
     (given : List ChildView) × (map (λ child. child.number) given ≡ children_in added)
     × All (λ child. child.orders ≡ []) given
-    × Leaves may given (pool_view view before) (pool_view view after)
-
--- the pool's list has room for each child that the entries name, below the bound of the standard
--- library's lists
-abbrev pub PoolHasRoom : {C : Type 0} → List EntryView → PoolView C → Type 0
-PoolHasRoom added pool = length pool.children + length (children_in added) < 2 ^ 63
+    × TakesIn may given (pool_view view before) (pool_view view after)

@@ -1,10 +1,10 @@
 -- Children that are polled one after another, in a pool and as they are given to it.
-use Rattle.std.proofs.Common.{◌≡◌, ℕ, zero, suc, ◌+◌, ◌^◌, ◌<◌, ◌≤◌, List, [], ◌∷◌, ◌++◌, length, refl, ap, sym, ◌∙◌, arith, append_assoc, subst, inl, inr, take, drop, add-one, add-zero, zero-add}
+use Rattle.std.proofs.Common.{Bool, true, false, if◌then◌else◌, ◌≡◌, ℕ, zero, suc, ◌+◌, ◌<◌, ◌≤◌, List, [], ◌∷◌, ◌++◌, length, refl, ap, sym, ◌∙◌, arith, append_assoc, subst, inl, inr, take, drop, add-one, add-zero, zero-add}
 use Rattle.std.proofs.lemmas.List.{append-nil, take_all, drop_all}
 use Rattle.std.specs.Prelude.{map, Some, None, Ok, Err}
 use Rattle.std.specs.declared.option.Option.{Option}
 use Rattle.duct_system.specs.Child.{Answer, ChildView, PollsChild}
-use Rattle.duct_base.specs.Pool.{PoolView, seated, counted, greatest, AddsUp, Sieves, AsksAll, Sweeps, IsSwept, Takes}
+use Rattle.duct_base.specs.Pool.{PoolView, seated, counted, Sieves, AsksAll, Sweeps, IsSwept, Takes}
 use Rattle.duct_system.specs.declared.system.ExitStatus.{ExitStatus}
 use Rattle.duct_system.specs.declared.system.Fault.{Fault}
 
@@ -92,6 +92,14 @@ seated-append : {C : Type 0} (seats : List (Option C)) (child : C)
 seated-append [] child = refl
 seated-append {C} (Some other ∷ seats) child = ap (λ (l : List C). other ∷ l) (seated-append seats child)
 seated-append (None ∷ seats) child = seated-append seats child
+
+-- at most one seat more, with a child
+pub seated_after : {C : Type 0} (old after one : List (Option C)) (child : C) (joined : Bool)
+    → one ≡ Some child ∷ [] → after ≡ (if joined then old ++ one else old)
+    → (more : List C) × (seated after ≡ seated old ++ more)
+seated_after old after one child true one_is is =
+    (child ∷ [], ap (λ l. seated l) is ∙ ap (λ l. seated (old ++ l)) one_is ∙ seated-append old child)
+seated_after old after one child false one_is is = ([], ap (λ l. seated l) is ∙ sym (append-nil (seated old)))
 
 -- the first child of a pool is polled: the pool is given by its seats, and the first one is that
 -- child's

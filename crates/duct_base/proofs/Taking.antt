@@ -1,5 +1,6 @@
 -- Children that are given to a pool one after another.
-use Rattle.std.proofs.Common.{ℕ, zero, suc, ◌≡◌, ◌+◌, ◌^◌, ◌<◌, ◌≤◌, List, [], ◌∷◌, ◌++◌, length, ap, sym, ◌∙◌, arith, append_assoc, length-append}
+use Rattle.std.proofs.Common.{ℕ, ◌≡◌, ◌+◌, ◌^◌, ◌<◌, List, [], ◌∷◌, ◌++◌, length, refl, ap, sym, ◌∙◌, arith, append_assoc, length-append}
+use Rattle.std.proofs.lemmas.List.{append-nil}
 use Rattle.std.specs.Prelude.{Ok, None}
 use Rattle.duct_system.specs.Child.{Answer, ChildView, PollsChild}
 use Rattle.duct_base.specs.Pool.{PoolView, Takes, IsGiven, counted}
@@ -23,6 +24,23 @@ module _ {C : Type 0} (may : ℕ → Answer → Type 0) (view : C → ChildView)
     lost_is = second.lost_is ∙ ap (λ (n : ℕ). counted n second.lost) first.lost_is ∙ counted_more before.lost first.lost second.lost;
   }
 
+  -- no child
+  pub given_none : (pool : PoolView C) → IsGiven may view [] pool pool
+  given_none pool = record {
+    counts = refl;
+    stays = ([], sym (append-nil pool.children));
+    takes = λ fits. record {
+      kept = [];
+      reaped = 0;
+      lost = 0;
+      asked = (refl, refl, refl);
+      children_are = sym (append-nil pool.children);
+      given_is = refl;
+      reaped_is = refl;
+      lost_is = refl;
+    };
+  }
+
   -- some children, and one more
   pub given_next : (taken : List C) (child : C) (before mid after : PoolView C)
       → IsGiven may view taken before mid → IsGiven may view (child ∷ []) mid after
@@ -32,6 +50,11 @@ module _ {C : Type 0} (may : ℕ → Answer → Type 0) (view : C → ChildView)
       record {
         counts = one.counts ∙ ap (λ (n : ℕ). counted n 1) first.counts ∙ counted_more before.given (length taken) 1
             ∙ ap (λ (n : ℕ). counted before.given n) (sym many);
+        stays = (
+          first.stays.0 ++ one.stays.0,
+          one.stays.1 ∙ ap (λ (l : List C). l ++ one.stays.0) first.stays.1
+              ∙ append_assoc before.children first.stays.0 one.stays.0,
+        );
         takes = λ fits.
             let few : length before.children + length taken < 2 ^ 63 = omega (arith, fits, many) in
             let t = first.takes few in

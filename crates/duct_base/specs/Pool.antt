@@ -87,10 +87,11 @@ pub record Takes {C : Type 0} (may : ℕ → Answer → Type 0) (view : C → Ch
   pub reaped_is : after.reaped ≡ counted before.reaped reaped
   pub lost_is : after.lost ≡ counted before.lost lost
 
--- these children were given to a pool: each is counted, and all are taken if the list of the pool
--- has room for all of them
+-- these children were given to a pool: each is counted, its old children stay in front, and all are
+-- taken if the list of the pool has room for all of them
 pub record IsGiven {C : Type 0} (may : ℕ → Answer → Type 0) (view : C → ChildView)
     (children : List C) (before after : PoolView C) : Type 0 where
   pub counts : after.given ≡ counted before.given (length children)
+  pub stays : (more : List C) × (after.children ≡ before.children ++ more)
   pub takes : length before.children + length children < 2 ^ 63
       → Takes may view children before after

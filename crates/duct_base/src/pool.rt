@@ -1,6 +1,6 @@
 //! Children that a start or a handle gave up while they ran. A pool keeps them, so that they can be
 //! polled and reaped.
-ghost use Rattle.std.specs.Prelude.{◌≡◌, ◌+◌, ◌<◌, ◌^◌, ◌∷◌, ◌++◌, [], length, Some, None};
+ghost use Rattle.std.specs.Prelude.{◌≡◌, ◌+◌, ◌<◌, ◌^◌, ◌∷◌, ◌++◌, List, [], length, Some, None};
 ghost use Rattle.duct_system.specs.Child.{one_more};
 ghost use Rattle.duct_base.specs.Pool.{AddsUp, Sweeps, IsSwept, IsGiven};
 
@@ -173,6 +173,7 @@ impl<C: Drop> Pool<C> {
     // room the child is dropped and counted as lost.
     fn keep(&mut self, child: C, seat: Seat<C>)
         ensures counts { self.new.given ≡ one_more self.old.given }
+        ensures stays { (more : List C) × (self.new.children ≡ self.old.children ++ more) }
         ensures keeps { length self.old.children + 1 < 2 ^ 63 → self.new ≡ record self.old {
           children = self.old.children ++ child ∷ [];
           given = one_more self.old.given;

@@ -23,7 +23,7 @@ use Rattle.duct_start.specs.Step.{Item}
 use Rattle.duct_start.specs.TreeView.{TreeView}
 use Rattle.duct_start.proofs.Closing.{refused_closed, refused_children, refused_room}
 use Rattle.duct_start.proofs.Counts.{count-append, count-reverse}
-use Rattle.duct_start.proofs.Leaving.{leaves_refused}
+use Rattle.duct_start.proofs.Leaving.{leaves_started}
 use Rattle.duct_run.specs.ResourceEnds.{ends_of_resources}
 use Rattle.duct_run.specs.ResourcesView.{AreNew, resources_view}
 use Rattle.duct_run.specs.declared.resources.Resources.{Resources}
@@ -61,9 +61,7 @@ module _ {E H C F D V W : Type 0} (allows : Allows H) (refuses : Refuses H) (num
         → AreNew child feed drain held
         → Leaves may [] (pool_view child before) (pool_view child mid)
         → IsGiven may child held.children.items mid after
-        → length before.children
-        + length (children_in (segment context.old.entries then.entries)) < 2 ^ 63
         → LeavesStarted may child (segment context.old.entries then.entries) before after
-    left_started may before mid after new swept given fits =
-        leaves_refused may child held.children.items (segment context.old.entries then.entries) before mid after swept given
-        (refused_children allows refuses number_of context items now then seen error run (ends_of_resources number_of held) same_ends as_many closes) new.children fits
+    left_started may before mid after new swept given =
+        leaves_started may child held.children.items (segment context.old.entries then.entries) before mid after swept given
+        (refused_children allows refuses number_of context items now then seen error run (ends_of_resources number_of held) same_ends as_many closes) new.children

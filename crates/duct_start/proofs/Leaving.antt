@@ -6,12 +6,13 @@ use Rattle.std.specs.List.{All}
 use Rattle.std.proofs.lemmas.List.Elements.{All-cons, All-nil, All-head, All-tail}
 use Rattle.std.specs.Prelude.{map, Ok, Err, Some, None}
 use Rattle.duct_base.proofs.Sieving.{counted_more, sieves_fewer}
+use Rattle.duct_base.proofs.Taking.{given_none}
 use Rattle.duct_base.specs.Pool.{PoolView, AsksAll, IsSwept, IsGiven, Sieves, Takes, counted}
 use Rattle.duct_system.specs.Child.{Answer, ChildView, PollsChild, IsUnasked}
 use Rattle.duct_system.specs.EntryView.{EntryView}
 use Rattle.duct_system.specs.Started.{children_in}
 use Rattle.duct_system.specs.Trace.{segment}
-use Rattle.duct_start.specs.Left.{Leaves, LeavesStarted, StaysInPool, pool_view}
+use Rattle.duct_start.specs.Left.{Leaves, LeavesStarted, StaysInPool, TakesIn, pool_view}
 use Rattle.duct_start.proofs.Whole.{segment-added}
 
 stays_same : (child : ChildView) → StaysInPool child child
@@ -175,12 +176,41 @@ module _ (may : ℕ → Answer → Type 0) where
           lost_is = takes.lost_is ∙ ap (λ (n : ℕ). counted before.lost n) lost;
         }
 
+    -- these children were given to the pool after any number of sweeps
+    pub takes_in : (children : List C) (before mid after : PoolView C)
+        → Leaves may [] (pool_view view before) (pool_view view mid)
+        → IsGiven may view children mid after
+        → TakesIn may (map view children) (pool_view view before) (pool_view view after)
+    takes_in children before mid after swept given =
+        let seen = length-map children view in
+        let kept : map view mid.children ≡ swept.old = swept.children_are ∙ ap (λ (l : List ChildView). swept.old ++ l) swept.new_are.0 ∙ append-nil swept.old in
+        let fewer = leaves_fewer (pool_view view before) (pool_view view mid) swept in
+        record {
+          old = record {
+            old = swept.old;
+            more = map view given.stays.0;
+            reaped = swept.reaped;
+            lost = swept.lost;
+            children_are = ap (λ (l : List C). map view l) given.stays.1 ∙ map-append view mid.children given.stays.0
+                ∙ ap (λ (l : List ChildView). l ++ map view given.stays.0) kept;
+            old_are = swept.old_are;
+            given_is = given.counts ∙ ap (λ (n : ℕ). counted mid.given n) (sym seen) ∙ ap (λ (n : ℕ). counted n (length (map view children))) swept.given_is;
+          };
+          all = λ fits.
+              let low : length mid.children + length children < 2 ^ 63 = omega (arith, fits, seen, fewer, length-map mid.children view) in
+              leaves_on (map view children) (pool_view view before) (pool_view view mid) (pool_view view after) swept (leaves_taken children mid after (given.takes low));
+        }
+
     -- no request was made
     pub leaves_unasked : (entries : List EntryView) (pool : PoolView C)
         → LeavesStarted may view (segment entries entries) pool pool
     leaves_unasked entries pool =
-        let nothing : segment entries entries ≡ [] = ap (λ (l : List EntryView). segment entries l) (sym (append-nil entries)) ∙ segment-added entries [] in
-        ([], sym (ap (λ (l : List EntryView). children_in l) nothing), All-nil IsUnasked, leaves_same (pool_view view pool))
+        let nothing : segment entries entries ≡ [] = ap (λ (l : List EntryView). segment entries l) (sym (append-nil entries)) ∙ segment-added entries [] in (
+          [],
+          sym (ap (λ (l : List EntryView). children_in l) nothing),
+          All-nil IsUnasked,
+          takes_in [] pool pool pool (leaves_same (pool_view view pool)) (given_none may view pool),
+        )
 
     unasked_seen : (children : List C) → All (λ c. IsUnasked (view c)) children
         → All IsUnasked (map view children)
@@ -192,32 +222,12 @@ module _ (may : ℕ → Answer → Type 0) where
     pub leaves_started : (children : List C) (added : List EntryView)
         (before mid after : PoolView C)
         → Leaves may [] (pool_view view before) (pool_view view mid)
-        → Takes may view children mid after
+        → IsGiven may view children mid after
         → map (λ c. (view c).number) children ≡ children_in added
         → All (λ c. IsUnasked (view c)) children → LeavesStarted may view added before after
-    leaves_started children added before mid after swept takes numbers unasked = (
+    leaves_started children added before mid after swept given numbers unasked = (
       map view children,
       map-map (λ (c : ChildView). c.number) view children ∙ numbers,
       unasked_seen children unasked,
-      leaves_on (map view children) (pool_view view before) (pool_view view mid) (pool_view view after) swept (leaves_taken children mid after takes),
+      takes_in children before mid after swept given,
     )
-
-    -- if no child was given, the pool keeps no more children than before
-    pub keeps_fewer : (before mid : PoolView C)
-        → Leaves may [] (pool_view view before) (pool_view view mid)
-        → length mid.children ≤ length before.children
-    keeps_fewer before mid swept = omega (arith, leaves_fewer (pool_view view before) (pool_view view mid) swept, length-map before.children view, length-map mid.children view)
-
-    -- the same, if the pool has room for the children besides those that it keeps
-    pub leaves_refused : (children : List C) (added : List EntryView)
-        (before mid after : PoolView C)
-        → Leaves may [] (pool_view view before) (pool_view view mid)
-        → IsGiven may view children mid after
-        → map (λ c. (view c).number) children ≡ children_in added
-        → All (λ c. IsUnasked (view c)) children
-        → length before.children + length (children_in added) < 2 ^ 63
-        → LeavesStarted may view added before after
-    leaves_refused children added before mid after swept given numbers unasked fits =
-        let many : length children ≡ length (children_in added) = sym (length-map children (λ c. (view c).number)) ∙ ap (λ (l : List ℕ). length l) numbers in
-        let low : length mid.children + length children < 2 ^ 63 = omega (arith, fits, many, keeps_fewer before mid swept) in
-        leaves_started children added before mid after swept (given.takes low) numbers unasked

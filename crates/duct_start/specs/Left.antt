@@ -1,5 +1,5 @@
 -- How a start changes the pool that it borrows.
-use Rattle.std.specs.Prelude.{ℕ, ◌+◌, ◌≡◌, List, ◌++◌, All, length, map, Ok, None}
+use Rattle.std.specs.Prelude.{ℕ, ◌+◌, ◌<◌, ◌^◌, ◌≡◌, List, ◌++◌, All, length, map, Ok, None}
 use Rattle.duct_system.specs.Child.{Answer, ChildView, PollsChild, IsUnasked}
 use Rattle.duct_system.specs.EntryView.{EntryView}
 use Rattle.duct_base.specs.Pool.{PoolView, Sieves, counted}
@@ -40,6 +40,25 @@ pool_view view pool =
       lost = pool.lost;
     }
 
+-- what a pool keeps, whatever room its list has: each given child is counted, and the old children
+-- that are left stay in front, in order
+pub record LeavesOld (may : ℕ → Answer → Type 0) (given : List ChildView)
+    (before after : PoolView ChildView) : Type 0 where
+  pub old : List ChildView
+  pub more : List ChildView
+  pub reaped : ℕ
+  pub lost : ℕ
+  pub children_are : after.children ≡ old ++ more
+  pub old_are : Sieves (λ child. may child.number) StaysInPool before.children old reaped lost
+  pub given_is : after.given ≡ counted before.given (length given)
+
+-- the pool takes these children in: it keeps or counts each of them if its list has room for all,
+-- below the bound of the standard library's lists
+pub record TakesIn (may : ℕ → Answer → Type 0) (given : List ChildView)
+    (before after : PoolView ChildView) : Type 0 where
+  pub old : LeavesOld may given before after
+  pub all : length before.children + length given < 2 ^ 63 → Leaves may given before after
+
 -- the pool after a failed start: it was given each child that the start had started, none of which
 -- was polled or given an order before
 abbrev pub LeavesStarted : {C : Type 0} → (ℕ → Answer → Type 0) → (C → ChildView) → List EntryView
@@ -47,4 +66,4 @@ abbrev pub LeavesStarted : {C : Type 0} → (ℕ → Answer → Type 0) → (C �
 LeavesStarted may view added before after =
     (started : List ChildView) × (map (λ child. child.number) started ≡ children_in added)
     × All IsUnasked started
-    × Leaves may started (pool_view view before) (pool_view view after)
+    × TakesIn may started (pool_view view before) (pool_view view after)

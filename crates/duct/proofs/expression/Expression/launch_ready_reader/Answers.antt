@@ -93,8 +93,8 @@ returns-in_err-kept-clause-refused g c =
     let refused = refused_launched allows num (around stdout_capture tree) acts same drain_and_reader_tail g.H.Hook.refuses old e.stopped (resources_view num child feed drain e.held) c.in_err-kept.field-0.0 e.refused in
     rw (p.1, p.2) (record {
       asked = given_up allows g.H.Hook.refuses num child feed drain _ _ e.stopped e.held _ refused (g.S.System.journal_view c.start_reader.new.sys) e.closes tree (plan_of_reader tree) refl (omega arith) (sym (read_items (plan_of_subtree [] (around stdout_capture tree) initial_plan)));
-      given = λ fits. left_started allows g.H.Hook.refuses num child feed drain _ _ e.stopped e.held _ refused (g.S.System.journal_view c.start_reader.new.sys) e.closes
-          g.S.Child.Child.may_answer c.args.pool.now e.swept c.start_reader.new.pool e.new e.leaves e.given fits;
+      given = left_started allows g.H.Hook.refuses num child feed drain _ _ e.stopped e.held _ refused (g.S.System.journal_view c.start_reader.new.sys) e.closes
+          g.S.Child.Child.may_answer c.args.pool.now e.swept c.start_reader.new.pool e.new e.leaves e.given;
     })
 
 pub running-requires-clause-silent : goal.running-requires-clause-silent

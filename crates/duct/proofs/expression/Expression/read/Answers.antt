@@ -24,7 +24,7 @@ returns-in_err-running-clause-failed g c =
     let refused = c.in_err-running.ensures.refused in
     rw (p.1, p.2) (record {
       cause = inl refused;
-      given = λ fits. given_started g.S.Child.Child.may_answer g.S.Child.Child.child_view added c.args.pool.now c.launch_reader.new.pool (refused.given fits);
+      given = given_started g.S.Child.Child.may_answer g.S.Child.Child.child_view added c.args.pool.now c.launch_reader.new.pool refused.given;
     })
 
 pub returns-clause-text : goal.returns-clause-text
@@ -76,8 +76,8 @@ returns-clause-failed g c =
           subst (λ (s : ShapeView). Reads s (Err e)) l.makes.0.shape_is reads,
         ),
       );
-      given = λ fits. given_after child feed drain tree false (is_some (plan_of_reader tree).err) added running l.makes.0
-          g.S.Child.Child.may_answer given.0 c.args.pool.now c.launch_reader.new.pool c.read_text.new.pool l.swept given.1 given.2 fits;
+      given = given_after child feed drain tree false (is_some (plan_of_reader tree).err) added running l.makes.0
+          g.S.Child.Child.may_answer given.0 c.args.pool.now c.launch_reader.new.pool c.read_text.new.pool l.swept given.1 given.2;
     }) c.read_text.ensures.text c.read_text.ensures.given
 
 pub read_text-requires : goal.read_text-requires

@@ -21,7 +21,7 @@ returns-in_err-running-clause-failed g c =
     let refused = c.in_err-running.ensures.refused in
     rw (p.1, p.2) (record {
       cause = inl refused;
-      given = λ fits. given_started g.S.Child.Child.may_answer g.S.Child.Child.child_view added c.args.pool.now c.launch.new.pool (refused.given fits);
+      given = given_started g.S.Child.Child.may_answer g.S.Child.Child.child_view added c.args.pool.now c.launch.new.pool refused.given;
     })
 
 pub returns-clause-output : goal.returns-clause-output
@@ -64,8 +64,8 @@ returns-clause-failed g c =
           subst (λ (s : ShapeView). IsEnding g.S.Child.Child.may_answer g.S.Feed.Job.may_say g.S.Drain.Job.may_say s numbers (Err e)) l.makes.shape_is ending,
         ),
       );
-      given = λ fits. given_after child feed drain tree (is_some (plan_of tree).out) (is_some (plan_of tree).err) added running l.makes
-          g.S.Child.Child.may_answer given.0 c.args.pool.now c.launch.new.pool c.finish.new.pool l.swept given.1 given.2 fits;
+      given = given_after child feed drain tree (is_some (plan_of tree).out) (is_some (plan_of tree).err) added running l.makes
+          g.S.Child.Child.may_answer given.0 c.args.pool.now c.launch.new.pool c.finish.new.pool l.swept given.1 given.2;
     }) c.finish.ensures.err c.finish.ensures.given
 
 pub finish-requires : goal.finish-requires

@@ -17,7 +17,7 @@ returns-in_err-ready-clause-refused g c =
     let tree = tree_view c.args.self.now in
     rw (p.1, p.2, c.in_err-ready.ensures.memory) (record {
       asked = unasked_launch g.H.Hook.allows g.H.Hook.refuses g.E.Numbered.number_of tree (plan_of tree) (g.S.System.journal_view c.args.sys.now);
-      given = λ fits. leaves_unasked g.S.Child.Child.may_answer g.S.Child.Child.child_view (g.S.System.journal_view c.args.sys.now).entries c.args.pool.now;
+      given = leaves_unasked g.S.Child.Child.may_answer g.S.Child.Child.child_view (g.S.System.journal_view c.args.sys.now).entries c.args.pool.now;
     })
 
 pub returns-in_err-room-clause-refused : goal.returns-in_err-room-clause-refused
@@ -26,7 +26,7 @@ returns-in_err-room-clause-refused g c =
     let tree = tree_view c.args.self.now in
     rw (p.1, p.2, c.in_err-room.ensures.memory) (record {
       asked = unasked_launch g.H.Hook.allows g.H.Hook.refuses g.E.Numbered.number_of tree (plan_of tree) (g.S.System.journal_view c.args.sys.now);
-      given = λ fits. leaves_unasked g.S.Child.Child.may_answer g.S.Child.Child.child_view (g.S.System.journal_view c.args.sys.now).entries c.args.pool.now;
+      given = leaves_unasked g.S.Child.Child.may_answer g.S.Child.Child.child_view (g.S.System.journal_view c.args.sys.now).entries c.args.pool.now;
     })
 
 pub returns-in_err-running-clause-refused : goal.returns-in_err-running-clause-refused
