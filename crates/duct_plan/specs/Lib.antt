@@ -5,4 +5,4 @@ pub mod Found
 pub mod PlanView
 pub mod Step
 pub mod Variables
-pub mod Way
+pub mod PathView

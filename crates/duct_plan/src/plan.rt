@@ -7,13 +7,13 @@ ghost use Rattle.duct_tree.specs.NodeView.{node_view};
 ghost use Rattle.duct.specs.TreeView.{tree_view};
 ghost use Rattle.duct_plan.specs.Found.{found_of};
 ghost use Rattle.duct_plan.specs.PlanView.{item_of, plan_view};
-ghost use Rattle.duct_plan.specs.Way.{way_of};
+ghost use Rattle.duct_plan.specs.PathView.{path_of};
 
 use crate::found::Surroundings;
 use crate::items::{Item, Plan};
 use crate::lookup::surroundings_on;
+use crate::path::{PathSegment, below};
 use crate::step::modifier_step;
-use crate::way::{PathSegment, below};
 use duct::tree::Node;
 use duct::{Expression, Side, asks_canonical};
 use duct_tree::effect::Opening;
@@ -156,39 +156,39 @@ pub(crate) fn is_canonical<E, H>(found: &Surroundings<'_, E, H>, words: &[String
     asks_canonical(program_of(words), found.folder.is_some())
 }
 
-/// Adds the requests of a tree to the plan. `way` is the path from the tree to the root. A node's
+/// Adds the requests of a tree to the plan. `path` leads from the tree to the root. A node's
 /// first request comes before those of its inner expression, and the left side of a pipe before the
 /// right.
 fn plan_of_subtree<'t, E: Drop, H: Drop>(
     alloc: Global,
-    way: &[PathSegment<'t, E, H>],
+    path: &[PathSegment<'t, E, H>],
     node: &'t Node<E, H>,
     plan: Plan<'t, E, H>,
 ) -> Result<Plan<'t, E, H>, AllocError>
     ensures { IfOk result
         (λ after. plan_view after
-        ≡ plan_of_subtree (way_of way.now) (node_view node.now) (plan_view plan.entry)) }
+        ≡ plan_of_subtree (path_of path.now) (node_view node.now) (plan_view plan.entry)) }
 {
     match node {
-        Node::Cmd(words) => with_command(surroundings_on(alloc, way)?, words.as_slice(), plan),
+        Node::Cmd(words) => with_command(surroundings_on(alloc, path)?, words.as_slice(), plan),
         Node::Pipe(left, right) => {
             let place = plan.items.len();
-            let left_way = below(alloc, PathSegment::LeftOf(place), way)?;
-            let right_way = below(alloc, PathSegment::RightOf(place), way)?;
+            let left_path = below(alloc, PathSegment::LeftOf(place), path)?;
+            let right_path = below(alloc, PathSegment::RightOf(place), path)?;
             let plan = plan_of_subtree(
                 alloc,
-                left_way.as_slice(),
+                left_path.as_slice(),
                 left,
                 with_item(Item::Pipe, plan)?,
             )?;
-            plan_of_subtree(alloc, right_way.as_slice(), right, plan)
+            plan_of_subtree(alloc, right_path.as_slice(), right, plan)
         }
         Node::Io(modifier, inner) => {
             let step = modifier_step(modifier);
             let place = place_for(step.opening, &plan);
-            let inner_way = below(alloc, PathSegment::Within(place, modifier), way)?;
+            let inner_path = below(alloc, PathSegment::Within(place, modifier), path)?;
             let plan = with_opening(step.opening, plan)?;
-            let plan = plan_of_subtree(alloc, inner_way.as_slice(), inner, plan)?;
+            let plan = plan_of_subtree(alloc, inner_path.as_slice(), inner, plan)?;
             with_closing(step.opening, place, plan)
         }
     }

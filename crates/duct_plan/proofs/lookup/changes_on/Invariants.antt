@@ -2,8 +2,8 @@
 use Rattle.std.proofs.Common.{◌≡◌, ◌++◌, map, drop}
 use Rattle.duct_start.specs.Lookup.{changes_on}
 use Rattle.duct_plan.specs.Found.{change_of}
-use Rattle.duct_plan.specs.Way.{way_of}
+use Rattle.duct_plan.specs.PathView.{path_of}
 use Rattle.duct_plan.proofs.lookup.changes_on.Given as goal
 
-abbrev pub invariant-loop-crumb : goal.invariant-loop-crumb
-invariant-loop-crumb g l = map change_of l.found.items ++ changes_on (way_of (drop l.crumb-index l.way)) ≡ changes_on (way_of l.way)
+abbrev pub invariant-loop-segment : goal.invariant-loop-segment
+invariant-loop-segment g l = map change_of l.found.items ++ changes_on (path_of (drop l.segment-index l.path)) ≡ changes_on (path_of l.path)

@@ -2,7 +2,7 @@
 ghost use Rattle.std.specs.Prelude.{◌≡◌, ◌∷◌, IfOk};
 ghost use Rattle.duct_start.specs.Path.{segment_place, step_of};
 ghost use Rattle.duct_plan.specs.Step.{IsStep};
-ghost use Rattle.duct_plan.specs.Way.{crumb_of};
+ghost use Rattle.duct_plan.specs.PathView.{segment_of};
 
 use crate::step::{NodeStep, Turn, at_stdin, at_stdout, modifier_step};
 use duct::Side;
@@ -25,10 +25,10 @@ pub(crate) enum PathSegment<'t, E, H> {
 }
 
 /// Returns the place of a node.
-pub(crate) fn segment_place<E, H>(crumb: &PathSegment<'_, E, H>) -> usize
-    ensures { result ≡ segment_place (crumb_of crumb.now) }
+pub(crate) fn segment_place<E, H>(segment: &PathSegment<'_, E, H>) -> usize
+    ensures { result ≡ segment_place (segment_of segment.now) }
 {
-    match crumb {
+    match segment {
         PathSegment::LeftOf(place) => *place,
         PathSegment::RightOf(place) => *place,
         PathSegment::Within(place, _) => *place,
@@ -37,10 +37,10 @@ pub(crate) fn segment_place<E, H>(crumb: &PathSegment<'_, E, H>) -> usize
 }
 
 /// Returns what a node does.
-pub(crate) fn step_of<'t, E, H>(crumb: &PathSegment<'t, E, H>) -> NodeStep<'t, E, H>
-    ensures { IsStep (step_of (crumb_of crumb.now)) result }
+pub(crate) fn step_of<'t, E, H>(segment: &PathSegment<'t, E, H>) -> NodeStep<'t, E, H>
+    ensures { IsStep (step_of (segment_of segment.now)) result }
 {
-    match crumb {
+    match segment {
         PathSegment::LeftOf(_) => at_stdout(Opening::Nothing, Turn::Writes),
         PathSegment::RightOf(_) => at_stdin(Turn::Reads),
         PathSegment::Within(_, modifier) => modifier_step(modifier),
@@ -51,15 +51,15 @@ pub(crate) fn step_of<'t, E, H>(crumb: &PathSegment<'t, E, H>) -> NodeStep<'t, E
 /// Returns the path from inside a node: that node, followed by the path from the node itself.
 pub(crate) fn below<'t, E, H>(
     alloc: Global,
-    crumb: PathSegment<'t, E, H>,
+    segment: PathSegment<'t, E, H>,
     up: &[PathSegment<'t, E, H>],
 ) -> Result<Vec<PathSegment<'t, E, H>>, AllocError>
-    ensures { IfOk result (λ way. way.items ≡ crumb.entry ∷ up.now) }
+    ensures { IfOk result (λ path. path.items ≡ segment.entry ∷ up.now) }
 {
-    let mut way = Vec::new(alloc);
-    way.push(crumb)?;
+    let mut path = Vec::new(alloc);
+    path.push(segment)?;
     for further in up {
-        way.push(*further)?;
+        path.push(*further)?;
     }
-    Ok(way)
+    Ok(path)
 }
