@@ -1,9 +1,17 @@
 -- What is returned for arguments: a usage error, or what is said of the expression that they mean.
-use Rattle.std.specs.Prelude.{◌≡◌, ℕ, List, Ok, Err}
+use Rattle.std.specs.Prelude.{◌≡◌, ◌⊎◌, ℕ, List, Ok, Err}
+use Rattle.std.specs.declared.alloc.Global.{Global}
+use Rattle.std.specs.declared.option.Option.{Option}
 use Rattle.std.specs.declared.result.Result.{Result}
+use Rattle.std.specs.declared.string.String.{String}
 use Rattle.duct_system.specs.declared.error.Error.{Error}
-use Rattle.duct_start.specs.Chain.{Allows}
+use Rattle.duct_start.specs.Chain.{Allows, Refuses}
+use Rattle.duct_start.specs.Plan.{plan_of_reader}
+use Rattle.duct_start.specs.Start.{StartRefused, StartSucceeds}
 use Rattle.duct_start.specs.TreeView.{TreeView}
+use Rattle.duct_run.specs.SystemViews.{SystemViews}
+use Rattle.duct_running.specs.Stored.{Bytes}
+use Rattle.duct.specs.Launched.{ReadFails, Reads, added_between, reading}
 use Rattle.duct_program.specs.Line.{meant}
 use Rattle.duct_program.specs.declared.failure.Failure.{Failure}
 use Rattle.duct_program.specs.declared.failure.Failure.TheVariants as failures
@@ -26,3 +34,21 @@ line_of number_of allows args = meant args
 -- arguments mean an expression, and this holds of it
 abbrev pub Means : {A : Type 0} → Result A Usage → (A → Type 0) → Type 0
 Means {A} line holds = (tree : A) × (line ≡ Ok tree) × holds tree
+
+module _ {S E C F D : Type 0} (views : SystemViews S E C F D (Unit {0}) Bytes) {H R : Type 0}
+    (allows : Allows H) (may : ℕ → R → Type 0) (remaining : R → Option (List ℕ)) where
+  -- the arguments mean an expression, which was started, and this is the text that it prints
+  abbrev pub PrintsText : List (List ℕ) → S → S → String Global → Type 0
+  PrintsText args sys after text =
+      Means (line_of views.number_of allows args) (λ tree. StartSucceeds allows views.number_of tree
+      (plan_of_reader tree) (views.journal sys) (views.journal after)
+      × Reads views may remaining text reading tree (added_between views sys after))
+
+  -- the arguments mean an expression, and its start failed with this error, or what was started did
+  abbrev pub PrintsError : Refuses H → List (List ℕ) → S → S → Error → Type 0
+  PrintsError refuses args sys after error =
+      Means (line_of views.number_of allows args) (λ tree. StartRefused allows refuses
+      views.number_of tree (plan_of_reader tree) (views.journal sys) (views.journal after) error
+      ⊎ (StartSucceeds allows views.number_of tree (plan_of_reader tree) (views.journal sys)
+      (views.journal after)
+      × ReadFails views may remaining error reading tree (added_between views sys after)))

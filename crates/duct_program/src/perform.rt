@@ -1,16 +1,13 @@
 //! What the program does over any system: it reads the expression of its arguments, and prints the
 //! text or the error.
-ghost use Rattle.std.specs.Prelude.{◌≡◌, ◌⊎◌, Ok, Err, map, string_bytes, is_some, IfOk, IfErr};
-ghost use Rattle.duct_system.specs.Trace.{segment};
-ghost use Rattle.duct_start.specs.Plan.{plan_of_reader};
-ghost use Rattle.duct_start.specs.Start.{StartSucceeds, StartRefused};
-ghost use Rattle.duct.specs.RunResults.{ReadReturns};
-ghost use Rattle.duct_program.specs.Answered.{IfUsage, IfRefused, Means, line_of};
+ghost use Rattle.std.specs.Prelude.{◌≡◌, map, string_bytes, IfOk, IfErr};
+ghost use Rattle.duct_program.specs.Answered.{IfRefused, IfUsage, PrintsError, PrintsText, line_of};
 ghost use Rattle.duct_program.specs.Parsed.{RefusesAs};
 
 use crate::failure::Failure;
 use crate::line::line;
 use duct::{Expression, Hook, HookBox, Pool, System};
+use duct_run::views::Viewed;
 use std::alloc::Global;
 use std::io;
 use std::io::Write;
@@ -28,22 +25,11 @@ pub fn answer<S: System, H: Hook + Drop>(
     ensures usage { IfUsage result (λ usage.
         RefusesAs usage (line_of S.End.number_of H.allows (map string_bytes args.now))
         × (S.journal_view sys.new ≡ S.journal_view sys.old)) }
-    ensures text { IfOk result (λ text.
-        Means (line_of S.End.number_of H.allows (map string_bytes args.now))
-        (λ tree. let old = S.journal_view sys.old in let new = S.journal_view sys.new in
-        StartSucceeds H.allows S.End.number_of tree (plan_of_reader tree) old new
-        × ReadReturns S.Child.may_answer S.Feed.may_say S.Drain.may_say tree S.may_read
-        S.Reader.remaining (is_some (plan_of_reader tree).err) (segment old.entries new.entries)
-        (Ok text))) }
-    ensures err { IfErr result (λ failure. IfRefused failure (λ e.
-        Means (line_of S.End.number_of H.allows (map string_bytes args.now))
-        (λ tree. let old = S.journal_view sys.old in let new = S.journal_view sys.new in
-        StartRefused H.allows H.refuses S.End.number_of tree
-        (plan_of_reader tree) old new e
-        ⊎ (StartSucceeds H.allows S.End.number_of tree (plan_of_reader tree) old new
-        × ReadReturns S.Child.may_answer S.Feed.may_say S.Drain.may_say tree S.may_read
-        S.Reader.remaining (is_some (plan_of_reader tree).err) (segment old.entries new.entries)
-        (Err e))))) }
+    ensures text { IfOk result (PrintsText ⟦<S as Viewed>⟧.views H.allows S.may_read
+        S.Reader.remaining (map string_bytes args.now) sys.old sys.new) }
+    ensures err { IfErr result (λ failure. IfRefused failure (PrintsError ⟦<S as Viewed>⟧.views
+        H.allows S.may_read S.Reader.remaining H.refuses (map string_bytes args.now) sys.old
+        sys.new)) }
 {
     let expression: Expression<S::End, H> = line(alloc, args).map_err(Failure::Usage)?;
     let mut pool = Pool::new(alloc);
