@@ -1,14 +1,14 @@
 -- Lemmas on what was written and read so far, one step at a time.
-use Rattle.std.proofs.Common.{◌≡◌, ℕ, ◌+◌, ◌-◌, List, ◌++◌, IfOk, length, take, drop, sym, ap, subst, ◌∙◌, append_assoc, take-append-drop, take-add, drop_at}
+use Rattle.std.proofs.Common.{◌≡◌, ℕ, ◌+◌, ◌-◌, List, ◌++◌, IfOk, OnErr, length, take, drop, sym, ap, subst, ◌∙◌, append_assoc, take-append-drop, take-add, drop_at}
 use lib.Seq.{take-append-le}
-use Rattle.std.proofs.KnownBytes.{Appends-trans, Appends-kept, Consumes-trans}
+use Rattle.std.proofs.KnownBytes.{Appends-trans, Consumes-trans, Consumes-kept}
 use Rattle.std.proofs.lemmas.List.{take_rest}
 use Rattle.std.specs.Io.{ReadsAtMost}
 use Rattle.std.specs.Io.KnownBytes.{Appends, Consumes, Keeps}
 use Rattle.std.specs.declared.option.Option.{Option}
 use Rattle.std.specs.declared.result.Result.{Result}
 use Rattle.std.specs.declared.result.Result.TheVariants.{Ok, Err}
-use Rattle.duct_worker.specs.Transfer.{AppendsFront}
+use Rattle.duct_worker.specs.Transfer.{ConsumesFront}
 
 -- a part of the rest was written after what was written before
 pub writes_more : (a b c : Option (List ℕ)) (bytes done rest : List ℕ) (taken : ℕ)
@@ -22,12 +22,6 @@ writes_more a b c bytes done rest taken split before now = (
       ∙ ap (λ l. (done ++ take taken rest) ++ l) (sym (take_rest rest taken)),
   Appends-trans a b c _ _ before now,
 )
-
--- if this much was written and no more, a prefix was written
-pub front_so_far : (a b c : Option (List ℕ)) (bytes done rest : List ℕ)
-    → bytes ≡ done ++ rest → Appends a b done → Keeps b c → AppendsFront a c bytes
-front_so_far a b c bytes done rest split before now =
-    (done, rest, split, Appends-kept a b c done before now)
 
 -- a read put its bytes after those that were already in the buffer
 pub read_in_place : {E : Type 0} (a b : Option (List ℕ)) (r : Result ℕ E)
@@ -47,3 +41,9 @@ pub filled_more : (a b c : Option (List ℕ)) (xs ys : List ℕ) (filled n : ℕ
 filled_more a b c xs ys filled n front before now =
     subst (Consumes a c) (ap (λ l. l ++ take n (drop filled ys)) (sym front)
     ∙ sym (take-add filled n ys)) (Consumes-trans a b c _ _ before now)
+
+-- what was read before an error is a prefix of what was left
+pub lost_at_error : {T E : Type 0} (r : Result T E) (a b c : Option (List ℕ)) (front : List ℕ)
+    → Consumes a b front → Keeps b c → OnErr r (ConsumesFront a c)
+lost_at_error (Ok x) a b c front read kept = tt
+lost_at_error (Err e) a b c front read kept = (front, Consumes-kept a b c front read kept)

@@ -1,12 +1,15 @@
 -- What was written of given bytes, and what was read from a reader.
-use Rattle.std.specs.Prelude.{◌≡◌, ◌≢◌, ℕ, List, ◌++◌, Ok, Err}
+use Rattle.std.specs.Prelude.{◌≡◌, ◌≢◌, ℕ, List, ◌++◌, Ok, Err, None, Some}
 use Rattle.std.specs.Io.KnownBytes.{Appends, Consumes}
+use Rattle.std.specs.IoError.{error_kind}
+use Rattle.std.specs.declared.io.Error.{Error}
 use Rattle.std.specs.declared.io.ErrorKind.{ErrorKind}
 use Rattle.std.specs.declared.io.ErrorKind.TheVariants as error
 use Rattle.std.specs.declared.option.Option.{Option}
 use Rattle.std.specs.declared.result.Result.{Result}
 use Rattle.duct_system.specs.Kinds.{kind_of}
 use Rattle.duct_system.specs.declared.system.Fault.{Fault}
+use Rattle.duct_system.specs.declared.system.Kind.TheVariants.{OutOfMemory}
 
 -- what a writer holds, where that is known, grew by a prefix of these bytes, which may be all of
 -- them
@@ -14,22 +17,31 @@ abbrev pub AppendsFront : Option (List ℕ) → Option (List ℕ) → List ℕ �
 AppendsFront old new bytes = (front rest : List ℕ) × (bytes ≡ front ++ rest)
     × Appends old new front
 
--- all of these bytes were written, in order; or a prefix of them, and then came an error that is no
--- interruption
-abbrev pub Writes : Option (List ℕ) → Option (List ℕ) → List ℕ → Result (Unit {0}) ErrorKind
-    → Type 0
-Writes old new bytes (Ok done) = Appends old new bytes
-Writes old new bytes (Err kind) = AppendsFront old new bytes × (kind ≢ error.Interrupted)
+-- the kind of the error that stops a writer or a reader at this result of a write or a read
+abbrev pub stop_of : Result ℕ Error → Option ErrorKind
+stop_of (Ok n) = None
+stop_of (Err error) = Some (error_kind error)
 
--- the result of a feed at this error of a write: a broken pipe is no fault
-abbrev pub fault_fed : ErrorKind → Result (Unit {0}) Fault
-fault_fed error.BrokenPipe = Ok tt
-fault_fed kind = Err (record { kind = kind_of kind })
+-- all of these bytes were written, in order, if nothing stopped the writer; if an error stopped it,
+-- a prefix of them, and the error is no interruption
+abbrev pub Writes : Option (List ℕ) → Option (List ℕ) → List ℕ → Option ErrorKind → Type 0
+Writes old new bytes None = Appends old new bytes
+Writes old new bytes (Some kind) = AppendsFront old new bytes × (kind ≢ error.Interrupted)
 
--- what a feed returns if its writes ended with this result
-abbrev pub fed : Result (Unit {0}) ErrorKind → Result (Unit {0}) Fault
-fed (Ok done) = Ok tt
-fed (Err kind) = fault_fed kind
+-- the fault of what stopped a writer or a reader
+abbrev pub fault_of : ErrorKind → Fault
+fault_of kind = record { kind = kind_of kind }
+
+-- what a feed returns at what stopped its writer: a broken pipe is no fault
+abbrev pub fed : Option ErrorKind → Result (Unit {0}) Fault
+fed None = Ok tt
+fed (Some error.BrokenPipe) = Ok tt
+fed (Some kind) = Err (fault_of kind)
+
+-- the fault of a drain is that of what stopped its reader; if nothing did, the list couldn't grow
+abbrev pub IsDrainFault : Option ErrorKind → Fault → Type 0
+IsDrainFault None fault = fault.kind ≡ OutOfMemory
+IsDrainFault (Some kind) fault = fault ≡ fault_of kind
 
 -- what a reader has left, where that is known, lost a prefix, which may be empty
 abbrev pub ConsumesFront : Option (List ℕ) → Option (List ℕ) → Type 0

@@ -4,4 +4,5 @@
 pub mod shared;
 pub mod spawn;
 pub mod transfer;
+pub mod watched;
 pub mod worker;

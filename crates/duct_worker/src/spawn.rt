@@ -1,11 +1,15 @@
 //! Starting workers, each on a thread of its own.
-ghost use Rattle.std.specs.Prelude.{◌≡◌, ◌⊎◌, IfOk, IfErr};
+ghost use Rattle.std.specs.Prelude.{◌≡◌, ◌⊎◌, IfOk, IfErr, IfSome, OnOk, None};
+ghost use Rattle.std.specs.Arc.{arc_value};
+ghost use Rattle.std.specs.Io.KnownBytes.{IsAtEnd};
 ghost use Rattle.duct_system.specs.Job.{unpolled_job};
 ghost use Rattle.duct_system.specs.declared.system.Kind.TheVariants.{OutOfMemory, Other};
+ghost use Rattle.duct_worker.specs.Transfer.{IsDrainFault};
 ghost use Rattle.duct_worker.specs.WorkerView.{worker_view};
 
 use crate::shared::Shared;
-use crate::transfer::{drain, feed};
+use crate::transfer::{drain_watched, feed_watched};
+use crate::watched::Watched;
 use crate::worker::{Left, Worker};
 use duct_system::system::{Fault, Kind};
 use std::alloc::Global;
@@ -46,7 +50,8 @@ pub fn spawn_numbered_feed<R: Threads, W: Write + Send + Drop + 'static>(
 {
     spawn_work(rt, alloc, number, move || {
         let mut writer = writer;
-        feed(&mut writer, bytes.as_slice())
+        let mut watched = Watched::new(&mut writer);
+        feed_watched(&mut watched, bytes.as_slice())
     })
 }
 
@@ -79,13 +84,20 @@ pub fn spawn_numbered_drain<R: Threads, S: Read + Send + Drop + 'static>(
 {
     spawn_work(rt, alloc, number, move || {
         let mut reader = reader;
-        drained(alloc, &mut reader)
+        let mut watched = Watched::new(&mut reader);
+        drained(alloc, &mut watched)
     })
 }
 
-/// Reads the reader to EOF and returns its bytes, ready to be shared.
-fn drained<S: Read>(alloc: Global, reader: &mut S) -> Result<Arc<Vec<u8>>, Fault> {
-    let bytes = drain(alloc, reader)?;
+/// Reads the reader to EOF, as `drain_watched` does, and returns its bytes, ready to be shared.
+fn drained<S: Read>(alloc: Global, reader: &mut Watched<'_, S>) -> Result<Arc<Vec<u8>>, Fault>
+    requires open { reader.old.stopped ≡ None }
+    ensures bytes { IfOk result (λ shared.
+        IfSome (S.remaining reader.old.inner.now) (λ left. (arc_value shared).items ≡ left)) }
+    ensures end { OnOk result (IsAtEnd (S.remaining reader.new.inner.now)) }
+    ensures fault { IfErr result (IsDrainFault reader.new.stopped) }
+{
+    let bytes = drain_watched(alloc, reader)?;
     Arc::new(alloc, bytes).map_err(|_| Fault::new(Kind::OutOfMemory))
 }
 

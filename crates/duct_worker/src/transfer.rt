@@ -1,11 +1,13 @@
 //! What a worker does: it writes bytes to a writer, or reads a reader to EOF.
-ghost use Rattle.std.specs.Prelude.{◌≡◌, ◌≢◌, ◌↔◌, ◌+◌, ◌<◌, ◌≤◌, IsTrue, IfOk, IfErr, IfSome, OnOk, OnErr, take, drop, length, vec_len};
+ghost use Rattle.std.specs.Prelude.{◌≡◌, ◌≢◌, ◌↔◌, ◌+◌, ◌<◌, ◌≤◌, IsTrue, IfOk, IfErr, IfSome, OnOk, OnErr, None, take, drop, length, vec_len};
 ghost use Rattle.std.specs.Io.{ReadsAtMost};
 ghost use Rattle.std.specs.Io.KnownBytes.{Appends, Consumes, IsAtEnd, Keeps};
-ghost use Rattle.std.specs.declared.result.Result.{Result};
+ghost use Rattle.std.specs.declared.option.Option.{Option};
 ghost use Rattle.std.specs.IoError.{error_kind};
-ghost use Rattle.duct_worker.specs.Transfer.{AppendsFront, Writes, fed, fault_fed, ConsumesFront};
+ghost use Rattle.duct_system.specs.declared.system.Kind.TheVariants.{OutOfMemory};
+ghost use Rattle.duct_worker.specs.Transfer.{ConsumesFront, IsDrainFault, Writes, fault_of, fed, stop_of};
 
+use crate::watched::Watched;
 use duct_system::system::{Fault, Kind};
 use std::alloc::Global;
 use std::io;
@@ -21,27 +23,23 @@ fn is_interrupted(error: &io::Error) -> bool
     error.kind() == ErrorKind::Interrupted
 }
 
-/// Writes all of the bytes, in order. An interrupted write is retried. If there are no bytes, the
-/// writer isn't called. It blocks while the writer does.
+/// Writes once, and retries a write that is interrupted. Returns how many of the bytes were written.
+/// It blocks while the writer does.
 ///
-/// Fails with `WriteZero` if a write takes none of the bytes, with any other error of the writer,
-/// and with `Other` after `u64::MAX` writes. A prefix of the bytes was then written, and nothing is
-/// retried.
-pub fn write_whole<W: Write>(writer: &mut W, bytes: &[u8]) -> io::Result<()>
-    ensures whole { OnOk result
-        (Appends (W.contents writer.old) (W.contents writer.new) bytes.now) }
-    ensures front { OnErr result
-        (AppendsFront (W.contents writer.old) (W.contents writer.new) bytes.now) }
+/// Fails with `WriteZero` if the write takes none of the bytes, with any other error of the writer,
+/// and with `Other` after `u64::MAX` interrupted writes. Nothing was then written.
+pub(crate) fn write_retried<W: Write>(writer: &mut W, bytes: &[u8]) -> io::Result<usize>
+    requires some { 0 < length bytes.now }
+    ensures bound { IfOk result (λ taken. (0 < taken) × (taken ≤ length bytes.now)) }
+    ensures ok { IfOk result (λ taken. Appends (W.contents writer.old) (W.contents writer.new)
+        (take taken bytes.now)) }
+    ensures err { OnErr result (Keeps (W.contents writer.old) (W.contents writer.new)) }
     ensures retried { IfErr result (λ error. error_kind error ≢ ErrorKind.Interrupted) }
 {
-    let mut rest = bytes;
     for _ in 0..u64::MAX {
-        if rest.is_empty() {
-            return Ok(());
-        }
-        match writer.write(rest) {
+        match writer.write(bytes) {
             Ok(0) => return Err(io::Error::from(ErrorKind::WriteZero)),
-            Ok(taken) => rest = &rest[taken..],
+            Ok(taken) => return Ok(taken),
             Err(error) => {
                 if !is_interrupted(&error) {
                     return Err(error);
@@ -52,44 +50,82 @@ pub fn write_whole<W: Write>(writer: &mut W, bytes: &[u8]) -> io::Result<()>
     Err(io::Error::from(ErrorKind::Other))
 }
 
-/// Writes all of the bytes to the writer, in order, as `write_whole` does. A broken pipe is a
-/// success, though there may be bytes left that nobody reads.
+/// Writes all of the bytes, in order, by `Watched::write`. If there are no bytes, the writer isn't
+/// called. It blocks while the writer does.
 ///
-/// Fails with the fault of any other error of `write_whole`. A prefix of the bytes was then
-/// written.
-pub fn feed<W: Write>(writer: &mut W, bytes: &[u8]) -> Result<(), Fault>
-    ensures { (ending : Result (Unit {0}) ErrorKind)
-        × Writes (W.contents writer.old) (W.contents writer.new) bytes.now ending
-        × (result ≡ fed ending) }
+/// At the first error it stops: a prefix of the bytes was then written, nothing is retried, and
+/// `Watched::stopped` returns the error's kind.
+pub fn write_whole<W: Write>(writer: &mut Watched<'_, W>, bytes: &[u8])
+    requires open { writer.old.stopped ≡ None }
+    ensures same_reference { writer.new.inner.ghost_name ≡ writer.old.inner.ghost_name }
+    ensures written { Writes (W.contents writer.old.inner.now) (W.contents writer.new.inner.now)
+        bytes.now writer.new.stopped }
 {
-    match write_whole(writer, bytes) {
-        Ok(()) => Ok(()),
-        Err(error) => fault_of_write(&error),
+    let mut rest = bytes;
+    while !rest.is_empty() {
+        match writer.write(rest) {
+            Ok(taken) => rest = &rest[taken..],
+            Err(_) => return,
+        }
     }
 }
 
-/// Returns the result of a feed at an error of its writer.
-fn fault_of_write(error: &io::Error) -> Result<(), Fault>
-    ensures { result ≡ fault_fed (error_kind error.now) }
+/// Writes all of the bytes to the writer, in order, as `write_whole` does. A broken pipe is a
+/// success, though there may be bytes left that nobody reads.
+///
+/// Fails with the fault of any other error that stopped the writer. A prefix of the bytes was then
+/// written.
+pub fn feed_watched<W: Write>(writer: &mut Watched<'_, W>, bytes: &[u8]) -> Result<(), Fault>
+    requires open { writer.old.stopped ≡ None }
+    ensures same_reference { writer.new.inner.ghost_name ≡ writer.old.inner.ghost_name }
+    ensures written { Writes (W.contents writer.old.inner.now) (W.contents writer.new.inner.now)
+        bytes.now writer.new.stopped }
+    ensures answer { result ≡ fed writer.new.stopped }
 {
-    match error.kind() {
-        ErrorKind::BrokenPipe => Ok(()),
-        _ => Err(Fault::from(*error)),
+    write_whole(writer, bytes);
+    match writer.stopped() {
+        None | Some(ErrorKind::BrokenPipe) => Ok(()),
+        Some(kind) => Err(fault_of(kind)),
     }
+}
+
+/// Writes all of the bytes to the writer, in order, as `feed_watched` does. A broken pipe is a
+/// success, though there may be bytes left that nobody reads.
+///
+/// Fails with the fault of any other error that stopped the writer. A prefix of the bytes was then
+/// written.
+pub fn feed<W: Write>(writer: &mut W, bytes: &[u8]) -> Result<(), Fault>
+    ensures { (stopped : Option ErrorKind)
+        × Writes (W.contents writer.old) (W.contents writer.new) bytes.now stopped
+        × (result ≡ fed stopped) }
+{
+    let mut watched = Watched::new(writer);
+    feed_watched(&mut watched, bytes)
+}
+
+/// Returns the fault of the error kind that stopped a writer or a reader.
+fn fault_of(kind: ErrorKind) -> Fault
+    ensures { result ≡ fault_of kind }
+{
+    Fault::from(io::Error::from(kind))
 }
 
 /// Reads the reader to EOF and returns its bytes. An interrupted read is retried. Each read may
 /// return up to 64 KiB, and goes straight into the list. It blocks while the reader does.
 ///
-/// Fails with the fault of any other error of the reader, with `OutOfMemory` if the list can't
-/// grow, and with `Other` after `u64::MAX` reads that return bytes, or as many interrupted reads in
-/// a row. The bytes that were read so far are then lost.
-pub fn drain<R: Read>(alloc: Global, reader: &mut R) -> Result<Vec<u8>, Fault>
+/// Fails with the fault of the error that stopped the reader, or with `OutOfMemory` if none did and
+/// the list can't grow, which no list does beyond `u64::MAX` bytes. The bytes that were read so far
+/// are then lost.
+pub fn drain_watched<R: Read>(alloc: Global, reader: &mut Watched<'_, R>) -> Result<Vec<u8>, Fault>
+    requires open { reader.old.stopped ≡ None }
+    ensures same_reference { reader.new.inner.ghost_name ≡ reader.old.inner.ghost_name }
     ensures bytes { IfOk result
-        (λ read. IfSome (R.remaining reader.old) (λ left. read.items ≡ left)) }
-    ensures end { OnOk result (IsAtEnd (R.remaining reader.new)) }
+        (λ read. IfSome (R.remaining reader.old.inner.now) (λ left. read.items ≡ left)) }
+    ensures end { OnOk result (IsAtEnd (R.remaining reader.new.inner.now)) }
+    ensures open { OnOk result (reader.new.stopped ≡ None) }
     ensures lost { OnErr result
-        (ConsumesFront (R.remaining reader.old) (R.remaining reader.new)) }
+        (ConsumesFront (R.remaining reader.old.inner.now) (R.remaining reader.new.inner.now)) }
+    ensures fault { IfErr result (IsDrainFault reader.new.stopped) }
 {
     let mut bytes = Vec::new(alloc);
     let mut filled = 0;
@@ -101,24 +137,51 @@ pub fn drain<R: Read>(alloc: Global, reader: &mut R) -> Result<Vec<u8>, Fault>
         }
         filled += read;
     }
-    Err(Fault::new(Kind::Other))
+    Err(Fault::new(Kind::OutOfMemory))
+}
+
+/// Reads the reader to EOF and returns its bytes, as `drain_watched` does.
+///
+/// Fails with the fault of any error of the reader but an interruption, with `OutOfMemory` if the
+/// list can't grow, and with `Other` after `u64::MAX` interrupted reads in a row. The bytes that
+/// were read so far are then lost.
+pub fn drain<R: Read>(alloc: Global, reader: &mut R) -> Result<Vec<u8>, Fault>
+    ensures bytes { IfOk result
+        (λ read. IfSome (R.remaining reader.old) (λ left. read.items ≡ left)) }
+    ensures end { OnOk result (IsAtEnd (R.remaining reader.new)) }
+    ensures lost { OnErr result
+        (ConsumesFront (R.remaining reader.old) (R.remaining reader.new)) }
+{
+    let mut watched = Watched::new(reader);
+    drain_watched(alloc, &mut watched)
 }
 
 /// Reads once into the list, after the bytes that are filled, and returns how many bytes it read.
 /// What follows them in the list is room for a later read.
-fn read_block<R: Read>(reader: &mut R, bytes: &mut Vec<u8>, filled: usize) -> Result<usize, Fault>
-    requires { filled ≤ vec_len bytes.old }
+fn read_block<R: Read>(
+    reader: &mut Watched<'_, R>,
+    bytes: &mut Vec<u8>,
+    filled: usize,
+) -> Result<usize, Fault>
+    requires open { reader.old.stopped ≡ None }
+    requires filled { filled ≤ vec_len bytes.old }
+    ensures same_reference { reader.new.inner.ghost_name ≡ reader.old.inner.ghost_name }
     ensures within { filled ≤ vec_len bytes.new }
     ensures front { take filled bytes.new.items ≡ take filled bytes.old.items }
     ensures fits { IfOk result (λ read. filled + read ≤ vec_len bytes.new) }
-    ensures ok { IfOk result (λ read. Consumes (R.remaining reader.old) (R.remaining reader.new)
-        (take read (drop filled bytes.new.items))) }
-    ensures err { OnErr result (Keeps (R.remaining reader.old) (R.remaining reader.new)) }
-    ensures end { IfOk result (λ read. read ≡ 0 → IsAtEnd (R.remaining reader.new)) }
+    ensures ok { IfOk result (λ read. Consumes (R.remaining reader.old.inner.now)
+        (R.remaining reader.new.inner.now) (take read (drop filled bytes.new.items))) }
+    ensures err { OnErr result
+        (Keeps (R.remaining reader.old.inner.now) (R.remaining reader.new.inner.now)) }
+    ensures end { IfOk result (λ read. read ≡ 0 → IsAtEnd (R.remaining reader.new.inner.now)) }
+    ensures open { OnOk result (reader.new.stopped ≡ None) }
+    ensures fault { IfErr result (IsDrainFault reader.new.stopped) }
 {
     make_room(bytes, filled)?;
-    let read = read_behind(reader, bytes.as_mut_slice(), filled)?;
-    Ok(read)
+    match read_behind(reader, bytes.as_mut_slice(), filled) {
+        Ok(read) => Ok(read),
+        Err(error) => Err(Fault::from(error)),
+    }
 }
 
 /// Extends the list with zeros, so that a block fits after the bytes that are filled.
@@ -127,6 +190,7 @@ fn make_room(bytes: &mut Vec<u8>, filled: usize) -> Result<(), Fault>
     ensures within { filled ≤ vec_len bytes.new }
     ensures front { take filled bytes.new.items ≡ take filled bytes.old.items }
     ensures room { OnOk result (filled < vec_len bytes.new) }
+    ensures fault { IfErr result (λ fault. fault.kind ≡ OutOfMemory) }
 {
     let Some(end) = filled.checked_add(BLOCK) else {
         return Err(Fault::new(Kind::OutOfMemory));
@@ -138,16 +202,24 @@ fn make_room(bytes: &mut Vec<u8>, filled: usize) -> Result<(), Fault>
 }
 
 /// Reads once into the buffer, from this place on.
-fn read_behind<R: Read>(reader: &mut R, buffer: &mut [u8], at: usize) -> io::Result<usize>
-    requires { at < length buffer.old }
+fn read_behind<R: Read>(
+    reader: &mut Watched<'_, R>,
+    buffer: &mut [u8],
+    at: usize,
+) -> io::Result<usize>
+    requires open { reader.old.stopped ≡ None }
+    requires room { at < length buffer.old }
+    ensures same_reference { reader.new.inner.ghost_name ≡ reader.old.inner.ghost_name }
     ensures front { take at buffer.new ≡ take at buffer.old }
     ensures fits { IfOk result (λ read. at + read ≤ length buffer.new) }
-    ensures ok { IfOk result (λ read. Consumes (R.remaining reader.old) (R.remaining reader.new)
-        (take read (drop at buffer.new))) }
-    ensures err { OnErr result (Keeps (R.remaining reader.old) (R.remaining reader.new)) }
-    ensures end { IfOk result (λ read. read ≡ 0 → IsAtEnd (R.remaining reader.new)) }
+    ensures ok { IfOk result (λ read. Consumes (R.remaining reader.old.inner.now)
+        (R.remaining reader.new.inner.now) (take read (drop at buffer.new))) }
+    ensures err { OnErr result
+        (Keeps (R.remaining reader.old.inner.now) (R.remaining reader.new.inner.now)) }
+    ensures end { IfOk result (λ read. read ≡ 0 → IsAtEnd (R.remaining reader.new.inner.now)) }
+    ensures kept { reader.new.stopped ≡ stop_of result }
 {
-    read_retried(reader, &mut buffer[at..])
+    reader.read(&mut buffer[at..])
 }
 
 /// Reads once, and retries a read that is interrupted. Fails with any other error, and with `Other`

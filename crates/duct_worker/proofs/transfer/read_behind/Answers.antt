@@ -4,10 +4,10 @@ use Rattle.duct_worker.proofs.Transfers.{read_in_place}
 use Rattle.duct_worker.proofs.transfer.read_behind.Goals as goal
 
 pub returns-clause-front : goal.returns-clause-front
-returns-clause-front g c = take_put _ _ c.args.buffer.now _ (omega (arith, c.requires))
+returns-clause-front g c = take_put _ _ c.args.buffer.now _ (omega (arith, c.requires.room))
 
 pub returns-clause-ok : goal.returns-clause-ok
 returns-clause-ok g c =
-    read_in_place _ _ c.read_retried.result _ c.read_retried.new.buffer _ c.args.at
-    (length-take-le _ c.args.buffer.now (omega (arith, c.requires)))
-    c.read_retried.ensures.bound c.read_retried.ensures.ok
+    read_in_place _ _ c.read.result _ c.read.new.buffer _ c.args.at
+    (length-take-le _ c.args.buffer.now (omega (arith, c.requires.room)))
+    c.read.ensures.bound c.read.ensures.ok
