@@ -89,11 +89,13 @@ pub fn feed_watched<W: Write>(writer: &mut Watched<'_, W>, bytes: &[u8]) -> Resu
     }
 }
 
-/// Writes all of the bytes to the writer, in order, as `feed_watched` does. A broken pipe is a
-/// success, though there may be bytes left that nobody reads.
+/// Writes all of the bytes to the writer, in order, as `feed_watched` does. An interrupted write is
+/// retried. If there are no bytes, the writer isn't called. A broken pipe is a success, though there
+/// may be bytes left that nobody reads. It blocks while the writer does.
 ///
-/// Fails with the fault of any other error that stopped the writer. A prefix of the bytes was then
-/// written.
+/// Fails with `WriteZero` if a write takes none of the bytes, with the fault of any other error of
+/// the writer, and with `Other` after `u64::MAX` interrupted writes in a row. A prefix of the bytes
+/// was then written.
 pub fn feed<W: Write>(writer: &mut W, bytes: &[u8]) -> Result<(), Fault>
     ensures { (stopped : Option ErrorKind)
         × Writes (W.contents writer.old) (W.contents writer.new) bytes.now stopped
@@ -140,11 +142,13 @@ pub fn drain_watched<R: Read>(alloc: Global, reader: &mut Watched<'_, R>) -> Res
     Err(Fault::new(Kind::OutOfMemory))
 }
 
-/// Reads the reader to EOF and returns its bytes, as `drain_watched` does.
+/// Reads the reader to EOF and returns its bytes, as `drain_watched` does. An interrupted read is
+/// retried. Each read may return up to 64 KiB, and goes straight into the list. It blocks while the
+/// reader does.
 ///
-/// Fails with the fault of any error of the reader but an interruption, with `OutOfMemory` if the
-/// list can't grow, and with `Other` after `u64::MAX` interrupted reads in a row. The bytes that
-/// were read so far are then lost.
+/// Fails with the fault of any other error of the reader, with `OutOfMemory` if the list can't
+/// grow, and with `Other` after `u64::MAX` interrupted reads in a row. The bytes that were read so
+/// far are then lost.
 pub fn drain<R: Read>(alloc: Global, reader: &mut R) -> Result<Vec<u8>, Fault>
     ensures bytes { IfOk result
         (λ read. IfSome (R.remaining reader.old) (λ left. read.items ≡ left)) }
