@@ -42,7 +42,7 @@ tree_for reading tree = around stdout_capture tree
 
 -- stdout gets a capture worker
 abbrev pub drains_output : {E H : Type 0} → StartKind → TreeView E H → Bool
-drains_output draining tree = is_some (plan_of tree).out
+drains_output draining tree = is_some (plan_of tree).pipes.out
 drains_output reading tree = false
 
 -- stderr gets a capture worker

@@ -72,7 +72,7 @@ fn running<S: System>(
     room: RunningBuffers<S::Drain>,
 ) -> Running<S>
     requires silent { latest_in core ≡ latest_told (shape_in core)
-        (record { out = is_some kept.output_worker; err = is_some kept.error_worker }) [] }
+        (record { out = is_some kept.drains.out; err = is_some kept.drains.err }) [] }
     requires commands { length kept.children.items ≡ command_count (shape_in core) }
     requires inputs { length kept.feeds.items ≡ input_count (shape_in core) }
     requires new { AreNew S.Child.child_view S.Feed.job_view S.Drain.job_view kept }
@@ -81,21 +81,19 @@ fn running<S: System>(
       shape = arc_value core.shape;
       children = kept.children.items;
       feeds = kept.feeds.items;
-      output = kept.output_worker;
-      error = kept.error_worker;
+      output = kept.drains.out;
+      error = kept.drains.err;
     } }
 {
     let Resources {
         stack,
-        output,
-        error,
+        pipes,
         children,
         feeds,
-        output_worker,
-        error_worker,
+        drains,
     } = kept;
-    drop((stack, output, error));
-    running_of(core, children, feeds, output_worker, error_worker, room)
+    drop((stack, pipes));
+    running_of(core, children, feeds, drains.out, drains.err, room)
 }
 
 impl<E: Drop, H: Hook> Expression<E, H> {

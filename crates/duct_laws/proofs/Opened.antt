@@ -4,10 +4,11 @@ use Rattle.std.proofs.Common.{◌≡◌, ℕ, List, [], ◌∷◌, ◌++◌, len
 use Rattle.std.specs.Prelude.{Some, None, is_some, if◌then◌else◌}
 use Rattle.std.specs.declared.option.Option.{Option}
 use Rattle.std.proofs.lemmas.List.{append-nil}
+use Rattle.duct_status.specs.PerSide.{at_side}
 use Rattle.duct_start.specs.Lookup.{surroundings_on}
 use Rattle.duct_start.specs.Path.{Path, left_of, right_of, within}
 use Rattle.duct_start.specs.Plan.{Plan, with_item, with_opening, place_for, plan_of_subtree}
-use Rattle.duct_start.specs.Step.{Item, Opening, OpensNothing, Opens, CapturesOut, CapturesErr, AskPipe, step}
+use Rattle.duct_start.specs.Step.{Item, Opening, OpensNothing, Opens, Captures, AskPipe, step}
 use Rattle.duct_start.specs.TreeView.{ModifierView, TreeView, command, pipe, around}
 use Rattle.duct_start.proofs.Commanded.{items_of, commanded_is}
 
@@ -33,8 +34,7 @@ module _ {E H : Type 0} where
       → GoesOn plan.items (with_opening opening plan).items
   opened_on OpensNothing plan = same_on plan.items
   opened_on (Opens item) plan = (item ∷ [], refl)
-  opened_on CapturesOut plan = captures_on plan.out plan _ (AskPipe ∷ [], refl)
-  opened_on CapturesErr plan = captures_on plan.err plan _ (AskPipe ∷ [], refl)
+  opened_on (Captures which) plan = captures_on (at_side plan.pipes which) plan _ (AskPipe ∷ [], refl)
 
   -- a tree only adds to the end of a plan
   planned_on : (tree : TreeView E H) (up : Path E H) (plan : Plan E H)

@@ -8,6 +8,7 @@ use Rattle.std.proofs.lemmas.List.{append-nil, length-map, map-append}
 use Rattle.duct_base.specs.Executable.{asks_canonical}
 use Rattle.duct_system.specs.declared.system.Side.{Side}
 use Rattle.duct_system.specs.declared.system.Side.TheVariants as side
+use Rattle.duct_status.specs.PerSide.{at_side, with_side}
 use Rattle.duct_start.specs.Actions.{capture_place}
 use Rattle.duct_start.specs.Lookup.{folder_on, surroundings_on}
 use Rattle.duct_start.specs.Path.{Path, left_of, right_of, within}
@@ -166,8 +167,7 @@ module _ {E H : Type 0} where
 
   kept_places : (which : Side) (its : List (Item E H)) (plan : Plan E H)
       → capture_place which (with_closing its plan) ≡ option_or (capture_place which plan) None
-  kept_places side.Out its plan = sym (or-none plan.out)
-  kept_places side.Err its plan = sym (or-none plan.err)
+  kept_places which its plan = sym (or-none (capture_place which plan))
 
   same_places : (which : Side) (plan : Plan E H)
       → capture_place which plan ≡ option_or (capture_place which plan) None
@@ -184,67 +184,39 @@ module _ {E H : Type 0} where
 
   -- a capture pipe that is opened if it was not open yet
 
-  out_if : (o : Option ℕ) (visited : List (Visit E H)) (plan : Plan E H)
-      → plan.out ≡ o → is_some o ≡ has_capture visited side.Out
-      → GoesOn (requested_before visited (opens_capture side.Out)) (is_capture_of (opens_capture side.Out))
-      plan (if is_some o then plan else record (with_item AskPipe plan) { out = Some (length plan.items) })
-  out_if None visited plan is had = record {
-    its = AskPipe ∷ [];
-    items = refl;
-    requests = ap pipe_unless had;
-    places = opened;
-  }
-    where
-      opened : (which : Side)
-          → capture_place which (record (with_item AskPipe plan) { out = Some (length plan.items) })
-          ≡ option_or (capture_place which plan)
-          (here_if (is_capture_of (opens_capture side.Out) which) (length plan.items))
-      opened side.Out = ap (λ o. option_or o (Some (length plan.items))) (sym is)
-      opened side.Err = sym (or-none plan.err)
-  out_if (Some place) visited plan is had = record {
-    its = [];
-    items = sym (append-nil plan.items);
-    requests = ap pipe_unless had;
-    places = kept;
-  }
-    where
-      kept : (which : Side)
-          → capture_place which plan
-          ≡ option_or (capture_place which plan)
-          (here_if (is_capture_of (opens_capture side.Out) which) (length plan.items))
-      kept side.Out = is ∙ ap (λ o. option_or o (Some (length plan.items))) (sym is)
-      kept side.Err = sym (or-none plan.err)
+  now_open : (side : Side) (plan : Plan E H) → at_side plan.pipes side ≡ None → (which : Side)
+      → at_side (with_side plan.pipes side (Some (length plan.items))) which
+      ≡ option_or (capture_place which plan) (here_if (is_capture_of (opens_capture side) which) (length plan.items))
+  now_open side.Out plan is side.Out = ap (λ o. option_or o (Some (length plan.items))) (sym is)
+  now_open side.Out plan is side.Err = sym (or-none plan.pipes.err)
+  now_open side.Err plan is side.Out = sym (or-none plan.pipes.out)
+  now_open side.Err plan is side.Err = ap (λ o. option_or o (Some (length plan.items))) (sym is)
 
-  err_if : (o : Option ℕ) (visited : List (Visit E H)) (plan : Plan E H)
-      → plan.err ≡ o → is_some o ≡ has_capture visited side.Err
-      → GoesOn (requested_before visited (opens_capture side.Err)) (is_capture_of (opens_capture side.Err))
-      plan (if is_some o then plan else record (with_item AskPipe plan) { err = Some (length plan.items) })
-  err_if None visited plan is had = record {
+  still_open : (side : Side) (place : ℕ) (plan : Plan E H) → at_side plan.pipes side ≡ Some place
+      → (which : Side)
+      → capture_place which plan
+      ≡ option_or (capture_place which plan) (here_if (is_capture_of (opens_capture side) which) (length plan.items))
+  still_open side.Out place plan is side.Out = is ∙ ap (λ o. option_or o (Some (length plan.items))) (sym is)
+  still_open side.Out place plan is side.Err = sym (or-none plan.pipes.err)
+  still_open side.Err place plan is side.Out = sym (or-none plan.pipes.out)
+  still_open side.Err place plan is side.Err = is ∙ ap (λ o. option_or o (Some (length plan.items))) (sym is)
+
+  captures_if : (side : Side) (o : Option ℕ) (visited : List (Visit E H)) (plan : Plan E H)
+      → at_side plan.pipes side ≡ o → is_some o ≡ has_capture visited side
+      → GoesOn (requested_before visited (opens_capture side)) (is_capture_of (opens_capture side))
+      plan (if is_some o then plan else record (with_item AskPipe plan) { pipes = with_side plan.pipes side (Some (length plan.items)) })
+  captures_if side None visited plan is had = record {
     its = AskPipe ∷ [];
     items = refl;
     requests = ap pipe_unless had;
-    places = opened;
+    places = now_open side plan is;
   }
-    where
-      opened : (which : Side)
-          → capture_place which (record (with_item AskPipe plan) { err = Some (length plan.items) })
-          ≡ option_or (capture_place which plan)
-          (here_if (is_capture_of (opens_capture side.Err) which) (length plan.items))
-      opened side.Out = sym (or-none plan.out)
-      opened side.Err = ap (λ o. option_or o (Some (length plan.items))) (sym is)
-  err_if (Some place) visited plan is had = record {
+  captures_if side (Some place) visited plan is had = record {
     its = [];
     items = sym (append-nil plan.items);
     requests = ap pipe_unless had;
-    places = kept;
+    places = still_open side place plan is;
   }
-    where
-      kept : (which : Side)
-          → capture_place which plan
-          ≡ option_or (capture_place which plan)
-          (here_if (is_capture_of (opens_capture side.Err) which) (length plan.items))
-      kept side.Out = sym (or-none plan.out)
-      kept side.Err = is ∙ ap (λ o. option_or o (Some (length plan.items))) (sym is)
 
   -- a pipe of a plan is open exactly if an earlier visit comes to a capture of its stream
   open_there : (visited : List (Visit E H)) (plan : Plan E H) (which : Side) → Agrees visited plan
@@ -265,10 +237,8 @@ module _ {E H : Type 0} where
   opens_on (opens_input bytes) visited plan agrees = adds (AskPipe ∷ []) plan
   opens_on (opens_read path) visited plan agrees = adds (AskOpenRead path ∷ []) plan
   opens_on (opens_create path) visited plan agrees = adds (AskCreate path ∷ []) plan
-  opens_on (opens_capture side.Out) visited plan agrees =
-      out_if plan.out visited plan refl (open_there visited plan side.Out agrees)
-  opens_on (opens_capture side.Err) visited plan agrees =
-      err_if plan.err visited plan refl (open_there visited plan side.Err agrees)
+  opens_on (opens_capture side) visited plan agrees =
+      captures_if side (at_side plan.pipes side) visited plan refl (open_there visited plan side agrees)
 
   -- what a command requests
   commands_on : (b : Bool) (found : Surroundings E H) (words : List (List ℕ))
@@ -358,14 +328,12 @@ module _ {E H : Type 0} where
   drain_keeps : (which : Side) (o : Option ℕ) (plan : Plan E H)
       → capture_place which (with_drain o plan) ≡ capture_place which plan
   drain_keeps which None plan = refl
-  drain_keeps side.Out (Some place) plan = refl
-  drain_keeps side.Err (Some place) plan = refl
+  drain_keeps which (Some place) plan = refl
 
   reader_keeps : (which : Side) (o : Option ℕ) (plan : Plan E H)
       → capture_place which (with_reader o plan) ≡ capture_place which plan
   reader_keeps which None plan = refl
-  reader_keeps side.Out (Some place) plan = refl
-  reader_keeps side.Err (Some place) plan = refl
+  reader_keeps which (Some place) plan = refl
 
   -- a plan makes the requests that the order of its tree says
   pub planned_requests : (tree : TreeView E H)
@@ -374,11 +342,11 @@ module _ {E H : Type 0} where
       let order = order_of tree in
       let plan = plan_of_subtree [] tree initial_plan in
       let agrees = agrees_whole tree in
-      drained plan.err (with_drain plan.out plan)
-      ∙ ap (λ asked. asked ++ drain_of plan.err) (drained plan.out plan)
-      ∙ append_assoc (map (λ item. request_of item) plan.items) (drain_of plan.out) (drain_of plan.err)
-      ∙ ap (λ asked. asked ++ (drain_of plan.out ++ drain_of plan.err)) agrees.items
-      ∙ ap (λ o. requested order ++ (drain_of o ++ drain_of plan.err)) (agrees.places side.Out)
+      drained plan.pipes.err (with_drain plan.pipes.out plan)
+      ∙ ap (λ asked. asked ++ drain_of plan.pipes.err) (drained plan.pipes.out plan)
+      ∙ append_assoc (map (λ item. request_of item) plan.items) (drain_of plan.pipes.out) (drain_of plan.pipes.err)
+      ∙ ap (λ asked. asked ++ (drain_of plan.pipes.out ++ drain_of plan.pipes.err)) agrees.items
+      ∙ ap (λ o. requested order ++ (drain_of o ++ drain_of plan.pipes.err)) (agrees.places side.Out)
       ∙ ap (λ o. requested order ++ (drain_of (capture_place_in order side.Out) ++ drain_of o)) (agrees.places side.Err)
 
   -- the capture pipe of a stream has the place of the first capture of that stream
@@ -386,7 +354,7 @@ module _ {E H : Type 0} where
       → capture_place which (plan_of tree) ≡ capture_place_in (order_of tree) which
   planned_place tree which =
       let plan = plan_of_subtree [] tree initial_plan in
-      drain_keeps which plan.err (with_drain plan.out plan) ∙ drain_keeps which plan.out plan
+      drain_keeps which plan.pipes.err (with_drain plan.pipes.out plan) ∙ drain_keeps which plan.pipes.out plan
       ∙ (agrees_whole tree).places which
 
   -- it is open exactly if the tree has a capture of that stream
@@ -402,18 +370,18 @@ module _ {E H : Type 0} where
       let order = order_of (captured tree) in
       let plan = plan_of_subtree [] (captured tree) initial_plan in
       let agrees = agrees_whole (captured tree) in
-      read_last plan.out (with_drain plan.err plan)
-      ∙ ap (λ asked. asked ++ reader_of plan.out) (drained plan.err plan)
-      ∙ append_assoc (map (λ item. request_of item) plan.items) (drain_of plan.err) (reader_of plan.out)
-      ∙ ap (λ asked. asked ++ (drain_of plan.err ++ reader_of plan.out)) agrees.items
-      ∙ ap (λ o. requested order ++ (drain_of o ++ reader_of plan.out)) (agrees.places side.Err)
+      read_last plan.pipes.out (with_drain plan.pipes.err plan)
+      ∙ ap (λ asked. asked ++ reader_of plan.pipes.out) (drained plan.pipes.err plan)
+      ∙ append_assoc (map (λ item. request_of item) plan.items) (drain_of plan.pipes.err) (reader_of plan.pipes.out)
+      ∙ ap (λ asked. asked ++ (drain_of plan.pipes.err ++ reader_of plan.pipes.out)) agrees.items
+      ∙ ap (λ o. requested order ++ (drain_of o ++ reader_of plan.pipes.out)) (agrees.places side.Err)
       ∙ ap (λ o. requested order ++ (drain_of (capture_place_in order side.Err) ++ reader_of o)) (agrees.places side.Out)
 
   pub reader_place : (tree : TreeView E H) (which : Side)
       → capture_place which (plan_of_reader tree) ≡ capture_place_in (order_of (captured tree)) which
   reader_place tree which =
       let plan = plan_of_subtree [] (captured tree) initial_plan in
-      reader_keeps which plan.out (with_drain plan.err plan) ∙ drain_keeps which plan.err plan
+      reader_keeps which plan.pipes.out (with_drain plan.pipes.err plan) ∙ drain_keeps which plan.pipes.err plan
       ∙ (agrees_whole (captured tree)).places which
 
   pub reader_capture : (tree : TreeView E H) (which : Side)

@@ -21,4 +21,7 @@ item_of (Reader place) = request.AskReader place
 
 -- the requests, and the places of the capture pipes
 abbrev pub plan_view : {E H : Type 0} → Plan E H → plan.Plan E H
-plan_view plan = record { items = map item_of plan.items.items; out = plan.out; err = plan.err }
+plan_view plan = record {
+  items = map item_of plan.items.items;
+  pipes = record { out = plan.out; err = plan.err };
+}

@@ -1,6 +1,7 @@
 //! The requests of a start, computed from the tree alone.
 ghost use Rattle.std.specs.Prelude.{◌≡◌, IfOk, map, string_bytes};
-ghost use Rattle.duct_start.specs.Plan.{with_item, with_output_capture, with_error_capture, with_opening, place_for, with_closing, program_of, is_canonical, with_command, plan_of_subtree, initial_plan, with_drain, with_reader, plan_of, plan_of_reader};
+ghost use Rattle.duct_system.specs.declared.system.Side.TheVariants as side;
+ghost use Rattle.duct_start.specs.Plan.{with_item, with_capture, with_opening, place_for, with_closing, program_of, is_canonical, with_command, plan_of_subtree, initial_plan, with_drain, with_reader, plan_of, plan_of_reader};
 ghost use Rattle.duct_start.specs.Step.{opening_of, closing_of};
 ghost use Rattle.duct_tree.specs.EffectView.{opening_view};
 ghost use Rattle.duct_tree.specs.NodeView.{node_view};
@@ -87,7 +88,7 @@ fn with_item<'t, E: Drop, H: Drop>(
 fn with_output_capture<'t, E: Drop, H: Drop>(
     plan: Plan<'t, E, H>,
 ) -> Result<Plan<'t, E, H>, AllocError>
-    ensures { IfOk result (λ more. plan_view more ≡ with_output_capture (plan_view plan.entry)) }
+    ensures { IfOk result (λ more. plan_view more ≡ with_capture side.Out (plan_view plan.entry)) }
 {
     if plan.out.is_some() {
         return Ok(plan);
@@ -102,7 +103,7 @@ fn with_output_capture<'t, E: Drop, H: Drop>(
 fn with_error_capture<'t, E: Drop, H: Drop>(
     plan: Plan<'t, E, H>,
 ) -> Result<Plan<'t, E, H>, AllocError>
-    ensures { IfOk result (λ more. plan_view more ≡ with_error_capture (plan_view plan.entry)) }
+    ensures { IfOk result (λ more. plan_view more ≡ with_capture side.Err (plan_view plan.entry)) }
 {
     if plan.err.is_some() {
         return Ok(plan);

@@ -14,7 +14,7 @@ use Rattle.duct_system.specs.declared.error.Error.{Error}
 use Rattle.duct_start.specs.Chain.{Allows, Refuses}
 use Rattle.duct_start.specs.Closes.{Closes}
 use Rattle.duct_start.specs.Commands.{StoppedWithCause}
-use Rattle.duct_start.specs.ResourcesView.{ResourcesView, open_ends, pipe_ends}
+use Rattle.duct_start.specs.ResourcesView.{ResourcesView, open_ends, ends_of_pipes}
 use Rattle.duct_start.specs.Left.{Leaves, LeavesStarted, pool_view}
 use Rattle.duct_start.specs.Plan.{Plan}
 use Rattle.duct_start.specs.RunInvariant.{RunContext}
@@ -38,13 +38,13 @@ module _ {E H C F D V W : Type 0} (allows : Allows H) (refuses : Refuses H) (num
   same_ends : (n : ℕ) → count_of n (ends_of_resources number_of held) ≡ count_of n (open_ends seen)
   same_ends n =
       let places = map number_of held.stack.items in
-      let pairs = pipe_ends seen.out ++ pipe_ends seen.err in
+      let pairs = ends_of_pipes seen.pipes in
       omega (arith, count-append n places pairs, count-append n (reverse places) pairs, count-reverse n places)
 
   as_many : length (ends_of_resources number_of held) ≡ length (open_ends seen)
   as_many =
       let places = map number_of held.stack.items in
-      let pairs = pipe_ends seen.out ++ pipe_ends seen.err in
+      let pairs = ends_of_pipes seen.pipes in
       omega (arith, length-append places pairs, length-append (reverse places) pairs, length-reverse places)
 
   -- there is room to close all that it held

@@ -5,6 +5,7 @@ pub mod Made
 pub mod New
 pub mod OutputRead
 pub mod Outwards
+pub mod PerSide
 pub mod Pushed
 pub mod Requesting
 pub mod Saying

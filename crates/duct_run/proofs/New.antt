@@ -12,6 +12,7 @@ use Rattle.duct_system.specs.EntryView.{EntryView}
 use Rattle.duct_system.specs.Job.{JobView, unpolled_job}
 use Rattle.duct_system.specs.Journal.{JournalView}
 use Rattle.duct_system.specs.Trace.{segment}
+use Rattle.duct_system.specs.declared.system.Side.TheVariants as side
 use Rattle.duct_start.specs.Actions.{State}
 use Rattle.duct_start.specs.Chain.{Allows}
 use Rattle.duct_start.specs.Running.{IsRunning, RunningView}
@@ -39,24 +40,24 @@ module _ {E H C F D V W : Type 0} (child : C → ChildView) (feed : F → JobVie
     shape = shape;
     children = held.children.items;
     feeds = held.feeds.items;
-    output = held.output_worker;
-    error = held.error_worker;
+    output = held.drains.out;
+    error = held.drains.err;
   }
 
   -- by the entries that were added
   pub runs_new : (old now : JournalView) (added : List EntryView)
       → LedgerInvariant old now added (resources_view number_of child feed drain held)
-      → IsRunning child feed drain tree (is_some held.output_worker) (is_some held.error_worker)
+      → IsRunning child feed drain tree (is_some held.drains.out) (is_some held.drains.err)
       added run
   runs_new old now added books =
-      let outputs = option_to_list held.output_worker in
-      let errors = option_to_list held.error_worker in
+      let outputs = option_to_list held.drains.out in
+      let errors = option_to_list held.drains.err in
       record {
         shape_is = seen;
         children_are = books.children_are;
         unasked = new.children;
         feeds_are = unpolled_all feed held.feeds.items new.feeds ∙ ap (λ (l : List ℕ). map (λ number. unpolled_job number) l) books.feeds_are;
-        drains_are = unpolled_all drain (outputs ++ errors) (All-append (λ d. drain d ≡ unpolled_job (drain d).number) outputs errors new.output_worker new.error_worker)
+        drains_are = unpolled_all drain (outputs ++ errors) (All-append (λ d. drain d ≡ unpolled_job (drain d).number) outputs errors (new.drains side.Out) (new.drains side.Err))
             ∙ ap (λ (l : List ℕ). map (λ number. unpolled_job number) l) books.drains_are;
         output_is = refl;
         error_is = refl;
@@ -65,10 +66,10 @@ module _ {E H C F D V W : Type 0} (child : C → ChildView) (feed : F → JobVie
   -- by the journal before and after
   pub runs_started : (allows : Allows H) (context : RunContext) (state : State E H) (now : JournalView)
       → RunInvariant allows number_of context state now (resources_view number_of child feed drain held)
-      → IsRunning child feed drain tree (is_some held.output_worker) (is_some held.error_worker)
+      → IsRunning child feed drain tree (is_some held.drains.out) (is_some held.drains.err)
       (segment context.old.entries now.entries) run
   runs_started allows context state now stands =
       let added = stands.added in
-      subst (λ (l : List EntryView). IsRunning child feed drain tree (is_some held.output_worker) (is_some held.error_worker) l
+      subst (λ (l : List EntryView). IsRunning child feed drain tree (is_some held.drains.out) (is_some held.drains.err) l
       run)
       (sym (segment_is context.old.entries now.entries added stands.books.entries_are)) (runs_new context.old now added stands.books)

@@ -15,6 +15,9 @@ use Rattle.duct_system.specs.SpecView.{Vars}
 use Rattle.duct_system.specs.Trace.{trace}
 use Rattle.duct_system.specs.declared.error.Error.{Error}
 use Rattle.duct_system.specs.declared.error.Error.TheVariants.{Memory}
+use Rattle.duct_system.specs.declared.system.Side.{Side}
+use Rattle.duct_status.specs.PerSide.{at_side}
+use Rattle.duct_status.specs.declared.per_side.PerSide.{PerSide}
 use Rattle.duct_start.specs.Actions as action
 use Rattle.duct_start.specs.Actions.{Action, ActionOf, AreReady, Scope, State, advance, after_actions, pop_count}
 use Rattle.duct_start.specs.Causes.{StoppedBy}
@@ -29,7 +32,7 @@ use Rattle.duct_start.proofs.Spawning.{plain_refused}
 use Rattle.duct_start.proofs.Stacks.{get_front}
 use Rattle.duct_start.proofs.RunInvariant.{answers_front}
 use Rattle.duct_run.specs.ActionView.{action_view, actions_view}
-use Rattle.duct_run.specs.ResourcesView.{AreNew, AreSame, HasSameWorkers, resources_view, stack_view}
+use Rattle.duct_run.specs.ResourcesView.{AreNew, AreSame, HasSameWorkers, both, pipes_view, resources_view, stack_view}
 use Rattle.duct_run.specs.declared.action.Action as declared
 use Rattle.duct_run.specs.declared.resources.Resources.{Resources}
 use Rattle.duct_start.proofs.Running.{items_grow}
@@ -85,11 +88,10 @@ module _ {E C F D V W : Type 0} (end : E → ℕ) (child : C → ChildView) (fee
   held_same : resources_view end child feed drain new ≡ resources_view end child feed drain old
   held_same = λ i. record {
     stack = stack_view end (same.stack i);
-    out = option_map (λ pair. (end pair.0, end pair.1)) (same.output i);
-    err = option_map (λ pair. (end pair.0, end pair.1)) (same.error i);
+    pipes = pipes_view end (same.pipes i);
     children = map (λ c. (child c).number) (same.children i);
     feeds = map (λ f. (feed f).number) (same.feeds i);
-    drains = map (λ d. (drain d).number) (option_to_list (same.output_worker i) ++ option_to_list (same.error_worker i));
+    drains = map (λ d. (drain d).number) (both (same.drains i));
   }
 
   -- with more room the same is held
@@ -103,21 +105,17 @@ module _ {E C F D V W : Type 0} (end : E → ℕ) (child : C → ChildView) (fee
   new_same is = record {
     children = subst (λ (l : List C). All (λ c. child_spec.IsUnasked (child c)) l) (sym same.children) is.children;
     feeds = subst (λ (l : List F). All (λ f. feed f ≡ unpolled_job (feed f).number) l) (sym same.feeds) is.feeds;
-    output_worker = subst (λ (o : Option D). All (λ d. drain d ≡ unpolled_job (drain d).number) (option_to_list o)) (sym same.output_worker) is.output_worker;
-    error_worker = subst (λ (o : Option D). All (λ d. drain d ≡ unpolled_job (drain d).number) (option_to_list o)) (sym same.error_worker) is.error_worker;
+    drains = subst (λ (ds : PerSide (Option D)). (which : Side) → All (λ d. drain d ≡ unpolled_job (drain d).number) (option_to_list (at_side ds which))) (sym same.drains) is.drains;
   }
 
 -- the workers are the same after one action and after several
 pub workers_same : {E C F D : Type 0} (old new : Resources E C F D) → AreSame old new
     → HasSameWorkers old new
-workers_same old new same = record { output_worker = same.output_worker; error_worker = same.error_worker }
+workers_same old new same = same.drains
 
 module _ {E C F D : Type 0} (one two three : Resources E C F D) where
   pub workers_on : HasSameWorkers one two → HasSameWorkers two three → HasSameWorkers one three
-  workers_on first second = record {
-    output_worker = second.output_worker ∙ first.output_worker;
-    error_worker = second.error_worker ∙ first.error_worker;
-  }
+  workers_on first second = second ∙ first
 
 module _ {E H : Type 0} (allows : Allows H) (refuses : Refuses H) (number_of : E → ℕ) where
   stopped_by_as : (entries : List EntryView) (place : ℕ) (error : Error) (o p : Option (Item E H))

@@ -62,7 +62,7 @@ pub(crate) fn give_up<S: System>(
     ensures given { PoolGets ⟦<S as Viewed>⟧.views held.children.items pool.old pool.new }
 {
     close_stack(sys, held.stack);
-    close_pair(sys, held.output);
-    close_pair(sys, held.error);
+    close_pair(sys, held.pipes.out);
+    close_pair(sys, held.pipes.err);
     give_all(pool, held.children);
 }

@@ -2,10 +2,9 @@
 //! capture pipes.
 ghost use Rattle.std.specs.Prelude.{◌≡◌, ◌<◌, ◌≤◌, ◌+◌, length, None, Ok, OnOk, IfErr, IsSome, is_some, vec_len, vec_capacity};
 ghost use Rattle.std.specs.Arc.{arc_value};
-ghost use Rattle.duct_system.specs.declared.system.Side.TheVariants as side;
+ghost use Rattle.duct_status.specs.PerSide.{at_side, with_side};
 ghost use Rattle.duct_start.specs.Actions as action;
 ghost use Rattle.duct_start.specs.ResourcesView.{open_ends};
-ghost use Rattle.duct_start.specs.RunInvariant.{FindsItsEnds};
 ghost use Rattle.duct_run.specs.Requested.{IsNew, RequestSucceeds, RequestFails, Requested, resources_of};
 
 use crate::resources::{Resources, top};
@@ -136,78 +135,6 @@ pub(crate) fn close<S: System, H: Hook>(
     sys.close(end);
 }
 
-// Opens stdout's capture pipe, unless it is open.
-pub(crate) fn capture_out<S: System, H: Hook>(
-    sys: &mut S,
-    held: &mut Resources<S::End, Place<S::Child>, S::Feed, S::Drain>,
-) -> Result<(), Error>
-    ensures { Requested ⟦<S as Viewed>⟧.views H.allows (action.capture side.Out) result sys.old
-        sys.new held.old held.new }
-{
-    match &held.output {
-        Some(_) => Ok(()),
-        None => {
-            let (reader, writer) = sys.pipe()?;
-            held.output = Some((reader, writer));
-            Ok(())
-        }
-    }
-}
-
-// Duplicates the write end of stdout's capture pipe.
-pub(crate) fn duplicate_output_capture<S: System, H: Hook>(
-    sys: &mut S,
-    held: &mut Resources<S::End, Place<S::Child>, S::Feed, S::Drain>,
-) -> Result<(), Error>
-    requires reserved { vec_len held.old.stack + 1 ≤ vec_capacity held.old.stack }
-    requires open { IsSome held.old.output }
-    ensures { Requested ⟦<S as Viewed>⟧.views H.allows (action.duplicate_capture side.Out) result
-        sys.old sys.new held.old held.new }
-{
-    let end = match &held.output {
-        Some((_, writer)) => sys.duplicate(writer)?,
-        None => unreachable!(),
-    };
-    held.stack.push_reserved(end);
-    Ok(())
-}
-
-// Opens stderr's capture pipe, unless it is open.
-pub(crate) fn capture_err<S: System, H: Hook>(
-    sys: &mut S,
-    held: &mut Resources<S::End, Place<S::Child>, S::Feed, S::Drain>,
-) -> Result<(), Error>
-    ensures { Requested ⟦<S as Viewed>⟧.views H.allows (action.capture side.Err) result sys.old
-        sys.new held.old held.new }
-{
-    match &held.error {
-        Some(_) => Ok(()),
-        None => {
-            let (reader, writer) = sys.pipe()?;
-            held.error = Some((reader, writer));
-            Ok(())
-        }
-    }
-}
-
-// Duplicates the write end of stderr's capture pipe.
-pub(crate) fn duplicate_error_capture<S: System, H: Hook>(
-    sys: &mut S,
-    held: &mut Resources<S::End, Place<S::Child>, S::Feed, S::Drain>,
-) -> Result<(), Error>
-    requires reserved { vec_len held.old.stack + 1 ≤ vec_capacity held.old.stack }
-    requires open { IsSome held.old.error }
-    ensures { Requested ⟦<S as Viewed>⟧.views H.allows (action.duplicate_capture side.Err) result
-        sys.old sys.new held.old held.new }
-{
-    let end = match &held.error {
-        Some((_, writer)) => sys.duplicate(writer)?,
-        None => unreachable!(),
-    };
-    held.stack.push_reserved(end);
-    Ok(())
-}
-
 // Opens the capture pipe of a stream, unless it is open.
 pub(crate) fn capture<S: System, H: Hook>(
     sys: &mut S,
@@ -217,9 +144,13 @@ pub(crate) fn capture<S: System, H: Hook>(
     ensures { Requested ⟦<S as Viewed>⟧.views H.allows (action.capture side) result sys.old sys.new
         held.old held.new }
 {
-    match side {
-        Side::Out => capture_out::<S, H>(sys, held),
-        Side::Err => capture_err::<S, H>(sys, held),
+    match held.pipes.of(side) {
+        Some(_) => Ok(()),
+        None => {
+            let (reader, writer) = sys.pipe()?;
+            *held.pipes.of_mut(side) = Some((reader, writer));
+            Ok(())
+        }
     }
 }
 
@@ -230,15 +161,16 @@ pub(crate) fn duplicate_capture<S: System, H: Hook>(
     held: &mut Resources<S::End, Place<S::Child>, S::Feed, S::Drain>,
 ) -> Result<(), Error>
     requires reserved { vec_len held.old.stack + 1 ≤ vec_capacity held.old.stack }
-    requires open { FindsItsEnds {E = S.End} {H = H} (action.duplicate_capture side)
-        (resources_of ⟦<S as Viewed>⟧.views held.old) }
+    requires open { IsSome (at_side held.old.pipes side) }
     ensures { Requested ⟦<S as Viewed>⟧.views H.allows (action.duplicate_capture side) result sys.old
         sys.new held.old held.new }
 {
-    match side {
-        Side::Out => duplicate_output_capture::<S, H>(sys, held),
-        Side::Err => duplicate_error_capture::<S, H>(sys, held),
-    }
+    let end = match held.pipes.of(side) {
+        Some((_, writer)) => sys.duplicate(writer)?,
+        None => unreachable!(),
+    };
+    held.stack.push_reserved(end);
+    Ok(())
 }
 
 // Starts the worker that writes the bytes to the end on top.
@@ -260,53 +192,32 @@ pub(crate) fn feed<S: System, H: Hook>(
     Ok(())
 }
 
-// If stdout's capture pipe is open, closes its write end and starts the worker of its read end.
-pub(crate) fn finish_out<S: System, H: Hook>(
+// If the capture pipe of a stream is open, closes its write end and starts the worker of its read
+// end.
+pub(crate) fn finish<S: System, H: Hook>(
     sys: &mut S,
+    side: Side,
     held: &mut Resources<S::End, Place<S::Child>, S::Feed, S::Drain>,
 ) -> Result<(), Error>
     requires room { length (open_ends (resources_of ⟦<S as Viewed>⟧.views held.old))
         ≤ (S.journal_view sys.old).room }
-    requires first { held.old.output_worker ≡ None }
-    requires last { held.old.error_worker ≡ None }
-    ensures ok { OnOk result (RequestSucceeds ⟦<S as Viewed>⟧.views H.allows (action.finish side.Out)
+    requires none { at_side held.old.drains side ≡ None }
+    requires last { held.old.drains.err ≡ None }
+    ensures ok { OnOk result (RequestSucceeds ⟦<S as Viewed>⟧.views H.allows (action.finish side)
         sys.old sys.new held.old held.new) }
-    ensures err { IfErr result (RequestFails ⟦<S as Viewed>⟧.views H.allows (action.finish side.Out)
+    ensures err { IfErr result (RequestFails ⟦<S as Viewed>⟧.views H.allows (action.finish side)
         sys.old sys.new held.old held.new) }
     ensures new { IsNew ⟦<S as Viewed>⟧.views held.old → IsNew ⟦<S as Viewed>⟧.views held.new }
-    ensures last { held.new.error_worker ≡ held.old.error_worker }
-    ensures worker { OnOk result (is_some held.new.output_worker ≡ is_some held.old.output) }
+    ensures drains { held.new.drains
+        ≡ with_side held.old.drains side (at_side held.new.drains side) }
+    ensures worker { OnOk result (is_some (at_side held.new.drains side)
+        ≡ is_some (at_side held.old.pipes side)) }
 {
-    let Some((reader, writer)) = held.output.take() else {
+    let Some((reader, writer)) = held.pipes.of_mut(side).take() else {
         return Ok(());
     };
     sys.close(writer);
     let job = sys.start_drain(reader)?;
-    held.output_worker = Some(job);
-    Ok(())
-}
-
-// If stderr's capture pipe is open, closes its write end and starts the worker of its read end.
-pub(crate) fn finish_err<S: System, H: Hook>(
-    sys: &mut S,
-    held: &mut Resources<S::End, Place<S::Child>, S::Feed, S::Drain>,
-) -> Result<(), Error>
-    requires room { length (open_ends (resources_of ⟦<S as Viewed>⟧.views held.old))
-        ≤ (S.journal_view sys.old).room }
-    requires last { held.old.error_worker ≡ None }
-    ensures ok { OnOk result (RequestSucceeds ⟦<S as Viewed>⟧.views H.allows (action.finish side.Err)
-        sys.old sys.new held.old held.new) }
-    ensures err { IfErr result (RequestFails ⟦<S as Viewed>⟧.views H.allows (action.finish side.Err)
-        sys.old sys.new held.old held.new) }
-    ensures new { IsNew ⟦<S as Viewed>⟧.views held.old → IsNew ⟦<S as Viewed>⟧.views held.new }
-    ensures first { held.new.output_worker ≡ held.old.output_worker }
-    ensures worker { OnOk result (is_some held.new.error_worker ≡ is_some held.old.error) }
-{
-    let Some((reader, writer)) = held.error.take() else {
-        return Ok(());
-    };
-    sys.close(writer);
-    let job = sys.start_drain(reader)?;
-    held.error_worker = Some(job);
+    *held.drains.of_mut(side) = Some(job);
     Ok(())
 }

@@ -4,6 +4,7 @@ ghost use Rattle.std.specs.Prelude.{◌≡◌, ◌≤◌, ◌+◌, ◌++◌, [],
 ghost use Rattle.duct_run.specs.ResourcesView.{HasRoom, AreSame, IsEmpty};
 
 use duct_base::error::Error;
+use duct_base::per_side::PerSide;
 use duct_base::system::Numbered;
 use std::alloc::Global;
 
@@ -12,18 +13,14 @@ use std::alloc::Global;
 pub struct Resources<E, C, F, D> {
     /// The stack of ends, its top last.
     pub stack: Vec<E>,
-    /// Stdout's capture pipe while it is open: the read end, then the write end.
-    pub output: Option<(E, E)>,
-    /// Stderr's capture pipe while it is open: the read end, then the write end.
-    pub error: Option<(E, E)>,
+    /// The capture pipe of each output stream while it is open: the read end, then the write end.
+    pub pipes: PerSide<Option<(E, E)>>,
     /// The children, from left to right.
     pub children: Vec<C>,
     /// The input workers, in the order of their starts.
     pub feeds: Vec<F>,
-    /// The worker of stdout's capture pipe.
-    pub output_worker: Option<D>,
-    /// The worker of stderr's capture pipe.
-    pub error_worker: Option<D>,
+    /// The worker of each capture pipe.
+    pub drains: PerSide<Option<D>>,
 }
 
 /// Returns empty resources, with room for this many ends, children and input workers. Fails only
@@ -42,12 +39,16 @@ pub fn no_resources<E: Drop, C: Drop, F: Drop, D: Drop>(
     let feeds = Vec::with_capacity(alloc, feeds)?;
     Ok(Resources {
         stack,
-        output: None,
-        error: None,
+        pipes: PerSide {
+            out: None,
+            err: None,
+        },
         children,
         feeds,
-        output_worker: None,
-        error_worker: None,
+        drains: PerSide {
+            out: None,
+            err: None,
+        },
     })
 }
 

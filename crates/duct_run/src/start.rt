@@ -12,7 +12,7 @@ ghost use Rattle.duct_run.specs.ScopeView.{all_scopes, scopes_view};
 
 use crate::action::Action;
 use crate::ending::give_up;
-use crate::requests::{finish_err, finish_out};
+use crate::requests::finish;
 use crate::resources::Resources;
 use crate::run::perform_all;
 use crate::scope::Scope;
@@ -20,7 +20,7 @@ use crate::views::Viewed;
 use duct_base::error::Error;
 use duct_base::pool::{Place, Pool};
 use duct_base::spec::Hook;
-use duct_base::system::System;
+use duct_base::system::{Side, System};
 
 // Asks for the environment, then performs the actions.
 fn run_actions<S: System, H: Hook>(
@@ -70,13 +70,13 @@ fn run<S: System, H: Hook>(
         held.new) }
     ensures workers { OnOk result (HavePipes S.End.number_of
         (resolved_all (all_scopes scopes.now) (actions_view actions.now))
-        (is_some held.new.output_worker) (is_some held.new.error_worker)) }
+        (is_some held.new.drains.out) (is_some held.new.drains.err)) }
     ensures new { IsNew ⟦<S as Viewed>⟧.views held.old → IsNew ⟦<S as Viewed>⟧.views held.new }
     ensures pool { PoolLeaves ⟦<S as Viewed>⟧.views pool.old pool.new }
 {
     run_actions(sys, pool, scopes, actions, held)?;
-    finish_out::<S, H>(sys, held)?;
-    finish_err::<S, H>(sys, held)
+    finish::<S, H>(sys, Side::Out, held)?;
+    finish::<S, H>(sys, Side::Err, held)
 }
 
 // Closes the write end of stdout's capture pipe and returns a reader of its read end.
@@ -120,15 +120,15 @@ fn run_reader<S: System, H: Hook>(
     ensures err { IfErr result (RunFails ⟦<S as Viewed>⟧.views H.allows H.refuses
         drain_and_reader_tail (resolved_all (all_scopes scopes.now) (actions_view actions.now))
         sys.old sys.new held.new) }
-    ensures output { OnOk result (held.new.output_worker ≡ None) }
+    ensures output { OnOk result (held.new.drains.out ≡ None) }
     ensures workers { OnOk result (HavePipes S.End.number_of (resolved_all (all_scopes scopes.now)
-        (actions_view actions.now)) true (is_some held.new.error_worker)) }
+        (actions_view actions.now)) true (is_some held.new.drains.err)) }
     ensures new { IsNew ⟦<S as Viewed>⟧.views held.old → IsNew ⟦<S as Viewed>⟧.views held.new }
     ensures pool { PoolLeaves ⟦<S as Viewed>⟧.views pool.old pool.new }
 {
     run_actions(sys, pool, scopes, actions, held)?;
-    finish_err::<S, H>(sys, held)?;
-    Ok(read_output(sys, &mut held.output))
+    finish::<S, H>(sys, Side::Err, held)?;
+    Ok(read_output(sys, &mut held.pipes.out))
 }
 
 /// Runs the actions of a start and returns the resources that they leave. `held` has to be empty.
@@ -156,7 +156,7 @@ pub fn start<S: System, H: Hook>(
     ensures kept { IfOk result (λ kept. IsNew ⟦<S as Viewed>⟧.views kept) }
     ensures workers { IfOk result (λ kept. HavePipes S.End.number_of
         (resolved_all (all_scopes scopes.now) (actions_view actions.now))
-        (is_some kept.output_worker) (is_some kept.error_worker)) }
+        (is_some kept.drains.out) (is_some kept.drains.err)) }
     ensures swept { OnOk result (PoolLeaves ⟦<S as Viewed>⟧.views pool.old pool.new) }
     ensures err { IfErr result (RunGivesUp ⟦<S as Viewed>⟧.views H.allows H.refuses drain_tail
         (resolved_all (all_scopes scopes.now) (actions_view actions.now)) sys.old sys.new pool.old
@@ -203,10 +203,10 @@ pub fn start_reader<S: System, H: Hook>(
     ensures reader { IfOk result (λ made. MadeReader S.may_read
         (segment (S.journal_view sys.old).entries (S.journal_view sys.new).entries) made.1) }
     ensures kept { IfOk result (λ made. IsNew ⟦<S as Viewed>⟧.views made.0) }
-    ensures output { IfOk result (λ made. made.0.output_worker ≡ None) }
+    ensures output { IfOk result (λ made. made.0.drains.out ≡ None) }
     ensures workers { IfOk result (λ made. HavePipes S.End.number_of
         (resolved_all (all_scopes scopes.now) (actions_view actions.now)) true
-        (is_some made.0.error_worker)) }
+        (is_some made.0.drains.err)) }
     ensures swept { OnOk result (PoolLeaves ⟦<S as Viewed>⟧.views pool.old pool.new) }
     ensures err { IfErr result (RunGivesUp ⟦<S as Viewed>⟧.views H.allows H.refuses
         drain_and_reader_tail (resolved_all (all_scopes scopes.now) (actions_view actions.now))

@@ -15,13 +15,13 @@ items_of found words = items_if (is_canonical found words) found words
 
 -- a plan with more items at its end
 abbrev pub with_items : {E H : Type 0} → List (Item E H) → Plan E H → Plan E H
-with_items items plan = record { items = plan.items ++ items; out = plan.out; err = plan.err }
+with_items items plan = record { items = plan.items ++ items; pipes = plan.pipes }
 
 commanded_if : {E H : Type 0} (b : Bool) (found : Surroundings E H) (words : List (List ℕ))
     (plan : Plan E H) →
     with_item (AskSpawn found words) (if b then with_item (AskCanonicalize (program_of words)) plan else plan) ≡ with_items (items_if b found words) plan
 commanded_if true found words plan =
-    λ i. record { items = append_assoc plan.items (AskCanonicalize (program_of words) ∷ []) (AskSpawn found words ∷ []) i; out = plan.out; err = plan.err }
+    λ i. record { items = append_assoc plan.items (AskCanonicalize (program_of words) ∷ []) (AskSpawn found words ∷ []) i; pipes = plan.pipes }
 commanded_if false found words plan = refl
 
 pub commanded_is : {E H : Type 0} (found : Surroundings E H) (words : List (List ℕ)) (plan : Plan E H)

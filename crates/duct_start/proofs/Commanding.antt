@@ -77,8 +77,8 @@ module _ {E H : Type 0} (allows : Allows H) (number_of : E → ℕ) (scope : Sco
       let ch = none_changes entry now next held asked refl refl refl refl refl in
       let whole : RunInvariant allows number_of context more next held =
       stands_more allows number_of context state more (item ∷ []) now next held held entry stands refl ch (few_now allows number_of context state now held stands)
-      (record { stack = stands.shaped.stack; out = stands.shaped.out; err = stands.shaped.err }) refl refl (λ l later. (refl, tt))
-      (λ l later. let s = sources_now allows number_of context state more (item ∷ []) now next held held entry stands refl ch l later in record { stack = s.stack; out = s.out; err = s.err }) in
+      (record { stack = stands.shaped.stack; pipes = stands.shaped.pipes }) refl refl (λ l later. (refl, tt))
+      (λ l later. let s = sources_now allows number_of context state more (item ∷ []) now next held held entry stands refl ch l later in record { stack = s.stack; pipes = s.pipes }) in
       let old = context.old.entries in
       let seen : old ++ whole.added ≡ old ++ (stands.added ++ entry ∷ []) =
       sym whole.books.entries_are ∙ asked.entries_are ∙ ap (λ (l : List EntryView). l ++ entry ∷ []) stands.books.entries_are ∙ append_assoc old stands.added (entry ∷ []) in

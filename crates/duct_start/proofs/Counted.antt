@@ -15,6 +15,7 @@ use Rattle.duct_system.specs.declared.spec.Stream.TheVariants.{In, Out, Err}
 use Rattle.duct_system.specs.declared.system.Side.{Side}
 use Rattle.duct_system.specs.declared.system.Side.TheVariants as side
 use Rattle.duct_status.specs.ShapeView.{ShapeView, command_count, input_count}
+use Rattle.duct_status.specs.PerSide.{at_side}
 use Rattle.duct_start.specs.Actions as action
 use Rattle.duct_start.specs.Actions.{Action, ActionOf, NoneFinishes, Scope, State, PerStream, advance, after_actions, capture_place, captures_in, surroundings_by, is_capture, with_plan}
 use Rattle.duct_start.specs.Chain.{Allows}
@@ -125,8 +126,7 @@ module _ {E H : Type 0} where
   adds_opening (opens_input bytes) plan = adds_items plan.items _
   adds_opening (opens_read path) plan = adds_items plan.items _
   adds_opening (opens_create path) plan = adds_items plan.items _
-  adds_opening (opens_capture side.Out) plan = adds_if plan.out plan _ (adds_items plan.items _)
-  adds_opening (opens_capture side.Err) plan = adds_if plan.err plan _ (adds_items plan.items _)
+  adds_opening (opens_capture which) plan = adds_if (at_side plan.pipes which) plan _ (adds_items plan.items _)
 
   adds_as : {a b c d : ℕ} {x y z : List (Item E H)} → a ≡ c → b ≡ d → z ≡ y → AddsKinds a b x y
       → AddsKinds c d x z
@@ -190,8 +190,8 @@ module _ {E H : Type 0} where
   started_counts allows number_of context state now held tree stands is =
       let plan = plan_of_subtree [] tree initial_plan in
       let all = counted allows number_of context state now held stands in
-      let out = adds_drains plan.out plan in
-      let err = adds_drains plan.err (with_drain plan.out plan) in
+      let out = adds_drains plan.pipes.out plan in
+      let err = adds_drains plan.pipes.err (with_drain plan.pipes.out plan) in
       let here = planned_counts tree in
       (omega (arith, all.0, ap (λ l. spawns_asked l) is, out.spawns, err.spawns, here.0), omega (arith, all.1, ap (λ l. feeds_asked l) is, out.feeds, err.feeds, here.1))
 
@@ -205,8 +205,8 @@ module _ {E H : Type 0} where
   reader_counts allows number_of context state now held tree stands is =
       let plan = plan_of_subtree [] (around stdout_capture tree) initial_plan in
       let all = counted allows number_of context state now held stands in
-      let err = adds_drains plan.err plan in
-      let out = adds_reads plan.out (with_drain plan.err plan) in
+      let err = adds_drains plan.pipes.err plan in
+      let out = adds_reads plan.pipes.out (with_drain plan.pipes.err plan) in
       let here = planned_counts (around stdout_capture tree) in
       (omega (arith, all.0, ap (λ l. spawns_asked l) is, out.spawns, err.spawns, here.0), omega (arith, all.1, ap (λ l. feeds_asked l) is, out.feeds, err.feeds, here.1))
 
@@ -232,19 +232,16 @@ module _ {E H : Type 0} where
   -- a capture pipe is open after one action exactly if it was open before or the action opens it
   action_opens : (which : Side) (state : State E H) (act : Action E H) → NoneFinishes (act ∷ []) →
       is_some (capture_place which (advance state act).plan) ≡ (is_some (capture_place which state.plan) || is_capture which act)
-  action_opens side.Out state (action.capture side.Out) none = opens_there (λ p. p.out) state.plan.out state.plan _ refl refl
-  action_opens side.Err state (action.capture side.Err) none = opens_there (λ p. p.err) state.plan.err state.plan _ refl refl
-  action_opens side.Out state (action.capture side.Err) none = opens_other (λ p. p.out) (is_some state.plan.err) state.plan _ refl
-  action_opens side.Err state (action.capture side.Out) none = opens_other (λ p. p.err) (is_some state.plan.out) state.plan _ refl
-  action_opens side.Out state (action.spawn scope words ports) none = opens_spawn (λ p. p.out) (surroundings_by scope ports state.stack) words state.plan (λ items. refl)
-  action_opens side.Err state (action.spawn scope words ports) none = opens_spawn (λ p. p.err) (surroundings_by scope ports state.stack) words state.plan (λ items. refl)
+  action_opens side.Out state (action.capture side.Out) none = opens_there (λ p. p.pipes.out) state.plan.pipes.out state.plan _ refl refl
+  action_opens side.Err state (action.capture side.Err) none = opens_there (λ p. p.pipes.err) state.plan.pipes.err state.plan _ refl refl
+  action_opens side.Out state (action.capture side.Err) none = opens_other (λ p. p.pipes.out) (is_some state.plan.pipes.err) state.plan _ refl
+  action_opens side.Err state (action.capture side.Out) none = opens_other (λ p. p.pipes.err) (is_some state.plan.pipes.out) state.plan _ refl
+  action_opens which state (action.spawn scope words ports) none = opens_spawn (λ p. at_side p.pipes which) (surroundings_by scope ports state.stack) words state.plan (λ items. refl)
   action_opens which state (action.finish other) none = absurd none
-  action_opens side.Out state (action.parent side.Out) none = sym (or-false (is_some state.plan.out))
-  action_opens side.Out state (action.parent side.Err) none = sym (or-false (is_some state.plan.out))
-  action_opens side.Err state (action.parent side.Out) none = sym (or-false (is_some state.plan.err))
-  action_opens side.Err state (action.parent side.Err) none = sym (or-false (is_some state.plan.err))
-  action_opens side.Out state act none = sym (or-false (is_some state.plan.out))
-  action_opens side.Err state act none = sym (or-false (is_some state.plan.err))
+  action_opens which state (action.parent side.Out) none = sym (or-false (is_some (at_side state.plan.pipes which)))
+  action_opens which state (action.parent side.Err) none = sym (or-false (is_some (at_side state.plan.pipes which)))
+  action_opens side.Out state act none = sym (or-false (is_some state.plan.pipes.out))
+  action_opens side.Err state act none = sym (or-false (is_some state.plan.pipes.err))
 
   none_first : (act : Action E H) (actions : List (Action E H)) → NoneFinishes (act ∷ actions)
       → NoneFinishes (act ∷ [])

@@ -58,15 +58,15 @@ module _ {E H : Type 0} where
       → Grows state next
   grows_on a b = record {
     levels = λ n x is. b.levels n x (a.levels n x is);
-    keeps = record { out = λ p is. b.keeps.out p (a.keeps.out p is); err = λ p is. b.keeps.err p (a.keeps.err p is) };
+    keeps = record { pipes = λ which p is. b.keeps.pipes which p (a.keeps.pipes which p is) };
   }
 
   put_grows : (state : State E H) (p : Port) (x : Target E)
       → Grows state (record { stack = put p x state.stack; plan = state.plan })
-  put_grows state port.Inherit x = grows_plan state.stack state.plan state.plan (keeps_same state.plan state.plan refl refl)
-  put_grows state port.Null x = grows_plan state.stack state.plan state.plan (keeps_same state.plan state.plan refl refl)
-  put_grows state port.Given x = grows_by state.stack x state.plan state.plan (keeps_same state.plan state.plan refl refl)
-  put_grows state (port.Place place) x = grows_plan state.stack state.plan state.plan (keeps_same state.plan state.plan refl refl)
+  put_grows state port.Inherit x = grows_plan state.stack state.plan state.plan (keeps_same state.plan state.plan refl)
+  put_grows state port.Null x = grows_plan state.stack state.plan state.plan (keeps_same state.plan state.plan refl)
+  put_grows state port.Given x = grows_by state.stack x state.plan state.plan (keeps_same state.plan state.plan refl)
+  put_grows state (port.Place place) x = grows_plan state.stack state.plan state.plan (keeps_same state.plan state.plan refl)
 
 port_nothing : (E : Type 0) (s : Stream) → port_to {E = E} s Nothing ≡ port.Null
 port_nothing E In = refl
@@ -107,8 +107,7 @@ module _ {E H : Type 0} (number_of : E → ℕ) (base : ℕ) where
   wire_grows state next b w t grows is_err = is_err
   wire_grows state next b w t grows (is_nothing c) = is_nothing c
   wire_grows state next b w t grows (is_slot c n x got is) = is_slot c n x got (grows.levels n x is)
-  wire_grows state next b w t grows (is_captured c side.Out place is) = is_captured c side.Out place (grows.keeps.out place is)
-  wire_grows state next b w t grows (is_captured c side.Err place is) = is_captured c side.Err place (grows.keeps.err place is)
+  wire_grows state next b w t grows (is_captured c which place is) = is_captured c which place (grows.keeps.pipes which place is)
   wire_grows state next b w t grows (is_lent c end is) = is_lent c end is
 
   pub fits_grow : (state next : State E H) (scope : Scope E H) (wires : PerStream (StreamSource E))

@@ -17,6 +17,8 @@ use Rattle.duct_system.specs.declared.spec.Stream.TheVariants as stream
 use Rattle.duct_system.specs.declared.system.Fault.{Fault}
 use Rattle.duct_system.specs.declared.system.Side.{Side}
 use Rattle.duct_system.specs.declared.system.Side.TheVariants as side
+use Rattle.duct_status.specs.PerSide.{at_side}
+use Rattle.duct_status.specs.declared.per_side.PerSide.{PerSide}
 use Rattle.duct_start.specs.Actions as action
 use Rattle.duct_start.specs.Actions.{Action, State, IsReady, IsWriter, advance, at_depth, pipe_place}
 use Rattle.duct_start.specs.Asked.{end_at}
@@ -24,12 +26,13 @@ use Rattle.duct_start.specs.Chain.{Allows}
 use Rattle.duct_start.specs.Commands.{resources_with_stack}
 use Rattle.duct_start.specs.Sources.{Pairwise}
 use Rattle.duct_start.specs.Surroundings.{Target, Parents, Nothing, ReaderAt, WriterAt, FileAt, Lends}
-use Rattle.duct_start.specs.ResourcesView.{ResourcesView, open_ends, pipe_ends}
+use Rattle.duct_start.specs.ResourcesView.{ResourcesView, open_ends, ends_of_pipes, pipe_ends}
 use Rattle.duct_start.specs.Kinds.{entry_kind, item_kind}
 use Rattle.duct_start.specs.RunInvariant.{AnswersUnder, AreFresh, RunContext, IsEarly, IsFrom, IsLater, IsShaped, IsPair, HasOrigins, RunInvariant, IsAllocationFailure, ActionSucceeds, ActionFails}
 use Rattle.duct_start.specs.Step.{Item, AskPipe, AskOpenRead, AskCreate, AskFeed}
 use Rattle.duct_start.proofs.Counts.{fresh_one, fresh_two, fresh_none, is_itself, other_than, count_other, count_same, count-cons, count-append, count-reverse}
 use Rattle.duct_start.proofs.Origins.{later_more, origin_stays, origin-more, origin_lent, end_at_seam}
+use Rattle.duct_start.proofs.PerSide.{counts_with}
 use Rattle.duct_start.proofs.Sources.{duplicate_first, duplicated, pair_level, pair_popped, surely}
 use Rattle.duct_start.proofs.RunInvariant.{Changes, as_many, stands_more, stops_more, stops_unasked, sources_now, few_now, few_of}
 
@@ -50,9 +53,9 @@ adds_as entry a b c d now next adds more less = record {
 pushed_shape : {E H : Type 0} (numbers : List ℕ) (targets : List (Target E))
     (asked : List (Item E H)) (st : State E H) (held : ResourcesView) → length numbers ≡ length targets
     → IsShaped st held →
-    IsShaped (record { stack = targets ++ st.stack; plan = record { items = st.plan.items ++ asked; out = st.plan.out; err = st.plan.err } }) (on numbers held)
+    IsShaped (record { stack = targets ++ st.stack; plan = record { items = st.plan.items ++ asked; pipes = st.plan.pipes } }) (on numbers held)
 pushed_shape numbers targets asked st held same shaped =
-    record { stack = omega (arith, same, shaped.stack, length-append numbers held.stack, length-append targets st.stack); out = shaped.out; err = shaped.err }
+    record { stack = omega (arith, same, shaped.stack, length-append numbers held.stack, length-append targets st.stack); pipes = shaped.pipes }
 
 less_long : {A B : Type 0} (n : A) (rest : List A) (stack : List B)
     → length (n ∷ rest) ≡ length stack → length rest ≡ length (drop 1 stack)
@@ -62,25 +65,24 @@ less_long n rest (x ∷ stack) is = omega (arith, is)
 -- one end is popped from both stacks
 popped_shape : {E H : Type 0} (n : ℕ) (rest : List ℕ) (then st : State E H) (kept held : ResourcesView)
     → held.stack ≡ n ∷ rest → kept.stack ≡ rest → then.stack ≡ drop 1 st.stack →
-    kept.out ≡ held.out → kept.err ≡ held.err → then.plan.out ≡ st.plan.out → then.plan.err ≡ st.plan.err → IsShaped st held → IsShaped then kept
-popped_shape n rest then st kept held is kept_is then_is out err plan_out plan_err shaped = record {
+    kept.pipes ≡ held.pipes → then.plan.pipes ≡ st.plan.pipes → IsShaped st held → IsShaped then kept
+popped_shape n rest then st kept held is kept_is then_is pipes plan_pipes shaped = record {
   stack = ap (λ l. length l) kept_is ∙ less_long n rest st.stack (sym (ap (λ l. length l) is) ∙ shaped.stack) ∙ sym (ap (λ l. length l) then_is);
-  out = ap (λ o. is_some o) out ∙ shaped.out ∙ sym (ap (λ o. is_some o) plan_out);
-  err = ap (λ o. is_some o) err ∙ shaped.err ∙ sym (ap (λ o. is_some o) plan_err);
+  pipes = λ which. ap (λ p. is_some (at_side p which)) pipes ∙ shaped.pipes which ∙ sym (ap (λ p. is_some (at_side p which)) plan_pipes);
 }
 
 -- an entry that started nothing
 pub plain_changes : (entry : EntryView) (count given : ℕ) (now next : JournalView)
-    (held : ResourcesView) (stack : List ℕ) (out err : Option (ℕ × ℕ)) →
+    (held : ResourcesView) (stack : List ℕ) (pipes : PerSide (Option (ℕ × ℕ))) →
     Adds entry count given now next → length (opened_by entry) ≡ count
     → length (closed_by entry) ≡ given → AreFresh now.next next.next (opened_by entry)
     → child_by entry ≡ [] → feed_by entry ≡ [] → drain_by entry ≡ [] →
-    let kept = record held { stack = stack; out = out; err = err } in
+    let kept = record held { stack = stack; pipes = pipes } in
     ((n : ℕ) → count_of n (opened_by entry) + count_of n (open_ends held)
     ≡ count_of n (closed_by entry) + count_of n (open_ends kept))
     → length (opened_by entry) + length (open_ends held) ≡ length (closed_by entry) + length (open_ends kept)
     → Changes entry now next held kept
-plain_changes entry count given now next held stack out err adds many less fresh no_child no_feed no_drain even long = record {
+plain_changes entry count given now next held stack pipes adds many less fresh no_child no_feed no_drain even long = record {
   adds = adds_as entry count given _ _ now next adds many less;
   fresh = fresh;
   even = even;
@@ -97,7 +99,7 @@ pub none_changes : (entry : EntryView) (now next : JournalView) (held : Resource
 none_changes entry now next held asks no_end none no_child no_feed no_drain =
     let g = ap (λ (l : List ℕ). length l) no_end in
     let s = ap (λ (l : List ℕ). length l) none in
-    plain_changes entry 0 0 now next held held.stack held.out held.err asks g s
+    plain_changes entry 0 0 now next held held.stack held.pipes asks g s
     (subst (λ (l : List ℕ). AreFresh now.next next.next l) (sym no_end) (fresh_none now.next next.next asks.next_grows)) no_child no_feed no_drain
     (λ n. omega (arith, ap (λ (l : List ℕ). count_of n l) no_end, ap (λ (l : List ℕ). count_of n l) none)) (omega (arith, g, s))
 
@@ -108,7 +110,7 @@ push_changes : (entry : EntryView) (n : ℕ) (now next : JournalView) (held : Re
 push_changes entry n now next held gets got none no_child no_feed no_drain =
     let g = ap (λ (l : List ℕ). length l) got in
     let s = ap (λ (l : List ℕ). length l) none in
-    plain_changes entry 1 0 now next held (n ∷ held.stack) held.out held.err gets.0 g s
+    plain_changes entry 1 0 now next held (n ∷ held.stack) held.pipes gets.0 g s
     (subst (λ (l : List ℕ). AreFresh now.next next.next l) (sym got) (fresh_one now.next next.next n gets.1.after_old gets.1.below_new)) no_child no_feed no_drain
     (λ m. omega (arith, ap (λ (l : List ℕ). count_of m l) got, ap (λ (l : List ℕ). count_of m l) none, count-cons m n (open_ends held))) (omega (arith, g, s))
 
@@ -151,9 +153,9 @@ pub pop_changes : (entry : EntryView) (n : ℕ) (rest children feeds drains : Li
     → children ≡ held.children ++ child_by entry → feeds ≡ held.feeds ++ feed_by entry
     → drains ≡ held.drains ++ drain_by entry
     → Changes entry now next held
-    (record { stack = rest; out = held.out; err = held.err; children = children; feeds = feeds; drains = drains })
+    (record { stack = rest; pipes = held.pipes; children = children; feeds = feeds; drains = drains })
 pop_changes entry n rest children feeds drains now next held gives none spent is c f d =
-    let others = pipe_ends held.out ++ pipe_ends held.err in
+    let others = ends_of_pipes held.pipes in
     let g = ap (λ (l : List ℕ). length l) none in
     let s = ap (λ (l : List ℕ). length l) spent in
     record {
@@ -170,7 +172,7 @@ module _ {E H : Type 0} (allows : Allows H) (number_of : E → ℕ) where
   -- an action whose request got one end
   got_succeeds : (act : Action E H) (asked : State E H → List (Item E H)) (x : State E H → Target E)
       (entry : EntryView) (n : ℕ) (now next : JournalView) (held : ResourcesView) →
-      ((st : State E H) → advance st act ≡ record { stack = x st ∷ st.stack; plan = record { items = st.plan.items ++ asked st; out = st.plan.out; err = st.plan.err } }) →
+      ((st : State E H) → advance st act ≡ record { stack = x st ∷ st.stack; plan = record { items = st.plan.items ++ asked st; pipes = st.plan.pipes } }) →
       GetsEnd entry n now next → opened_by entry ≡ n ∷ [] → closed_by entry ≡ [] → child_by entry ≡ [] → feed_by entry ≡ [] → drain_by entry ≡ [] → fault_of entry ≡ None →
       ((st : State E H) → map entry_kind (trace (entry ∷ [])) ≡ map item_kind (asked st)) →
       ((context : RunContext) (st : State E H) (L : List EntryView) → AnswersUnder context allows number_of L (length st.plan.items) (asked st) (trace (entry ∷ []))) →
@@ -179,7 +181,7 @@ module _ {E H : Type 0} (allows : Allows H) (number_of : E → ℕ) where
       IsFrom (IsEarly context) number_of ((stands.added ++ entry ∷ []) ++ more) n (x st)) →
       ActionSucceeds allows number_of act now next held (on (n ∷ []) held)
   got_succeeds act asked x entry n now next held is gets got none no_child no_feed no_drain clean many matches source = λ context st ready stands.
-      let then_st : State E H = record { stack = x st ∷ st.stack; plan = record { items = st.plan.items ++ asked st; out = st.plan.out; err = st.plan.err } } in
+      let then_st : State E H = record { stack = x st ∷ st.stack; plan = record { items = st.plan.items ++ asked st; pipes = st.plan.pipes } } in
       let ch = push_changes entry n now next held gets got none no_child no_feed no_drain in
       subst (λ (s : State E H). RunInvariant allows number_of context s next (on (n ∷ []) held)) (sym (is st))
       (stands_more allows number_of context st then_st (asked st) now next held (on (n ∷ []) held) entry stands refl ch
@@ -187,7 +189,7 @@ module _ {E H : Type 0} (allows : Allows H) (number_of : E → ℕ) where
       (λ more later. matches context st ((stands.added ++ entry ∷ []) ++ more))
       (λ more later.
       let s = sources_now allows number_of context st then_st (asked st) now next held (on (n ∷ []) held) entry stands refl ch more later in
-      record { stack = (source context st ready stands more later s, s.stack); out = s.out; err = s.err }))
+      record { stack = (source context st ready stands more later s, s.stack); pipes = s.pipes }))
 
   pub open_read_succeeds : (path : List ℕ) (n : ℕ) (now next : JournalView) (held : ResourcesView)
       → GetsEnd (OpenRead path (Ok n)) n now next
@@ -204,8 +206,8 @@ module _ {E H : Type 0} (allows : Allows H) (number_of : E → ℕ) where
       (λ context st ready stands more later s. surely (IsEarly context) (opened_here context stands.added more (Create path (Ok n)) n next.next 0 gets.1.below_new later refl (rw is_itself refl) refl (length st.plan.items) (as_many stands)))
 
   same_plan : (x : Target E) (st : State E H)
-      → action.with_end x st ≡ record { stack = x ∷ st.stack; plan = record { items = st.plan.items ++ []; out = st.plan.out; err = st.plan.err } }
-  same_plan x st = ap (λ (l : List (Item E H)). record { stack = x ∷ st.stack; plan = record { items = l; out = st.plan.out; err = st.plan.err } }) (sym (append-nil st.plan.items))
+      → action.with_end x st ≡ record { stack = x ∷ st.stack; plan = record { items = st.plan.items ++ []; pipes = st.plan.pipes } }
+  same_plan x st = ap (λ (l : List (Item E H)). record { stack = x ∷ st.stack; plan = record { items = l; pipes = st.plan.pipes } }) (sym (append-nil st.plan.items))
 
   pub parent_succeeds : (which : Side) (n : ℕ) (now next : JournalView) (held : ResourcesView)
       → GetsEnd (Parent which (Ok n)) n now next
@@ -252,38 +254,30 @@ module _ {E H : Type 0} (allows : Allows H) (number_of : E → ℕ) where
       → ActionSucceeds allows number_of (action.duplicate depth) now next held (on (n ∷ []) held)
   duplicate_succeeds depth m n now next held at_level gets =
       dup_succeeds (action.duplicate depth) (λ st. unwrap_or (at_depth st.stack depth) Nothing) m n now next held (λ st. refl)
-      (omega (arith, count-append m held.stack (pipe_ends held.out ++ pipe_ends held.err), level_counts held.stack depth m at_level))
+      (omega (arith, count-append m held.stack (ends_of_pipes held.pipes), level_counts held.stack depth m at_level))
       (λ context st ready L s. pair_level (IsFrom (IsEarly context) number_of L) held.stack st.stack depth m Nothing s.stack at_level)
       gets
 
-  pub tap_out_succeeds : (r w n : ℕ) (now next : JournalView) (held : ResourcesView)
-      → held.out ≡ Some (r, w) → GetsEnd (Duplicate w (Ok n)) n now next
-      → ActionSucceeds allows number_of (action.duplicate_capture side.Out) now next held (on (n ∷ []) held)
-  tap_out_succeeds r w n now next held is gets =
-      dup_succeeds (action.duplicate_capture side.Out) (λ st. WriterAt (unwrap_or st.plan.out 0)) w n now next held (λ st. refl)
-      (omega (arith, count-append w held.stack (pipe_ends held.out ++ pipe_ends held.err), count-append w (pipe_ends held.out) (pipe_ends held.err), ap (λ o. count_of w (pipe_ends o)) is, count-cons w r (w ∷ []), count_same w))
-      (λ context st ready L s. surely (IsEarly context) (pair_writes L st.plan.out r w (subst (λ o. IsPair L st.plan.out o) is s.out))) gets
-
-  pub tap_err_succeeds : (r w n : ℕ) (now next : JournalView) (held : ResourcesView)
-      → held.err ≡ Some (r, w) → GetsEnd (Duplicate w (Ok n)) n now next
-      → ActionSucceeds allows number_of (action.duplicate_capture side.Err) now next held (on (n ∷ []) held)
-  tap_err_succeeds r w n now next held is gets =
-      dup_succeeds (action.duplicate_capture side.Err) (λ st. WriterAt (unwrap_or st.plan.err 0)) w n now next held (λ st. refl)
-      (omega (arith, count-append w held.stack (pipe_ends held.out ++ pipe_ends held.err), count-append w (pipe_ends held.out) (pipe_ends held.err), ap (λ o. count_of w (pipe_ends o)) is, count-cons w r (w ∷ []), count_same w))
-      (λ context st ready L s. surely (IsEarly context) (pair_writes L st.plan.err r w (subst (λ o. IsPair L st.plan.err o) is s.err))) gets
+  pub tap_succeeds : (which : Side) (r w n : ℕ) (now next : JournalView) (held : ResourcesView)
+      → at_side held.pipes which ≡ Some (r, w) → GetsEnd (Duplicate w (Ok n)) n now next
+      → ActionSucceeds allows number_of (action.duplicate_capture which) now next held (on (n ∷ []) held)
+  tap_succeeds which r w n now next held is gets =
+      dup_succeeds (action.duplicate_capture which) (λ st. WriterAt (unwrap_or (at_side st.plan.pipes which) 0)) w n now next held (λ st. refl)
+      (omega (arith, count-append w held.stack (ends_of_pipes held.pipes), counts_with w held.pipes which None, ap (λ o. count_of w (pipe_ends o)) is, count-cons w r (w ∷ []), count_same w))
+      (λ context st ready L s. surely (IsEarly context) (pair_writes L (at_side st.plan.pipes which) r w (subst (λ o. IsPair L (at_side st.plan.pipes which) o) is (s.pipes which)))) gets
 
   -- an action that opens a pipe, with either end on top
   two_succeeds : (act : Action E H) (a b n m : ℕ) (x y : State E H → Target E) (now next : JournalView)
       (held : ResourcesView) →
-      ((st : State E H) → advance st act ≡ record { stack = x st ∷ y st ∷ st.stack; plan = record { items = st.plan.items ++ AskPipe ∷ []; out = st.plan.out; err = st.plan.err } }) →
+      ((st : State E H) → advance st act ≡ record { stack = x st ∷ y st ∷ st.stack; plan = record { items = st.plan.items ++ AskPipe ∷ []; pipes = st.plan.pipes } }) →
       ((k : ℕ) → count_of k (a ∷ b ∷ []) ≡ count_of k (n ∷ m ∷ [])) →
       ((early : Type 0) (st : State E H) (L : List EntryView) → (origin L n ≡ Opened (end_at (trace L) (length st.plan.items) 0)) → (origin L m ≡ Opened (end_at (trace L) (length st.plan.items) 1)) →
       IsFrom early number_of L a (x st) × IsFrom early number_of L b (y st)) →
       GetsEnds (Pipe (Ok (n, m))) n m now next → ActionSucceeds allows number_of act now next held (on (a ∷ b ∷ []) held)
   two_succeeds act a b n m x y now next held is same from gets = λ context st ready stands.
-      let then_st : State E H = record { stack = x st ∷ y st ∷ st.stack; plan = record { items = st.plan.items ++ AskPipe ∷ []; out = st.plan.out; err = st.plan.err } } in
+      let then_st : State E H = record { stack = x st ∷ y st ∷ st.stack; plan = record { items = st.plan.items ++ AskPipe ∷ []; pipes = st.plan.pipes } } in
       let l = Pipe (Ok (n, m)) in
-      let ch : Changes l now next held (on (a ∷ b ∷ []) held) = plain_changes l 2 0 now next held (a ∷ b ∷ held.stack) held.out held.err gets.0 refl refl
+      let ch : Changes l now next held (on (a ∷ b ∷ []) held) = plain_changes l 2 0 now next held (a ∷ b ∷ held.stack) held.pipes gets.0 refl refl
       (fresh_two now.next next.next n m gets.1.after_old gets.1.below_new gets.2.after_old gets.2.below_new gets.3) refl refl refl
       (λ k. omega (arith, same k, count-append k (a ∷ b ∷ []) (open_ends held))) (omega arith) in
       let other : m ≢ n = λ is. gets.3 (sym is) in
@@ -296,7 +290,7 @@ module _ {E H : Type 0} (allows : Allows H) (number_of : E → ℕ) where
       let r = opened_here context stands.added more l n next.next 0 gets.1.below_new later refl (rw is_itself refl) refl (length st.plan.items) (as_many stands) in
       let w = opened_here context stands.added more l m next.next 1 gets.2.below_new later refl (rw (other_than m n (count_other m n other), is_itself) refl) refl (length st.plan.items) (as_many stands) in
       let both = from (IsEarly context) st L r w in
-      record { stack = (both.0, (both.1, z.stack)); out = z.out; err = z.err }))
+      record { stack = (both.0, (both.1, z.stack)); pipes = z.pipes }))
 
   pub pipe_succeeds : (n m : ℕ) (now next : JournalView) (held : ResourcesView)
       → GetsEnds (Pipe (Ok (n, m))) n m now next
@@ -320,11 +314,11 @@ module _ {E H : Type 0} (allows : Allows H) (number_of : E → ℕ) where
       pop_changes (Close n) n rest held.children held.feeds held.drains now next held gives refl refl is (sym (append-nil held.children)) (sym (append-nil held.feeds)) (sym (append-nil held.drains)) in
       let items = sym (append-nil st.plan.items) in
       stands_more allows number_of context st (advance st action.close) [] now next held (resources_with_stack rest held) (Close n) stands items ch
-      (omega (arith, few_now allows number_of context st now held stands, ap (λ (l : List ℕ). length (l ++ (pipe_ends held.out ++ pipe_ends held.err))) is)) (popped_shape n rest (advance st action.close) st (resources_with_stack rest held) held is refl refl refl refl refl refl stands.shaped) refl refl (λ more later. tt)
+      (omega (arith, few_now allows number_of context st now held stands, ap (λ (l : List ℕ). length (l ++ ends_of_pipes held.pipes)) is)) (popped_shape n rest (advance st action.close) st (resources_with_stack rest held) held is refl refl refl refl stands.shaped) refl refl (λ more later. tt)
       (λ more later.
       let s = sources_now allows number_of context st (advance st action.close) [] now next held (resources_with_stack rest held) (Close n) stands items ch more later in
       let L = (stands.added ++ Close n ∷ []) ++ more in
-      record { stack = pair_popped (IsFrom (IsEarly context) number_of L) n rest st.stack (subst (λ (l : List ℕ). Pairwise (IsFrom (IsEarly context) number_of L) l st.stack) is s.stack); out = s.out; err = s.err })
+      record { stack = pair_popped (IsFrom (IsEarly context) number_of L) n rest st.stack (subst (λ (l : List ℕ). Pairwise (IsFrom (IsEarly context) number_of L) l st.stack) is s.stack); pipes = s.pipes })
 
   module _ (n : ℕ) (rest bytes : List ℕ) (now next : JournalView) (held : ResourcesView) (is : held.stack ≡ n ∷ rest) where
     fed : (answer : Result (Unit {0}) Fault) (kept : ResourcesView) (context : RunContext) (st : State E H)
@@ -345,12 +339,12 @@ module _ {E H : Type 0} (allows : Allows H) (number_of : E → ℕ) where
         let kept : ResourcesView = record held { stack = rest; feeds = held.feeds ++ n ∷ [] } in
         let ch : Changes entry now next held kept = pop_changes entry n rest held.children kept.feeds held.drains now next held gives refl refl is (sym (append-nil held.children)) refl (sym (append-nil held.drains)) in
         stands_more allows number_of context st (advance st (action.feed bytes)) (AskFeed (pipe_place st.stack) bytes ∷ []) now next held kept entry stands refl ch
-        (omega (arith, few_now allows number_of context st now held stands, ap (λ (l : List ℕ). length (l ++ (pipe_ends held.out ++ pipe_ends held.err))) is)) (popped_shape n rest (advance st (action.feed bytes)) st kept held is refl refl refl refl refl refl stands.shaped) refl refl
+        (omega (arith, few_now allows number_of context st now held stands, ap (λ (l : List ℕ). length (l ++ ends_of_pipes held.pipes)) is)) (popped_shape n rest (advance st (action.feed bytes)) st kept held is refl refl refl refl stands.shaped) refl refl
         (λ more later. ((refl, fed (Ok tt) kept context st ready stands ch more later), tt))
         (λ more later.
         let L = (stands.added ++ entry ∷ []) ++ more in
         let s = sources_now allows number_of context st (advance st (action.feed bytes)) (AskFeed (pipe_place st.stack) bytes ∷ []) now next held kept entry stands refl ch more later in
-        record { stack = pair_popped (IsFrom (IsEarly context) number_of L) n rest st.stack (subst (λ (l : List ℕ). Pairwise (IsFrom (IsEarly context) number_of L) l st.stack) is s.stack); out = s.out; err = s.err })
+        record { stack = pair_popped (IsFrom (IsEarly context) number_of L) n rest st.stack (subst (λ (l : List ℕ). Pairwise (IsFrom (IsEarly context) number_of L) l st.stack) is s.stack); pipes = s.pipes })
 
     pub feed_fails : (fault : Fault) → GivesEnds (Feed n bytes (Err fault)) 1 now next
         → ActionFails allows number_of (action.feed bytes) now next held (resources_with_stack rest held) (System fault)
@@ -359,7 +353,7 @@ module _ {E H : Type 0} (allows : Allows H) (number_of : E → ℕ) where
         let ch : Changes entry now next held (resources_with_stack rest held) =
         pop_changes entry n rest held.children held.feeds held.drains now next held gives refl refl is (sym (append-nil held.children)) (sym (append-nil held.feeds)) (sym (append-nil held.drains)) in
         stops_more allows number_of context st (advance st (action.feed bytes)) (AskFeed (pipe_place st.stack) bytes ∷ []) now next held (resources_with_stack rest held) entry stands refl ch
-        (omega (arith, few_now allows number_of context st now held stands, ap (λ (l : List ℕ). length (l ++ (pipe_ends held.out ++ pipe_ends held.err))) is)) fault refl
+        (omega (arith, few_now allows number_of context st now held stands, ap (λ (l : List ℕ). length (l ++ ends_of_pipes held.pipes)) is)) fault refl
         (λ more later. ((refl, fed (Err fault) (resources_with_stack rest held) context st ready stands ch more later), tt))
 
   -- an allocation failed before the action made a request

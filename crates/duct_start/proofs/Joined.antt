@@ -1,6 +1,6 @@
 -- The flat plan of a tree leads to its plan, and leaves the stack as it was.
 use Rattle.std.proofs.Common.{◌≡◌, ℕ, ◌+◌, ◌*◌, ◌≤◌, ◌<◌, List, [], ◌∷◌, ◌++◌, length, refl, ap, sym, ◌∙◌, arith, subst}
-use Rattle.std.specs.Prelude.{Bool, Some, None, unwrap_or, true, false}
+use Rattle.std.specs.Prelude.{Bool, Some, None, true, false}
 use Rattle.std.specs.declared.option.Option.{Option}
 use Rattle.std.specs.List.{All}
 use Rattle.std.proofs.lemmas.List.{append-nil}
@@ -22,12 +22,12 @@ use Rattle.duct_start.specs.Row.{RowOpening, SettingView, Route, opens_nothing, 
 use Rattle.duct_start.specs.Step.{Item, AskPipe, closing_of, opened_target, opening_of, step_of_setting, step_if_setting, stream_on, turn_of, AskFeed, AskOpenRead, AskCreate, left_step, right_step, step}
 use Rattle.duct_start.specs.TreeView.{TreeView, command, pipe, around}
 use Rattle.duct_start.proofs.Inward.{joined}
-use Rattle.duct_start.proofs.Keeping.{keeps, keeps_same, keeps_out, keeps_err, out_opens, err_opens}
+use Rattle.duct_start.proofs.Keeping.{keeps, keeps_same, keeps_capture, capture_opens}
 use Rattle.duct_start.proofs.Stacks.{level_top, leads_none, leads_cons, leads_append}
 use Rattle.duct_start.proofs.Fetched.{Grows, grows_by, grows_on, grows_plan, fits_grow, command_leads}
 
 closed_none : {E H : Type 0} (p : Plan E H) → with_closing [] p ≡ p
-closed_none p = λ i. record { items = append-nil p.items i; out = p.out; err = p.err }
+closed_none p = λ i. record { items = append-nil p.items i; pipes = p.pipes }
 
 module _ {E : Type 0} (P : E → Type 0) where
   pub all_front : (xs ys : List E) → All P (xs ++ ys) → All P xs
@@ -117,15 +117,14 @@ module _ {E H : Type 0} (number_of : E → ℕ) (base bound : ℕ) where
   opens_grow : (opens : RowOpening) (stack : List (Target E)) (p : Plan E H)
       → Grows (at_st stack p)
       (at_st (stack_in opens (place_for (opening_of {E = E} {H = H} opens) p) stack) (with_opening (opening_of opens) p))
-  opens_grow opens_nothing stack p = grows_plan stack p p (keeps_same p p refl refl)
+  opens_grow opens_nothing stack p = grows_plan stack p p (keeps_same p p refl)
   opens_grow (opens_input bytes) stack p =
       let k = length p.items in
       let p1 = with_item AskPipe p in
-      grows_on (grows_by stack (WriterAt k) p p1 (keeps_same p p1 refl refl)) (grows_by (WriterAt k ∷ stack) (ReaderAt k) p1 p1 (keeps_same p1 p1 refl refl))
-  opens_grow (opens_read path) stack p = grows_by stack (FileAt (length p.items)) p _ (keeps_same p _ refl refl)
-  opens_grow (opens_create path) stack p = grows_by stack (FileAt (length p.items)) p _ (keeps_same p _ refl refl)
-  opens_grow (opens_capture side.Out) stack p = grows_plan stack p _ (keeps_out p)
-  opens_grow (opens_capture side.Err) stack p = grows_plan stack p _ (keeps_err p)
+      grows_on (grows_by stack (WriterAt k) p p1 (keeps_same p p1 refl)) (grows_by (WriterAt k ∷ stack) (ReaderAt k) p1 p1 (keeps_same p1 p1 refl))
+  opens_grow (opens_read path) stack p = grows_by stack (FileAt (length p.items)) p _ (keeps_same p _ refl)
+  opens_grow (opens_create path) stack p = grows_by stack (FileAt (length p.items)) p _ (keeps_same p _ refl)
+  opens_grow (opens_capture which) stack p = grows_plan stack p _ (keeps_capture which p)
 
   -- the wire to what a node opens leads there
   opened_fits : (b : Bool) (opens : RowOpening) (stack : List (Target E)) (p : Plan E H) (n : ℕ)
@@ -139,8 +138,7 @@ module _ {E H : Type 0} (number_of : E → ℕ) (base bound : ℕ) where
       is_slot b (n + 1) (ReaderAt k) tt (level_top (WriterAt k ∷ stack) (ReaderAt k) (n + 1) (omega (arith, is)))
   opened_fits b (opens_read path) stack p n is = is_slot b n (FileAt (length p.items)) tt (level_top stack (FileAt (length p.items)) n is)
   opened_fits b (opens_create path) stack p n is = is_slot b n (FileAt (length p.items)) tt (level_top stack (FileAt (length p.items)) n is)
-  opened_fits b (opens_capture side.Out) stack p n is = is_captured b side.Out (unwrap_or p.out (length p.items)) (out_opens p)
-  opened_fits b (opens_capture side.Err) stack p n is = is_captured b side.Err (unwrap_or p.err (length p.items)) (err_opens p)
+  opened_fits b (opens_capture which) stack p n is = is_captured b which _ (capture_opens which p)
 
   -- the source of a stream inside a node leads to where the stream goes there, if those outside it do
   source_fits : {K : Type 0} (b : Bool) (outer : K → StreamSource E) (stream : K → Stream) (way : Route K E)
@@ -218,10 +216,8 @@ module _ {E H : Type 0} (number_of : E → ℕ) (base bound : ℕ) where
       held_leads (action.open_read path) (AskOpenRead path) (FileAt (length p.items)) inside stack p q refl tt refl (omega (arith, is, low)) leads
   wraps (opens_create path) stack p q inside n is low leads =
       held_leads (action.create path) (AskCreate path) (FileAt (length p.items)) inside stack p q refl tt refl (omega (arith, is, low)) leads
-  wraps (opens_capture side.Out) stack p q inside n is low leads =
-      unclosed _ _ stack q (leads_cons number_of base bound (at_st stack p) _ (action.capture side.Out) _ (easy (at_st stack p) (action.capture side.Out) refl tt (omega (arith, is, low))) leads)
-  wraps (opens_capture side.Err) stack p q inside n is low leads =
-      unclosed _ _ stack q (leads_cons number_of base bound (at_st stack p) _ (action.capture side.Err) _ (easy (at_st stack p) (action.capture side.Err) refl tt (omega (arith, is, low))) leads)
+  wraps (opens_capture which) stack p q inside n is low leads =
+      unclosed _ _ stack q (leads_cons number_of base bound (at_st stack p) _ (action.capture which) _ (easy (at_st stack p) (action.capture which) refl tt (omega (arith, is, low))) leads)
 
   pub flat_leads : (tree : TreeView E H) (s : Scope E H) (w : PerStream (StreamSource E)) (found : Surroundings E H)
       (stack : List (Target E)) (p : Plan E H) (n : ℕ) → n ≡ length stack
@@ -240,8 +236,8 @@ module _ {E H : Type 0} (number_of : E → ℕ) (base bound : ℕ) where
       let found2 = surroundings_within right_step k found in
       let p2 = plan_inward found1 left p1 in
       let p3 = plan_inward found2 right p2 in
-      let g0 : Grows (at_st stack p) (at_st (r ∷ stack) p1) = grows_by stack r p p1 (keeps_same p p1 refl refl) in
-      let g1 : Grows (at_st stack p) (at_st (x ∷ r ∷ stack) p1) = grows_on g0 (grows_by (r ∷ stack) x p1 p1 (keeps_same p1 p1 refl refl)) in
+      let g0 : Grows (at_st stack p) (at_st (r ∷ stack) p1) = grows_by stack r p p1 (keeps_same p p1 refl) in
+      let g1 : Grows (at_st stack p) (at_st (x ∷ r ∷ stack) p1) = grows_on g0 (grows_by (r ∷ stack) x p1 p1 (keeps_same p1 p1 refl)) in
       let g2 : Grows (at_st stack p) (at_st (r ∷ stack) p2) = grows_on g0 (grows_plan (r ∷ stack) p1 p2 (keeps left found1 p1)) in
       let fits1 = fits_grow number_of base (at_st stack p) (at_st (x ∷ r ∷ stack) p1) s w found g1 fits in
       let fits2 = fits_grow number_of base (at_st stack p) (at_st (r ∷ stack) p2) s w found g2 fits in

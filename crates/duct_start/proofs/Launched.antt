@@ -32,22 +32,22 @@ no_pair (Some pair) is = absurd (cc)
 
 -- the drain workers of the open capture pipes are requested as the plan says
 pub drained_items : {E H : Type 0} (plan : Plan E H)
-    → (drain_tail plan).items ≡ (with_drain plan.err (with_drain plan.out plan)).items
-drained_items plan = by plan.out plan.err
+    → (drain_tail plan).items ≡ (with_drain plan.pipes.err (with_drain plan.pipes.out plan)).items
+drained_items plan = by plan.pipes.out plan.pipes.err
   where
     by : (out err : Option ℕ)
-        → (with_drain err (record { items = (with_drain out plan).items; out = None; err = plan.err })).items ≡ (with_drain err (with_drain out plan)).items
+        → (with_drain err (record { items = (with_drain out plan).items; pipes = record plan.pipes { out = None } })).items ≡ (with_drain err (with_drain out plan)).items
     by None None = refl
     by None (Some place) = refl
     by (Some place) None = refl
     by (Some place) (Some other) = refl
 
 pub read_items : {E H : Type 0} (plan : Plan E H)
-    → (drain_and_reader_tail plan).items ≡ (with_reader plan.out (with_drain plan.err plan)).items
-read_items plan = by plan.out plan.err
+    → (drain_and_reader_tail plan).items ≡ (with_reader plan.pipes.out (with_drain plan.pipes.err plan)).items
+read_items plan = by plan.pipes.out plan.pipes.err
   where
     by : (out err : Option ℕ)
-        → (with_reader out (record { items = (with_drain err plan).items; out = plan.out; err = None })).items ≡ (with_reader out (with_drain err plan)).items
+        → (with_reader out (record { items = (with_drain err plan).items; pipes = record plan.pipes { err = None } })).items ≡ (with_reader out (with_drain err plan)).items
     by None None = refl
     by None (Some place) = refl
     by (Some place) None = refl
@@ -55,22 +55,22 @@ read_items plan = by plan.out plan.err
 
 -- the plan still tells which capture pipes were open
 pub drained_pipes : {E H : Type 0} (plan : Plan E H)
-    → (is_some plan.out ≡ is_some (with_drain plan.err (with_drain plan.out plan)).out)
-    × (is_some plan.err ≡ is_some (with_drain plan.err (with_drain plan.out plan)).err)
-drained_pipes plan = by plan.out plan.err
+    → (is_some plan.pipes.out ≡ is_some (with_drain plan.pipes.err (with_drain plan.pipes.out plan)).pipes.out)
+    × (is_some plan.pipes.err ≡ is_some (with_drain plan.pipes.err (with_drain plan.pipes.out plan)).pipes.err)
+drained_pipes plan = by plan.pipes.out plan.pipes.err
   where
-    by : (out err : Option ℕ) → (is_some plan.out ≡ is_some (with_drain err (with_drain out plan)).out) ×
-        (is_some plan.err ≡ is_some (with_drain err (with_drain out plan)).err)
+    by : (out err : Option ℕ) → (is_some plan.pipes.out ≡ is_some (with_drain err (with_drain out plan)).pipes.out) ×
+        (is_some plan.pipes.err ≡ is_some (with_drain err (with_drain out plan)).pipes.err)
     by None None = (refl, refl)
     by None (Some place) = (refl, refl)
     by (Some place) None = (refl, refl)
     by (Some place) (Some other) = (refl, refl)
 
 pub read_pipe : {E H : Type 0} (plan : Plan E H)
-    → is_some plan.err ≡ is_some (with_reader plan.out (with_drain plan.err plan)).err
-read_pipe plan = by plan.out plan.err
+    → is_some plan.pipes.err ≡ is_some (with_reader plan.pipes.out (with_drain plan.pipes.err plan)).pipes.err
+read_pipe plan = by plan.pipes.out plan.pipes.err
   where
-    by : (out err : Option ℕ) → is_some plan.err ≡ is_some (with_reader out (with_drain err plan)).err
+    by : (out err : Option ℕ) → is_some plan.pipes.err ≡ is_some (with_reader out (with_drain err plan)).pipes.err
     by None None = refl
     by None (Some place) = refl
     by (Some place) None = refl
@@ -107,14 +107,14 @@ module _ {E H : Type 0} (allows : Allows H) (number_of : E → ℕ) (tree : Tree
   refused_launched ending refuses old now held e refused = refused.1 (ceiling number_of tree) (2 * depth tree + 4) goal list_leads
 
   -- if no capture pipe is left open, no end is held
-  nothing_left : (ending : PlanTail E H) → (ending goal).out ≡ None → (ending goal).err ≡ None
+  nothing_left : (ending : PlanTail E H) → (ending goal).pipes.out ≡ None → (ending goal).pipes.err ≡ None
       → (old now : JournalView) (held : ResourcesView)
       → ActionsSucceed allows number_of ending actions old now held → open_ends held ≡ []
   nothing_left ending no_out no_err old now held runs =
       let stands = stands_launched ending old now held runs in
       let stack = nil_from_length held.stack stands.shaped.stack in
-      let out = no_pair held.out (stands.shaped.out ∙ ap (λ (o : Option ℕ). is_some o) no_out) in
-      let err = no_pair held.err (stands.shaped.err ∙ ap (λ (o : Option ℕ). is_some o) no_err) in
+      let out = no_pair held.pipes.out (stands.shaped.pipes side.Out ∙ ap (λ (o : Option ℕ). is_some o) no_out) in
+      let err = no_pair held.pipes.err (stands.shaped.pipes side.Err ∙ ap (λ (o : Option ℕ). is_some o) no_err) in
       λ i. stack i ++ (out i ++ err i)
 
   -- the start succeeds
@@ -142,7 +142,7 @@ module _ {E H : Type 0} (allows : Allows H) (number_of : E → ℕ) (tree : Tree
   reads_out base bound plan leads =
       let captured = around stdout_capture tree in
       let is : plan ≡ plan_of_subtree [] captured initial_plan = ap (λ (s : State E H). s.plan) (sym leads.is ∙ (list_leads allows number_of captured actions same).is) in
-      ap (λ (p : Plan E H). is_some p.out) is ∙ list_captures side.Out captured
+      ap (λ (p : Plan E H). is_some p.pipes.out) is ∙ list_captures side.Out captured
 
 -- an allocation failed before any request was made
 pub unasked_launch : {E H : Type 0} (allows : Allows H) (refuses : Refuses H) (number_of : E → ℕ)

@@ -19,6 +19,7 @@ pub mod Launched
 pub mod Leaving
 pub mod Origins
 pub mod Outwards
+pub mod PerSide
 pub mod RunContract
 pub mod Reading
 pub mod Resolved

@@ -11,6 +11,7 @@ use Rattle.duct_system.specs.declared.error.Error.TheVariants.{System}
 use Rattle.duct_system.specs.declared.system.Fault.{Fault}
 use Rattle.duct_system.specs.declared.system.Side.{Side}
 use Rattle.duct_system.specs.declared.system.Side.TheVariants as side
+use Rattle.duct_status.specs.PerSide.{at_side}
 use Rattle.duct_start.specs.Actions as action
 use Rattle.duct_start.specs.Actions.{Action, Leads, State, with_capture_finished, with_plan}
 use Rattle.duct_start.specs.Causes.{StoppedBy}
@@ -35,12 +36,11 @@ drains_more (Some place) p = (AskDrain place ∷ [], refl)
 
 -- finishing a capture pipe with its drain worker only adds items to a plan
 pub finished_more : {E H : Type 0} (which : Side) (p : Plan E H) → GoesOn p (with_capture_finished which p)
-finished_more side.Out p = drains_more p.out p
-finished_more side.Err p = drains_more p.err p
+finished_more which p = drains_more (at_side p.pipes which) p
 
 -- finishing a capture pipe with a reader only adds items to a plan
 pub read_more : {E H : Type 0} (p : Plan E H) → GoesOn p (reader_tail p)
-read_more p = by p.out
+read_more p = by p.pipes.out
   where
     by : (capture : Option ℕ) → GoesOn p (with_reader capture p)
     by None = ([], sym (append-nil p.items))
@@ -91,9 +91,9 @@ module _ {E H : Type 0} (allows : Allows H) (number_of : E → ℕ) (actions : L
   -- the run holds the capture pipes of its plan
   pub run_pipes : (now : JournalView) (held : ResourcesView)
       → ActionsSucceed allows number_of no_tail actions old now held
-      → HavePipes number_of actions (is_some held.out) (is_some held.err)
+      → HavePipes number_of actions (is_some held.pipes.out) (is_some held.pipes.err)
   run_pipes now held runs base bound plan leads =
-      let stands = runs.1 base bound plan leads in (stands.shaped.out, stands.shaped.err)
+      let stands = runs.1 base bound plan leads in (stands.shaped.pipes side.Out, stands.shaped.pipes side.Err)
 
   module _ (refuses : Refuses H) where
     -- a failed run, with more items that were not reached

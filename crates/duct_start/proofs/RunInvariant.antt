@@ -16,7 +16,7 @@ use Rattle.duct_system.specs.declared.system.Fault.{Fault}
 use Rattle.duct_start.specs.Actions.{State}
 use Rattle.duct_start.specs.Chain.{Allows}
 use Rattle.duct_start.specs.Follows.{AnswersFromBy, Gives, pairs_in}
-use Rattle.duct_start.specs.ResourcesView.{ResourcesView, open_ends, pipe_ends}
+use Rattle.duct_start.specs.ResourcesView.{ResourcesView, open_ends, ends_of_pipes, pipe_ends}
 use Rattle.duct_start.specs.Kinds.{Kind, entry_kind, item_kind}
 use Rattle.duct_start.specs.RunInvariant.{AnswersUnder, AreFresh, RunContext, OpenEndsWithin, IsEarly, IsLater, IsShaped, LedgerInvariant, GivesUnder, HasOrigins, RunInvariant, StopInvariant, refused, unasked, IsAllocationFailure}
 use Rattle.duct_start.specs.Step.{Item}
@@ -132,7 +132,7 @@ pair_few (Some pair) = omega arith
 pub few_of : (bound : ℕ) (held : ResourcesView) → length held.stack ≤ bound + 4
     → length (open_ends held) ≤ bound + 8
 few_of bound held low =
-    omega (arith, low, pair_few held.out, pair_few held.err, length-append held.stack (pipe_ends held.out ++ pipe_ends held.err), length-append (pipe_ends held.out) (pipe_ends held.err))
+    omega (arith, low, pair_few held.pipes.out, pair_few held.pipes.err, length-append held.stack (ends_of_pipes held.pipes), length-append (pipe_ends held.pipes.out) (pipe_ends held.pipes.err))
 
 module _ {E H : Type 0} (allows : Allows H) (number_of : E → ℕ) (context : RunContext) (state then_state : State E H) (asked : List (Item E H)) (now then : JournalView) (held kept : ResourcesView)
     (entry : EntryView) (stands : RunInvariant allows number_of context state now held) (items_are : then_state.plan.items ≡ state.plan.items ++ asked) (ch : Changes entry now then held kept) where

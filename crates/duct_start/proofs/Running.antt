@@ -11,15 +11,17 @@ use Rattle.duct_system.specs.declared.error.Error.{Error}
 use Rattle.duct_system.specs.declared.error.Error.TheVariants.{System}
 use Rattle.duct_system.specs.declared.system.Fault.{Fault}
 use Rattle.duct_system.specs.declared.system.Side.TheVariants as side
+use Rattle.duct_status.specs.PerSide.{at_side}
 use Rattle.duct_start.specs.Actions as action
 use Rattle.duct_start.specs.Actions.{Action, State, IsReady, AreReady, after_actions, advance, pop_count, with_plan}
 use Rattle.duct_start.specs.Chain.{Allows}
 use Rattle.duct_start.specs.ResourcesView.{ResourcesView, empty_resources}
 use Rattle.duct_start.specs.Plan.{Plan, initial_plan, with_drain}
-use Rattle.duct_start.specs.RunInvariant.{LedgerInvariant, RunContext, OpenEndsWithin, IsShaped, RunInvariant, ReadyForActions, StopInvariant, ActionSucceeds, IsAllocationFailure, FindsItsEnds, refused, unasked}
+use Rattle.duct_start.specs.RunInvariant.{LedgerInvariant, RunContext, IsPair, OpenEndsWithin, IsShaped, RunInvariant, ReadyForActions, StopInvariant, ActionSucceeds, IsAllocationFailure, FindsItsEnds, refused, unasked}
 use Rattle.duct_start.specs.Step.{Item, AskEnvironment, AskDrain, AskPipe}
 use Rattle.duct_start.proofs.Commanded.{items_of, commanded_is}
 use Rattle.duct_start.proofs.Going.{none_changes}
+use Rattle.duct_start.proofs.PerSide.{each_none}
 use Rattle.duct_start.proofs.RunInvariant.{books_more, stops_unasked}
 
 take_none : (count : ℕ) → length (opened_numbers (take count [])) ≡ 0
@@ -61,11 +63,11 @@ module _ (context : RunContext) (now : JournalView) where
       books = begun_books (Environment (Ok context.pairs)) asks refl refl refl refl refl;
       few = environment_held context.bound (Environment (Ok context.pairs)) refl refl;
       kinds = refl;
-      shaped = record { stack = refl; out = refl; err = refl };
+      shaped = record { stack = refl; pipes = each_none (λ pipe place. is_some pipe ≡ is_some place) refl };
       begins = λ more. refl;
       starts = (_, ap (λ l. l ++ Environment (Ok context.pairs) ∷ []) (sym none));
       answers = λ more later. (tt, tt);
-      sources = λ more later. record { stack = tt; out = tt; err = tt };
+      sources = λ more later. record { stack = tt; pipes = each_none (λ place pipe. IsPair ((Environment (Ok context.pairs) ∷ []) ++ more) place pipe) tt };
       clean = (refl, tt);
     }
 
@@ -122,8 +124,7 @@ action_grows st (action.open_read path) = (_, refl)
 action_grows st (action.create path) = (_, refl)
 action_grows st action.pipe = (_, refl)
 action_grows st action.input = (_, refl)
-action_grows st (action.capture side.Out) = if_grow st.plan.out st.plan _ refl
-action_grows st (action.capture side.Err) = if_grow st.plan.err st.plan _ refl
+action_grows st (action.capture which) = if_grow (at_side st.plan.pipes which) st.plan _ refl
 action_grows st (action.duplicate depth) = ([], sym (append-nil st.plan.items))
 action_grows st (action.duplicate_capture which) = ([], sym (append-nil st.plan.items))
 action_grows st (action.duplicate_caller_end end) = ([], sym (append-nil st.plan.items))
@@ -134,8 +135,7 @@ action_grows st (action.spawn scope words ports) =
     let found = action.surroundings_by scope ports st.stack in
     (items_of found words, ap (λ p. p.items) (commanded_is found words st.plan))
 action_grows st (action.feed bytes) = (_, refl)
-action_grows st (action.finish side.Out) = drains_grow st.plan.out st.plan
-action_grows st (action.finish side.Err) = drains_grow st.plan.err st.plan
+action_grows st (action.finish which) = drains_grow (at_side st.plan.pipes which) st.plan
 
 pub items_grow : {E H : Type 0} (st : State E H) (actions : List (Action E H))
     → (more : List (Item E H)) × ((after_actions st actions).plan.items ≡ st.plan.items ++ more)
@@ -149,8 +149,7 @@ module _ {E H : Type 0} (allows : Allows H) (number_of : E → ℕ) (context : R
   can : (st : State E H) (held : ResourcesView) (act : Action E H) → IsShaped st held
       → action.Needs number_of context.base context.bound st act → FindsItsEnds act held
   can st held (action.duplicate depth) shaped needs = omega (arith, shaped.stack, needs)
-  can st held (action.duplicate_capture side.Out) shaped needs = shaped.out ∙ needs
-  can st held (action.duplicate_capture side.Err) shaped needs = shaped.err ∙ needs
+  can st held (action.duplicate_capture which) shaped needs = shaped.pipes which ∙ needs
   can st held act shaped needs = tt
 
   -- a run holds what a ready action needs

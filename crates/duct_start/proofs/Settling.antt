@@ -20,7 +20,7 @@ use Rattle.duct_start.specs.Actions.{State}
 use Rattle.duct_start.specs.Chain.{Allows, end_of_place, missing_at, stream_after_hook}
 use Rattle.duct_start.specs.Commands.{IsAlike, CloseSucceeds, SettleSucceeds, SettleFails, resources_with_stack, with_stack}
 use Rattle.duct_start.specs.Surroundings.{Target, Lends}
-use Rattle.duct_start.specs.ResourcesView.{ResourcesView, open_ends, pipe_ends}
+use Rattle.duct_start.specs.ResourcesView.{ResourcesView, open_ends, ends_of_pipes}
 use Rattle.duct_start.specs.RunInvariant.{RunContext, IsEarly, IsFrom, RunInvariant}
 use Rattle.duct_start.proofs.Counts.{count-append}
 use Rattle.duct_start.proofs.Going.{close_succeeds, duplicate_fails, lend_succeeds}
@@ -57,7 +57,7 @@ module _ {E H : Type 0} (allows : Allows H) (number_of : E → ℕ) where
       → RunInvariant allows number_of context (with_stack (y ++ (x ++ z)) state) now
       (resources_with_stack (b ++ (a ++ c)) held)
   swapped context state now held a b c x y z one other stands =
-      let pairs = pipe_ends held.out ++ pipe_ends held.err in
+      let pairs = ends_of_pipes held.pipes in
       let same : (n : ℕ) → count_of n (open_ends (resources_with_stack (b ++ (a ++ c)) held)) ≡ count_of n (open_ends (resources_with_stack (a ++ (b ++ c)) held)) =
       λ n. omega (arith, count-append n (a ++ (b ++ c)) pairs, count-append n (b ++ (a ++ c)) pairs, count-append n a (b ++ c), count-append n b c, count-append n b (a ++ c), count-append n a c) in
       let long : length (open_ends (resources_with_stack (b ++ (a ++ c)) held)) ≡ length (open_ends (resources_with_stack (a ++ (b ++ c)) held)) =
@@ -83,13 +83,12 @@ module _ {E H : Type 0} (allows : Allows H) (number_of : E → ℕ) where
         kinds = stands.kinds;
         shaped = record {
           stack = omega (arith, stands.shaped.stack, length-append a (b ++ c), length-append b c, length-append b (a ++ c), length-append a c, length-append x (y ++ z), length-append y z, length-append y (x ++ z), length-append x z);
-          out = stands.shaped.out;
-          err = stands.shaped.err;
+          pipes = stands.shaped.pipes;
         };
         begins = stands.begins;
         starts = stands.starts;
         answers = stands.answers;
-        sources = λ more later. let s = stands.sources more later in record { stack = pair_swapped (IsFrom (IsEarly context) number_of (stands.added ++ more)) a b c x y z one other s.stack; out = s.out; err = s.err };
+        sources = λ more later. let s = stands.sources more later in record { stack = pair_swapped (IsFrom (IsEarly context) number_of (stands.added ++ more)) a b c x y z one other s.stack; pipes = s.pipes };
         clean = stands.clean;
       }
 

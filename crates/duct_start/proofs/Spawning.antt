@@ -28,7 +28,7 @@ use Rattle.duct_start.specs.Chain.{Allows, Refuses, HooksChange, HooksStop, Spec
 use Rattle.duct_start.specs.Commands.{AreAlike, StopsAmongHooks, IsAlike, StoppedWithCause, HooksInvariant, stack_with_streams, resources_with_stack, asks_canonical_path, hooks_by_target, after_canonical_path, program_in, streams_in, port_streams, with_stack}
 use Rattle.duct_start.specs.Follows.{IsAskedAt, IsSpawnedBy, pairs_in, program_at, text_in}
 use Rattle.duct_start.specs.Surroundings.{Surroundings, Target, Parents, Nothing, ReaderAt, WriterAt, FileAt, Lends}
-use Rattle.duct_start.specs.ResourcesView.{ResourcesView, pipe_ends}
+use Rattle.duct_start.specs.ResourcesView.{ResourcesView, ends_of_pipes}
 use Rattle.duct_start.specs.Plan.{Plan, with_item, program_of}
 use Rattle.duct_start.specs.Sources.{IsGivenFrom, Pairwise}
 use Rattle.duct_start.specs.RunInvariant.{RunContext, GivesUnder, IsEarly, IsFrom, IsHookError, IsLater, HasOrigins, RunInvariant, StopInvariant, hooked, origin_to}
@@ -171,7 +171,7 @@ spawn_changes : (spec : SpecView) (s : PerStream (Stdio ℕ)) (answer : Result �
     Changes entry now next (resources_with_stack (stack_with_streams s low.stack) low) (record low { children = children })
 spawn_changes spec s answer count now next low children gives port_end_count started =
     let entry = Spawn spec (s.input ∷ s.output ∷ s.error ∷ []) answer in
-    let pairs = pipe_ends low.out ++ pipe_ends low.err in
+    let pairs = ends_of_pipes low.pipes in
     let i = end_of s.input in
     let o = end_of s.output in
     let e = end_of s.error in
@@ -352,9 +352,9 @@ module _ {E H : Type 0} (allows : Allows H) (number_of : E → ℕ) (context : R
         let kept : ResourcesView = record low { children = held.children ++ number ∷ [] } in
         let ch = spawn_changes spec s (Ok number) count now next low kept.children gives port_end_count refl in
         stands_more allows number_of (onwards context front) begins_with ends_with (AskSpawn found words ∷ []) now next handed_now kept (entry (Ok number)) staged.stands refl ch
-        (few_of context.bound kept (omega (arith, low_few))) (record { stack = low_long; out = staged.stands.shaped.out; err = staged.stands.shaped.err }) refl refl
+        (few_of context.bound kept (omega (arith, low_few))) (record { stack = low_long; pipes = staged.stands.shaped.pipes }) refl refl
         (λ more later. (given_there (Ok number) kept ch more later, tt))
-        (λ more later. let z = sourced (Ok number) kept ch more later in record { stack = (origins (Ok number) kept ch more later).1; out = z.out; err = z.err })
+        (λ more later. let z = sourced (Ok number) kept ch more later in record { stack = (origins (Ok number) kept ch more later).1; pipes = z.pipes })
 
     -- the system refused the spawn
     pub spawn_fails : (fault : Fault) (count : ℕ)

@@ -9,9 +9,10 @@ use Rattle.duct_system.specs.declared.spec.Stream.{Stream}
 use Rattle.duct_system.specs.declared.spec.Stream.TheVariants.{In, Out, Err}
 use Rattle.duct_system.specs.declared.system.Side.{Side}
 use Rattle.duct_system.specs.declared.system.Side.TheVariants as side
+use Rattle.duct_status.specs.PerSide.{at_side, with_side}
 use Rattle.duct_start.specs.Asked.{port_to}
 use Rattle.duct_start.specs.Surroundings.{Surroundings, Target, Parents, Nothing, ReaderAt, WriterAt, FileAt, Lends, VariableChange, target_of}
-use Rattle.duct_start.specs.Plan.{Plan, with_item, with_output_capture, with_error_capture, with_command, with_drain}
+use Rattle.duct_start.specs.Plan.{Plan, with_item, with_capture, with_command, with_drain}
 use Rattle.duct_start.specs.Step.{Item, AskPipe, AskOpenRead, AskCreate, AskFeed}
 
 -- one value for each of the three streams
@@ -101,23 +102,17 @@ surroundings_by scope ports stack = record {
   hooks = scope.hooks;
 }
 
--- the plan with the capture pipe of this side open
-abbrev pub with_capture : {E H : Type 0} → Side → Plan E H → Plan E H
-with_capture side.Out plan = with_output_capture plan
-with_capture side.Err plan = with_error_capture plan
-
 -- the place of the capture pipe of this side, if it is open
 abbrev pub capture_place : {E H : Type 0} → Side → Plan E H → Option ℕ
-capture_place side.Out plan = plan.out
-capture_place side.Err plan = plan.err
+capture_place which plan = at_side plan.pipes which
 
 -- the plan after the capture pipe of this side is finished: its drain worker is requested, if the
 -- pipe was open
 abbrev pub with_capture_finished : {E H : Type 0} → Side → Plan E H → Plan E H
-with_capture_finished side.Out plan =
-    record { items = (with_drain plan.out plan).items; out = None; err = plan.err }
-with_capture_finished side.Err plan =
-    record { items = (with_drain plan.err plan).items; out = plan.out; err = None }
+with_capture_finished which plan = record {
+  items = (with_drain (at_side plan.pipes which) plan).items;
+  pipes = with_side plan.pipes which None;
+}
 
 -- the state with an empty stack and this plan
 abbrev pub with_plan : {E H : Type 0} → Plan E H → State E H

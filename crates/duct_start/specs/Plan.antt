@@ -2,48 +2,43 @@
 use Rattle.std.specs.Prelude.{ℕ, Bool, List, [], ◌∷◌, ◌++◌, length, Some, None, is_some, if◌then◌else◌, slice_get, unwrap_or}
 use Rattle.std.specs.declared.option.Option.{Option}
 use Rattle.duct_base.specs.Executable.{asks_canonical}
+use Rattle.duct_system.specs.declared.system.Side.{Side}
+use Rattle.duct_status.specs.PerSide.{at_side, with_side}
+use Rattle.duct_status.specs.declared.per_side.PerSide.{PerSide}
 use Rattle.duct_start.specs.Surroundings.{Surroundings}
+use Rattle.duct_start.specs.ResourcesView.{no_pipes}
 use Rattle.duct_start.specs.Lookup.{surroundings_on}
 use Rattle.duct_start.specs.Path.{Path, left_of, right_of, within}
-use Rattle.duct_start.specs.Step.{Item, AskEnvironment, AskPipe, AskCanonicalize, AskSpawn, AskDrain, AskReader, Opening, OpensNothing, Opens, CapturesOut, CapturesErr, step}
+use Rattle.duct_start.specs.Step.{Item, AskEnvironment, AskPipe, AskCanonicalize, AskSpawn, AskDrain, AskReader, Opening, OpensNothing, Opens, Captures, step}
 use Rattle.duct_start.specs.TreeView.{TreeView, command, pipe, around, stdout_capture}
 
 -- the items so far, and the places of the capture pipes of stdout and stderr once they are open
 pub record Plan (E H : Type 0) : Type 0 where
   pub items : List (Item E H)
-  pub out : Option ℕ
-  pub err : Option ℕ
+  pub pipes : PerSide (Option ℕ)
 
 -- a plan with one more item at its end
 abbrev pub with_item : {E H : Type 0} → Item E H → Plan E H → Plan E H
 with_item item plan = record plan { items = plan.items ++ item ∷ [] }
 
--- the plan with stdout's capture pipe, which is opened now if it was not open yet
-abbrev pub with_output_capture : {E H : Type 0} → Plan E H → Plan E H
-with_output_capture plan =
-    if is_some plan.out then plan else record (with_item AskPipe plan)
-    { out = Some (length plan.items) }
-
--- the plan with stderr's capture pipe, which is opened now if it was not open yet
-abbrev pub with_error_capture : {E H : Type 0} → Plan E H → Plan E H
-with_error_capture plan =
-    if is_some plan.err then plan else record (with_item AskPipe plan)
-    { err = Some (length plan.items) }
+-- the plan with the capture pipe of this side, which is opened now if it was not open yet
+abbrev pub with_capture : {E H : Type 0} → Side → Plan E H → Plan E H
+with_capture which plan =
+    if is_some (at_side plan.pipes which) then plan else record (with_item AskPipe plan)
+    { pipes = with_side plan.pipes which (Some (length plan.items)) }
 
 -- the plan after the request that a node makes before its inner expression, if it makes one
 abbrev pub with_opening : {E H : Type 0} → Opening E H → Plan E H → Plan E H
 with_opening OpensNothing plan = plan
 with_opening (Opens item) plan = with_item item plan
-with_opening CapturesOut plan = with_output_capture plan
-with_opening CapturesErr plan = with_error_capture plan
+with_opening (Captures which) plan = with_capture which plan
 
 -- the place of a node that comes next: that of the item that it adds or, for a capture, that of its
 -- stream's one capture pipe
 abbrev pub place_for : {E H : Type 0} → Opening E H → Plan E H → ℕ
 place_for OpensNothing plan = length plan.items
 place_for (Opens item) plan = length plan.items
-place_for CapturesOut plan = unwrap_or plan.out (length plan.items)
-place_for CapturesErr plan = unwrap_or plan.err (length plan.items)
+place_for (Captures which) plan = unwrap_or (at_side plan.pipes which) (length plan.items)
 
 -- the plan after the requests that a node makes after its inner expression
 abbrev pub with_closing : {E H : Type 0} → List (Item E H) → Plan E H → Plan E H
@@ -78,7 +73,7 @@ plan_of_subtree up (around modifier inner) plan =
 
 -- the plan before its tree: the environment is requested first
 abbrev pub initial_plan : {E H : Type 0} → Plan E H
-initial_plan = record { items = AskEnvironment ∷ []; out = None; err = None }
+initial_plan = record { items = AskEnvironment ∷ []; pipes = no_pipes }
 
 -- the plan with the drain worker of a capture pipe, if the pipe is open
 abbrev pub with_drain : {E H : Type 0} → Option ℕ → Plan E H → Plan E H
@@ -93,12 +88,12 @@ with_reader (Some place) plan = with_item (AskReader place) plan
 -- the plan of a start: after all commands, the drain worker of stdout's capture pipe, then that of
 -- stderr's
 abbrev pub plan_of : {E H : Type 0} → TreeView E H → Plan E H
-plan_of tree = let plan = plan_of_subtree [] tree initial_plan in with_drain plan.err
-    (with_drain plan.out plan)
+plan_of tree = let plan = plan_of_subtree [] tree initial_plan in with_drain plan.pipes.err
+    (with_drain plan.pipes.out plan)
 
 -- the plan of a reader's start: that of the tree inside one stdout capture, with the reader as its
 -- last item in place of stdout's drain worker
 abbrev pub plan_of_reader : {E H : Type 0} → TreeView E H → Plan E H
 plan_of_reader tree =
     let plan = plan_of_subtree [] (around stdout_capture tree) initial_plan
-    in with_reader plan.out (with_drain plan.err plan)
+    in with_reader plan.pipes.out (with_drain plan.pipes.err plan)

@@ -5,6 +5,7 @@ use Rattle.duct_system.specs.Journal.{JournalView}
 use Rattle.duct_system.specs.SpecView.{Vars}
 use Rattle.duct_system.specs.declared.error.Error.{Error}
 use Rattle.duct_system.specs.declared.system.Side.TheVariants as side
+use Rattle.duct_status.specs.PerSide.{with_side}
 use Rattle.duct_start.specs.Actions.{Action, Leads, with_capture_finished, with_plan}
 use Rattle.duct_start.specs.Chain.{Allows, Refuses}
 use Rattle.duct_start.specs.Commands.{StoppedWithCause}
@@ -26,7 +27,10 @@ drain_tail plan = with_capture_finished side.Err (with_capture_finished side.Out
 
 -- the reader of stdout's capture pipe
 abbrev pub reader_tail : {E H : Type 0} → PlanTail E H
-reader_tail plan = record { items = (with_reader plan.out plan).items; out = None; err = plan.err }
+reader_tail plan = record {
+  items = (with_reader plan.pipes.out plan).items;
+  pipes = with_side plan.pipes side.Out None;
+}
 
 -- stderr's drain worker, and the reader
 abbrev pub drain_and_reader_tail : {E H : Type 0} → PlanTail E H
@@ -47,7 +51,7 @@ LeadToSomePlan {E} {H} number_of actions =
 abbrev pub OpenOutputCapture : {E H : Type 0} → (E → ℕ) → List (Action E H) → Type 0
 OpenOutputCapture {E} {H} number_of actions =
     (base bound : ℕ) (plan : Plan E H)
-    → Leads number_of base bound (with_plan initial_plan) actions (with_plan plan) → IsSome plan.out
+    → Leads number_of base bound (with_plan initial_plan) actions (with_plan plan) → IsSome plan.pipes.out
 
 -- the actions and the tail succeeded: whatever plan they lead to, its requests were made
 abbrev pub ActionsSucceed : {E H : Type 0} → Allows H → (E → ℕ) → PlanTail E H → List (Action E H)
@@ -74,7 +78,7 @@ abbrev pub HavePipes : {E H : Type 0} → (E → ℕ) → List (Action E H) → 
 HavePipes {E} {H} number_of actions output error =
     (base bound : ℕ) (plan : Plan E H)
     → Leads number_of base bound (with_plan initial_plan) actions (with_plan plan)
-    → (output ≡ is_some plan.out) × (error ≡ is_some plan.err)
+    → (output ≡ is_some plan.pipes.out) × (error ≡ is_some plan.pipes.err)
 
 -- the last of these entries made this reader
 abbrev pub MadeReader : {R : Type 0} → (ℕ → R → Type 0) → List EntryView → R → Type 0

@@ -14,7 +14,9 @@ use Rattle.duct_system.specs.declared.error.Error.TheVariants.{System, Memory, H
 use Rattle.duct_system.specs.declared.spec.Stream.TheVariants.{In, Out, Err}
 use Rattle.duct_system.specs.declared.system.Fault.{Fault}
 use Rattle.duct_system.specs.declared.system.Kind.TheVariants.{OutOfMemory}
+use Rattle.duct_system.specs.declared.system.Side.{Side}
 use Rattle.duct_system.specs.declared.system.Side.TheVariants as side
+use Rattle.duct_status.specs.PerSide.{at_side}
 use Rattle.duct_start.specs.Actions as action
 use Rattle.duct_start.specs.Actions.{Action, State, IsReady, AreReady, advance, after_actions}
 use Rattle.duct_start.specs.Asked.{end_at}
@@ -98,8 +100,8 @@ AnswersUnder context allows number_of added place items entries =
 pub record HasOrigins {E H : Type 0} (early : Type 0) (number_of : E → ℕ) (added : List EntryView)
     (state : State E H) (held : ResourcesView) : Type 0 where
   pub stack : Pairwise (IsFrom early number_of added) held.stack state.stack
-  pub out : IsPair added state.plan.out held.out
-  pub err : IsPair added state.plan.err held.err
+  pub pipes : (which : Side) → IsPair added (at_side state.plan.pipes which)
+      (at_side held.pipes which)
 
 -- the ledger of a run agrees with its resources: each end that was got was spent or is open; each
 -- number was got at most once, and is neither below the next number of the old journal nor at or
@@ -129,8 +131,8 @@ OpenEndsWithin bound added = (count : ℕ) → open_count (take count added) ≤
 -- open
 pub record IsShaped {E H : Type 0} (state : State E H) (held : ResourcesView) : Type 0 where
   pub stack : length held.stack ≡ length state.stack
-  pub out : is_some held.out ≡ is_some state.plan.out
-  pub err : is_some held.err ≡ is_some state.plan.err
+  pub pipes : (which : Side)
+      → is_some (at_side held.pipes which) ≡ is_some (at_side state.plan.pipes which)
 
 -- the run has succeeded so far: no entry has a fault, the trace begins with the variables and
 -- matches the items of the plan, and each open end comes from where it should, whatever entries
@@ -209,8 +211,7 @@ ActionFails {E} {H} allows number_of action now then held kept error =
 -- what an action needs of the resources, besides the ends that it pops
 abbrev pub FindsItsEnds : {E H : Type 0} → Action E H → ResourcesView → Type 0
 FindsItsEnds (action.duplicate depth) held = depth < length held.stack
-FindsItsEnds (action.duplicate_capture side.Out) held = IsSome held.out
-FindsItsEnds (action.duplicate_capture side.Err) held = IsSome held.err
+FindsItsEnds (action.duplicate_capture which) held = IsSome (at_side held.pipes which)
 FindsItsEnds (action.open_read path) held = Unit {0}
 FindsItsEnds (action.create path) held = Unit {0}
 FindsItsEnds action.pipe held = Unit {0}

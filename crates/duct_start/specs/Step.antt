@@ -25,12 +25,11 @@ pub data Item (E H : Type 0) : Type 0 where
   AskReader : ℕ → Item E H
 
 -- what a node requests before its inner expression: nothing, an item of its own, or the one capture
--- pipe of stdout or of stderr
+-- pipe of this side
 pub data Opening (E H : Type 0) : Type 0 where
   OpensNothing : Opening E H
   Opens : Item E H → Opening E H
-  CapturesOut : Opening E H
-  CapturesErr : Opening E H
+  Captures : Side → Opening E H
 
 -- what a node does to a stream: it decides where the stream goes, or tells which stream to look up
 -- further out
@@ -84,8 +83,7 @@ opening_of opens_nothing = OpensNothing
 opening_of (opens_input bytes) = Opens AskPipe
 opening_of (opens_read path) = Opens (AskOpenRead path)
 opening_of (opens_create path) = Opens (AskCreate path)
-opening_of (opens_capture side.Out) = CapturesOut
-opening_of (opens_capture side.Err) = CapturesErr
+opening_of (opens_capture which) = Captures which
 
 -- the requests that it makes for that after its inner expression
 abbrev pub closing_of : {E H : Type 0} → RowOpening → ℕ → List (Item E H)

@@ -5,7 +5,7 @@ use Rattle.duct_system.specs.Child.{IsUnasked}
 use Rattle.duct_system.specs.SpecView.{pair_text}
 use Rattle.duct_start.specs.Actions.{port_end_count}
 use Rattle.duct_start.specs.Commands.{HooksSucceed, HooksFail}
-use Rattle.duct_start.specs.ResourcesView.{pipe_ends}
+use Rattle.duct_start.specs.ResourcesView.{ends_of_pipes}
 use Rattle.duct_start.specs.ActionList.{scope_in}
 use Rattle.duct_start.proofs.Commanding.{hooks_refused, spawn_refused, spawned}
 use Rattle.duct_run.specs.ActionView.{ports_view}
@@ -35,7 +35,7 @@ change_all-requires-clause-room g c =
     let items : port_end_count ports.input + (port_end_count ports.output + port_end_count ports.error) ≤ length c.args.held.now.stack.items = search rules in
     let full : port_end_count ports.input + (port_end_count ports.output + port_end_count ports.error) ≤ length h.stack = omega (arith, items, long) in
     let fits = hand_fits num c.take_all-streams.result ports h.stack full c.take_all-streams.ensures.streams in
-    omega (arith, fits, c.requires.room, c.in_ok-seat.ensures.left, length-append h.stack (pipe_ends h.out ++ pipe_ends h.err))
+    omega (arith, fits, c.requires.room, c.in_ok-seat.ensures.left, length-append h.stack (ends_of_pipes h.pipes))
 
 pub returns-in-Err-clause-err : goal.returns-in-Err-clause-err
 returns-in-Err-clause-err g c =
@@ -64,7 +64,7 @@ spawn-requires g c =
     let full : port_end_count ports.input + (port_end_count ports.output + port_end_count ports.error) ≤ length h.stack = omega (arith, items, length_stack num c.args.held.now.stack.items) in
     let fits = hand_fits num c.take_all-streams.result ports h.stack full c.take_all-streams.ensures.streams in
     let room : many_ends c.change_all.new.streams ≤ (g.S.System.journal_view c.change_all.new.sys).room =
-    omega (arith, fits, c.requires.room, c.in_ok-seat.ensures.left, c.in_default.ensures.left, length-append h.stack (pipe_ends h.out ++ pipe_ends h.err)) in
+    omega (arith, fits, c.requires.room, c.in_ok-seat.ensures.left, c.in_default.ensures.left, length-append h.stack (ends_of_pipes h.pipes)) in
     (g.met.S.System.streams_fit, min_fits _ _ (omega (arith, many_given num c.change_all.new.streams, room)))
 
 pub returns-in_err-child-clause-err : goal.returns-in_err-child-clause-err
@@ -119,6 +119,5 @@ returns-clause-new g c = λ new.
     record {
       children = all_pushed (λ x. IsUnasked (view x)) c.args.held.now.children.items c.push_reserved.new.self.items c.place_new.result c.push_reserved.ensures.items new.children one;
       feeds = new.feeds;
-      output_worker = new.output_worker;
-      error_worker = new.error_worker;
+      drains = new.drains;
     }

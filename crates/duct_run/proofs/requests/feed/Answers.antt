@@ -35,11 +35,10 @@ returns g c =
     let view = g.S.Feed.Job.job_view in
     let same : (view c.in_ok-job.job).number ≡ num c.top-end.result = ap (λ v. v.number) c.in_ok-job.ensures.unasked in
     let fed = pushed_number (λ f. (view f).number) c.args.held.now.feeds.items c.push_reserved.new.self.items c.in_ok-job.job c.push_reserved.ensures.items ∙ ap (λ (n : ℕ). h.feeds ++ n ∷ []) same in
-    goes_on (goes_as allows num _ _ _ h _ _ (ap (λ (l : List ℕ). record { stack = stack_view num c.top-end.new.stack.items; out = h.out; err = h.err; children = h.children; feeds = l; drains = h.drains }) fed)
+    goes_on (goes_as allows num _ _ _ h _ _ (ap (λ (l : List ℕ). record { stack = stack_view num c.top-end.new.stack.items; pipes = h.pipes; children = h.children; feeds = l; drains = h.drains }) fed)
     (feed_succeeds allows num (num c.top-end.result) (stack_view num c.top-end.new.stack.items) (arc_value c.args.bytes.now).items _ _ h (pushed num c.top-end.new.stack.items c.args.held.now.stack.items c.top-end.result c.top-end.ensures.items)
     (as_bytes _ _ _ _ _ _ (ap (λ v. v.items) c.in_ok-bytes.ensures) c.in_ok-job.ensures.ok))) (λ new. record {
       children = new.children;
       feeds = all_pushed (λ f. g.S.Feed.Job.job_view f ≡ unpolled_job (g.S.Feed.Job.job_view f).number) c.args.held.now.feeds.items c.push_reserved.new.self.items c.in_ok-job.job c.push_reserved.ensures.items new.feeds (unpolled_same _ _ c.in_ok-job.ensures.unasked);
-      output_worker = new.output_worker;
-      error_worker = new.error_worker;
+      drains = new.drains;
     }) (search rules)

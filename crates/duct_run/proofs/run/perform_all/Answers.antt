@@ -15,7 +15,7 @@ pub loop-action-init : goal.loop-action-init
 loop-action-init g c = record {
   stood = λ context to same first. first;
   new = λ new. new;
-  workers = record { output_worker = refl; error_worker = refl };
+  workers = refl;
   pool = leaves_same _ _;
 }
 

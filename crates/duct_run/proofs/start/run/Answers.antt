@@ -2,7 +2,9 @@
 use Rattle.std.proofs.Common.{ap, ◌∙◌, ◌≡◌, ℕ, sym}
 use Rattle.std.proofs.lemmas.Result.{err_from_is_err_and, IfErr-weaker, on_ok_weaker}
 use Rattle.std.specs.Prelude.{is_some}
+use Rattle.std.specs.declared.option.Option.{Option}
 use Rattle.duct_system.specs.declared.system.Side.TheVariants as side
+use Rattle.duct_status.specs.declared.per_side.PerSide.{PerSide}
 use Rattle.duct_start.specs.Actions.{with_capture_finished}
 use Rattle.duct_start.specs.ActionList.{resolved_all}
 use Rattle.duct_start.specs.RunContract.{HavePipes, no_tail}
@@ -23,32 +25,32 @@ returns-in_err-run_actions-clause-err g c =
     let once = refused_before allows num acts old g.H.Hook.refuses no_tail (λ plan. with_capture_finished side.Out plan) (λ plan. finished_more side.Out plan) _ _ e c.in_err-run_actions.ensures.err in
     rw (p.1, p.2) (refused_before allows num acts old g.H.Hook.refuses (λ plan. with_capture_finished side.Out plan) (λ plan. with_capture_finished side.Err plan) (λ plan. finished_more side.Err plan) _ _ e once)
 
-pub finish_out-requires-clause-room : goal.finish_out-requires-clause-room
-finish_out-requires-clause-room g c =
+pub finish-requires-clause-room : goal.finish-requires-clause-room
+finish-requires-clause-room g c =
     let num = g.S.End.Numbered.number_of in
     let allows = g.H.Hook.allows in
     let acts = resolved_all (all_scopes c.args.scopes.now) (actions_view c.args.actions.now) in
     let old = g.S.System.journal_view c.args.sys.now in
     run_room allows num acts old no_tail _ _ c.in_ok-run_actions.ensures.ok c.requires.leads
 
-pub returns-in_err-finish_out-clause-err : goal.returns-in_err-finish_out-clause-err
-returns-in_err-finish_out-clause-err g c =
-    let p = err_from_is_err_and c.from_residual-in_err-finish_out.result c.from_residual-in_err-finish_out.ensures.1 in
+pub returns-in_err-finish-clause-err : goal.returns-in_err-finish-clause-err
+returns-in_err-finish-clause-err g c =
+    let p = err_from_is_err_and c.from_residual-in_err-finish.result c.from_residual-in_err-finish.ensures.1 in
     let num = g.S.End.Numbered.number_of in
     let allows = g.H.Hook.allows in
     let acts = resolved_all (all_scopes c.args.scopes.now) (actions_view c.args.actions.now) in
     let old = g.S.System.journal_view c.args.sys.now in
-    let e = c.in_err-finish_out.ensures.err in
+    let e = c.in_err-finish.ensures.err in
     let once = run_fails allows num acts old no_tail _ _ c.in_ok-run_actions.ensures.ok g.H.Hook.refuses side.Out _ _ _ e.0 e.1 in
     rw (p.1, p.2) (refused_before allows num acts old g.H.Hook.refuses (λ plan. with_capture_finished side.Out plan) (λ plan. with_capture_finished side.Err plan) (λ plan. finished_more side.Err plan) _ _ _ once)
 
-pub finish_err-requires-clause-room : goal.finish_err-requires-clause-room
-finish_err-requires-clause-room g c =
+pub finish-requires-2-clause-room : goal.finish-requires-2-clause-room
+finish-requires-2-clause-room g c =
     let num = g.S.End.Numbered.number_of in
     let allows = g.H.Hook.allows in
     let acts = resolved_all (all_scopes c.args.scopes.now) (actions_view c.args.actions.now) in
     let old = g.S.System.journal_view c.args.sys.now in
-    let once = run_succeeds allows num acts old no_tail _ _ c.in_ok-run_actions.ensures.ok side.Out _ _ c.in_ok-finish_out.ensures.ok in
+    let once = run_succeeds allows num acts old no_tail _ _ c.in_ok-run_actions.ensures.ok side.Out _ _ c.in_ok-finish.ensures.ok in
     run_room allows num acts old (λ plan. with_capture_finished side.Out plan) _ _ once c.requires.leads
 
 pub returns-clause-ok : goal.returns-clause-ok
@@ -57,8 +59,8 @@ returns-clause-ok g c =
     let allows = g.H.Hook.allows in
     let acts = resolved_all (all_scopes c.args.scopes.now) (actions_view c.args.actions.now) in
     let old = g.S.System.journal_view c.args.sys.now in
-    let once = run_succeeds allows num acts old no_tail _ _ c.in_ok-run_actions.ensures.ok side.Out _ _ c.in_ok-finish_out.ensures.ok in
-    on_ok_weaker c.finish_err.result (λ goes. run_succeeds allows num acts old (λ plan. with_capture_finished side.Out plan) _ _ once side.Err _ _ goes) c.finish_err.ensures.ok
+    let once = run_succeeds allows num acts old no_tail _ _ c.in_ok-run_actions.ensures.ok side.Out _ _ c.in_ok-finish.ensures.ok in
+    on_ok_weaker c.finish-2.result (λ goes. run_succeeds allows num acts old (λ plan. with_capture_finished side.Out plan) _ _ once side.Err _ _ goes) c.finish-2.ensures.ok
 
 pub returns-clause-err : goal.returns-clause-err
 returns-clause-err g c =
@@ -66,8 +68,8 @@ returns-clause-err g c =
     let allows = g.H.Hook.allows in
     let acts = resolved_all (all_scopes c.args.scopes.now) (actions_view c.args.actions.now) in
     let old = g.S.System.journal_view c.args.sys.now in
-    let once = run_succeeds allows num acts old no_tail _ _ c.in_ok-run_actions.ensures.ok side.Out _ _ c.in_ok-finish_out.ensures.ok in
-    IfErr-weaker c.finish_err.result _ _ (λ e quits. run_fails allows num acts old (λ plan. with_capture_finished side.Out plan) _ _ once g.H.Hook.refuses side.Err _ _ e quits.0 quits.1) c.finish_err.ensures.err
+    let once = run_succeeds allows num acts old no_tail _ _ c.in_ok-run_actions.ensures.ok side.Out _ _ c.in_ok-finish.ensures.ok in
+    IfErr-weaker c.finish-2.result _ _ (λ e quits. run_fails allows num acts old (λ plan. with_capture_finished side.Out plan) _ _ once g.H.Hook.refuses side.Err _ _ e quits.0 quits.1) c.finish-2.ensures.err
 
 pub returns-clause-workers : goal.returns-clause-workers
 returns-clause-workers g c =
@@ -77,10 +79,10 @@ returns-clause-workers g c =
     let old = g.S.System.journal_view c.args.sys.now in
     let pair : g.row.S-End.Denot × g.row.S-End.Denot → ℕ × ℕ = λ ends. (num ends.0, num ends.1) in
     let begun = run_pipes allows num acts old _ _ c.in_ok-run_actions.ensures.ok in
-    let once = run_succeeds allows num acts old no_tail _ _ c.in_ok-run_actions.ensures.ok side.Out _ _ c.in_ok-finish_out.ensures.ok in
-    let all : is_some c.finish_err.new.held.error_worker ≡ is_some c.finish_out.new.held.error → HavePipes num acts (is_some c.finish_err.new.held.output_worker) (is_some c.finish_err.new.held.error_worker) =
+    let once = run_succeeds allows num acts old no_tail _ _ c.in_ok-run_actions.ensures.ok side.Out _ _ c.in_ok-finish.ensures.ok in
+    let all : is_some c.finish-2.new.held.drains.err ≡ is_some c.finish.new.held.pipes.err → HavePipes num acts (is_some c.finish-2.new.held.drains.out) (is_some c.finish-2.new.held.drains.err) =
     λ worker. λ base bound plan leads. (
-      ap (λ o. is_some o) c.finish_err.ensures.first ∙ c.in_ok-finish_out.ensures.worker ∙ sym (some_mapped pair c.run_actions.new.held.output) ∙ (begun base bound plan leads).0,
-      worker ∙ sym (some_mapped pair c.finish_out.new.held.error) ∙ (once.1 base bound plan leads).shaped.err,
+      ap (λ (ds : PerSide (Option _)). is_some ds.out) c.finish-2.ensures.drains ∙ c.in_ok-finish.ensures.worker ∙ sym (some_mapped pair c.run_actions.new.held.pipes.out) ∙ (begun base bound plan leads).0,
+      worker ∙ sym (some_mapped pair c.finish.new.held.pipes.err) ∙ (once.1 base bound plan leads).shaped.pipes side.Err,
     ) in
-    on_ok_weaker c.finish_err.result all c.finish_err.ensures.worker
+    on_ok_weaker c.finish-2.result all c.finish-2.ensures.worker

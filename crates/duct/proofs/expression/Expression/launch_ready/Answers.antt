@@ -97,8 +97,8 @@ running-requires-clause-silent g c =
     let kept = c.in_ok-kept.kept in
     let workers = c.in_ok-kept.ensures.workers (ceiling num tree) (2 * depth tree + 4) (plan_of_subtree [] tree initial_plan) (list_leads allows num tree acts same) in
     let pipes = drained_pipes (plan_of_subtree [] tree initial_plan) in
-    let out : is_some kept.output_worker ≡ is_some (plan_of tree).out = workers.0 ∙ pipes.0 in
-    let err : is_some kept.error_worker ≡ is_some (plan_of tree).err = workers.1 ∙ pipes.1 in
+    let out : is_some kept.drains.out ≡ is_some (plan_of tree).pipes.out = workers.0 ∙ pipes.0 in
+    let err : is_some kept.drains.err ≡ is_some (plan_of tree).pipes.err = workers.1 ∙ pipes.1 in
     c.requires.prepared.silent ∙ (λ i. latest_told (shape_in c.args.ready.core) (record { out = sym out i; err = sym err i }) [])
 
 pub running-requires-clause-commands : goal.running-requires-clause-commands
@@ -166,8 +166,8 @@ returns-clause-launched g c =
     let shapes = c.requires.prepared.shape_is in
     let workers = c.in_ok-kept.ensures.workers (ceiling num tree) (2 * depth tree + 4) (plan_of_subtree [] tree initial_plan) (list_leads allows num tree acts same) in
     let pipes = drained_pipes (plan_of_subtree [] tree initial_plan) in
-    let out : is_some kept.output_worker ≡ is_some (plan_of tree).out = workers.0 ∙ pipes.0 in
-    let err : is_some kept.error_worker ≡ is_some (plan_of tree).err = workers.1 ∙ pipes.1 in
+    let out : is_some kept.drains.out ≡ is_some (plan_of tree).pipes.out = workers.0 ∙ pipes.0 in
+    let err : is_some kept.drains.err ≡ is_some (plan_of tree).pipes.err = workers.1 ∙ pipes.1 in
     record {
       asked = launched allows num tree acts same old new (resources_view num child feed drain kept) c.in_ok-kept.ensures.ok;
       makes = rw (c.running.ensures, ← out, ← err) (runs_started child feed drain num tree (arc_value c.args.ready.core.shape) kept c.in_ok-kept.ensures.kept shapes allows _ _ new stands);

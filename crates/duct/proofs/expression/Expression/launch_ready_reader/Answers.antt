@@ -110,8 +110,8 @@ running-requires-clause-silent g c =
     let same = runs_flat (around stdout_capture tree) scopes actions scopes_are actions_are in
     let kept = c.in_ok-kept.kept in
     let workers = c.in_ok-kept.ensures.workers (ceiling num (around stdout_capture tree)) (2 * depth (around stdout_capture tree) + 4) (plan_of_subtree [] (around stdout_capture tree) initial_plan) (list_leads allows num (around stdout_capture tree) acts same) in
-    let out : is_some kept.output_worker ≡ false = ap (λ o. is_some o) c.in_ok-kept.ensures.output in
-    let err : is_some kept.error_worker ≡ is_some (plan_of_reader tree).err = workers.1 ∙ read_pipe (plan_of_subtree [] (around stdout_capture tree) initial_plan) in
+    let out : is_some kept.drains.out ≡ false = ap (λ o. is_some o) c.in_ok-kept.ensures.output in
+    let err : is_some kept.drains.err ≡ is_some (plan_of_reader tree).pipes.err = workers.1 ∙ read_pipe (plan_of_subtree [] (around stdout_capture tree) initial_plan) in
     c.requires.prepared.silent ∙ (λ i. latest_told (shape_in c.args.ready.core) (record { out = sym out i; err = sym err i }) [])
 
 pub running-requires-clause-commands : goal.running-requires-clause-commands
@@ -178,8 +178,8 @@ returns-clause-launched g c =
     let stands = stands_launched allows num (around stdout_capture tree) acts same drain_and_reader_tail old new (resources_view num child feed drain kept) c.in_ok-kept.ensures.ok in
     let shapes = c.requires.prepared.shape_is in
     let workers = c.in_ok-kept.ensures.workers (ceiling num (around stdout_capture tree)) (2 * depth (around stdout_capture tree) + 4) (plan_of_subtree [] (around stdout_capture tree) initial_plan) (list_leads allows num (around stdout_capture tree) acts same) in
-    let out : is_some kept.output_worker ≡ false = ap (λ o. is_some o) c.in_ok-kept.ensures.output in
-    let err : is_some kept.error_worker ≡ is_some (plan_of_reader tree).err = workers.1 ∙ read_pipe (plan_of_subtree [] (around stdout_capture tree) initial_plan) in
+    let out : is_some kept.drains.out ≡ false = ap (λ o. is_some o) c.in_ok-kept.ensures.output in
+    let err : is_some kept.drains.err ≡ is_some (plan_of_reader tree).pipes.err = workers.1 ∙ read_pipe (plan_of_subtree [] (around stdout_capture tree) initial_plan) in
     record {
       asked = read_launched allows num tree acts same old new (resources_view num child feed drain kept) c.in_ok-kept.ensures.ok;
       makes = (rw (c.running.ensures, ← out, ← err) (runs_started child feed drain num tree (arc_value c.args.ready.core.shape) kept c.in_ok-kept.ensures.kept shapes allows _ _ new stands), c.in_ok-kept.ensures.reader);

@@ -44,7 +44,7 @@ returns-clause-text g c =
       asked = l.asked;
       makes = (
         numbers,
-        started_numbers child feed drain tree false (is_some (plan_of_reader tree).err) added running l.makes.0,
+        started_numbers child feed drain tree false (is_some (plan_of_reader tree).pipes.err) added running l.makes.0,
         reader,
         l.makes.1,
         subst (λ (s : ShapeView). Reads s (Ok text)) l.makes.0.shape_is reads,
@@ -70,13 +70,13 @@ returns-clause-failed g c =
         l.asked,
         (
           numbers,
-          started_numbers child feed drain tree false (is_some (plan_of_reader tree).err) added running l.makes.0,
+          started_numbers child feed drain tree false (is_some (plan_of_reader tree).pipes.err) added running l.makes.0,
           reader,
           l.makes.1,
           subst (λ (s : ShapeView). Reads s (Err e)) l.makes.0.shape_is reads,
         ),
       );
-      given = given_after child feed drain tree false (is_some (plan_of_reader tree).err) added running l.makes.0
+      given = given_after child feed drain tree false (is_some (plan_of_reader tree).pipes.err) added running l.makes.0
           g.S.Child.Child.may_answer given.0 c.args.pool.now c.launch_reader.new.pool c.read_text.new.pool l.swept given.1 given.2;
     }) c.read_text.ensures.text c.read_text.ensures.given
 

@@ -38,7 +38,7 @@ returns-clause-output g c =
       asked = l.asked;
       makes = (
         numbers,
-        started_numbers child feed drain tree (is_some (plan_of tree).out) (is_some (plan_of tree).err) added running l.makes,
+        started_numbers child feed drain tree (is_some (plan_of tree).pipes.out) (is_some (plan_of tree).pipes.err) added running l.makes,
         subst (λ (s : ShapeView). WasConcluded g.S.Child.Child.may_answer g.S.Feed.Job.may_say g.S.Drain.Job.may_say s numbers
             (answered output.status output.stdout.items output.stderr.items)) l.makes.shape_is concluded,
       );
@@ -60,11 +60,11 @@ returns-clause-failed g c =
         l.asked,
         (
           numbers,
-          started_numbers child feed drain tree (is_some (plan_of tree).out) (is_some (plan_of tree).err) added running l.makes,
+          started_numbers child feed drain tree (is_some (plan_of tree).pipes.out) (is_some (plan_of tree).pipes.err) added running l.makes,
           subst (λ (s : ShapeView). IsEnding g.S.Child.Child.may_answer g.S.Feed.Job.may_say g.S.Drain.Job.may_say s numbers (Err e)) l.makes.shape_is ending,
         ),
       );
-      given = given_after child feed drain tree (is_some (plan_of tree).out) (is_some (plan_of tree).err) added running l.makes
+      given = given_after child feed drain tree (is_some (plan_of tree).pipes.out) (is_some (plan_of tree).pipes.err) added running l.makes
           g.S.Child.Child.may_answer given.0 c.args.pool.now c.launch.new.pool c.finish.new.pool l.swept given.1 given.2;
     }) c.finish.ensures.err c.finish.ensures.given
 
