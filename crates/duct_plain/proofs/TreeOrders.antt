@@ -59,4 +59,4 @@ outcome_told t drains told fault runs out err v e f g h is =
     ∙ ap (λ x. ended x runs (with_bytes out (λ o. with_bytes err (λ e. finished o e)))) one
     ∙ ap (λ x. ended (first_fault (in_tree_order t 0 0 (latest_told t drains told).commands (latest_told t drains told).inputs)) x (with_bytes out (λ o. with_bytes err (λ e. finished o e)))) two
     ∙ ap (λ x. ended (first_fault (in_tree_order t 0 0 (latest_told t drains told).commands (latest_told t drains told).inputs)) (some_runs (in_tree_order t 0 0 (latest_told t drains told).commands (latest_told t drains told).inputs)) (with_bytes x (λ o. with_bytes err (λ e. finished o e)))) three
-    ∙ ap (λ x. ended (first_fault (in_tree_order t 0 0 (latest_told t drains told).commands (latest_told t drains told).inputs)) (some_runs (in_tree_order t 0 0 (latest_told t drains told).commands (latest_told t drains told).inputs)) (with_bytes (captured (latest_told t drains told).output) (λ o. with_bytes x (λ e. finished o e)))) four
+    ∙ ap (λ x. ended (first_fault (in_tree_order t 0 0 (latest_told t drains told).commands (latest_told t drains told).inputs)) (some_runs (in_tree_order t 0 0 (latest_told t drains told).commands (latest_told t drains told).inputs)) (with_bytes (captured (latest_told t drains told).drains.out) (λ o. with_bytes x (λ e. finished o e)))) four

@@ -8,7 +8,7 @@ use Rattle.duct_status.specs.declared.status.Drains.{Drains}
 use Rattle.duct_status.specs.declared.status.Word.{Word}
 use Rattle.duct_status.specs.declared.status.Word.TheVariants as word
 use Rattle.duct_status.specs.ShapeView.{ShapeView, command_count, input_count}
-use Rattle.duct_status.specs.Latest.{Latest, latest_told}
+use Rattle.duct_status.specs.Latest.{latest_told}
 
 replicate_more : {T : Type 0} (a b : ℕ) (x : T)
     → replicate (a + b) x ≡ replicate a x ++ replicate b x
@@ -33,10 +33,10 @@ pub first_words : (t : ShapeView) (drains : Drains) (commands : List Word)
     → inputs ≡ [] ++ replicate (input_count t) said.Running
     → output ≡ cond drains.out (Some said.Running) None
     → error ≡ cond drains.err (Some said.Running) None
-    → record { commands = commands; inputs = inputs; output = output; error = error }
+    → record { commands = commands; inputs = inputs; drains = record { out = output; err = error } }
     ≡ latest_told t drains []
-first_words t drains commands inputs output error e f g h =
-    let a = e ∙ replicate_map 0 (command_count t) word.Running in
-    let b = f ∙ replicate_map 0 (input_count t) said.Running in
-    let same : (xs zs : List Word) (ys vs : List (Said (Unit {0}))) → xs ≡ zs → ys ≡ vs → ◌≡◌ {A = Latest} (record { commands = xs; inputs = ys; output = output; error = error }) (record { commands = zs; inputs = vs; output = cond drains.out (Some said.Running) None; error = cond drains.err (Some said.Running) None }) = λ xs zs ys vs p q. cc in
-    same commands (map (λ k. word.Running) (range_with_len 0 (command_count t))) inputs (map (λ k. said.Running) (range_with_len 0 (input_count t))) a b
+first_words t drains commands inputs output error e f g h = λ i. record {
+  commands = (e ∙ replicate_map 0 (command_count t) word.Running) i;
+  inputs = (f ∙ replicate_map 0 (input_count t) said.Running) i;
+  drains = record { out = g i; err = h i };
+}

@@ -13,9 +13,11 @@ use Rattle.duct_system.specs.declared.system.Side.TheVariants as side
 use Rattle.duct_status.specs.declared.status.Drains.{Drains}
 use Rattle.duct_status.specs.declared.status.Word.{Word}
 use Rattle.duct_status.specs.declared.status.Word.TheVariants as word
-use Rattle.duct_status.specs.Latest.{words_of_command, words_of_input, words_of_drain, is_same_side, first_ending, last_or, ended_or, latest_of_command, first_result, latest_of_input, latest_of_drain, Latest, latest_told, word_after, change_at, latest_after}
+use Rattle.duct_status.specs.Latest.{words_of_command, words_of_input, words_of_drain, is_same_side, first_ending, last_or, ended_or, latest_of_command, first_result, latest_of_input, latest_of_drain, latest_told, word_after, change_at, latest_after}
 use Rattle.duct_status.specs.EventView.{EventView, from_command, from_input, from_drain, conclude}
-use Rattle.duct_status.specs.ShapeView.{ShapeView, command_count, input_count}
+use Rattle.duct_status.specs.PerSide.{at_side, with_side}
+use Rattle.duct_status.specs.ShapeView.{ShapeView, command, command_count, input_count}
+use Rattle.duct_status.specs.declared.per_side.PerSide.{PerSide}
 use Rattle.duct_system.specs.Job.{kept_after}
 
 cond_append : {T : Type 0} (b : Bool) (x : T) (xs ys zs : List T) → zs ≡ xs ++ ys
@@ -129,14 +131,6 @@ when_told : (there : Bool) (change : Said (List ℕ) → Said (List ℕ)) (x y :
 when_told true change x y e = ap Some (sym e)
 when_told false change x y e = refl
 
-abbrev words_by : List Word → List (Said (Unit {0})) → Option (Said (List ℕ))
-    → Option (Said (List ℕ)) → Latest
-words_by commands inputs output error = record { commands = commands; inputs = inputs; output = output; error = error }
-
-same_words : (a b : List Word) (c d : List (Said (Unit {0}))) (o p q r : Option (Said (List ℕ)))
-    → a ≡ b → c ≡ d → o ≡ p → q ≡ r → words_by a c o q ≡ words_by b d p r
-same_words a b c d o p q r e f g h = ap (λ x. words_by x c o q) e ∙ ap (λ x. words_by b x o q) f ∙ ap (λ x. words_by b d x q) g ∙ ap (λ x. words_by b d p x) h
-
 cond_one : {T : Type 0} (b : Bool) (x : T) → b ≡ true → cond b (x ∷ []) [] ≡ x ∷ []
 cond_one b x e = ap (λ v. cond v (x ∷ []) []) e
 
@@ -167,42 +161,58 @@ drain_changed : (there : Bool) (stream : Side) (es : List EventView) (e : EventV
     ≡ cond there (Some (latest_of_drain stream (es ++ e ∷ []))) None
 drain_changed there stream es e x one = when_told there (λ old. kept_after old x) (latest_of_drain stream es) (latest_of_drain stream (es ++ e ∷ [])) (drain_told stream es e x one)
 
+abbrev told : Drains → List EventView → PerSide (Option (Said (List ℕ)))
+told drains es = (latest_told (command []) drains es).drains
+
+drains_still : (drains : Drains) (es : List EventView) (e : EventView)
+    → ((stream : Side) → words_of_drain stream (e ∷ []) ≡ [])
+    → told drains es ≡ told drains (es ++ e ∷ [])
+drains_still drains es e none = λ i. record {
+  out = drain_still drains.out side.Out es e (none side.Out) i;
+  err = drain_still drains.err side.Err es e (none side.Err) i;
+}
+
+drains_changed : (drains : Drains) (es : List EventView) (stream : Side) (x : Said (List ℕ))
+    → with_side (told drains es) stream
+    (option_map (λ old. kept_after old x) (at_side (told drains es) stream))
+    ≡ told drains (es ++ from_drain stream x ∷ [])
+drains_changed drains es side.Out x = let e = from_drain side.Out x in λ i. record {
+  out = drain_changed drains.out side.Out es e x refl i;
+  err = drain_still drains.err side.Err es e refl i;
+}
+drains_changed drains es side.Err x = let e = from_drain side.Err x in λ i. record {
+  out = drain_still drains.out side.Out es e refl i;
+  err = drain_changed drains.err side.Err es e x refl i;
+}
+
 -- the latest reports after one more event
 pub words_more : (t : ShapeView) (drains : Drains) (es : List EventView) (e : EventView)
     → latest_after (latest_told t drains es) e ≡ latest_told t drains (es ++ e ∷ [])
 words_more t drains es (from_command j x) =
     let e = from_command j x in
-    same_words _ _ _ _ _ _ _ _
-    (map_changed (λ k. latest_of_command k es) (λ k. latest_of_command k (es ++ e ∷ [])) (λ old. word_after old x) 0 (command_count t) j j (omega arith)
-    (λ k same. command_told k es e x (cond_one (j == k) x same)) (λ k other. command_same k es e (cond_none (j == k) x other)))
-    (inputs_same t es e (λ k. refl))
-    (drain_still drains.out side.Out es e refl)
-    (drain_still drains.err side.Err es e refl)
+    λ i. record {
+      commands = map_changed (λ k. latest_of_command k es) (λ k. latest_of_command k (es ++ e ∷ [])) (λ old. word_after old x) 0 (command_count t) j j (omega arith)
+          (λ k same. command_told k es e x (cond_one (j == k) x same)) (λ k other. command_same k es e (cond_none (j == k) x other)) i;
+      inputs = inputs_same t es e (λ k. refl) i;
+      drains = drains_still drains es e (λ s. refl) i;
+    }
 words_more t drains es (from_input j x) =
     let e = from_input j x in
-    same_words _ _ _ _ _ _ _ _
-    (commands_same t es e (λ k. refl))
-    (map_changed (λ k. latest_of_input k es) (λ k. latest_of_input k (es ++ e ∷ [])) (λ old. kept_after old x) 0 (input_count t) j j (omega arith)
-    (λ k same. input_told k es e x (cond_one (j == k) x same)) (λ k other. input_same k es e (cond_none (j == k) x other)))
-    (drain_still drains.out side.Out es e refl)
-    (drain_still drains.err side.Err es e refl)
-words_more t drains es (from_drain side.Out x) =
-    let e = from_drain side.Out x in
-    same_words _ _ _ _ _ _ _ _
-    (commands_same t es e (λ k. refl))
-    (inputs_same t es e (λ k. refl))
-    (drain_changed drains.out side.Out es e x refl)
-    (drain_still drains.err side.Err es e refl)
-words_more t drains es (from_drain side.Err x) =
-    let e = from_drain side.Err x in
-    same_words _ _ _ _ _ _ _ _
-    (commands_same t es e (λ k. refl))
-    (inputs_same t es e (λ k. refl))
-    (drain_still drains.out side.Out es e refl)
-    (drain_changed drains.err side.Err es e x refl)
-words_more t drains es conclude =
-    same_words _ _ _ _ _ _ _ _
-    (commands_same t es conclude (λ k. refl))
-    (inputs_same t es conclude (λ k. refl))
-    (drain_still drains.out side.Out es conclude refl)
-    (drain_still drains.err side.Err es conclude refl)
+    λ i. record {
+      commands = commands_same t es e (λ k. refl) i;
+      inputs = map_changed (λ k. latest_of_input k es) (λ k. latest_of_input k (es ++ e ∷ [])) (λ old. kept_after old x) 0 (input_count t) j j (omega arith)
+          (λ k same. input_told k es e x (cond_one (j == k) x same)) (λ k other. input_same k es e (cond_none (j == k) x other)) i;
+      drains = drains_still drains es e (λ s. refl) i;
+    }
+words_more t drains es (from_drain stream x) =
+    let e = from_drain stream x in
+    λ i. record {
+      commands = commands_same t es e (λ k. refl) i;
+      inputs = inputs_same t es e (λ k. refl) i;
+      drains = drains_changed drains es stream x i;
+    }
+words_more t drains es conclude = λ i. record {
+  commands = commands_same t es conclude (λ k. refl) i;
+  inputs = inputs_same t es conclude (λ k. refl) i;
+  drains = drains_still drains es conclude (λ s. refl) i;
+}

@@ -13,6 +13,7 @@ use Rattle.duct_system.specs.declared.system.Fault.{Fault}
 use Rattle.duct_system.specs.declared.system.Output.{Output}
 use Rattle.duct_system.specs.declared.system.Said.{Said}
 use Rattle.duct_system.specs.declared.system.Said.TheVariants as said
+use Rattle.duct_system.specs.declared.system.Side.{Side}
 use Rattle.duct_system.specs.declared.system.Side.TheVariants as side
 use Rattle.duct_status.specs.declared.status.Word.{Word}
 use Rattle.duct_status.specs.declared.status.Word.TheVariants as word
@@ -22,6 +23,8 @@ use Rattle.duct_status.specs.ShapeView.{ShapeView, command, pipe, input, uncheck
 use Rattle.duct_system.specs.Job.{kept_after}
 use Rattle.duct_status.specs.Outcome.{OutcomeView, command_said, input_said, in_tree_order, first_fault, some_runs, finished, captured, with_bytes, ended, outcome}
 use Rattle.duct_status.specs.Latest.{Latest, word_after, change_at, latest_after}
+use Rattle.duct_status.specs.PerSide.{at_side, with_side}
+use Rattle.duct_status.specs.declared.per_side.PerSide.{PerSide}
 use Rattle.duct_status.proofs.Changes.{changed_past}
 
 -- no report is a fault, and none is Running
@@ -120,6 +123,17 @@ finished_next (Some said.Running) next over = absurd (cc)
 finished_next (Some (said.Fault fault)) next over = absurd (cc)
 finished_next (Some (said.Done bytes)) next over = (bytes, over)
 
+-- all commands and workers have ended, and capture workers' further reports change nothing
+drains_same : (drains : PerSide (Option (Said (List ℕ)))) (stream : Side) (heard : Said (List ℕ))
+    → is_finished (with_bytes (captured drains.out)
+    (λ out. with_bytes (captured drains.err) (λ err. finished out err))) ≡ true
+    → with_side drains stream (option_map (λ old. kept_after old heard) (at_side drains stream))
+    ≡ drains
+drains_same drains side.Out heard over = ap (λ (x : Option (Said (List ℕ))). record drains { out = x }) (drain_same drains.out heard (λ out. with_bytes (captured drains.err) (λ err. finished out err)) over)
+drains_same drains side.Err heard over =
+    let next = finished_next drains.out (λ out. with_bytes (captured drains.err) (λ err. finished out err)) over in
+    ap (λ (x : Option (Said (List ℕ))). record drains { err = x }) (drain_same drains.err heard (λ err. finished next.0 err) next.1)
+
 -- a core's lists have a report for each command and each input worker
 pub record Fit (t : ShapeView) (words : Latest) : Type 0 where
   pub commands : length words.commands ≡ command_count t
@@ -147,27 +161,23 @@ inputs_same t words k heard fit done =
       | inr more ↦ changed_past (λ old. kept_after old heard) k words.inputs more
     ]
 
+-- all have ended: the commands and the input workers, and the capture workers
+all_over : (t : ShapeView) (words : Latest) → is_finished (outcome t words) ≡ true
+    → AllDone (in_tree_order t 0 0 words.commands words.inputs)
+    × (is_finished (with_bytes (captured words.drains.out)
+    (λ out. with_bytes (captured words.drains.err) (λ err. finished out err))) ≡ true)
+all_over t words over =
+    let said = in_tree_order t 0 0 words.commands words.inputs in
+    let all = finished_ended (first_fault said) (some_runs said) _ over in
+    ((all.0, all.1), all.2)
+
 -- once all have ended, no further event changes a report
 pub settled : (t : ShapeView) (words : Latest) (event : EventView) → Fit t words
     → is_finished (outcome t words) ≡ true → latest_after words event ≡ words
 settled t words conclude fit over = refl
-settled t words (from_command k heard) fit over =
-    let said = in_tree_order t 0 0 words.commands words.inputs in
-    let all = finished_ended (first_fault said) (some_runs said) (with_bytes (captured words.output) (λ out. with_bytes (captured words.error) (λ err. finished out err))) over in
-    ap (λ (xs : List Word). record words { commands = xs }) (commands_same t words k heard fit (all.0, all.1))
-settled t words (from_input k heard) fit over =
-    let said = in_tree_order t 0 0 words.commands words.inputs in
-    let all = finished_ended (first_fault said) (some_runs said) (with_bytes (captured words.output) (λ out. with_bytes (captured words.error) (λ err. finished out err))) over in
-    ap (λ (xs : List (Said (Unit {0}))). record words { inputs = xs }) (inputs_same t words k heard fit (all.0, all.1))
-settled t words (from_drain side.Out heard) fit over =
-    let said = in_tree_order t 0 0 words.commands words.inputs in
-    let all = finished_ended (first_fault said) (some_runs said) (with_bytes (captured words.output) (λ out. with_bytes (captured words.error) (λ err. finished out err))) over in
-    ap (λ (x : Option (Said (List ℕ))). record words { output = x }) (drain_same words.output heard (λ out. with_bytes (captured words.error) (λ err. finished out err)) all.2)
-settled t words (from_drain side.Err heard) fit over =
-    let said = in_tree_order t 0 0 words.commands words.inputs in
-    let all = finished_ended (first_fault said) (some_runs said) (with_bytes (captured words.output) (λ out. with_bytes (captured words.error) (λ err. finished out err))) over in
-    let next = finished_next words.output (λ out. with_bytes (captured words.error) (λ err. finished out err)) all.2 in
-    ap (λ (x : Option (Said (List ℕ))). record words { error = x }) (drain_same words.error heard (λ err. finished next.0 err) next.1)
+settled t words (from_command k heard) fit over = ap (λ (xs : List Word). record words { commands = xs }) (commands_same t words k heard fit (all_over t words over).0)
+settled t words (from_input k heard) fit over = ap (λ (xs : List (Said (Unit {0}))). record words { inputs = xs }) (inputs_same t words k heard fit (all_over t words over).0)
+settled t words (from_drain stream heard) fit over = ap (λ (d : PerSide (Option (Said (List ℕ)))). record words { drains = d }) (drains_same words.drains stream heard (all_over t words over).1)
 
 -- an answer that fits still fits after an event
 pub answer_stays : (t : ShapeView) (words now : Latest) (event : EventView)

@@ -13,7 +13,7 @@ shape_in core = shape_view (arc_value core.shape)
 
 -- the latest reports in a core
 abbrev pub latest_in : Core → Latest
-latest_in core = latest_of core.commands.items core.inputs.items core.output core.error
+latest_in core = latest_of core.commands.items core.inputs.items core.drains
 
 -- the final reply of a core, once there is one: an answer or a failure
 abbrev pub standing_in : Core → Option ReplyView

@@ -16,6 +16,8 @@ use Rattle.duct_status.specs.Choice.{chosen, is_checked_failure}
 use Rattle.duct_status.specs.Endings.{status_at, texts_at, endings_of}
 use Rattle.duct_status.specs.Message.{IsMessage}
 use Rattle.duct_status.specs.EventView.{bytes_said}
+use Rattle.duct_status.specs.PerSide.{map_sides}
+use Rattle.duct_status.specs.declared.per_side.PerSide.{PerSide}
 use Rattle.duct_status.specs.ShapeView.{ShapeView}
 use Rattle.duct_status.specs.ReplyView.{ReplyView, reply_view}
 use Rattle.duct_status.specs.Outcome.{OutcomeView, waits, faults, finished, outcome}
@@ -23,12 +25,11 @@ use Rattle.duct_status.specs.Latest.{Latest}
 
 -- the latest reports in these fields
 abbrev pub latest_of : List Word → List (Said (Unit {0}))
-    → Option (Said (Arc (Vec ℕ Global) Global)) → Option (Said (Arc (Vec ℕ Global) Global)) → Latest
-latest_of commands inputs output error = record {
+    → PerSide (Option (Said (Arc (Vec ℕ Global) Global))) → Latest
+latest_of commands inputs drains = record {
   commands = commands;
   inputs = inputs;
-  output = option_map bytes_said output;
-  error = option_map bytes_said error;
+  drains = map_sides (option_map bytes_said) drains;
 }
 
 -- whether the outcome says that all have ended

@@ -14,6 +14,8 @@ use Rattle.std.specs.List.{range_with_len}
 use Rattle.std.specs.Option.{option_map}
 use Rattle.duct_system.specs.declared.system.Side.TheVariants.{Out, Err}
 use Rattle.duct_status.specs.declared.status.Drains.{Drains}
+use Rattle.duct_status.specs.PerSide.{at_side, with_side}
+use Rattle.duct_status.specs.declared.per_side.PerSide.{PerSide}
 use Rattle.duct_status.specs.ShapeView.{ShapeView, command_count, input_count}
 use Rattle.duct_system.specs.Job.{kept_after}
 
@@ -90,21 +92,22 @@ latest_of_input k told = first_result (words_of_input k told)
 abbrev pub latest_of_drain : Side → List EventView → Said (List ℕ)
 latest_of_drain stream told = first_result (words_of_drain stream told)
 
--- the latest report of each command and each input worker, by its number, and of stdout's and
--- stderr's capture worker, if there is one
+-- the latest report of each command and each input worker, by its number, and of the capture worker
+-- of each stream, if there is one
 pub record Latest : Type 0 where
   pub commands : List Word
   pub inputs : List (Said (Unit {0}))
-  pub output : Option (Said (List ℕ))
-  pub error : Option (Said (List ℕ))
+  pub drains : PerSide (Option (Said (List ℕ)))
 
 -- the latest reports after these events
 abbrev pub latest_told : ShapeView → Drains → List EventView → Latest
 latest_told shape drains told = record {
   commands = map (λ k. latest_of_command k told) (range_with_len 0 (command_count shape));
   inputs = map (λ k. latest_of_input k told) (range_with_len 0 (input_count shape));
-  output = if drains.out then Some (latest_of_drain Out told) else None;
-  error = if drains.err then Some (latest_of_drain Err told) else None;
+  drains = record {
+    out = if drains.out then Some (latest_of_drain Out told) else None;
+    err = if drains.err then Some (latest_of_drain Err told) else None;
+  };
 }
 
 -- the report that a command has after one more: a command that has ended keeps its exit status
@@ -126,18 +129,16 @@ latest_after words (from_command k heard) =
     record words { commands = change_at (λ old. word_after old heard) k words.commands }
 latest_after words (from_input k heard) =
     record words { inputs = change_at (λ old. kept_after old heard) k words.inputs }
-latest_after words (from_drain Out heard) =
-    record words { output = option_map (λ old. kept_after old heard) words.output }
-latest_after words (from_drain Err heard) =
-    record words { error = option_map (λ old. kept_after old heard) words.error }
+latest_after words (from_drain side heard) =
+    let kept = option_map (λ old. kept_after old heard) (at_side words.drains side) in
+    record words { drains = with_side words.drains side kept }
 latest_after words conclude = words
 
 -- whether the event names a command, an input worker or a capture worker that is there
 abbrev pub is_known : ShapeView → Latest → EventView → Bool
 is_known shape words (from_command k heard) = nat_lt k (command_count shape)
 is_known shape words (from_input k heard) = nat_lt k (input_count shape)
-is_known shape words (from_drain Out heard) = is_some words.output
-is_known shape words (from_drain Err heard) = is_some words.error
+is_known shape words (from_drain side heard) = is_some (at_side words.drains side)
 is_known shape words conclude = true
 
 -- whether there is a report, and not that of a command that has ended

@@ -84,7 +84,8 @@ awaited_by None false (said.Done bytes) (said.Done others) = None
 abbrev pub awaited : ShapeView → Latest → Option Side
 awaited shape latest =
     let said = in_tree_order shape 0 0 latest.commands latest.inputs in
-    awaited_by (first_fault said) (some_runs said) (captured latest.output) (captured latest.error)
+    awaited_by (first_fault said) (some_runs said) (captured latest.drains.out)
+    (captured latest.drains.err)
 
 -- the outcome by a capture worker's report: waits while it runs, its fault if it has one, else this
 -- outcome of its bytes
@@ -105,8 +106,8 @@ abbrev pub outcome : ShapeView → Latest → OutcomeView
 outcome shape words =
     let said = in_tree_order shape 0 0 words.commands words.inputs in
     ended (first_fault said) (some_runs said)
-    (with_bytes (captured words.output)
-    (λ output. with_bytes (captured words.error) (λ error. finished output error)))
+    (with_bytes (captured words.drains.out)
+    (λ out. with_bytes (captured words.drains.err) (λ err. finished out err)))
 
 -- the reply for this command: its message if it failed and no unchecked wraps it, else its exit
 -- status with the captured bytes; or no_memory, if the reply or one more owner of it couldn't be

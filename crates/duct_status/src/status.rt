@@ -16,6 +16,7 @@ mod message;
 mod outcome;
 mod same;
 
+use crate::per_side::PerSide;
 use crate::status::answer::{answer, failure};
 use crate::status::begin::{begin, first_word};
 use crate::status::choose::choose;
@@ -103,16 +104,15 @@ pub struct Core {
     shape: Arc<Shape>,
     commands: Vec<Word>,
     inputs: Vec<Said<()>>,
-    output: Option<Said<Arc<Vec<u8>>>>,
-    error: Option<Said<Arc<Vec<u8>>>>,
+    drains: PerSide<Option<Said<Arc<Vec<u8>>>>>,
     answer: Option<Arc<Output>>,
     failure: Option<Arc<String>>,
     pub ghost commands_fit: { vec_len commands ≡ command_count (shape_view (arc_value shape)) },
     pub ghost inputs_fit: { vec_len inputs ≡ input_count (shape_view (arc_value shape)) },
     pub ghost answer_fits: { ForSome answer (λ a. FitsAnswer (shape_view (arc_value shape))
-        (latest_of commands.items inputs.items output error) (arc_value a)) },
+        (latest_of commands.items inputs.items drains) (arc_value a)) },
     pub ghost failure_fits: { ForSome failure (λ a. FitsMessage (shape_view (arc_value shape))
-        (latest_of commands.items inputs.items output error) (arc_value a)) },
+        (latest_of commands.items inputs.items drains) (arc_value a)) },
 }
 
 impl Core {
@@ -158,32 +158,16 @@ impl Core {
         }
     }
 
-    /// Stores a report of stdout's capture worker.
-    fn record_output(&mut self, said: Said<Arc<Vec<u8>>>) -> Reply
+    /// Stores a report of the capture worker of this stream.
+    fn record_drain(&mut self, side: Side, said: Said<Arc<Vec<u8>>>) -> Reply
         ensures shape { shape_in self.new ≡ shape_in self.old }
         ensures words { latest_in self.new
-            ≡ latest_after (latest_in self.old) (event_view (Event.Drain Side.Out said)) }
+            ≡ latest_after (latest_in self.old) (event_view (Event.Drain side said)) }
         ensures standing { standing_in self.new ≡ standing_in self.old }
         ensures reply { Responds (shape_in self.old) (latest_in self.old)
-            (event_view (Event.Drain Side.Out said)) (reply_view result) }
+            (event_view (Event.Drain side said)) (reply_view result) }
     {
-        if keep_bytes(&mut self.output, said) {
-            Reply::Noted
-        } else {
-            Reply::Unknown
-        }
-    }
-
-    /// Stores a report of stderr's capture worker.
-    fn record_error_output(&mut self, said: Said<Arc<Vec<u8>>>) -> Reply
-        ensures shape { shape_in self.new ≡ shape_in self.old }
-        ensures words { latest_in self.new
-            ≡ latest_after (latest_in self.old) (event_view (Event.Drain Side.Err said)) }
-        ensures standing { standing_in self.new ≡ standing_in self.old }
-        ensures reply { Responds (shape_in self.old) (latest_in self.old)
-            (event_view (Event.Drain Side.Err said)) (reply_view result) }
-    {
-        if keep_bytes(&mut self.error, said) {
+        if keep_bytes(self.drains.of_mut(side), said) {
             Reply::Noted
         } else {
             Reply::Unknown
@@ -233,7 +217,7 @@ impl Core {
     fn outcome(&self) -> Reply
         ensures { Fits (shape_in self.now) (latest_in self.now) result }
     {
-        match judge(self.found(), &self.output, &self.error) {
+        match judge(self.found(), &self.drains) {
             Outcome::Waits => Reply::Pending,
             Outcome::Faults(fault) => Reply::Fault(fault),
             Outcome::Finished(output, error) => self.answer_with(output, error),
@@ -331,8 +315,7 @@ impl Core {
         match event {
             Event::Command(at, word) => self.record_command(at, word),
             Event::Input(at, said) => self.record_input(at, said),
-            Event::Drain(Side::Out, said) => self.record_output(said),
-            Event::Drain(Side::Err, said) => self.record_error_output(said),
+            Event::Drain(side, said) => self.record_drain(side, said),
             Event::Conclude => self.conclude(),
         }
     }
@@ -359,7 +342,7 @@ impl Core {
     pub fn awaited(&self) -> Option<Side>
         ensures { result ≡ awaited (shape_in self.now) (latest_in self.now) }
     {
-        awaited(self.found(), &self.output, &self.error)
+        awaited(self.found(), &self.drains)
     }
 
     /// Returns the shape of the expression whose reports it stores.
@@ -410,8 +393,10 @@ impl Core {
             shape,
             commands,
             inputs,
-            output: first_word(drains.out),
-            error: first_word(drains.err),
+            drains: PerSide {
+                out: first_word(drains.out),
+                err: first_word(drains.err),
+            },
             answer: None,
             failure: None,
         })

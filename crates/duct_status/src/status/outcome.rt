@@ -5,6 +5,7 @@ ghost use Rattle.duct_status.specs.Bytes.{lent_bytes, outcome_view};
 ghost use Rattle.duct_status.specs.EventView.{bytes_said};
 ghost use Rattle.duct_status.specs.Outcome.{awaited_by, captured, ended, finished, with_bytes};
 
+use crate::per_side::PerSide;
 use crate::status::look::Findings;
 use duct_system::system::{Fault, Said, Side};
 use std::sync::Arc;
@@ -34,13 +35,12 @@ fn bytes_of(drain: &Option<Said<Arc<Vec<u8>>>>) -> Said<&[u8]>
 /// capture worker decides, and then stderr's.
 pub(crate) fn judge<'a>(
     found: Findings,
-    output: &'a Option<Said<Arc<Vec<u8>>>>,
-    error: &'a Option<Said<Arc<Vec<u8>>>>,
+    drains: &'a PerSide<Option<Said<Arc<Vec<u8>>>>>,
 ) -> Outcome<'a>
     ensures { outcome_view result
         ≡ ended found.fault found.runs
-        (with_bytes (captured (option_map bytes_said output.now))
-        (λ out. with_bytes (captured (option_map bytes_said error.now))
+        (with_bytes (captured (option_map bytes_said drains.now.out))
+        (λ out. with_bytes (captured (option_map bytes_said drains.now.err))
         (λ err. finished out err))) }
 {
     if let Some(fault) = found.fault {
@@ -49,7 +49,7 @@ pub(crate) fn judge<'a>(
     if found.runs {
         return Outcome::Waits;
     }
-    match (bytes_of(output), bytes_of(error)) {
+    match (bytes_of(&drains.out), bytes_of(&drains.err)) {
         (Said::Running, _) => Outcome::Waits,
         (Said::Fault(fault), _) => Outcome::Faults(fault),
         (Said::Done(_), Said::Running) => Outcome::Waits,
@@ -60,19 +60,15 @@ pub(crate) fn judge<'a>(
 
 /// Returns the stream whose capture worker decides and has not finished, if no fault was found and
 /// nothing runs.
-pub(crate) fn awaited(
-    found: Findings,
-    output: &Option<Said<Arc<Vec<u8>>>>,
-    error: &Option<Said<Arc<Vec<u8>>>>,
-) -> Option<Side>
+pub(crate) fn awaited(found: Findings, drains: &PerSide<Option<Said<Arc<Vec<u8>>>>>) -> Option<Side>
     ensures { result
-        ≡ awaited_by found.fault found.runs (captured (option_map bytes_said output.now))
-        (captured (option_map bytes_said error.now)) }
+        ≡ awaited_by found.fault found.runs (captured (option_map bytes_said drains.now.out))
+        (captured (option_map bytes_said drains.now.err)) }
 {
     if found.fault.is_some() || found.runs {
         return None;
     }
-    match (bytes_of(output), bytes_of(error)) {
+    match (bytes_of(&drains.out), bytes_of(&drains.err)) {
         (Said::Running, _) => Some(Side::Out),
         (Said::Done(_), Said::Running) => Some(Side::Err),
         (Said::Fault(_), _) | (Said::Done(_), Said::Fault(_) | Said::Done(_)) => None,

@@ -9,8 +9,8 @@ pub invariant_of-self : goal.invariant_of-self
 invariant_of-self c =
     let s = c.args.self.now in
     let event = from_command c.args.at c.args.word in
-    let now = latest_of c.record_at.new.commands.items s.inputs.items s.output s.error in
-    let same = ap (λ (xs : List Word). latest_of xs s.inputs.items s.output s.error) c.record_at.ensures.items in
+    let now = latest_of c.record_at.new.commands.items s.inputs.items s.drains in
+    let same = ap (λ (xs : List Word). latest_of xs s.inputs.items s.drains) c.record_at.ensures.items in
     record {
       commands_fit = c.record_at.ensures.len ∙ s.commands_fit;
       inputs_fit = s.inputs_fit;

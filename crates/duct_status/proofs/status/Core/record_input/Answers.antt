@@ -9,8 +9,8 @@ pub invariant_of-self : goal.invariant_of-self
 invariant_of-self c =
     let s = c.args.self.now in
     let event = from_input c.args.at c.args.said in
-    let now = latest_of s.commands.items c.keep_at.new.inputs.items s.output s.error in
-    let same = ap (λ (xs : List (Said (Unit {0}))). latest_of s.commands.items xs s.output s.error) c.keep_at.ensures.items in
+    let now = latest_of s.commands.items c.keep_at.new.inputs.items s.drains in
+    let same = ap (λ (xs : List (Said (Unit {0}))). latest_of s.commands.items xs s.drains) c.keep_at.ensures.items in
     record {
       commands_fit = s.commands_fit;
       inputs_fit = c.keep_at.ensures.len ∙ s.inputs_fit;

@@ -1,9 +1,7 @@
 use Rattle.std.specs.Arc.{arc_value}
 use Rattle.std.specs.Option.{option_map}
-use Rattle.duct_system.specs.declared.system.Said.TheVariants as said
 use Rattle.duct_status.specs.EventView.{bytes_said}
 use Rattle.duct_status.specs.ShapeView.{shape_view}
-use Rattle.duct_status.specs.declared.status.Word.TheVariants as word
 use Rattle.duct_status.proofs.Begins.{first_words}
 use Rattle.duct_status.proofs.status.Core.sharing.Goals as goal
 
