@@ -1,3 +1,4 @@
 pub mod Environments
 pub mod Finished
+pub mod Launching
 pub mod Starting

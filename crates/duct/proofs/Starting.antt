@@ -18,9 +18,16 @@ use Rattle.duct_run.specs.ScopeView.{all_scopes, scopes_view}
 use Rattle.duct_run.specs.declared.action.Action.{Action}
 use Rattle.duct_run.specs.declared.scope.Scope as declared
 
--- these scopes and actions were made for this tree
-module _ {E H : Type 0} (tree : TreeView E H) (scopes : List (declared.Scope E H)) (actions : List (Action E))
-    (scopes_are : scopes_view scopes ≡ (list_of tree).scopes) (actions_are : actions_view actions ≡ (list_of tree).actions) where
+-- these scopes and actions are the lists that were made for this tree
+module _ {E H : Type 0} (tree : TreeView E H) {scopes listed : List (declared.Scope E H)} {actions made : List (Action E)}
+    (scopes_is : scopes ≡ listed) (actions_is : actions ≡ made)
+    (listed_are : scopes_view listed ≡ (list_of tree).scopes) (made_are : actions_view made ≡ (list_of tree).actions) where
+  scopes_are : scopes_view scopes ≡ (list_of tree).scopes
+  scopes_are = ap (λ l. scopes_view l) scopes_is ∙ listed_are
+
+  actions_are : actions_view actions ≡ (list_of tree).actions
+  actions_are = ap (λ l. actions_view l) actions_is ∙ made_are
+
   pub runs_flat : resolved_all (all_scopes scopes) (actions_view actions) ≡ actions_of tree
   runs_flat = (λ i. resolved_all (scopes_from (root_scope ∷ []) (scopes_are i)) (actions_are i)) ∙ list_resolves tree
 
@@ -32,7 +39,10 @@ module _ {E H : Type 0} (tree : TreeView E H) (scopes : List (declared.Scope E H
       let count : length (list_of tree).scopes ≡ length scopes = sym (sym (length-map scopes _) ∙ ap (λ (l : List (ScopeEntry E H)). length l) scopes_are) in
       subst (λ (n : ℕ). All (IsWithin n) (actions_view actions)) count (subst (λ (l : List (ActionOf E ℕ)). All (IsWithin (length (list_of tree).scopes)) l) (sym actions_are) (listed_within tree))
 
-  -- its tree determines whether a list opens a capture pipe
-  pub captured : (which : Side) → captures_in which (actions_view actions) ≡ is_some
-      (capture_place which (plan_of_subtree [] tree initial_plan))
-  captured which = ap (λ (l : List (ActionOf E ℕ)). captures_in which l) actions_are ∙ sym (list_captures which tree)
+-- its tree determines whether a list opens a capture pipe
+pub captured : {E H : Type 0} (tree : TreeView E H) (actions : List (Action E))
+    → actions_view actions ≡ (list_of tree).actions → (which : Side)
+    → captures_in which (actions_view actions)
+    ≡ is_some (capture_place which (plan_of_subtree [] tree initial_plan))
+captured tree actions actions_are which =
+    ap (λ (l : List (ActionOf _ ℕ)). captures_in which l) actions_are ∙ sym (list_captures which tree)

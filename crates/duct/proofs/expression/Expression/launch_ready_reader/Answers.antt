@@ -1,187 +1,68 @@
 -- A start of a whole tree with the reader of its stdout, from what was allocated for it.
-use Rattle.std.proofs.Common.{◌≡◌, ◌+◌, ◌*◌, ◌∙◌, [], ap, sym, refl, arith}
-use Rattle.std.proofs.lemmas.List.{length-map}
+use Rattle.std.proofs.Common.{◌∙◌, [], ap, sym}
 use Rattle.std.proofs.lemmas.Result.{err_from_is_err_and}
 use Rattle.std.specs.Arc.{arc_value}
-use Rattle.std.specs.Prelude.{false, is_some}
+use Rattle.std.specs.Prelude.{is_some}
 use Rattle.duct_status.specs.CoreView.{shape_in}
 use Rattle.duct_status.specs.Latest.{latest_told}
 use Rattle.duct_status.specs.ShapeView.{command_count, input_count}
-use Rattle.duct_start.specs.ActionList.{list_of, resolved_all}
-use Rattle.duct_start.specs.Plan.{initial_plan, plan_of_reader, plan_of_subtree}
-use Rattle.duct_start.specs.RunContract.{drain_and_reader_tail}
-use Rattle.duct_start.specs.Start.{ceiling, depth}
-use Rattle.duct_start.specs.TreeView.{around, stdout_capture}
-use Rattle.duct_start.proofs.Counted.{reader_counts}
-use Rattle.duct_start.proofs.Launched.{list_leads, read_items, read_launched, read_pipe, reads_out, refused_launched, some_leads, stands_launched}
-use Rattle.duct_run.specs.ActionView.{actions_view}
-use Rattle.duct_run.specs.ResourcesView.{resources_view}
-use Rattle.duct_run.specs.ScopeView.{all_scopes, scopes_view}
-use Rattle.duct_run.proofs.GivenUp.{given_up, left_started}
-use Rattle.duct_run.proofs.New.{runs_started}
+use Rattle.duct_start.proofs.Launched.{reads_out, some_leads}
+use Rattle.duct.specs.Launched.{reading, tree_for}
 use Rattle.duct.specs.TreeView.{tree_view}
+use Rattle.duct.proofs.Launching.{asked, drains_err, left, made, refused, started_children, started_feeds}
 use Rattle.duct.proofs.Starting.{outwards, runs_flat, within}
 use Rattle.duct.proofs.expression.Expression.launch_ready_reader.Goals as goal
 
 pub start_reader-requires-clause-outwards : goal.start_reader-requires-clause-outwards
 start_reader-requires-clause-outwards g c =
-    let tree = tree_view c.args.self.now in
-    let num = g.E.Numbered.number_of in
-    let allows = g.H.Hook.allows in
-    let scopes = c.deref.result.now in
-    let actions = c.deref-2.result.now in
-    let acts = resolved_all (all_scopes scopes) (actions_view actions) in
-    let actions_are : actions_view actions ≡ (list_of (around stdout_capture tree)).actions = ap (λ l. actions_view l) c.deref-2.ensures.value ∙ c.requires.actions in
-    let scopes_are : scopes_view scopes ≡ (list_of (around stdout_capture tree)).scopes = ap (λ l. scopes_view l) c.deref.ensures.value ∙ c.requires.scopes in
-    outwards (around stdout_capture tree) scopes actions scopes_are actions_are
+    outwards (tree_for reading (tree_view c.args.self.now)) c.deref.ensures.value c.deref-2.ensures.value c.requires.scopes c.requires.actions
 
 pub start_reader-requires-clause-within : goal.start_reader-requires-clause-within
 start_reader-requires-clause-within g c =
-    let tree = tree_view c.args.self.now in
-    let num = g.E.Numbered.number_of in
-    let allows = g.H.Hook.allows in
-    let scopes = c.deref.result.now in
-    let actions = c.deref-2.result.now in
-    let acts = resolved_all (all_scopes scopes) (actions_view actions) in
-    let actions_are : actions_view actions ≡ (list_of (around stdout_capture tree)).actions = ap (λ l. actions_view l) c.deref-2.ensures.value ∙ c.requires.actions in
-    let scopes_are : scopes_view scopes ≡ (list_of (around stdout_capture tree)).scopes = ap (λ l. scopes_view l) c.deref.ensures.value ∙ c.requires.scopes in
-    within (around stdout_capture tree) scopes actions scopes_are actions_are
+    within (tree_for reading (tree_view c.args.self.now)) c.deref.ensures.value c.deref-2.ensures.value c.requires.scopes c.requires.actions
 
 pub start_reader-requires-clause-leads : goal.start_reader-requires-clause-leads
 start_reader-requires-clause-leads g c =
-    let tree = tree_view c.args.self.now in
-    let num = g.E.Numbered.number_of in
-    let allows = g.H.Hook.allows in
-    let scopes = c.deref.result.now in
-    let actions = c.deref-2.result.now in
-    let acts = resolved_all (all_scopes scopes) (actions_view actions) in
-    let actions_are : actions_view actions ≡ (list_of (around stdout_capture tree)).actions = ap (λ l. actions_view l) c.deref-2.ensures.value ∙ c.requires.actions in
-    let scopes_are : scopes_view scopes ≡ (list_of (around stdout_capture tree)).scopes = ap (λ l. scopes_view l) c.deref.ensures.value ∙ c.requires.scopes in
-    let same = runs_flat (around stdout_capture tree) scopes actions scopes_are actions_are in
-    some_leads allows num (around stdout_capture tree) acts same
+    some_leads g.H.Hook.allows g.E.Numbered.number_of (tree_for reading (tree_view c.args.self.now)) _ (runs_flat (tree_for reading (tree_view c.args.self.now)) c.deref.ensures.value c.deref-2.ensures.value c.requires.scopes c.requires.actions)
 
 pub start_reader-requires-clause-opens : goal.start_reader-requires-clause-opens
 start_reader-requires-clause-opens g c =
-    let tree = tree_view c.args.self.now in
-    let num = g.E.Numbered.number_of in
-    let allows = g.H.Hook.allows in
-    let scopes = c.deref.result.now in
-    let actions = c.deref-2.result.now in
-    let acts = resolved_all (all_scopes scopes) (actions_view actions) in
-    let actions_are : actions_view actions ≡ (list_of (around stdout_capture tree)).actions = ap (λ l. actions_view l) c.deref-2.ensures.value ∙ c.requires.actions in
-    let scopes_are : scopes_view scopes ≡ (list_of (around stdout_capture tree)).scopes = ap (λ l. scopes_view l) c.deref.ensures.value ∙ c.requires.scopes in
-    let same = runs_flat (around stdout_capture tree) scopes actions scopes_are actions_are in
-    reads_out allows num tree acts same
+    reads_out g.H.Hook.allows g.E.Numbered.number_of (tree_view c.args.self.now) _ (runs_flat (tree_for reading (tree_view c.args.self.now)) c.deref.ensures.value c.deref-2.ensures.value c.requires.scopes c.requires.actions)
 
 pub returns-in_err-kept-clause-refused : goal.returns-in_err-kept-clause-refused
 returns-in_err-kept-clause-refused g c =
     let p = err_from_is_err_and c.from_residual.result c.from_residual.ensures.1 in
-    let tree = tree_view c.args.self.now in
-    let num = g.E.Numbered.number_of in
-    let allows = g.H.Hook.allows in
-    let scopes = c.deref.result.now in
-    let actions = c.deref-2.result.now in
-    let acts = resolved_all (all_scopes scopes) (actions_view actions) in
-    let actions_are : actions_view actions ≡ (list_of (around stdout_capture tree)).actions = ap (λ l. actions_view l) c.deref-2.ensures.value ∙ c.requires.actions in
-    let scopes_are : scopes_view scopes ≡ (list_of (around stdout_capture tree)).scopes = ap (λ l. scopes_view l) c.deref.ensures.value ∙ c.requires.scopes in
-    let same = runs_flat (around stdout_capture tree) scopes actions scopes_are actions_are in
-    let child = g.S.Child.Child.child_view in
-    let feed = g.S.Feed.Job.job_view in
-    let drain = g.S.Drain.Job.job_view in
-    let old = g.S.System.journal_view c.args.sys.now in
-    let e = c.in_err-kept.ensures.err in
-    let refused = refused_launched allows num (around stdout_capture tree) acts same drain_and_reader_tail g.H.Hook.refuses old e.stopped (resources_view num child feed drain e.held) c.in_err-kept.field-0.0 e.refused in
+    let same = runs_flat (tree_for reading (tree_view c.args.self.now)) c.deref.ensures.value c.deref-2.ensures.value c.requires.scopes c.requires.actions in
+    let gives = c.in_err-kept.ensures.err in
     rw (p.1, p.2) (record {
-      asked = given_up allows g.H.Hook.refuses num child feed drain _ _ e.stopped e.held _ refused (g.S.System.journal_view c.start_reader.new.sys) e.closes tree (plan_of_reader tree) refl (omega arith) (sym (read_items (plan_of_subtree [] (around stdout_capture tree) initial_plan)));
-      given = left_started allows g.H.Hook.refuses num child feed drain _ _ e.stopped e.held _ refused (g.S.System.journal_view c.start_reader.new.sys) e.closes
-          g.S.Child.Child.may_answer c.args.pool.now e.swept c.start_reader.new.pool e.new e.leaves e.given;
+      asked = refused g.H.Hook.allows g.E.Numbered.number_of g.S.Child.Child.child_view g.S.Feed.Job.job_view g.S.Drain.Job.job_view reading (tree_view c.args.self.now) _ same g.H.Hook.refuses g.S.Child.Child.may_answer (g.S.System.journal_view c.args.sys.now) (g.S.System.journal_view c.start_reader.new.sys) c.args.pool.now c.start_reader.new.pool _ gives;
+      given = left g.H.Hook.allows g.E.Numbered.number_of g.S.Child.Child.child_view g.S.Feed.Job.job_view g.S.Drain.Job.job_view reading (tree_view c.args.self.now) _ same g.H.Hook.refuses g.S.Child.Child.may_answer (g.S.System.journal_view c.args.sys.now) (g.S.System.journal_view c.start_reader.new.sys) c.args.pool.now c.start_reader.new.pool _ gives;
     })
 
 pub running-requires-clause-silent : goal.running-requires-clause-silent
 running-requires-clause-silent g c =
-    let tree = tree_view c.args.self.now in
-    let num = g.E.Numbered.number_of in
-    let allows = g.H.Hook.allows in
-    let scopes = c.deref.result.now in
-    let actions = c.deref-2.result.now in
-    let acts = resolved_all (all_scopes scopes) (actions_view actions) in
-    let actions_are : actions_view actions ≡ (list_of (around stdout_capture tree)).actions = ap (λ l. actions_view l) c.deref-2.ensures.value ∙ c.requires.actions in
-    let scopes_are : scopes_view scopes ≡ (list_of (around stdout_capture tree)).scopes = ap (λ l. scopes_view l) c.deref.ensures.value ∙ c.requires.scopes in
-    let same = runs_flat (around stdout_capture tree) scopes actions scopes_are actions_are in
-    let kept = c.in_ok-kept.kept in
-    let workers = c.in_ok-kept.ensures.workers (ceiling num (around stdout_capture tree)) (2 * depth (around stdout_capture tree) + 4) (plan_of_subtree [] (around stdout_capture tree) initial_plan) (list_leads allows num (around stdout_capture tree) acts same) in
-    let out : is_some kept.drains.out ≡ false = ap (λ o. is_some o) c.in_ok-kept.ensures.output in
-    let err : is_some kept.drains.err ≡ is_some (plan_of_reader tree).pipes.err = workers.1 ∙ read_pipe (plan_of_subtree [] (around stdout_capture tree) initial_plan) in
+    let same = runs_flat (tree_for reading (tree_view c.args.self.now)) c.deref.ensures.value c.deref-2.ensures.value c.requires.scopes c.requires.actions in
+    let out = ap (λ o. is_some o) c.in_ok-kept.ensures.output in
+    let err = drains_err g.H.Hook.allows g.E.Numbered.number_of (tree_view c.args.self.now) reading _ same _ _ c.in_ok-kept.ensures.workers in
     c.requires.prepared.silent ∙ (λ i. latest_told (shape_in c.args.ready.core) (record { out = sym out i; err = sym err i }) [])
 
 pub running-requires-clause-commands : goal.running-requires-clause-commands
 running-requires-clause-commands g c =
-    let tree = tree_view c.args.self.now in
-    let num = g.E.Numbered.number_of in
-    let allows = g.H.Hook.allows in
-    let scopes = c.deref.result.now in
-    let actions = c.deref-2.result.now in
-    let acts = resolved_all (all_scopes scopes) (actions_view actions) in
-    let actions_are : actions_view actions ≡ (list_of (around stdout_capture tree)).actions = ap (λ l. actions_view l) c.deref-2.ensures.value ∙ c.requires.actions in
-    let scopes_are : scopes_view scopes ≡ (list_of (around stdout_capture tree)).scopes = ap (λ l. scopes_view l) c.deref.ensures.value ∙ c.requires.scopes in
-    let same = runs_flat (around stdout_capture tree) scopes actions scopes_are actions_are in
-    let child = g.S.Child.Child.child_view in
-    let feed = g.S.Feed.Job.job_view in
-    let drain = g.S.Drain.Job.job_view in
-    let old = g.S.System.journal_view c.args.sys.now in
-    let kept = c.in_ok-kept.kept in
-    let new = g.S.System.journal_view c.start_reader.new.sys in
-    let stands = stands_launched allows num (around stdout_capture tree) acts same drain_and_reader_tail old new (resources_view num child feed drain kept) c.in_ok-kept.ensures.ok in
-    let shapes = c.requires.prepared.shape_is in
-    let counts = reader_counts allows num _ _ new (resources_view num child feed drain kept) tree stands (read_items (plan_of_subtree [] (around stdout_capture tree) initial_plan)) in
-    sym (length-map kept.children.items _) ∙ counts.0 ∙ ap (λ s. command_count s) (sym shapes)
+    let same = runs_flat (tree_for reading (tree_view c.args.self.now)) c.deref.ensures.value c.deref-2.ensures.value c.requires.scopes c.requires.actions in
+    started_children g.H.Hook.allows g.E.Numbered.number_of g.S.Child.Child.child_view g.S.Feed.Job.job_view g.S.Drain.Job.job_view reading (tree_view c.args.self.now) _ same (g.S.System.journal_view c.args.sys.now) (g.S.System.journal_view c.start_reader.new.sys) c.in_ok-kept.kept c.in_ok-kept.ensures.ok ∙ ap (λ s. command_count s) (sym c.requires.prepared.shape_is)
 
 pub running-requires-clause-inputs : goal.running-requires-clause-inputs
 running-requires-clause-inputs g c =
-    let tree = tree_view c.args.self.now in
-    let num = g.E.Numbered.number_of in
-    let allows = g.H.Hook.allows in
-    let scopes = c.deref.result.now in
-    let actions = c.deref-2.result.now in
-    let acts = resolved_all (all_scopes scopes) (actions_view actions) in
-    let actions_are : actions_view actions ≡ (list_of (around stdout_capture tree)).actions = ap (λ l. actions_view l) c.deref-2.ensures.value ∙ c.requires.actions in
-    let scopes_are : scopes_view scopes ≡ (list_of (around stdout_capture tree)).scopes = ap (λ l. scopes_view l) c.deref.ensures.value ∙ c.requires.scopes in
-    let same = runs_flat (around stdout_capture tree) scopes actions scopes_are actions_are in
-    let child = g.S.Child.Child.child_view in
-    let feed = g.S.Feed.Job.job_view in
-    let drain = g.S.Drain.Job.job_view in
-    let old = g.S.System.journal_view c.args.sys.now in
-    let kept = c.in_ok-kept.kept in
-    let new = g.S.System.journal_view c.start_reader.new.sys in
-    let stands = stands_launched allows num (around stdout_capture tree) acts same drain_and_reader_tail old new (resources_view num child feed drain kept) c.in_ok-kept.ensures.ok in
-    let shapes = c.requires.prepared.shape_is in
-    let counts = reader_counts allows num _ _ new (resources_view num child feed drain kept) tree stands (read_items (plan_of_subtree [] (around stdout_capture tree) initial_plan)) in
-    sym (length-map kept.feeds.items _) ∙ counts.1 ∙ ap (λ s. input_count s) (sym shapes)
+    let same = runs_flat (tree_for reading (tree_view c.args.self.now)) c.deref.ensures.value c.deref-2.ensures.value c.requires.scopes c.requires.actions in
+    started_feeds g.H.Hook.allows g.E.Numbered.number_of g.S.Child.Child.child_view g.S.Feed.Job.job_view g.S.Drain.Job.job_view reading (tree_view c.args.self.now) _ same (g.S.System.journal_view c.args.sys.now) (g.S.System.journal_view c.start_reader.new.sys) c.in_ok-kept.kept c.in_ok-kept.ensures.ok ∙ ap (λ s. input_count s) (sym c.requires.prepared.shape_is)
 
 pub returns-clause-launched : goal.returns-clause-launched
 returns-clause-launched g c =
-    let tree = tree_view c.args.self.now in
-    let num = g.E.Numbered.number_of in
-    let allows = g.H.Hook.allows in
-    let scopes = c.deref.result.now in
-    let actions = c.deref-2.result.now in
-    let acts = resolved_all (all_scopes scopes) (actions_view actions) in
-    let actions_are : actions_view actions ≡ (list_of (around stdout_capture tree)).actions = ap (λ l. actions_view l) c.deref-2.ensures.value ∙ c.requires.actions in
-    let scopes_are : scopes_view scopes ≡ (list_of (around stdout_capture tree)).scopes = ap (λ l. scopes_view l) c.deref.ensures.value ∙ c.requires.scopes in
-    let same = runs_flat (around stdout_capture tree) scopes actions scopes_are actions_are in
-    let child = g.S.Child.Child.child_view in
-    let feed = g.S.Feed.Job.job_view in
-    let drain = g.S.Drain.Job.job_view in
-    let old = g.S.System.journal_view c.args.sys.now in
-    let kept = c.in_ok-kept.kept in
-    let new = g.S.System.journal_view c.start_reader.new.sys in
-    let stands = stands_launched allows num (around stdout_capture tree) acts same drain_and_reader_tail old new (resources_view num child feed drain kept) c.in_ok-kept.ensures.ok in
-    let shapes = c.requires.prepared.shape_is in
-    let workers = c.in_ok-kept.ensures.workers (ceiling num (around stdout_capture tree)) (2 * depth (around stdout_capture tree) + 4) (plan_of_subtree [] (around stdout_capture tree) initial_plan) (list_leads allows num (around stdout_capture tree) acts same) in
-    let out : is_some kept.drains.out ≡ false = ap (λ o. is_some o) c.in_ok-kept.ensures.output in
-    let err : is_some kept.drains.err ≡ is_some (plan_of_reader tree).pipes.err = workers.1 ∙ read_pipe (plan_of_subtree [] (around stdout_capture tree) initial_plan) in
+    let same = runs_flat (tree_for reading (tree_view c.args.self.now)) c.deref.ensures.value c.deref-2.ensures.value c.requires.scopes c.requires.actions in
+    let out = ap (λ o. is_some o) c.in_ok-kept.ensures.output in
+    let err = drains_err g.H.Hook.allows g.E.Numbered.number_of (tree_view c.args.self.now) reading _ same _ _ c.in_ok-kept.ensures.workers in
     record {
-      asked = read_launched allows num tree acts same old new (resources_view num child feed drain kept) c.in_ok-kept.ensures.ok;
-      makes = (rw (c.running.ensures, ← out, ← err) (runs_started child feed drain num tree (arc_value c.args.ready.core.shape) kept c.in_ok-kept.ensures.kept shapes allows _ _ new stands), c.in_ok-kept.ensures.reader);
+      asked = asked g.H.Hook.allows g.E.Numbered.number_of g.S.Child.Child.child_view g.S.Feed.Job.job_view g.S.Drain.Job.job_view reading (tree_view c.args.self.now) _ same (g.S.System.journal_view c.args.sys.now) (g.S.System.journal_view c.start_reader.new.sys) c.in_ok-kept.kept c.in_ok-kept.ensures.ok;
+      makes = (rw c.running.ensures (made g.H.Hook.allows g.E.Numbered.number_of g.S.Child.Child.child_view g.S.Feed.Job.job_view g.S.Drain.Job.job_view reading (tree_view c.args.self.now) _ same (g.S.System.journal_view c.args.sys.now) (g.S.System.journal_view c.start_reader.new.sys) c.in_ok-kept.kept c.in_ok-kept.ensures.ok c.in_ok-kept.ensures.kept (arc_value c.args.ready.core.shape) c.requires.prepared.shape_is out err), c.in_ok-kept.ensures.reader);
       swept = c.in_ok-kept.ensures.swept;
     }

@@ -26,8 +26,8 @@ returns-clause-ready g c =
     let scopes_are : scopes_view list.scopes.items ≡ (list_of tree).scopes = c.in_ok-compiled.ensures.scopes ∙ ap (λ t. (list_of t).scopes) c.root.ensures in
     let shape_is : shape_view (arc_value compiled.shape) ≡ shape_of_tree tree = c.in_ok-compiled.ensures.shape ∙ ap (λ t. shape_of_tree t) c.root.ensures in
     let pipes = drained_pipes (plan_of_subtree [] tree initial_plan) in
-    let out : list.captures.out ≡ is_some (plan_of tree).pipes.out = list.output_noted ∙ captured tree list.scopes.items list.actions.items scopes_are actions_are side.Out ∙ pipes.0 in
-    let err : list.captures.err ≡ is_some (plan_of tree).pipes.err = list.error_noted ∙ captured tree list.scopes.items list.actions.items scopes_are actions_are side.Err ∙ pipes.1 in
+    let out : list.captures.out ≡ is_some (plan_of tree).pipes.out = list.output_noted ∙ captured tree list.actions.items actions_are side.Out ∙ pipes.0 in
+    let err : list.captures.err ≡ is_some (plan_of tree).pipes.err = list.error_noted ∙ captured tree list.actions.items actions_are side.Err ∙ pipes.1 in
     if_ok_two c.prepare.result (λ ready same made. record {
       actions = ap (λ k. actions_view k.list.actions.items) same ∙ actions_are;
       scopes = ap (λ k. scopes_view k.list.scopes.items) same ∙ scopes_are;

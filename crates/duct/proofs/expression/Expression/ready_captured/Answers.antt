@@ -26,7 +26,7 @@ returns-clause-ready g c =
     let actions_are : actions_view list.actions.items ≡ (list_of (around stdout_capture tree)).actions = c.in_ok-compiled.ensures.actions ∙ ap (λ t. (list_of (around stdout_capture t)).actions) c.root.ensures in
     let scopes_are : scopes_view list.scopes.items ≡ (list_of (around stdout_capture tree)).scopes = c.in_ok-compiled.ensures.scopes ∙ ap (λ t. (list_of (around stdout_capture t)).scopes) c.root.ensures in
     let shape_is : shape_view (arc_value compiled.shape) ≡ shape_of_tree tree = c.in_ok-compiled.ensures.shape ∙ ap (λ t. shape_of_tree t) c.root.ensures in
-    let err : list.captures.err ≡ is_some (plan_of_reader tree).pipes.err = list.error_noted ∙ captured (around stdout_capture tree) list.scopes.items list.actions.items scopes_are actions_are side.Err ∙ read_pipe (plan_of_subtree [] (around stdout_capture tree) initial_plan) in
+    let err : list.captures.err ≡ is_some (plan_of_reader tree).pipes.err = list.error_noted ∙ captured (around stdout_capture tree) list.actions.items actions_are side.Err ∙ read_pipe (plan_of_subtree [] (around stdout_capture tree) initial_plan) in
     if_ok_two c.prepare.result (λ ready same made. record {
       actions = ap (λ k. actions_view k.list.actions.items) same ∙ actions_are;
       scopes = ap (λ k. scopes_view k.list.scopes.items) same ∙ scopes_are;
