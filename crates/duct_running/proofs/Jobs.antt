@@ -114,7 +114,7 @@ module _ {D : Type 0} (view : D → JobView Bytes) (may : ℕ → Said Bytes →
       later ≡ latest_after kept (from_drain side.Out (bytes_said heard)) → later ≡ stored_latest children feeds (option_map view (Some after)) error
   output_in_step output error before after heard kept later is there polls told =
       told ∙ ap (λ (w : Latest). latest_after w (from_drain side.Out (bytes_said heard))) (is ∙ ap (λ (o : Option D). stored_latest children feeds (option_map view o) error) there)
-      ∙ ap (λ (s : Said (List ℕ)). record (stored_latest children feeds None error) { output = Some s })
+      ∙ ap (λ (s : Said (List ℕ)). record (stored_latest children feeds None error) { drains = record { out = Some s; err = option_map (λ (d : JobView Bytes). bytes_said d.kept) error } })
       (bytes_kept (view before).kept heard ∙ sym (ap (λ (j : JobView Bytes). bytes_said j.kept) polls.after_is))
 
   pub error_in_step : (output : Option (JobView Bytes)) (error : Option D) (before after : D)
@@ -123,7 +123,7 @@ module _ {D : Type 0} (view : D → JobView Bytes) (may : ℕ → Said Bytes →
       later ≡ latest_after kept (from_drain side.Err (bytes_said heard)) → later ≡ stored_latest children feeds output (option_map view (Some after))
   error_in_step output error before after heard kept later is there polls told =
       told ∙ ap (λ (w : Latest). latest_after w (from_drain side.Err (bytes_said heard))) (is ∙ ap (λ (e : Option D). stored_latest children feeds output (option_map view e)) there)
-      ∙ ap (λ (s : Said (List ℕ)). record (stored_latest children feeds output None) { error = Some s })
+      ∙ ap (λ (s : Said (List ℕ)). record (stored_latest children feeds output None) { drains = record { out = option_map (λ (d : JobView Bytes). bytes_said d.kept) output; err = Some s } })
       (bytes_kept (view before).kept heard ∙ sym (ap (λ (j : JobView Bytes). bytes_said j.kept) polls.after_is))
 
 -- there is still room for the capture workers, where stderr's is replaced

@@ -246,10 +246,10 @@ module _ {S E C F D : Type 0} (views : SystemViews S E C F D (Unit {0}) Bytes) (
       let fault = first_fault ordered in
       let runs = some_runs ordered in
       let pending = waits_for (outcome shape words) _ is.0 is.1 is.2 in
-      either (waits_where fault runs (with_bytes (captured words.output) (λ o. with_bytes (captured words.error) (λ e. finished o e))) pending)
+      either (waits_where fault runs (with_bytes (captured words.drains.out) (λ o. with_bytes (captured words.drains.err) (λ e. finished o e))) pending)
       (λ some. either (has_running shape 0 0 words.commands words.inputs (omega (arith, commands, length-map asked (λ (c : ChildView). stored_word c.ending c.last))) (omega (arith, inputs, length-map fed (λ (j : JobView (Unit {0})). j.kept))) some)
       (λ one. inl (children_run views.may_answer children asked one.0 ask one.1)) (λ one. inr (inl (feeds_run views.feed_says views.feed_same views.feed_refusable feeds fed one.0 poll one.1))))
-      (λ ended. either (waits_for_bytes (captured words.output) (captured words.error) ended.2)
+      (λ ended. either (waits_for_bytes (captured words.drains.out) (captured words.drains.err) ended.2)
       (λ here.
       let wait : captured (bytes_in views.drain_says views.drain_same views.drain_refusable output) ≡ said.Running → awaited shape (stored_latest asked fed output error) ≡ Some side.Out =
       λ before. (λ i. awaited_by (ended.0 i) (ended.1 i) (before i) (captured (bytes_in views.drain_says views.drain_same views.drain_refusable error))) in

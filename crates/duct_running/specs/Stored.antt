@@ -38,8 +38,10 @@ abbrev pub stored_latest : List ChildView → List (JobView (Unit {0})) → Opti
 stored_latest children feeds output error = record {
   commands = map (λ child. stored_word child.ending child.last) children;
   inputs = map (λ feed. feed.kept) feeds;
-  output = option_map (λ drain. bytes_said drain.kept) output;
-  error = option_map (λ drain. bytes_said drain.kept) error;
+  drains = record {
+    out = option_map (λ drain. bytes_said drain.kept) output;
+    err = option_map (λ drain. bytes_said drain.kept) error;
+  };
 }
 
 -- the words that the children and the workers of a start store
