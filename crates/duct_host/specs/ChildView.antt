@@ -9,6 +9,6 @@ child_view child = record {
   process = child.id;
   polls = child.polls;
   last = child.last;
-  ending = child.ending;
+  ending = child.seen.ending;
   orders = child.orders.items;
 }

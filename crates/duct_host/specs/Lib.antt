@@ -1,4 +1,5 @@
 pub mod ChildView
+pub mod Commands
 pub mod Endings
 pub mod Entries
 pub mod Signals

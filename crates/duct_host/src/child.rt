@@ -1,15 +1,18 @@
 //! A child process of the host.
-ghost use Rattle.std.specs.Prelude.{◌≡◌, ◌↔◌, Contains, IsTrue, IfSome, IfNone, IfErr, true};
+ghost use Rattle.std.specs.Prelude.{◌≡◌, ◌≢◌, ◌↔◌, pos, string_bytes, Contains, IsTrue, Some, Ok, IfSome, IfNone, IfOk, IfErr, OnOk, true};
 ghost use Rattle.duct_system.specs.declared.system.Kind.TheVariants.{Other};
-ghost use Rattle.std.specs.Process.{exit_code, exit_signal};
-ghost use Rattle.duct_host.specs.Endings.{ending_said};
+ghost use Rattle.std.specs.Process.{child_status, exit_code, exit_signal};
+ghost use Rattle.duct_host.specs.Commands.{RunsLine, kill_line, printed_line};
+ghost use Rattle.duct_host.specs.Endings.{IsTold, can_answer, can_end, ending_said};
 ghost use Rattle.duct_host.specs.Signals.{signals};
 
 use crate::fault::{ask, no_memory};
+use crate::started::{Started, start_command, status_of, wait_for};
 use duct_base::system::{self, ExitStatus, Fault, Kind, Numbered, Order};
 use std::alloc::{AllocError, Global};
 use std::os::unix::process::ExitStatusExt;
 use std::process::{self, Command, OpenProcess, Processes, Stdio};
+use std::snapshot::Snapshot;
 
 /// A child that the host started. It keeps the runtime, with which it has a shell send a signal.
 ///
@@ -25,9 +28,17 @@ pub struct Child<R: Processes> {
     id: u32,
     polls: u64,
     last: Option<Result<Option<ExitStatus>, Fault>>,
-    ending: Option<ExitStatus>,
+    seen: Seen,
     orders: Vec<(Order, Result<(), Fault>)>,
+    command: Snapshot<Command>,
     started: process::Child<R::Started>,
+}
+
+/// How a poll saw a child end, if one did.
+#[derive(Clone, Copy)]
+struct Seen {
+    ending: Option<ExitStatus>,
+    ghost possible: { IsTrue (can_answer (Ok ending)) },
 }
 
 impl<R: Processes> Child<R> {
@@ -35,25 +46,23 @@ impl<R: Processes> Child<R> {
     ghost use Rattle.duct_host.specs.ChildView.{child_view};
 
     /// A child that was just started, before any call.
-    pub(crate) fn new(
-        rt: R,
-        alloc: Global,
-        number: u64,
-        started: process::Child<R::Started>,
-    ) -> Child<R>
+    pub(crate) fn new(rt: R, alloc: Global, number: u64, started: Started<R::Started>) -> Child<R>
         ensures number { result.number ≡ number }
+        ensures command { result.command.value ≡ started.command.value }
         ensures unasked { IsUnasked (child_view result) }
     {
+        let Started { process, command } = started;
         Child {
             rt,
             alloc,
             number,
-            id: started.id(),
+            id: process.id(),
             polls: 0,
             last: None,
-            ending: None,
+            seen: Seen { ending: None },
             orders: Vec::new(alloc),
-            started,
+            command,
+            started: process,
         }
     }
 }
@@ -63,9 +72,27 @@ fn kill_process<P: OpenProcess>(started: &mut process::Child<P>) -> Result<(), F
     ask(|| started.kill())
 }
 
+/// What a poll returns: the ending that was seen before, or else what the machine says now.
+fn answer_of<P: OpenProcess>(
+    seen: Seen,
+    started: &mut process::Child<P>,
+) -> Result<Option<ExitStatus>, Fault>
+    ensures again { IfSome seen.ending (λ status. result ≡ Ok (Some status)) }
+    ensures told { IfNone seen.ending (IfOk result (IsTold (child_status started.new))) }
+    ensures possible { IsTrue (can_answer result) }
+{
+    match seen.ending {
+        Some(ending) => Ok(Some(ending)),
+        None => ending(started),
+    }
+}
+
 /// Asks the machine how a child ended, without waiting.
-fn ending<P: OpenProcess>(started: &mut process::Child<P>) -> Result<Option<ExitStatus>, Fault> {
-    match ask(|| started.try_wait())? {
+fn ending<P: OpenProcess>(started: &mut process::Child<P>) -> Result<Option<ExitStatus>, Fault>
+    ensures told { IfOk result (IsTold (child_status started.new)) }
+    ensures possible { IsTrue (can_answer result) }
+{
+    match status_of(started)? {
         Some(status) => Ok(Some(ending_of(status)?)),
         None => Ok(None),
     }
@@ -85,7 +112,7 @@ fn has_ended<P: OpenProcess>(
     match (seen, last) {
         (Some(_), _) => Ok(true),
         (None, Some(Err(_))) => Err(Fault::new(Kind::Other)),
-        (None, _) => Ok(ask(|| started.try_wait())?.is_some()),
+        (None, _) => Ok(status_of(started)?.is_some()),
     }
 }
 
@@ -104,20 +131,37 @@ fn is_served(signal: i32) -> bool
 
 /// The command that has the system's shell send a signal to a process, without the parent's
 /// variables.
-fn kill_command(alloc: Global, signal: i32, id: u32) -> Result<Command, AllocError> {
-    let line = format!(in alloc; "kill -{signal} {id}")?;
+fn kill_command(alloc: Global, signal: i32, id: u32) -> Result<Command, AllocError>
+    ensures { IfOk result (RunsLine (kill_line signal id)) }
+{
+    let line = kill_text(alloc, signal, id)?;
+    shell_command(alloc, line.as_str())
+}
+
+/// The line by which a shell sends a signal to a process.
+fn kill_text(alloc: Global, signal: i32, id: u32) -> Result<String, AllocError>
+    ensures { IfOk result
+        (λ line. IfSome (printed_line signal id) (λ text. string_bytes line ≡ text)) }
+{
+    format!(in alloc; "kill -{signal} {id}")
+}
+
+/// The command that has the system's shell run a line, without the parent's variables.
+fn shell_command(alloc: Global, line: &str) -> Result<Command, AllocError>
+    ensures { IfOk result (RunsLine line.now) }
+{
     let mut shell = Command::new(alloc, "/bin/sh")?;
-    shell.arg("-c")?.arg(line.as_str())?;
+    shell.arg("-c")?;
+    shell.arg(line)?;
     shell.env_clear();
-    shell.stdin(Stdio::null());
-    shell.stdout(Stdio::null());
-    shell.stderr(Stdio::null());
     Ok(shell)
 }
 
 /// How a child ended, by what std says of it.
+#[tactic(auto, using(crate::proofs::Endings::ending_possible))]
 fn ending_of(status: process::ExitStatus) -> Result<ExitStatus, Fault>
-    ensures { result ≡ ending_said (exit_code status) (exit_signal status) }
+    ensures said { result ≡ ending_said (exit_code status) (exit_signal status) }
+    ensures possible { IfOk result (λ ending. IsTrue (can_end ending)) }
 {
     if let Some(code) = status.code() {
         return Ok(ExitStatus::Code(code));
@@ -136,14 +180,15 @@ impl<R: Processes + Drop> Numbered for Child<R> {
     }
 }
 
-/// What the machine may do is left open, except that a signal that isn't served fails with
-/// `InvalidInput`, where the order is noted.
+/// A poll returns an exit code from 0 to 255 or a signal from 1 to 126, if it returns an ending.
+/// Nothing more is promised of what the machine returns, except that a signal that isn't served
+/// fails with `InvalidInput`, where the order is noted.
 impl<R: Processes + Drop> system::Child for Child<R> {
     ghost use Rattle.std.proofs.Common.{refl};
     ghost use Rattle.duct_host.specs.ChildView.{child_view};
     ghost use Rattle.duct_host.specs.Signals.{MayObey};
 
-    ghost may_answer = { λ _ _. Unit {0} };
+    ghost may_answer = { λ _ answer. IsTrue (can_answer answer) };
 
     ghost may_obey = { λ _ order noted answer. MayObey order noted answer };
 
@@ -151,12 +196,11 @@ impl<R: Processes + Drop> system::Child for Child<R> {
 
     fn poll(&mut self) -> Result<Option<ExitStatus>, Fault> {
         self.polls = self.polls.saturating_add(1);
-        let answer = match self.ending {
-            Some(ending) => Ok(Some(ending)),
-            None => ending(&mut self.started),
-        };
+        let answer = answer_of(self.seen, &mut self.started);
         if let Ok(Some(ending)) = answer {
-            self.ending = Some(ending);
+            self.seen = Seen {
+                ending: Some(ending),
+            };
         }
         self.last = Some(answer);
         answer
@@ -195,7 +239,7 @@ impl<R: Processes> Child<R> {
             Order::Signal(signal) if !is_served(signal) => Err(Fault::new(Kind::InvalidInput)),
             Order::Kill | Order::Signal(KILL) => kill_process(&mut self.started),
             Order::Signal(signal) => {
-                let asked = has_ended(self.ending, self.last, &mut self.started);
+                let asked = has_ended(self.seen.ending, self.last, &mut self.started);
                 self.send(signal, asked)
             }
         };
@@ -218,14 +262,35 @@ impl<R: Processes> Child<R> {
 
     /// Has a shell send the child a signal, and blocks until the shell has ended.
     fn send_by_shell(&self, signal: i32) -> Result<(), Fault> {
-        let Ok(mut shell) = kill_command(self.alloc, signal, self.id) else {
+        let mut shell = self.start_shell(signal)?;
+        sent_by(wait_for(&mut shell.process)?)
+    }
+
+    /// Starts a shell that sends the child a signal, and has no streams.
+    fn start_shell(&self, signal: i32) -> Result<Started<R::Started>, Fault>
+        ensures { IfOk result (λ shell. RunsLine (kill_line signal self.now.id) shell.command.value) }
+    {
+        let Ok(command) = kill_command(self.alloc, signal, self.id) else {
             return Err(no_memory());
         };
-        let mut started = ask(|| shell.spawn(&self.rt))?;
-        if ask(|| started.wait())?.success() {
-            Ok(())
-        } else {
-            Err(Fault::new(Kind::Other))
-        }
+        start_command(
+            &self.rt,
+            &command,
+            &[Stdio::null(), Stdio::null(), Stdio::null()],
+        )
+    }
+}
+
+/// Whether a shell that ended so has sent its signal: it has where it exited with code 0, and any
+/// other ending is the fault `Other`.
+fn sent_by(shell: process::ExitStatus) -> Result<(), Fault>
+    ensures ok { OnOk result (exit_code shell ≡ Some (pos 0)) }
+    ensures err { IfErr result
+        (λ fault. (fault.kind ≡ Other) × (exit_code shell ≢ Some (pos 0))) }
+{
+    if shell.success() {
+        Ok(())
+    } else {
+        Err(Fault::new(Kind::Other))
     }
 }

@@ -3,12 +3,14 @@ ghost use Rattle.std.specs.Prelude.{◌≡◌, ◌≢◌, ◌⊎◌, ◌+◌, �
 ghost use Rattle.duct_system.specs.Journal.{IsNew};
 ghost use Rattle.duct_system.specs.SpecView.{pair_text};
 ghost use Rattle.duct_system.specs.declared.system.Kind.TheVariants.{Other, OutOfMemory};
+ghost use Rattle.duct_host.specs.Commands.{IsCommandOf};
 ghost use Rattle.duct_host.specs.Steps.{OnlyCounts, OnlyRoom};
 
 use crate::child::Child;
 use crate::end::End;
 use crate::environment::{copy_of, variables};
 use crate::fault::{ask, no_memory};
+use crate::opened::{canonical_twice, descriptor_of, names_of, open_to_read, open_to_write};
 use crate::parents::Parents;
 use crate::reader::Reader;
 use crate::spawn::{all_wired, count_of_ends, start};
@@ -227,6 +229,7 @@ impl<R: Processes + Files<File = File> + Env + Parents + Clone + Drop> Host<R> {
         ensures kept { OnlyCounts self.old self.new }
         ensures fresh { IfOk result (λ child. IsNew self.old self.new child.number) }
         ensures unasked { IfOk result (λ child. IsUnasked (child_view child)) }
+        ensures command { IfOk result (λ child. IsCommandOf spec.now child.command.value) }
     {
         let number = self.take_number()?;
         let Ok(rt) = self.rt.clone() else {
@@ -273,7 +276,7 @@ impl<R: Threads> Host<R> {
 /// other request blocks. Each worker is a thread of its own. A variable of the parent that is not
 /// UTF-8, or that has no name or no `=`, is left out of the environment.
 ///
-/// What the machine may give through a reader is left open.
+/// A reader knows the number of its end. What the machine gives through it is left open.
 impl<R: Processes + Files<File = File> + Env + Parents + Threads + Clone + Drop> System
     for Host<R> {
     ghost use Rattle.std.specs.Prelude.{◌≤◌, length, map, min, Ok, Err, IfOk, IfErr};
@@ -296,7 +299,7 @@ impl<R: Processes + Files<File = File> + Env + Parents + Threads + Clone + Drop>
 
     ghost journal_view = { λ h. h };
 
-    ghost may_read = { λ _ _. Unit {0} };
+    ghost may_read = { λ number reader. reader.number ≡ number };
 
     fn environment(&mut self) -> Result<Vec<(String, String)>, Fault> {
         self.journal.prepare(0)?;
@@ -331,16 +334,16 @@ impl<R: Processes + Files<File = File> + Env + Parents + Threads + Clone + Drop>
 
     fn open_read(&mut self, path: &str) -> Result<End, Fault> {
         let kept = self.prepare_named(path, 1)?;
-        let answer = ask(|| File::open(&self.rt, path).map(OwnedFd::from));
-        let made = self.numbered(answer);
+        let opened = open_to_read(&self.rt, &kept);
+        let made = self.numbered(descriptor_of(opened, &kept));
         self.journal.add(Entry::OpenRead(kept, number_of(&made)));
         self.got(made)
     }
 
     fn create(&mut self, path: &str) -> Result<End, Fault> {
         let kept = self.prepare_named(path, 1)?;
-        let answer = ask(|| File::create(&self.rt, path).map(OwnedFd::from));
-        let made = self.numbered(answer);
+        let opened = open_to_write(&self.rt, &kept);
+        let made = self.numbered(descriptor_of(opened, &kept));
         self.journal.add(Entry::Create(kept, number_of(&made)));
         self.got(made)
     }
@@ -366,7 +369,8 @@ impl<R: Processes + Files<File = File> + Env + Parents + Threads + Clone + Drop>
 
     fn canonicalize(&mut self, path: &str) -> Result<String, Fault> {
         let kept = self.prepare_named(path, 0)?;
-        match canonical_twice(&self.rt, self.alloc, path) {
+        let found = canonical_twice(&self.rt, self.alloc, &kept);
+        match names_of(found, &kept) {
             Ok((text, noted)) => {
                 self.journal.add(Entry::Canonicalize(kept, Ok(noted)));
                 Ok(text)
@@ -385,6 +389,7 @@ impl<R: Processes + Files<File = File> + Env + Parents + Threads + Clone + Drop>
             GivesEnds entry (length (ends_of io)) self.old self.new
             × IsNew self.old self.new child.number) }
         ensures unasked { IfOk result (λ child. IsUnasked (child_view child)) }
+        ensures command { IfOk result (λ child. IsCommandOf spec child.command.value) }
         ensures err { IfErr result (λ fault.
             let entry = Spawn spec (map (stream_of (λ e. e)) io) (Err fault) in
             IsRefused entry (length (ends_of io)) fault self.old self.new) }
@@ -434,8 +439,9 @@ impl<R: Processes + Files<File = File> + Env + Parents + Threads + Clone + Drop>
     }
 
     fn reader(&mut self, end: End) -> Reader {
-        self.journal.add(Entry::Reader(end.number()));
-        Reader::new(end.into_descriptor())
+        let number = end.number();
+        self.journal.add(Entry::Reader(number));
+        Reader::new(number, end.into_descriptor())
     }
 
     fn close(&mut self, end: End) {
@@ -466,17 +472,6 @@ fn number_of(made: &Result<End, Fault>) -> Result<u64, Fault>
     match made {
         Ok(end) => Ok(end.number()),
         Err(fault) => Err(*fault),
-    }
-}
-
-/// The canonical name of a path, and a copy of it for the journal.
-fn canonical_twice<R: Files>(rt: &R, alloc: Global, path: &str) -> Result<(String, String), Fault>
-    ensures { IfOk result (λ texts. string_bytes texts.1 ≡ string_bytes texts.0) }
-{
-    let text = ask(|| rt.canonicalize(alloc, path))?.into_string();
-    match String::from_str(alloc, text.as_str()) {
-        Ok(noted) => Ok((text, noted)),
-        Err(_) => Err(no_memory()),
     }
 }
 

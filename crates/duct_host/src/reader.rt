@@ -1,4 +1,6 @@
 //! The reader of an end.
+ghost use Rattle.std.specs.Prelude.{◌≡◌};
+
 use duct_worker::transfer::read_retried;
 use std::io;
 use std::io::Read;
@@ -9,13 +11,17 @@ use std::process::ChildStdout;
 /// Dropping it closes the end.
 #[derive(Drop)]
 pub struct Reader {
+    number: u64,
     source: ChildStdout,
 }
 
 impl Reader {
-    /// The reader of a descriptor.
-    pub(crate) fn new(fd: OwnedFd) -> Reader {
+    /// The reader of the end with this number and descriptor.
+    pub(crate) fn new(number: u64, fd: OwnedFd) -> Reader
+        ensures { result.number ≡ number }
+    {
         Reader {
+            number,
             source: ChildStdout::from(fd),
         }
     }

@@ -3,39 +3,30 @@ ghost use Rattle.std.specs.Prelude.{◌≡◌, ◌⊎◌, [], ◌∷◌, ◌++�
 ghost use Rattle.std.specs.Process.{command_program, command_args, command_dir, SameProgramAndArgs, SameEnv, SameDir};
 ghost use Rattle.duct_system.specs.Streams.{stream_of, ends_of};
 ghost use Rattle.duct_system.specs.declared.system.Kind.TheVariants.{InvalidInput, OutOfMemory};
+ghost use Rattle.duct_host.specs.Commands.{IsCommandOf};
 ghost use Rattle.duct_host.specs.Variables.{IsWholeEnvironment, Sets};
 
 use crate::end::End;
 use crate::fault::no_memory;
+use crate::started::{Started, start_command};
 use duct_base::spec::CommandSpec;
 use duct_base::system::{Fault, Kind, Numbered, Stdio};
 use std::alloc::{AllocError, Global};
-use std::io::ErrorKind;
 use std::process;
 use std::process::{Command, Processes};
 
 /// Starts a process by a spec, with these streams in the order stdin, stdout, stderr. Each end
-/// among the streams is closed here, also where the start fails. A start that a signal interrupts
-/// is tried again.
+/// among the streams is closed here, also where the start fails.
 pub(crate) fn start<R: Processes>(
     rt: &R,
     alloc: Global,
     spec: &CommandSpec,
     streams: [process::Stdio; 3],
-) -> Result<process::Child<R::Started>, Fault> {
-    let [input, output, error] = streams;
-    let mut command = command_of(alloc, spec)?;
-    command.stdin(input);
-    command.stdout(output);
-    command.stderr(error);
-    for _ in 0..u64::MAX {
-        match command.spawn(rt) {
-            Ok(started) => return Ok(started),
-            Err(error) if error.kind() == ErrorKind::Interrupted => {}
-            Err(error) => return Err(Fault::from(error)),
-        }
-    }
-    Err(Fault::new(Kind::Other))
+) -> Result<Started<R::Started>, Fault>
+    ensures { IfOk result (λ started. IsCommandOf spec.now started.command.value) }
+{
+    let command = command_of(alloc, spec)?;
+    start_command(rt, &command, &streams)
 }
 
 /// The command of a spec, with the spec's variables for its whole environment. Fails with
