@@ -3,6 +3,7 @@
 #![tactic(auto)]
 
 pub mod child;
+pub mod clock;
 pub mod end;
 mod environment;
 mod fault;
