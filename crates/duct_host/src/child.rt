@@ -235,16 +235,25 @@ impl<R: Processes> Child<R> {
         if self.orders.reserve(1).is_err() {
             return Err(no_memory());
         }
-        let answer = match order {
+        let answer = self.answer_to(order);
+        self.orders.push_reserved((order, answer));
+        answer
+    }
+
+    /// Gives the child an order, and returns its result.
+    fn answer_to(&mut self, order: Order) -> Result<(), Fault>
+        ensures allowed { MayObey order true result }
+        ensures view { child_view self.new ≡ child_view self.old }
+        ensures orders { self.new.orders ≡ self.old.orders }
+    {
+        match order {
             Order::Signal(signal) if !is_served(signal) => Err(Fault::new(Kind::InvalidInput)),
             Order::Kill | Order::Signal(KILL) => kill_process(&mut self.started),
             Order::Signal(signal) => {
                 let asked = has_ended(self.seen.ending, self.last, &mut self.started);
                 self.send(signal, asked)
             }
-        };
-        self.orders.push_reserved((order, answer));
-        answer
+        }
     }
 
     /// Sends the child a signal. Where it has ended nothing is sent and the result is `Ok`, as a
