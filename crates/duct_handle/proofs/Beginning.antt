@@ -12,7 +12,7 @@ use Rattle.duct_start.specs.Running.{IsRunning, RunningView}
 use Rattle.duct_start.specs.TreeView.{TreeView}
 use Rattle.duct_running.specs.NumbersView.{NumbersView, numbers_in}
 use Rattle.duct_handle.specs.HandleView.{HandleView}
-use Rattle.duct_handle.specs.Started.{AreNumbers, IsHandle}
+use Rattle.duct_handle.specs.Started.{AreIds, AreNumbers, IsHandle}
 
 twice : {X Y Z : Type 0} (f : X → Y) (g : Y → Z) (xs : List X)
     → map g (map f xs) ≡ map (λ x. g (f x)) xs
@@ -60,3 +60,11 @@ is_handle child feed drain tree output error added running handle runs shape num
   shape_is = shape ∙ runs.shape_is;
   numbers_are = are_numbers child feed drain tree output error added running handle.numbers runs numbers;
 }
+
+-- the ids of what runs are those of children with the numbers in the journal
+pub are_ids : {E H C F D V W : Type 0} (child : C → ChildView) (feed : F → JobView V)
+    (drain : D → JobView W) (tree : TreeView E H) (output error : Bool)
+    (added : List EntryView) (running : RunningView C F D) (ids : List ℕ) → IsRunning child feed drain tree output error added running
+    → ids ≡ map (λ c. c.process) (map child running.children) → AreIds child added ids
+are_ids child feed drain tree output error added running ids runs same =
+    (running.children, runs.children_are, same ∙ twice child (λ c. c.process) running.children)

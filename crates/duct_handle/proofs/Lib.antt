@@ -1,5 +1,6 @@
 pub mod Beginning
 pub mod Finishing
+pub mod Giving
 pub mod Obeying
 pub mod Polling
 pub mod Sharing

@@ -8,8 +8,9 @@ use Rattle.duct_system.specs.declared.error.Error.TheVariants as error
 use Rattle.duct_system.specs.declared.system.ExitStatus.{ExitStatus}
 use Rattle.duct_system.specs.declared.system.Kind.TheVariants.{Other, OutOfMemory}
 use Rattle.duct_system.specs.declared.system.Order.{Order}
+use Rattle.duct_start.specs.Running.{RunningView}
 use Rattle.duct_run.specs.SystemViews.{SystemViews}
-use Rattle.duct_running.specs.Ordered.{OrderAnswers, leftmost}
+use Rattle.duct_running.specs.Ordered.{ChildrenOrdered, OrderAnswers, leftmost}
 
 module _ {S E C F D V W : Type 0} (views : SystemViews S E C F D V W) where
   -- what a command of this number returns for an order: Ok if a poll of it may return an exit
@@ -34,3 +35,20 @@ module _ {S E C F D V W : Type 0} (views : SystemViews S E C F D V W) where
   IsObeyed order numbers result =
       (result ≡ Err (error.System (record { kind = Other })))
       ⊎ ∥ AllObey order numbers result ∥₁
+
+  -- each child that had not ended was given the order once, the result is the leftmost fault, and
+  -- the shape and the workers are as before
+  pub record OrderedOnce (order : Order) (before : RunningView C F D)
+      (result : Result (Unit {0}) Error) (after : RunningView C F D) : Type 0 where
+    pub shape : after.shape ≡ before.shape
+    pub children : ChildrenOrdered views order before result after
+    pub feeds : after.feeds ≡ before.feeds
+    pub output : after.output ≡ before.output
+    pub error : after.error ≡ before.error
+
+  -- the same, or the result is `Other` and all is as before
+  abbrev pub IsOrderedOnce : Order → RunningView C F D → Result (Unit {0}) Error
+      → RunningView C F D → Type 0
+  IsOrderedOnce order before result after =
+      ((result ≡ Err (error.System (record { kind = Other }))) × (after ≡ before))
+      ⊎ OrderedOnce order before result after

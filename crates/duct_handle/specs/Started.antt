@@ -1,6 +1,7 @@
 -- What a handle keeps of the journal of its start.
-use Rattle.std.specs.Prelude.{Bool, List, ◌++◌, ◌≡◌, is_some}
+use Rattle.std.specs.Prelude.{ℕ, Bool, List, ◌++◌, ◌≡◌, is_some, map}
 use Rattle.std.specs.Option.{option_to_list}
+use Rattle.duct_system.specs.Child.{ChildView}
 use Rattle.duct_system.specs.EntryView.{EntryView}
 use Rattle.duct_system.specs.Started.{children_in, feeds_in, drains_in}
 use Rattle.duct_status.specs.ShapeView.{shape_view}
@@ -25,3 +26,10 @@ pub record IsHandle {E H : Type 0} (tree : TreeView E H) (output error : Bool)
     (added : List EntryView) (handle : HandleView) : Type 0 where
   pub shape_is : shape_view handle.shape ≡ shape_of_tree tree
   pub numbers_are : AreNumbers output error added handle.numbers
+
+-- there are children with the numbers of those that were added to the journal, and these are their
+-- process ids, each in its place
+abbrev pub AreIds : {C : Type 0} → (C → ChildView) → List EntryView → List ℕ → Type 0
+AreIds {C} child added ids =
+    (children : List C) × (map (λ c. (child c).number) children ≡ children_in added)
+    × (ids ≡ map (λ c. (child c).process) children)

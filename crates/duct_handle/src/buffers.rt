@@ -1,5 +1,5 @@
 //! How a handle is made of what runs, and how it is given up.
-ghost use Rattle.std.specs.Prelude.{◌≡◌, ◌≤◌, List, [], length, vec_capacity, IfOk, IsOkUnless, None};
+ghost use Rattle.std.specs.Prelude.{◌≡◌, ◌≤◌, List, [], length, map, vec_capacity, IfOk, IsOkUnless, None};
 ghost use Rattle.std.specs.Arc.{arc_value};
 ghost use Rattle.duct_status.specs.ShapeView.{command_count, input_count, shape_view};
 ghost use Rattle.duct_run.specs.Requested.{PoolGets};
@@ -114,6 +114,7 @@ pub fn handle_of<S: System>(alloc: Global, running: Running<S>, room: HandleBuff
         running.output running.error }
     ensures shape { shape_view result.shape ≡ shape_view running.shape }
     ensures numbers { result.numbers ≡ numbers_of ⟦<S as Viewed>⟧.views running }
+    ensures ids { result.ids ≡ map (λ c. c.process) (map S.Child.child_view running.children) }
 {
     let HandleBuffers {
         shape,
@@ -156,6 +157,18 @@ pub(crate) fn into_locked<S: System>(handle: Handle<S>) -> (Running<S>, Arc<Shap
     (running, shape, numbers)
 }
 
+// Gives the children of what a lock held to a pool.
+fn give_up_released<S: System>(
+    released: (Running<S>, Arc<Shape>, Numbers),
+    pool: &mut Pool<S::Child>,
+)
+    ensures { PoolGets ⟦<S as Viewed>⟧.views released.0.children pool.old pool.new }
+{
+    let (running, shape, numbers) = released;
+    drop((shape, numbers));
+    running.give_up(pool);
+}
+
 impl<S: System> Handle<S> {
     /// Gives the children to a pool, which may be another one than the start's. Each is polled
     /// once: one that still runs goes to the end of the pool, one that has ended counts as reaped,
@@ -168,8 +181,6 @@ impl<S: System> Handle<S> {
         ensures { (children : List S.Child)
             × PoolGets ⟦<S as Viewed>⟧.views children pool.old pool.new }
     {
-        let (running, shape, numbers) = into_locked(self);
-        drop((shape, numbers));
-        running.give_up(pool);
+        give_up_released(into_locked(self), pool);
     }
 }

@@ -6,6 +6,8 @@ ghost use Rattle.duct_status.specs.ShapeView.{shape_view};
 ghost use Rattle.duct_running.specs.Answered.{IsAnswer};
 ghost use Rattle.duct_running.specs.NumbersView.{numbers_view};
 ghost use Rattle.duct_running.specs.Allowed.{OneRuns};
+ghost use Rattle.duct_running.specs.PolledOnce.{PolledOnce};
+ghost use Rattle.duct_running.specs.Stays.{StaysSame};
 ghost use Rattle.duct_handle.specs.Waited.{GivesAgain, KnowsIfEnded, Waited};
 
 use crate::poll::{HandleState, mismatch_error, poll_and_publish, same};
@@ -50,6 +52,7 @@ impl<S: System> Model for Handle<S> {
     ghost view = { λ h. record {
       shape = arc_value h.shape;
       numbers = numbers_view h.numbers;
+      ids = h.ids.items;
       cell = cell_name h.cell;
     } };
 }
@@ -181,7 +184,7 @@ impl<S: System> Handle<S> {
         None
     }
 
-    // Polls what the lock holds, and publishes how it ended.
+    // Polls what the lock holds, once, and publishes how it ended.
     fn poll_locked(
         &self,
         locked: &mut HandleState<S>,
@@ -190,7 +193,9 @@ impl<S: System> Handle<S> {
     ) -> Result<Option<Arc<Output>>, Error>
         requires cell { seen.old.cell ≡ self.now.cell }
         requires unknown { seen.old.known ≡ None }
-        ensures { Waited ⟦<S as Viewed>⟧.views self.now seen.old seen.new result }
+        ensures polls { PolledOnce ⟦<S as Viewed>⟧.views locked.old.running locked.new.running }
+        ensures stays { StaysSame ⟦<S as Viewed>⟧.views locked.old.running locked.new.running }
+        ensures waited { Waited ⟦<S as Viewed>⟧.views self.now seen.old seen.new result }
     {
         let looked = poll_and_publish(locked, &self.shape, &self.numbers);
         *busy = locked.running.is_busy();

@@ -1,7 +1,8 @@
 //! The orders of a handle to its commands, and their ids.
+ghost use Rattle.std.specs.Prelude.{◌≡◌};
 ghost use Rattle.duct_system.specs.declared.system.Order.TheVariants.{Kill};
 ghost use Rattle.duct_running.specs.NumbersView.{numbers_view};
-ghost use Rattle.duct_handle.specs.Obeyed.{IsObeyed};
+ghost use Rattle.duct_handle.specs.Obeyed.{IsObeyed, IsOrderedOnce};
 
 use crate::handle::Handle;
 use crate::poll::mismatch_error;
@@ -13,14 +14,17 @@ use duct_running::numbers::Numbers;
 use duct_running::running::Running;
 use std::sync::Wait;
 
-// Gives the order to what runs, which has this shape and these numbers.
+// Gives the order to what runs, once. Where the shape or the numbers differ from these, it fails and
+// gives nothing.
 fn ordered<S: System>(
     running: &mut Running<S>,
     shape: &Shape,
     numbers: &Numbers,
     order: Order,
 ) -> Result<(), Error>
-    ensures { IsObeyed ⟦<S as Viewed>⟧.views order (numbers_view numbers.now).children result }
+    ensures orders { IsOrderedOnce ⟦<S as Viewed>⟧.views order running.old result running.new }
+    ensures obeyed { IsObeyed ⟦<S as Viewed>⟧.views order (numbers_view numbers.now).children
+        result }
 {
     running.answers_allowed();
     if !running.is_of(shape, numbers) {
@@ -59,7 +63,9 @@ impl<S: System> Handle<S> {
     /// Returns the process ids of the children, one a command, from left to right. They stay the
     /// same after the commands have ended, when an id may be another process's. It takes no lock
     /// and allocates nothing.
-    pub fn pids(&self) -> &[u32] {
+    pub fn pids(&self) -> &[u32]
+        ensures { result.now ≡ self.now.ids }
+    {
         &self.ids
     }
 }

@@ -6,7 +6,7 @@ ghost use Rattle.duct_run.specs.Requested.{PoolGets};
 ghost use Rattle.duct_running.specs.Answered.{IsAnswer, IsConcluded};
 ghost use Rattle.duct_running.specs.Polled.{IsOutput};
 ghost use Rattle.duct_status.specs.ReplyView.{answered};
-ghost use Rattle.duct_running.specs.NumbersView.{numbers_view};
+ghost use Rattle.duct_running.specs.NumbersView.{numbers_of, numbers_view};
 ghost use Rattle.duct_handle.specs.AreGiven.{AreGiven};
 
 use crate::buffers::into_locked;
@@ -86,8 +86,8 @@ pub(crate) fn output_or_give_up<S: System>(
     }
 }
 
-// Does the same with what a lock held, if it has the shape and the numbers that were kept outside
-// the lock.
+// Does the same with what a lock held. Where that doesn't have the shape and the numbers that were
+// kept outside the lock, it fails, and its children are given to the pool.
 fn checked_output_or_give_up<S: System>(
     alloc: Global,
     released: (Running<S>, Arc<Shape>, Numbers),
@@ -99,8 +99,11 @@ fn checked_output_or_give_up<S: System>(
     ensures err { IfErr result (λ e. (waited ≡ Err e) ⊎ (e ≡ Error.Memory)
         ⊎ (e ≡ Error.System (record { kind = Kind.Other }))) }
     ensures kept { OnOk result (pool.new ≡ pool.old) }
-    ensures given { IfErr result (λ e. AreGiven ⟦<S as Viewed>⟧.views (numbers_view released.2) e
-        pool.old pool.new) }
+    ensures same { IfErr result (λ e.
+        (numbers_of ⟦<S as Viewed>⟧.views released.0 ≡ numbers_view released.2)
+        ⊎ (e ≡ Error.System (record { kind = Kind.Other }))) }
+    ensures given { OnErr result
+        (PoolGets ⟦<S as Viewed>⟧.views released.0.children pool.old pool.new) }
 {
     let (ran, shape, numbers) = released;
     if !ran.is_of(&shape, &numbers) {

@@ -4,6 +4,7 @@ ghost use Rattle.std.specs.Arc.{arc_value};
 ghost use Rattle.duct_status.specs.ShapeView.{shape_view};
 ghost use Rattle.duct_running.specs.Answered.{EndsAs, IsAnswer, IsConcluded};
 ghost use Rattle.duct_running.specs.NumbersView.{numbers_of, numbers_view};
+ghost use Rattle.duct_running.specs.PolledOnce.{PolledOnce};
 ghost use Rattle.duct_running.specs.Stays.{StaysSame};
 ghost use Rattle.duct_running.specs.Allowed.{OneRuns};
 ghost use Rattle.duct_handle.specs.AnswerView.{answer_view};
@@ -31,8 +32,9 @@ pub(crate) fn mismatch_error() -> Error
     Error::System(Fault::new(Kind::Other))
 }
 
-// Polls what runs. The result is concluded from what was reported under its numbers.
+// Polls what runs, once. The result is concluded from what was reported under its numbers.
 pub(crate) fn polled<S: System>(running: &mut Running<S>) -> Result<Option<Arc<Output>>, Error>
+    ensures polls { PolledOnce ⟦<S as Viewed>⟧.views running.old running.new }
     ensures stays { StaysSame ⟦<S as Viewed>⟧.views running.old running.new }
     ensures ending { EndsAs ⟦<S as Viewed>⟧.views running.new result }
     ensures runs { result ≡ Ok None
@@ -43,12 +45,14 @@ pub(crate) fn polled<S: System>(running: &mut Running<S>) -> Result<Option<Arc<O
     polled
 }
 
-// Polls what runs, which has this shape and these numbers.
+// Polls what runs, once. It fails where the shape or the numbers differ from these.
 fn poll_checked<S: System>(
     running: &mut Running<S>,
     shape: &Shape,
     numbers: &Numbers,
 ) -> Result<Option<Answer>, Error>
+    ensures polls { PolledOnce ⟦<S as Viewed>⟧.views running.old running.new }
+    ensures stays { StaysSame ⟦<S as Viewed>⟧.views running.old running.new }
     ensures answer { IfOk result (λ o. IfSome o (λ a. IsConcluded ⟦<S as Viewed>⟧.views
         (shape_view shape.now) (numbers_view numbers.now) (answer_view a))) }
     ensures runs { result ≡ Ok None → OneRuns ⟦<S as Viewed>⟧.views (numbers_view numbers.now) }
@@ -70,12 +74,15 @@ fn poll_checked<S: System>(
     }
 }
 
-// Once what runs has ended, returns the spare with its result, to be published; before that `None`.
+// Polls what runs, once. Where it has ended, returns the spare with its result, to be published;
+// before that `None`.
 pub(crate) fn poll_and_publish<S: System>(
     locked: &mut HandleState<S>,
     shape: &Shape,
     numbers: &Numbers,
 ) -> Result<Option<Box<Published<S>>>, Error>
+    ensures polls { PolledOnce ⟦<S as Viewed>⟧.views locked.old.running locked.new.running }
+    ensures stays { StaysSame ⟦<S as Viewed>⟧.views locked.old.running locked.new.running }
     ensures ended { IfOk result (λ o. IfSome o (λ b. is_some b.value.answer ≡ true)) }
     ensures runs { result ≡ Ok None → OneRuns ⟦<S as Viewed>⟧.views (numbers_view numbers.now) }
     ensures waits { result ≡ Ok None → IsAnswer ⟦<S as Viewed>⟧.views (shape_view shape.now)

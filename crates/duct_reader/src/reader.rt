@@ -71,7 +71,9 @@ impl<S: System, R> ReaderHandle<S, R> {
     /// Returns the process ids of the children, one a command, from left to right. They stay the
     /// same after the commands have ended, when an id may be another process's. It takes no lock
     /// and allocates nothing.
-    pub fn pids(&self) -> &[u32] {
+    pub fn pids(&self) -> &[u32]
+        ensures { result.now ≡ self.now.ids }
+    {
         self.handle.pids()
     }
 

@@ -72,6 +72,8 @@ returns-in-Err g c =
     let ending : IsEnding may feed drain (shape_view c.args.shape.now) (numbers_view c.args.numbers.now) (Err c.in-Err.error) =
     subst (λ (X : Type 0). X) (λ i. IsEnding may feed drain (shapes i) (numbers i) (c.in-Err.is i)) c.polled-ended.ensures.ending in
     record {
+      polls = c.polled-ended.ensures.polls;
+      stays = c.polled-ended.ensures.stays;
       answer = tt;
       runs = λ is. absurd (cc);
       waits = λ is. absurd (cc);

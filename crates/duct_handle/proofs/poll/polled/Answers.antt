@@ -1,6 +1,17 @@
 use Rattle.duct_running.proofs.Kept.{stays}
 use Rattle.duct_handle.proofs.poll.polled.Goals as goal
 
+pub returns-clause-polls : goal.returns-clause-polls
+returns-clause-polls g c =
+    let polls = c.poll-polled.ensures in
+    record {
+      shape = polls.shape;
+      children = polls.asked;
+      feeds = polls.asked_feeds;
+      output = polls.asked_output;
+      error = polls.asked_error;
+    }
+
 pub returns-clause-stays : goal.returns-clause-stays
 returns-clause-stays g c =
     let polls = c.poll-polled.ensures in

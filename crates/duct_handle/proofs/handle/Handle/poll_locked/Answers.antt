@@ -14,8 +14,8 @@ use Rattle.duct_handle.specs.Waited.{Waited}
 use Rattle.duct_handle.proofs.Sharing.{none_within, shared, still_refused, still_unknown}
 use Rattle.duct_handle.proofs.handle.Handle.poll_locked.Goals as goal
 
-pub returns : goal.returns
-returns g c =
+pub returns-clause-waited : goal.returns-clause-waited
+returns-clause-waited g c =
     let views = views_of g.S.System g.S.End.Numbered g.S.Child.Child g.S.Feed.Job g.S.Drain.Job in
     let none = none_within (λ p. record { shape = arc_value p.shape; numbers = numbers_view p.numbers; answer = p.answer }) c.seen.inside.note.known (ap (λ (v : SeenView). v.known) c.seen.view_is ∙ c.requires.unknown) in
     let s = c.share.ensures in
@@ -24,8 +24,8 @@ returns g c =
     (shared views (λ p. record { shape = arc_value p.shape; numbers = numbers_view p.numbers; answer = p.answer }) c.args.self.now c.seen.inside.note.cell c.get_as.new.note.cell c.seen.inside.note.known c.get_as.new.note.known c.in-Some-get_as.published.now c.share.result
     c.in-Some-get_as.ensures.value.0 (subst (λ o. Agrees o c.in-Some-get_as.published.now) (sym none) tt) (c.in-Some-get_as.ensures.cell ∙ c.set_as.ensures.cell ∙ ap (λ (v : SeenView). v.cell) c.seen.view_is ∙ c.requires.cell) s.told s.pending s.knows s.again)
 
-pub returns-in_err-published : goal.returns-in_err-published
-returns-in_err-published g c =
+pub returns-in_err-published-clause-waited : goal.returns-in_err-published-clause-waited
+returns-in_err-published-clause-waited g c =
     let views = views_of g.S.System g.S.End.Numbered g.S.Child.Child g.S.Feed.Job g.S.Drain.Job in
     let shapes = ap (λ s. shape_view s) c.deref.ensures ∙ ap (λ (h : HandleView). shape_view h.shape) c.self.view_is in
     let numbers = ap (λ (h : HandleView). h.numbers) c.self.view_is in
@@ -33,8 +33,8 @@ returns-in_err-published g c =
     rw (p.1, p.2) (still_refused views (λ (p : PublishedView). p) c.args.self.now c.args.seen.now c.in_err-published.field-0.0 c.requires.unknown c.requires.cell
     (subst (λ (X : Type 0). X) (λ i. IsAnswer views (shapes i) (numbers i) (Err c.in_err-published.field-0.0)) c.in_err-published.ensures.err) c.in_err-published.ensures.fault)
 
-pub returns-in_default : goal.returns-in_default
-returns-in_default g c =
+pub returns-in_default-clause-waited : goal.returns-in_default-clause-waited
+returns-in_default-clause-waited g c =
     let views = views_of g.S.System g.S.End.Numbered g.S.Child.Child g.S.Feed.Job g.S.Drain.Job in
     let shapes = ap (λ s. shape_view s) c.deref.ensures ∙ ap (λ (h : HandleView). shape_view h.shape) c.self.view_is in
     let numbers = ap (λ (h : HandleView). h.numbers) c.self.view_is in
