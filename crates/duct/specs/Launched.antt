@@ -20,7 +20,7 @@ use Rattle.duct_run.specs.Requested.{PoolLeaves}
 use Rattle.duct_run.specs.SystemViews.{SystemViews}
 use Rattle.duct_running.specs.Stored.{Bytes}
 use Rattle.duct_handle.specs.HandleView.{HandleView}
-use Rattle.duct_handle.specs.Started.{IsHandle}
+use Rattle.duct_handle.specs.Started.{AreIds, IsHandle}
 use Rattle.duct.specs.TreeView.{tree_view}
 use Rattle.duct.specs.declared.expression.Expression.{Expression}
 use Rattle.duct.specs.RunResults.{LeavesGiven, ReadReturns, WaitFails, WaitReturns}
@@ -53,11 +53,6 @@ drains_error kind tree = is_some (plan_for kind tree).err
 abbrev pub MadeBy : Type 0 → Type 0 → Type 1
 MadeBy E H = StartKind → TreeView E H → List EntryView → Type 0
 
--- a handle keeps the shape of the tree and the numbers of what was started
-abbrev pub Handles : {E H : Type 0} → HandleView → MadeBy E H
-Handles handle kind tree added =
-    IsHandle tree (drains_output kind tree) (drains_error kind tree) added handle
-
 module _ {S E C F D V W : Type 0} (views : SystemViews S E C F D V W) where
   -- the entries that were added between two states of a system
   abbrev pub added_between : S → S → List EntryView
@@ -67,6 +62,13 @@ module _ {S E C F D V W : Type 0} (views : SystemViews S E C F D V W) where
   abbrev pub Runs : {H : Type 0} → RunningView C F D → MadeBy E H
   Runs running kind tree added = IsRunning views.child views.feed views.drain tree
       (drains_output kind tree) (drains_error kind tree) added running
+
+  -- a handle keeps the shape of the tree, the numbers of what was started, and the ids of the
+  -- children
+  abbrev pub Handles : {H : Type 0} → HandleView → MadeBy E H
+  Handles handle kind tree added =
+      IsHandle tree (drains_output kind tree) (drains_error kind tree) added handle
+      × AreIds views.child added handle.ids
 
   -- this runs the tree, and this is the reader of its stdout
   abbrev pub RunsRead : {H R : Type 0} → (ℕ → R → Type 0) → RunningView C F D → R → MadeBy E H

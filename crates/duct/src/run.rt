@@ -33,7 +33,7 @@ impl<E: Drop, H: Hook> Expression<E, H> {
         pool: &mut Pool<S::Child>,
     ) -> Result<ReaderHandle<S, R>, Error>
         ensures launched { IfOk result (λ handle. Launched ⟦<S as Viewed>⟧.views H.allows reading
-            self.now sys.old sys.new pool.old pool.new (Handles handle)) }
+            self.now sys.old sys.new pool.old pool.new (Handles ⟦<S as Viewed>⟧.views handle)) }
         ensures refused { IfErr result (LaunchRefused ⟦<S as Viewed>⟧.views H.allows H.refuses reading
             self.now sys.old sys.new pool.old pool.new) }
     {

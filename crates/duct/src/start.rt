@@ -168,7 +168,7 @@ impl<E: Drop, H: Hook> Expression<E, H> {
         pool: &mut Pool<S::Child>,
     ) -> Result<Handle<S>, Error>
         ensures launched { IfOk result (λ handle. Launched ⟦<S as Viewed>⟧.views H.allows draining
-            self.now sys.old sys.new pool.old pool.new (Handles handle)) }
+            self.now sys.old sys.new pool.old pool.new (Handles ⟦<S as Viewed>⟧.views handle)) }
         ensures refused { IfErr result (LaunchRefused ⟦<S as Viewed>⟧.views H.allows H.refuses
             draining self.now sys.old sys.new pool.old pool.new) }
     {
