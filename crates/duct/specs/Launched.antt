@@ -47,7 +47,7 @@ drains_output reading tree = false
 
 -- stderr gets a capture worker
 abbrev pub drains_error : {E H : Type 0} → StartKind → TreeView E H → Bool
-drains_error kind tree = is_some (plan_for kind tree).err
+drains_error kind tree = is_some (plan_for kind tree).pipes.err
 
 -- what is to hold of what such a start of a tree makes, by the entries that it added
 abbrev pub MadeBy : Type 0 → Type 0 → Type 1

@@ -1,17 +1,18 @@
 -- A spawn must be given what the hooks make of what the tree gives the command, and nothing if one
 -- of them stops the start.
-use Rattle.std.proofs.Common.{◌≡◌, refl, ℕ, List, sym, ◌∙◌, ap, subst, ◌↔◌, Ok, Err, IfOk, IfErr}
+use Rattle.std.proofs.Common.{◌≡◌, refl, ℕ, List, map, sym, ◌∙◌, ap, subst, ◌↔◌, Ok, Err, Some, None, IfOk, IfErr}
 use Rattle.std.specs.declared.option.Option.{Option}
 use Rattle.std.specs.declared.result.Result.{Result}
 use Rattle.duct_system.specs.EntryView.{EntryView}
 use Rattle.duct_system.specs.Origin.{Origin}
 use Rattle.duct_system.specs.SpecView.{SpecView}
+use Rattle.duct_system.specs.Streams.{stream_of}
 use Rattle.duct_system.specs.declared.error.Error.{Error}
 use Rattle.duct_system.specs.declared.system.Stdio.{Stdio}
 use Rattle.duct_start.specs.Chain.{SpecWithOrigins, HooksChange, HooksStop, hooks_by_origin}
-use Rattle.duct_start.specs.Follows.{IsSpawnedAt, IsAskedAt}
+use Rattle.duct_start.specs.Follows.{IsSpawnedAt, IsSpawnedBy, IsAskedAt}
 use Rattle.duct_start.specs.Surroundings.{Surroundings}
-use Rattle.duct_follows.specs.Given.{AreThese, AreAnswered, FoundNoMemory, Decides}
+use Rattle.duct_follows.specs.Given.{AreThese, AreAnswered, FoundNoMemory, Decides, IsAnsweredBy}
 use Rattle.duct_follows.specs.ScriptHooks.{allows, refuses}
 use Rattle.duct_follows.specs.Wiring.{wired_of}
 use Rattle.duct_follows.proofs.Chains.{chain_one, chain_none}
@@ -20,6 +21,7 @@ use Rattle.duct_follows.proofs.Specs.{same_asked_at, same_wired}
 use Rattle.duct_follows.proofs.Wiring.{streams_in, three_streams, wired-streams}
 use Rattle.duct_plan.specs.AskedOf.{IsAskedThere, IsAnswered}
 use Rattle.duct_plan.specs.declared.asked.Wired as answer
+use Rattle.duct_plain.specs.Source.{origin_of}
 use Rattle.duct_script.specs.declared.hook.ScriptHook.{ScriptHook}
 
 -- if a result has some spec and streams, it has those of `wired_of`
@@ -91,3 +93,20 @@ module _ {E : Type 0} (entries : List EntryView) (number_of : E → ℕ) (place 
       subst (λ (given : Option answer.Wired). IsSpawnedHere spec streams ↔ AreAnswered given spec streams) (sym decides) (given_these asked after there chain own spec streams)
   given_is asked (Err error) given there chain own stops decides spec streams =
       subst (λ (given : Option answer.Wired). IsSpawnedHere spec streams ↔ AreAnswered given spec streams) (sym decides.0) (given_none asked error there stops decides.1 spec streams)
+
+  -- what a spawn must be given, for any relation that must hold for the origins of its streams
+  pub given_by : (gives : List (Stdio Origin) → Type 0) (given : Option answer.Wired) (spec : SpecView)
+      → ((spec : SpecView) (streams : List (Stdio Origin)) → IsSpawnedHere spec streams ↔ AreAnswered given spec streams)
+      → IsSpawnedBy gives allows number_of entries place found words spec ↔ IsAnsweredBy gives given spec
+  given_by gives (Some given) spec is = (
+    λ spawned.
+        let these = (is spec (streams_in spawned.1)).0 (spawned.0, spawned.1, spawned.2, spawned.3, spawned.4, refl) in
+        (these.spec_is, subst gives these.streams_are spawned.5),
+    λ answered.
+        let spawned = (is spec (map (stream_of origin_of) given.streams)).1 (record { spec_is = answered.0; streams_are = refl }) in
+        (spawned.0, spawned.1, spawned.2, spawned.3, spawned.4, subst gives spawned.5 answered.1),
+  )
+  given_by gives None spec is = (
+    λ spawned. (is spec (streams_in spawned.1)).0 (spawned.0, spawned.1, spawned.2, spawned.3, spawned.4, refl),
+    λ never. absurd never,
+  )

@@ -3,19 +3,20 @@ ghost use Rattle.std.specs.Prelude.{◌≡◌, ◌+◌, ◌↔◌, ◌<◌, ◌�
 ghost use Rattle.duct_system.specs.EntryView.{entry_view};
 ghost use Rattle.duct_system.specs.Origin.{Origin, origin, Opened};
 ghost use Rattle.duct_system.specs.SpecView.{SpecView};
-ghost use Rattle.duct_system.specs.Streams.{stream_of};
 ghost use Rattle.duct_system.specs.Trace.{trace};
 ghost use Rattle.duct_system.specs.declared.system.Stdio.{Stdio};
 ghost use Rattle.duct_start.specs.Asked.{end_at};
-ghost use Rattle.duct_start.specs.Follows.{Answers, AnswersFrom, Follows, FollowsWhole, IsSpawnedAt};
-ghost use Rattle.duct_follows.specs.Given.{AreAnswered, FoundNoMemory, Decides, IsUntoldBy};
+ghost use Rattle.duct_start.specs.Follows.{AnswersBy, AnswersFromBy, AsksPlan, Follows, FollowsWhole, IsSpawnedAt};
+ghost use Rattle.duct_follows.specs.Given.{AreAnswered, FoundNoMemory, Decides, IsAnsweredBy, IsUntoldBy};
 ghost use Rattle.duct_follows.specs.ScriptHooks.{allows};
+ghost use Rattle.duct_follows.specs.Sources.{gives};
 ghost use Rattle.duct_plan.specs.Found.{found_of};
 ghost use Rattle.duct_plan.specs.EntryViews.{entry_views};
 ghost use Rattle.duct_plan.specs.PlanView.{item_of, plan_view};
 
 use crate::chain::wired;
-use crate::same::{same_spec, same_streams};
+use crate::same::same_spec;
+use crate::sources::{CallerEnds, are_given};
 use crate::stops::{is_clean, stops_at_fault};
 use crate::untold::Untold;
 use duct_base::error::Error;
@@ -45,7 +46,8 @@ pub fn follows<E: Numbered>(
 {
     let trace = trace(alloc, added)?;
     let items = plan.items.as_slice();
-    let answered = answers_from(alloc, added, 0, items, trace.as_slice())?;
+    let ends = CallerEnds::ByOrigin;
+    let answered = answers_from(alloc, ends, added, 0, items, trace.as_slice())?;
     Ok(answered && stops_at_fault(added))
 }
 
@@ -65,10 +67,30 @@ pub fn follows_whole<E: Numbered>(
     Ok(trace.len() == plan.items.len() && is_clean(added) && follows(alloc, plan, added)?)
 }
 
+/// Returns whether the added entries make the requests of a prefix of the plan. It differs from
+/// `follows` in two points: a stream that goes to an end of the caller must be a duplicate of that
+/// end's number, even if an entry returned that number too; and nothing is said of what comes after
+/// a fault. Fails as `follows` does.
+pub fn asks_plan<E: Numbered>(
+    alloc: Global,
+    plan: &Plan<'_, E, ScriptHook>,
+    added: &[Entry],
+) -> Result<bool, Untold>
+    ensures { IfOk result
+        (λ yes. IsTrue yes ↔ AsksPlan ⟦<ScriptHook as Hook>⟧.allows E.number_of (plan_view plan.now)
+        (map entry_view added.now)) }
+{
+    let trace = trace(alloc, added)?;
+    let items = plan.items.as_slice();
+    let ends = CallerEnds::ByNumber;
+    answers_from(alloc, ends, added, 0, items, trace.as_slice())
+}
+
 /// Returns whether the entries from a place of the trace on match the items from that place on, as
 /// far as there are entries.
 fn answers_from<E: Numbered>(
     alloc: Global,
+    ends: CallerEnds,
     added: &[Entry],
     place: usize,
     items: &[Item<'_, E, ScriptHook>],
@@ -77,15 +99,15 @@ fn answers_from<E: Numbered>(
     requires fits { place + length entries.now < 2 ^ 64 }
     requires last { place + length entries.now ≡ length (trace (map entry_view added.now)) }
     ensures { IfOk result (λ yes. IsTrue yes
-        ↔ AnswersFrom allows E.number_of (map entry_view added.now) place (map item_of items.now)
-        (entry_views entries.now)) }
+        ↔ AnswersFromBy (gives ends (map entry_view added.now)) allows E.number_of
+        (map entry_view added.now) place (map item_of items.now) (entry_views entries.now)) }
 {
     match (items.split_first(), entries.split_first()) {
         (_, None) => Ok(true),
         (None, Some(_)) => Ok(false),
         (Some((item, items)), Some((entry, entries))) => {
-            let first = answers(alloc, added, place, item, entry)?;
-            let rest = answers_from(alloc, added, place + 1, items, entries)?;
+            let first = answers(alloc, ends, added, place, item, entry)?;
+            let rest = answers_from(alloc, ends, added, place + 1, items, entries)?;
             Ok(first && rest)
         }
     }
@@ -94,6 +116,7 @@ fn answers_from<E: Numbered>(
 /// Returns whether an entry of the trace matches the item at its place.
 fn answers<E: Numbered>(
     alloc: Global,
+    ends: CallerEnds,
     added: &[Entry],
     place: usize,
     item: &Item<'_, E, ScriptHook>,
@@ -101,8 +124,8 @@ fn answers<E: Numbered>(
 ) -> Result<bool, Untold>
     requires { place ≤ length (trace (map entry_view added.now)) }
     ensures { IfOk result (λ yes. IsTrue yes
-        ↔ Answers allows E.number_of (map entry_view added.now) place (item_of item.now)
-        (entry_view entry.now)) }
+        ↔ AnswersBy (gives ends (map entry_view added.now)) allows E.number_of
+        (map entry_view added.now) place (item_of item.now) (entry_view entry.now)) }
 {
     match (item, entry) {
         (Item::Environment, Entry::Environment(_)) => Ok(true),
@@ -112,7 +135,7 @@ fn answers<E: Numbered>(
         (Item::Canonicalize(name), Entry::Canonicalize(path, _)) => Ok(path.as_str() == *name),
         (Item::Spawn(found, words), Entry::Spawn(spec, io, _)) => {
             let given = given(alloc, added, place, found, words)?;
-            Ok(is_answered(added, spec, io, given)?)
+            Ok(is_answered(ends, added, spec, io, given)?)
         }
         (Item::Feed(pipe, bytes), Entry::Feed(end, fed, _)) => {
             Ok(fed.as_slice() == *bytes && is_writer(alloc, added, *pipe, *end)?)
@@ -150,18 +173,21 @@ fn is_writer(alloc: Global, added: &[Entry], pipe: usize, end: u64) -> Result<bo
 /// Returns whether a spawn was given the spec that it must be given, and ends that come from where
 /// they must come from.
 fn is_answered(
+    ends: CallerEnds,
     added: &[Entry],
     spec: &CommandSpec,
     io: &[Stdio<u64>; 3],
     given: Option<Wired>,
 ) -> Result<bool, AllocError>
     ensures { IfOk result
-        (λ yes. IsTrue yes ↔ AreAnswered given spec.now
-        (map (stream_of (origin (map entry_view added.now))) io.now)) }
+        (λ yes. IsTrue yes
+        ↔ IsAnsweredBy (gives ends (map entry_view added.now) io.now) given spec.now) }
 {
     match given {
         None => Ok(false),
-        Some(given) => Ok(same_spec(spec, &given.spec)? && same_streams(added, io, &given.streams)),
+        Some(given) => {
+            Ok(same_spec(spec, &given.spec)? && are_given(ends, added, io, &given.streams))
+        }
     }
 }
 

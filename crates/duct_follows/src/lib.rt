@@ -5,5 +5,6 @@ pub mod causes;
 pub mod chain;
 pub mod follows;
 pub mod same;
+pub mod sources;
 pub mod stops;
 pub mod untold;

@@ -1,16 +1,10 @@
-//! Whether two specs are equal, and whether two lists of streams come from the same places.
+//! Whether two specs are equal.
 ghost use Rattle.std.specs.Prelude.{◌≡◌, ◌↔◌, map, string_bytes, IfOk, IsTrue};
 ghost use Rattle.std.specs.Option.{option_copied};
-ghost use Rattle.duct_system.specs.EntryView.{entry_view};
-ghost use Rattle.duct_system.specs.Origin.{origin};
-ghost use Rattle.duct_system.specs.Streams.{stream_of};
 ghost use Rattle.duct_follows.specs.Same.{HaveSamePorts};
 ghost use Rattle.duct_plan.specs.Found.{pair_seen};
-ghost use Rattle.duct_plain.specs.Source.{origin_of};
 
 use duct_base::spec::{CommandSpec, Port, Stream};
-use duct_base::system::{Entry, Stdio};
-use duct_plain::checker::{Source, origin};
 use std::alloc::AllocError;
 
 /// Returns whether two specs are equal. Fails only on allocation failure.
@@ -72,30 +66,4 @@ fn same_port(one: Port, other: Port) -> bool
     ensures { IsTrue result ↔ (one ≡ other) }
 {
     one == other
-}
-
-/// Returns whether the ends of three streams come from these sources, according to the entries.
-pub fn same_streams(entries: &[Entry], io: &[Stdio<u64>; 3], streams: &[Stdio<Source>; 3]) -> bool
-    ensures { IsTrue result ↔
-        (map (stream_of (origin (map entry_view entries.now))) io.now
-        ≡ map (stream_of origin_of) streams.now) }
-{
-    let [input, output, error] = *io;
-    let [from_input, from_output, from_error] = *streams;
-    same_stream(entries, input, from_input)
-        && same_stream(entries, output, from_output)
-        && same_stream(entries, error, from_error)
-}
-
-/// Returns whether the end of a stream comes from this source.
-fn same_stream(entries: &[Entry], stream: Stdio<u64>, source: Stdio<Source>) -> bool
-    ensures { IsTrue result ↔
-        (stream_of (origin (map entry_view entries.now)) stream ≡ stream_of origin_of source) }
-{
-    match (stream, source) {
-        (Stdio::Inherit, Stdio::Inherit) => true,
-        (Stdio::Null, Stdio::Null) => true,
-        (Stdio::End(number), Stdio::End(source)) => origin(entries, number) == source,
-        _ => false,
-    }
 }

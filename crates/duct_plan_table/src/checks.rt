@@ -2,8 +2,10 @@
 use crate::texts::TestPlan;
 use duct::{Entry, Error};
 use duct_follows::causes::{answers_last_fault, has_cause};
-use duct_follows::follows::{follows, follows_whole};
+use duct_follows::follows::{asks_plan, follows, follows_whole};
+use duct_follows::stops::{is_clean, stops_at_fault};
 use duct_follows::untold::Untold;
+use duct_plain::checker::trace;
 use duct_table::stop::TableError;
 use duct_table::words::{fault, first_word};
 use std::alloc::Global;
@@ -16,14 +18,29 @@ pub fn followed(
     plan: &TestPlan,
     entries: &[Entry],
 ) -> Result<&'static str, TableError> {
-    match told(alloc, plan, entries) {
+    known(followed_by(alloc, plan, entries))
+}
+
+/// Returns the same as `followed`, where a stream that goes to a caller's end has to be a duplicate
+/// of that end's number, even if the start got that number too. Fails only on allocation failure.
+pub fn requested(
+    alloc: Global,
+    plan: &TestPlan,
+    entries: &[Entry],
+) -> Result<&'static str, TableError> {
+    known(requested_by(alloc, plan, entries))
+}
+
+/// Returns `no memory` for a result that can't be decided because of a hook.
+fn known(told: Result<&'static str, Untold>) -> Result<&'static str, TableError> {
+    match told {
         Ok(told) => Ok(told),
         Err(Untold::HookOutOfMemory) => Ok("no memory"),
         Err(untold) => Err(stopped(untold)),
     }
 }
 
-fn told(alloc: Global, plan: &TestPlan, entries: &[Entry]) -> Result<&'static str, Untold> {
+fn followed_by(alloc: Global, plan: &TestPlan, entries: &[Entry]) -> Result<&'static str, Untold> {
     if follows_whole(alloc, plan, entries)? {
         return Ok("whole");
     }
@@ -31,6 +48,18 @@ fn told(alloc: Global, plan: &TestPlan, entries: &[Entry]) -> Result<&'static st
         Ok("prefix")
     } else {
         Ok("neither")
+    }
+}
+
+fn requested_by(alloc: Global, plan: &TestPlan, entries: &[Entry]) -> Result<&'static str, Untold> {
+    if !asks_plan(alloc, plan, entries)? || !stops_at_fault(entries) {
+        return Ok("neither");
+    }
+    let traced = trace(alloc, entries)?.len();
+    if traced == plan.items.len() && is_clean(entries) {
+        Ok("whole")
+    } else {
+        Ok("prefix")
     }
 }
 

@@ -30,13 +30,15 @@
 //! - `message`: the message of the only command if it fails.
 //! - `follows`: whether the journal of the last line `added` follows the plan: `whole`, `prefix`,
 //!   `neither` or `no memory`. `start of b a pipe` is the journal of the start of that expression.
+//!   `requests`: the same, where a stream that goes to a caller's end has to be a duplicate of that
+//!   end's number, even if the start got that number too.
 //! - `cause`: whether the error of the last line `error` has a cause in the journal. `last`:
 //!   whether the error is the last fault there, or there is none.
 //! - Of the start over the scripted system: the `trace` of its journal, what it `returns`, and the
 //!   `pool` after it. `calls` has the requests, except for duplicates, ends of the parent's streams
 //!   and closes, and the calls of hooks and children. `lent` has the caller's ends that were
 //!   duplicated, and `within` the number of ends that may be held at once.
-use crate::checks::{followed, is_caused, is_last};
+use crate::checks::{followed, is_caused, is_last, requested};
 use crate::children::{Look, asked_text, child_text, known_text, message_text};
 use crate::starts::{Start, Way, answer_text, calls_text, most_text, planned, started};
 use crate::texts::{Find, TestPlan, found_text, items_text, places_text, plan_text};
@@ -183,24 +185,42 @@ fn of_plan(alloc: Global, row: Row, plan: &TestPlan, key: &str) -> Result<String
         "goes" => Ok(found_text(alloc, plan, Find::Streams)?),
         "folders" => Ok(found_text(alloc, plan, Find::Folder)?),
         "hooks" => Ok(found_text(alloc, plan, Find::Hooks)?),
-        "follows" => match row.added.strip_prefix("start of ") {
-            Some(expression) => of_start(alloc, plan, expression),
-            None => of_journal(alloc, plan, row.added),
+        "follows" | "requests" => match row.added.strip_prefix("start of ") {
+            Some(expression) => of_start(alloc, plan, expression, key),
+            None => of_journal(alloc, plan, row.added, key),
         },
         _ => of_entries(alloc, row, plan, key),
     }
 }
 
-/// Returns whether the journal of a text follows the plan.
-fn of_journal(alloc: Global, plan: &TestPlan, text: &str) -> Result<String, TableError> {
+/// Returns what a line about the journal of a text is compared with.
+fn of_journal(alloc: Global, plan: &TestPlan, text: &str, key: &str) -> Result<String, TableError> {
     let entries = journal(alloc, text)?;
-    said(alloc, followed(alloc, plan, entries.as_slice())?)
+    of_added(alloc, plan, entries.as_slice(), key)
 }
 
-/// Returns whether the journal of a start of this expression follows the plan.
-fn of_start(alloc: Global, plan: &TestPlan, expression: &str) -> Result<String, TableError> {
+/// Returns what a line about the journal of a start of this expression is compared with.
+fn of_start(
+    alloc: Global,
+    plan: &TestPlan,
+    expression: &str,
+    key: &str,
+) -> Result<String, TableError> {
     let start = started(alloc, expression, Way::Launched, Scene::plain())?;
-    said(alloc, followed(alloc, plan, start.bench.sys.journal())?)
+    of_added(alloc, plan, start.bench.sys.journal(), key)
+}
+
+/// Returns whether these entries follow the plan, or make its requests.
+fn of_added(
+    alloc: Global,
+    plan: &TestPlan,
+    entries: &[Entry],
+    key: &str,
+) -> Result<String, TableError> {
+    match key {
+        "requests" => said(alloc, requested(alloc, plan, entries)?),
+        _ => said(alloc, followed(alloc, plan, entries)?),
+    }
 }
 
 /// Returns what a line about the entries of a start is compared with.

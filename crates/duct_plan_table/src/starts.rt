@@ -1,5 +1,5 @@
 //! Starts expressions over the scripted system, and checks what has to hold for every start.
-use crate::checks::{followed, stopped};
+use crate::checks::{followed, requested, stopped};
 use crate::texts::TestPlan;
 use duct::tree::{Modifier, Node};
 use duct::{Entry, Error, Numbered, Place, Running, System};
@@ -7,6 +7,7 @@ use duct_follows::causes::{answers_last_fault, has_cause};
 use duct_plain::checker::{closed_numbers, is_balanced, opened_numbers, trace};
 use duct_plan::items::Item;
 use duct_plan::plan::{plan, plan_of_reader};
+use duct_run::scope::Setting;
 use duct_script::calls::{Call, CallLog};
 use duct_script::child::ScriptChild;
 use duct_script::job::{ScriptDrain, ScriptFeed};
@@ -271,17 +272,61 @@ fn is_right(alloc: Global, tree: &Tree<ScriptEnd>, start: &Start) -> Result<(), 
         "too many ends were held",
     )?;
     let plan = planned(alloc, tree, start.way)?;
+    right(
+        !are_earlier(tree.root()) || followed(alloc, &plan, entries)? != "neither",
+        "the journal of the start does not follow",
+    )?;
     is_right_by(alloc, &plan, start)
 }
 
-/// Fails unless the journal follows the plan and the start returned what fits this.
+/// Fails unless the journal makes the requests of the plan and the start returned what fits this.
 fn is_right_by(alloc: Global, plan: &TestPlan, start: &Start) -> Result<(), TableError> {
     let entries = start.bench.sys.journal();
-    match followed(alloc, plan, entries)? {
+    match requested(alloc, plan, entries)? {
         "whole" => is_right_answer(alloc, start, &runs_in(alloc, entries)?),
         "prefix" => is_right_refusal(alloc, plan, start, &runs_in(alloc, entries)?),
         "no memory" => Ok(()),
-        _ => Err(TableError::Text("the journal of the start does not follow")),
+        _ => Err(TableError::Text("the start made other requests than its plan")),
+    }
+}
+
+/// Whether all ends of the caller in a tree have numbers below those that the system assigns.
+fn are_earlier<H>(node: &Node<ScriptEnd, H>) -> bool {
+    match node {
+        Node::Cmd(_) => true,
+        Node::Pipe(left, right) => are_earlier(left) && are_earlier(right),
+        Node::Io(modifier, inner) => holds_earlier(modifier) && are_earlier(inner),
+    }
+}
+
+/// Whether all ends of the caller in a node have such numbers.
+fn holds_earlier<H>(modifier: &Modifier<ScriptEnd, H>) -> bool {
+    let effect = effect_of(modifier);
+    let reads_earlier = match effect.input {
+        InputRoute::Lent(end) => end.number() < FIRST,
+        InputRoute::Outside | InputRoute::Nothing | InputRoute::Opened => true,
+    };
+    reads_earlier
+        && writes_earlier(effect.output)
+        && writes_earlier(effect.error)
+        && sets_earlier(effect.setting)
+}
+
+/// Whether an output stream that takes this route goes to no end of the caller, or to one with such
+/// a number.
+fn writes_earlier(route: OutputRoute<'_, ScriptEnd>) -> bool {
+    match route {
+        OutputRoute::Lent(end) => end.number() < FIRST,
+        OutputRoute::Outside(_) | OutputRoute::Nothing | OutputRoute::Opened => true,
+    }
+}
+
+/// Whether all ends of a hook have such numbers.
+fn sets_earlier<H>(setting: Option<Setting<'_, ScriptEnd, H>>) -> bool {
+    match setting {
+        Some(Setting::BeforeSpawn(_, ends)) => ends.iter().all(|end| end.number() < FIRST),
+        Some(Setting::Dir(_) | Setting::Env(_, _) | Setting::EnvRemove(_) | Setting::FullEnv(_))
+        | None => true,
     }
 }
 

@@ -44,13 +44,12 @@ returns-clause-launched g c =
     let views = views_of g.S.System g.E.Numbered g.S.Child.Child g.S.Feed.Job g.S.Drain.Job in
     record {
       asked = l.asked;
-      makes = subst (λ (h : HandleView). Handles views h reading tree added) (sym c.reader_handle_of.ensures)
-          (
-            is_handle g.S.Child.Child.child_view g.S.Feed.Job.job_view g.S.Drain.Job.job_view tree (drains_output reading tree) (drains_error reading tree) added
+      makes = subst (λ (h : HandleView). Handles views h reading tree added) (sym c.reader_handle_of.ensures) (
+        is_handle g.S.Child.Child.child_view g.S.Feed.Job.job_view g.S.Drain.Job.job_view tree (drains_output reading tree) (drains_error reading tree) added
             c.in_ok-running.running c.handle_of.result l.makes.0 c.handle_of.ensures.shape c.handle_of.ensures.numbers,
-            are_ids g.S.Child.Child.child_view g.S.Feed.Job.job_view g.S.Drain.Job.job_view tree (drains_output reading tree) (drains_error reading tree) added
+        are_ids g.S.Child.Child.child_view g.S.Feed.Job.job_view g.S.Drain.Job.job_view tree (drains_output reading tree) (drains_error reading tree) added
             c.in_ok-running.running c.handle_of.result.ids l.makes.0 c.handle_of.ensures.ids,
-          );
+      );
       swept = l.swept;
     }
 
