@@ -56,15 +56,24 @@ module _ {E : Type 0} (entries : List EntryView) (number_of : E → ℕ) (place 
       → wired ≡ wired_of asked
   only_the_answer asked wired there is = same_asked_at entries number_of place found words wired (wired_of asked) is (answer_is_asked asked there)
 
+  -- the hooks of the command, with the origins of their ends
+  abbrev hooks_here : List (ScriptHook × List Origin)
+  hooks_here = hooks_by_origin number_of found.hooks
+
+  -- the hooks make of the result what the spawn is given
+  change_here : (asked : answer.Wired) → IsAskedThere entries number_of place found words asked
+      → (spec : SpecView) (streams : List (Stdio Origin)) (is : IsSpawnedHere spec streams)
+      → HooksChange allows hooks_here (wired_of asked) is.1
+  change_here asked there spec streams is =
+      subst (λ (wired : SpecWithOrigins). HooksChange allows hooks_here wired is.1) (only_the_answer asked is.0 there is.2) is.3
+
   given_these : (asked given : answer.Wired)
       → IsAskedThere entries number_of place found words asked →
-      HooksChange allows (hooks_by_origin number_of found.hooks) (wired_of asked) (wired_of given) → IsAnswered (wired_of given) given →
+      HooksChange allows hooks_here (wired_of asked) (wired_of given) → IsAnswered (wired_of given) given →
       (spec : SpecView) (streams : List (Stdio Origin)) → IsSpawnedHere spec streams ↔ AreThese given spec streams
   given_these asked given there chain own spec streams =
       let to : IsSpawnedHere spec streams → AreThese given spec streams = λ is.
-      let before : is.0 ≡ wired_of asked = only_the_answer asked is.0 there is.2 in
-      let also : HooksChange allows (hooks_by_origin number_of found.hooks) (wired_of asked) is.1 = subst (λ (wired : SpecWithOrigins). HooksChange allows (hooks_by_origin number_of found.hooks) wired is.1) before is.3 in
-      let after : is.1 ≡ wired_of given = chain_one allows makes_one (hooks_by_origin number_of found.hooks) (wired_of asked) is.1 (wired_of given) also chain in
+      let after : is.1 ≡ wired_of given = chain_one allows makes_one hooks_here (wired_of asked) is.1 (wired_of given) (change_here asked there spec streams is) chain in
       record { spec_is = is.4 ∙ ap (λ wired. wired.spec) after; streams_are = is.5 ∙ ap streams_in after ∙ own.streams_are } in
       let back : AreThese given spec streams → IsSpawnedHere spec streams = λ these.
       (wired_of asked, wired_of given, answer_is_asked asked there, chain, these.spec_is, these.streams_are ∙ sym own.streams_are) in
@@ -72,22 +81,20 @@ module _ {E : Type 0} (entries : List EntryView) (number_of : E → ℕ) (place 
 
   given_none : (asked : answer.Wired) (error : Error)
       → IsAskedThere entries number_of place found words asked →
-      HooksStop allows refuses (hooks_by_origin number_of found.hooks) (wired_of asked) error → ¬ (FoundNoMemory error) →
+      HooksStop allows refuses hooks_here (wired_of asked) error → ¬ (FoundNoMemory error) →
       (spec : SpecView) (streams : List (Stdio Origin)) → IsSpawnedHere spec streams ↔ ⊥
-  given_none asked error there stops decided spec streams =
-      let to : IsSpawnedHere spec streams → ⊥ = λ is.
-      let before : is.0 ≡ wired_of asked = only_the_answer asked is.0 there is.2 in
-      let also : HooksChange allows (hooks_by_origin number_of found.hooks) (wired_of asked) is.1 = subst (λ (wired : SpecWithOrigins). HooksChange allows (hooks_by_origin number_of found.hooks) wired is.1) before is.3 in
-      chain_none allows refuses makes_one makes_none (hooks_by_origin number_of found.hooks) (wired_of asked) is.1 error decided stops also in
-      (to, λ never. absurd never)
+  given_none asked error there stops decided spec streams = (
+    λ is. chain_none allows refuses makes_one makes_none hooks_here (wired_of asked) is.1 error decided stops (change_here asked there spec streams is),
+    λ never. absurd never,
+  )
 
   -- the spawn must be given what the hooks made, or nothing if they stopped the start other than
   -- with `OutOfMemory`
   pub given_is : (asked : answer.Wired) (made : Result answer.Wired Error)
       (given : Option answer.Wired) → IsAskedThere entries number_of place found words asked →
-      IfOk made (λ after. HooksChange allows (hooks_by_origin number_of found.hooks) (wired_of asked) (wired_of after)) →
+      IfOk made (λ after. HooksChange allows hooks_here (wired_of asked) (wired_of after)) →
       IfOk made (λ after. IsAnswered (wired_of after) after) →
-      IfErr made (λ error. HooksStop allows refuses (hooks_by_origin number_of found.hooks) (wired_of asked) error) →
+      IfErr made (λ error. HooksStop allows refuses hooks_here (wired_of asked) error) →
       Decides made given → (spec : SpecView) (streams : List (Stdio Origin)) → IsSpawnedHere spec streams ↔ AreAnswered given spec streams
   given_is asked (Ok after) given there chain own stops decides spec streams =
       subst (λ (given : Option answer.Wired). IsSpawnedHere spec streams ↔ AreAnswered given spec streams) (sym decides) (given_these asked after there chain own spec streams)

@@ -4,6 +4,7 @@ use Rattle.std.proofs.Common.{◌≡◌, ℕ, Bool, List, [], ◌∷◌, sym, su
 use Rattle.std.specs.declared.option.Option.{Option}
 use Rattle.std.specs.declared.result.Result.{Result}
 use Rattle.duct_system.specs.EntryView.{EntryView}
+use Rattle.duct_system.specs.Origin.{Origin}
 use Rattle.duct_system.specs.Trace.{trace}
 use Rattle.duct_system.specs.declared.error.Error.{Error}
 use Rattle.duct_system.specs.declared.error.Error.TheVariants.{System, Checked, NotUtf8, Hook, HookEnd, Deadline, Memory}
@@ -46,17 +47,21 @@ stops_some number_of [] before error stops = λ none. stops
 stops_some number_of (hook ∷ found) before error stops = λ none. cc
 
 module _ {E : Type 0} (entries : List EntryView) (number_of : E → ℕ) (place : ℕ) (found : Surroundings E ScriptHook) (words : List (List ℕ)) (asked : answer.Wired) (there : IsAskedThere entries number_of place found words asked) where
+  -- the hooks of the command, with the origins of their ends
+  abbrev hooks_here : List (ScriptHook × List Origin)
+  hooks_here = hooks_by_origin number_of found.hooks
+
   -- the hooks of the command stop the start with an error
   abbrev IsStopped : Error → Type 0
-  IsStopped error = (before : SpecWithOrigins) × IsAskedAt entries number_of place found words before × HooksStop allows refuses (hooks_by_origin number_of found.hooks) before error
+  IsStopped error = (before : SpecWithOrigins) × IsAskedAt entries number_of place found words before × HooksStop allows refuses hooks_here before error
 
   -- then they stop it when they run on the spec and the streams of the result
   over_the_answer : (error : Error) → IsStopped error
-      → HooksStop allows refuses (hooks_by_origin number_of found.hooks) (wired_of asked) error
+      → HooksStop allows refuses hooks_here (wired_of asked) error
   over_the_answer error is =
-      subst (λ (before : SpecWithOrigins). HooksStop allows refuses (hooks_by_origin number_of found.hooks) before error) (only_the_answer entries number_of place found words asked is.0 there is.1) is.2
+      subst (λ (before : SpecWithOrigins). HooksStop allows refuses hooks_here before error) (only_the_answer entries number_of place found words asked is.0 there is.1) is.2
 
-  of_the_answer : (error : Error) → HooksStop allows refuses (hooks_by_origin number_of found.hooks)
+  of_the_answer : (error : Error) → HooksStop allows refuses hooks_here
       (wired_of asked) error → IsStopped error
   of_the_answer error stops = (wired_of asked, answer_is_asked entries number_of place found words asked there, stops)
 
@@ -69,20 +74,20 @@ module _ {E : Type 0} (entries : List EntryView) (number_of : E → ℕ) (place 
       )
 
   stopped_as_told : (made : Result answer.Wired Error) (error : Error) (told : Bool) →
-      IfOk made (λ after. HooksChange allows (hooks_by_origin number_of found.hooks) (wired_of asked) (wired_of after)) →
-      IfErr made (λ stop. HooksStop allows refuses (hooks_by_origin number_of found.hooks) (wired_of asked) stop) →
+      IfOk made (λ after. HooksChange allows hooks_here (wired_of asked) (wired_of after)) →
+      IfErr made (λ stop. HooksStop allows refuses hooks_here (wired_of asked) stop) →
       ¬ (FoundNoMemory error) → TellsStop made error told → IsTrue told ↔ IsStopped error
   stopped_as_told (Ok after) error told chain stops decided tells =
-      (λ is. cc, λ stopped. absurd (chain_none allows refuses makes_one makes_none (hooks_by_origin number_of found.hooks) (wired_of asked) (wired_of after) error decided (over_the_answer error stopped) chain))
+      (λ is. cc, λ stopped. absurd (chain_none allows refuses makes_one makes_none hooks_here (wired_of asked) (wired_of after) error decided (over_the_answer error stopped) chain))
   stopped_as_told (Err stop) error told chain stops decided tells = (
-    λ is. of_the_answer error (subst (λ (error : Error). HooksStop allows refuses (hooks_by_origin number_of found.hooks) (wired_of asked) error) (same_stop_is stop error (tells.1.0 is)) stops),
-    λ stopped. tells.1.1 (chain_stops_same allows refuses makes_one makes_none refuses_one (hooks_by_origin number_of found.hooks) (wired_of asked) stop error tells.0 decided stops (over_the_answer error stopped)),
+    λ is. of_the_answer error (subst (λ (error : Error). HooksStop allows refuses hooks_here (wired_of asked) error) (same_stop_is stop error (tells.1.0 is)) stops),
+    λ stopped. tells.1.1 (chain_stops_same allows refuses makes_one makes_none refuses_one hooks_here (wired_of asked) stop error tells.0 decided stops (over_the_answer error stopped)),
   )
 
   pub stopped_is : (made : Result answer.Wired Error) (error : Error) (some_hook told : Bool) →
       IsTrue some_hook ↔ (¬ (found.hooks ≡ [])) →
-      IfOk made (λ after. HooksChange allows (hooks_by_origin number_of found.hooks) (wired_of asked) (wired_of after)) →
-      IfErr made (λ stop. HooksStop allows refuses (hooks_by_origin number_of found.hooks) (wired_of asked) stop) →
+      IfOk made (λ after. HooksChange allows hooks_here (wired_of asked) (wired_of after)) →
+      IfErr made (λ stop. HooksStop allows refuses hooks_here (wired_of asked) stop) →
       Tells made some_hook error told → IsTrue told ↔ IsStopped error
   stopped_is made error some_hook told some chain stops (inl memory) = stopped_by_memory error some_hook told memory.0 memory.1 some
   stopped_is made error some_hook told some chain stops (inr decided) = stopped_as_told made error told chain stops decided.0 decided.1
