@@ -1,20 +1,23 @@
 -- One poll of a worker, and what it changes.
-use Rattle.std.specs.Prelude.{ℕ, zero, suc, true, false, List, [], ◌∷◌, ◌++◌, map, length, get_or, set, slice_get, Some, None}
-use Rattle.std.specs.Option.{option_map, option_to_list}
+use Rattle.std.specs.Prelude.{ℕ, zero, suc, Bool, true, false, List, [], ◌∷◌, map, length, get_or, set, slice_get, Some}
 use Rattle.std.specs.declared.option.Option.{Option}
-use Rattle.std.proofs.Common.{◌≡◌, ◌<◌, ◌≤◌, refl, ap, sym, ◌∙◌, subst, arith}
+use Rattle.std.proofs.Common.{◌≡◌, ◌<◌, refl, ap, sym, ◌∙◌, subst, arith}
 use Rattle.duct_system.specs.Child.{ChildView}
 use Rattle.duct_system.specs.Job.{JobView, PollsJob, kept_after}
 use Rattle.duct_system.specs.declared.system.Said.{Said}
 use Rattle.duct_system.specs.declared.system.Said.TheVariants as said
 use Rattle.duct_system.specs.declared.system.Side.{Side}
 use Rattle.duct_system.specs.declared.system.Side.TheVariants as side
-use Rattle.duct_status.specs.EventView.{bytes_said, from_input, from_drain}
+use Rattle.duct_status.specs.EventView.{from_input}
 use Rattle.duct_status.specs.Latest.{Latest, is_input_due, is_said_due, change_at, latest_after}
 use Rattle.duct_status.specs.Outcome.{awaited}
+use Rattle.duct_status.specs.PerSide.{at_side, with_side}
 use Rattle.duct_status.specs.ShapeView.{shape_view}
+use Rattle.duct_status.specs.declared.per_side.PerSide.{PerSide}
+use Rattle.duct_status.specs.declared.status.Shape.{Shape}
 use Rattle.duct_start.specs.Running.{RunningView}
-use Rattle.duct_running.specs.Polled.{WhileRuns, PolledIfRuns, IsThereAndPolled, PolledWhere, ChangedAt}
+use Rattle.duct_run.specs.SystemViews.{SystemViews}
+use Rattle.duct_running.specs.Polled.{WhileRuns, PolledIfRuns, IsPolled, ChangedAt, StreamPolled, is_awaited}
 use Rattle.duct_running.specs.Stored.{Bytes, stored_in, stored_latest}
 
 -- a worker whose word is Running is polled
@@ -98,55 +101,26 @@ module _ {F : Type 0} (view : F → JobView (Unit {0})) (may : ℕ → Said (Uni
         told ∙ ap (λ (w : Latest). latest_after w (from_input at heard)) is
         ∙ ap (λ (ws : List (Said (Unit {0}))). record (stored items) { inputs = ws }) (words_changed items at before after heard (within items feeds at same' low) found polls)
 
--- the bytes of a capture worker's word after one more result
-pub bytes_kept : (kept heard : Said Bytes)
-    → kept_after (bytes_said kept) (bytes_said heard) ≡ bytes_said (kept_after kept heard)
-bytes_kept said.Running heard = refl
-bytes_kept (said.Done value) heard = refl
-bytes_kept (said.Fault fault) heard = refl
+-- a stream's capture worker, by whether the outcome waits for it
+module _ {S E C F D : Type 0} (views : SystemViews S E C F D (Unit {0}) Bytes) (now : RunningView C F D) where
+  abbrev waits : Side → RunningView C F D → Bool
+  waits stream r = is_awaited stream (awaited (shape_view r.shape) (stored_in views.child views.feed views.drain r))
 
-module _ {D : Type 0} (view : D → JobView Bytes) (may : ℕ → Said Bytes → Type 0) (same : Bytes → Bytes → Type 0) (refusable : Type 0)
-    (children : List ChildView) (feeds : List (JobView (Unit {0}))) where
-  -- a core that was given a capture worker's result keeps the words that are stored
-  pub output_in_step : (output : Option D) (error : Option (JobView Bytes)) (before after : D)
-      (heard : Said Bytes) (kept later : Latest) →
-      kept ≡ stored_latest children feeds (option_map view output) error → output ≡ Some before → PollsJob may same refusable (view before) heard (view after) →
-      later ≡ latest_after kept (from_drain side.Out (bytes_said heard)) → later ≡ stored_latest children feeds (option_map view (Some after)) error
-  output_in_step output error before after heard kept later is there polls told =
-      told ∙ ap (λ (w : Latest). latest_after w (from_drain side.Out (bytes_said heard))) (is ∙ ap (λ (o : Option D). stored_latest children feeds (option_map view o) error) there)
-      ∙ ap (λ (s : Said (List ℕ)). record (stored_latest children feeds None error) { drains = record { out = Some s; err = option_map (λ (d : JobView Bytes). bytes_said d.kept) error } })
-      (bytes_kept (view before).kept heard ∙ sym (ap (λ (j : JobView Bytes). bytes_said j.kept) polls.after_is))
+  -- whether the outcome waits, as the core found
+  pub test_is : {inside : RunningView C F D} {known : Latest} {found : Option Side} {test : Bool} (stream : Side) → inside ≡ now → known ≡ stored_in views.child views.feed views.drain inside
+      → found ≡ awaited (shape_view inside.shape) known → test ≡ is_awaited stream found → waits stream now ≡ test
+  test_is {inside} stream is knows finds tests = sym (tests ∙ ap (λ o. is_awaited stream o) (finds ∙ ap (λ w. awaited (shape_view inside.shape) w) knows) ∙ ap (λ r. waits stream r) is)
 
-  pub error_in_step : (output : Option (JobView Bytes)) (error : Option D) (before after : D)
-      (heard : Said Bytes) (kept later : Latest) →
-      kept ≡ stored_latest children feeds output (option_map view error) → error ≡ Some before → PollsJob may same refusable (view before) heard (view after) →
-      later ≡ latest_after kept (from_drain side.Err (bytes_said heard)) → later ≡ stored_latest children feeds output (option_map view (Some after))
-  error_in_step output error before after heard kept later is there polls told =
-      told ∙ ap (λ (w : Latest). latest_after w (from_drain side.Err (bytes_said heard))) (is ∙ ap (λ (e : Option D). stored_latest children feeds output (option_map view e)) there)
-      ∙ ap (λ (s : Said (List ℕ)). record (stored_latest children feeds output None) { drains = record { out = option_map (λ (d : JobView Bytes). bytes_said d.kept) output; err = Some s } })
-      (bytes_kept (view before).kept heard ∙ sym (ap (λ (j : JobView Bytes). bytes_said j.kept) polls.after_is))
+  -- a capture worker for which the outcome doesn't wait is as before
+  pub left : (stream : Side) → waits stream now ≡ false → StreamPolled views stream now now
+  left side.Out over = rw over (refl, refl)
+  left side.Err over = rw over (refl, refl)
 
--- there is still room for the capture workers, where stderr's is replaced
-pub error_fits : {D : Type 0} (output error : Option D) (before after : D) (room : ℕ)
-    → error ≡ Some before → length (option_to_list output ++ option_to_list error) ≤ room →
-    length (option_to_list output ++ option_to_list (Some after)) ≤ room
-error_fits None error before after room there fits = rw there at fits
-error_fits (Some worker) error before after room there fits = rw there at fits
-
--- the capture worker that the outcome waits for, as the core found, was polled
-polled_where : (may : ℕ → Said Bytes → Type 0) (same : Bytes → Bytes → Type 0) (refusable : Type 0)
-    (before after : Option (JobView Bytes)) (stream : Side) (waited : Option Side) →
-    waited ≡ Some stream → IsThereAndPolled may same refusable before after → PolledWhere may same refusable stream waited before after
-polled_where may same refusable before after side.Out waited is polled = rw is polled
-polled_where may same refusable before after side.Err waited is polled = rw is polled
-
-pub polled_where_found : {C F D : Type 0} (child : C → ChildView) (feed : F → JobView (Unit {0}))
-    (drain : D → JobView Bytes) (may : ℕ → Said Bytes → Type 0) (same : Bytes → Bytes → Type 0)
-    (refusable : Type 0) (stream side : Side) (inside now : RunningView C F D) (known : Latest) (found : Option Side) (before after : Option (JobView Bytes)) →
-    inside ≡ now → known ≡ stored_in child feed drain inside → found ≡ awaited (shape_view inside.shape) known → found ≡ Some side → side ≡ stream →
-    IsThereAndPolled may same refusable before after →
-    PolledWhere may same refusable stream (awaited (shape_view now.shape) (stored_in child feed drain now)) before after
-polled_where_found child feed drain may same refusable stream side inside now known found before after is knows finds some which polled =
-    polled_where may same refusable before after stream (awaited (shape_view now.shape) (stored_in child feed drain now))
-    (sym (ap (λ (r : RunningView _ _ _). awaited (shape_view r.shape) (stored_in child feed drain r)) is) ∙ sym (ap (λ (w : Latest). awaited (shape_view inside.shape) w) knows)
-    ∙ sym finds ∙ some ∙ ap (λ (s : Side). Some s) which) polled
+  -- one for which it waits was polled
+  pub polled : (drains : PerSide (Option D)) → drains ≡ record { out = now.output; err = now.error }
+      → (later : Shape) (children : List C) (feeds : List F) (stream : Side) (before after : D)
+      → waits stream now ≡ true → at_side drains stream ≡ Some before
+      → IsPolled views.drain_says views.drain_same views.drain_refusable (views.drain before) (views.drain after)
+      → StreamPolled views stream now (record { shape = later; children = children; feeds = feeds; output = (with_side drains stream (Some after)).out; error = (with_side drains stream (Some after)).err })
+  polled drains are later children feeds side.Out before after wait there polls = rw (wait, sym (ap (λ ds. ds.out) are) ∙ there) (polls, ap (λ ds. ds.err) are)
+  polled drains are later children feeds side.Err before after wait there polls = rw (wait, sym (ap (λ ds. ds.err) are) ∙ there) (polls, ap (λ ds. ds.out) are)

@@ -1,5 +1,5 @@
 -- A poll leaves the shape, the numbers and the orders as they were.
-use Rattle.std.specs.Prelude.{ℕ, List, [], ◌∷◌, map, MatchOption, Some, None}
+use Rattle.std.specs.Prelude.{ℕ, Bool, true, false, List, [], ◌∷◌, map, MatchBool, MatchOption, Some, None}
 use Rattle.std.specs.Option.{option_map}
 use Rattle.std.specs.declared.option.Option.{Option}
 use Rattle.std.proofs.Common.{◌≡◌, refl, ap, ◌∙◌}
@@ -8,11 +8,9 @@ use Rattle.duct_system.specs.Job.{JobView}
 use Rattle.duct_system.specs.declared.system.ExitStatus.{ExitStatus}
 use Rattle.duct_system.specs.declared.system.Said.{Said}
 use Rattle.duct_system.specs.declared.system.Said.TheVariants as said
-use Rattle.duct_system.specs.declared.system.Side.{Side}
-use Rattle.duct_system.specs.declared.system.Side.TheVariants as side
 use Rattle.duct_status.specs.ShapeView.{shape_view}
 use Rattle.duct_start.specs.Running.{RunningView}
-use Rattle.duct_running.specs.Polled.{AllAsked, WhileRuns, IsPolled, AllPolled, IsThereAndPolled, PolledWhere}
+use Rattle.duct_running.specs.Polled.{AllAsked, WhileRuns, IsPolled, AllPolled, IsThereAndPolled}
 use Rattle.duct_running.specs.Stays.{Stays}
 
 module _ {X : Type 0} (part : ChildView → X)
@@ -59,32 +57,29 @@ module _ {T : Type 0} (may : ℕ → Said T → Type 0) (same : T → T → Type
   drain_kept (Some before) None polled = absurd polled
   drain_kept (Some before) (Some after) polled = ap (λ n. Some n) (job_kept before after polled)
 
-  where_kept : (stream : Side) (waited : Option Side) (before after : Option (JobView T))
-      → PolledWhere may same refusable stream waited before after
+  where_kept : (test : Bool) (before after : Option (JobView T))
+      → MatchBool test (IsThereAndPolled may same refusable before after) (after ≡ before)
       → option_map (λ j. j.number) after ≡ option_map (λ j. j.number) before
-  where_kept stream None before after is = ap (option_map (λ (j : JobView T). j.number)) is
-  where_kept side.Out (Some side.Out) before after polled = drain_kept before after polled
-  where_kept side.Out (Some side.Err) before after is = ap (option_map (λ (j : JobView T). j.number)) is
-  where_kept side.Err (Some side.Out) before after is = ap (option_map (λ (j : JobView T). j.number)) is
-  where_kept side.Err (Some side.Err) before after polled = drain_kept before after polled
+  where_kept true before after polled = drain_kept before after polled
+  where_kept false before after is = ap (option_map (λ (j : JobView T). j.number)) is
 
 module _ {C F D V W : Type 0} (child : C → ChildView) (feed : F → JobView V) (drain : D → JobView W)
     (may : ℕ → Answer → Type 0) (says : ℕ → Said V → Type 0) (same : V → V → Type 0) (refusable : Type 0)
     (tells : ℕ → Said W → Type 0) (alike : W → W → Type 0) (dear : Type 0) (before after : RunningView C F D) where
   -- one poll
-  pub stays : (one other : Option Side) → shape_view after.shape ≡ shape_view before.shape
+  pub stays : (one other : Bool) → shape_view after.shape ≡ shape_view before.shape
       → AllAsked may (map child before.children) (map child after.children)
       → AllPolled says same refusable (map feed before.feeds) (map feed after.feeds)
-      → PolledWhere tells alike dear side.Out one (option_map drain before.output) (option_map drain after.output)
-      → PolledWhere tells alike dear side.Err other (option_map drain before.error) (option_map drain after.error)
+      → MatchBool one (IsThereAndPolled tells alike dear (option_map drain before.output) (option_map drain after.output)) (option_map drain after.output ≡ option_map drain before.output)
+      → MatchBool other (IsThereAndPolled tells alike dear (option_map drain before.error) (option_map drain after.error)) (option_map drain after.error ≡ option_map drain before.error)
       → Stays child feed drain before after
   stays one other shape children feeds output error = record {
     shape_is = shape;
     numbers_are = λ i. record {
       children = children_kept (λ (c : ChildView). c.number) (λ answer child. refl) may _ _ children i;
       feeds = feeds_kept says same refusable _ _ feeds i;
-      output = where_kept tells alike dear side.Out one _ _ output i;
-      error = where_kept tells alike dear side.Err other _ _ error i;
+      output = where_kept tells alike dear one _ _ output i;
+      error = where_kept tells alike dear other _ _ error i;
     };
     orders_are = children_kept (λ (c : ChildView). c.orders) (λ answer child. refl) may _ _ children;
   }

@@ -1,5 +1,5 @@
 -- Where a poll of an expression returns nothing yet, some child or worker may return that it runs.
-use Rattle.std.specs.Prelude.{ℕ, zero, suc, Bool, true, false, List, [], ◌∷◌, ◌++◌, map, length, slice_get, MatchOption, Ok, Err, Some, None}
+use Rattle.std.specs.Prelude.{ℕ, zero, suc, Bool, true, false, List, [], ◌∷◌, ◌++◌, map, length, slice_get, MatchBool, MatchOption, Ok, Err, Some, None}
 use Rattle.std.specs.Option.{option_map, option_to_list}
 use Rattle.std.specs.declared.option.Option.{Option}
 use Rattle.std.proofs.Common.{◌≡◌, ◌+◌, ◌≤◌, ◌<◌, ◌⊎◌, refl, ap, sym, ◌∙◌, subst, arith, inl, inr}
@@ -10,7 +10,6 @@ use Rattle.duct_system.specs.Job.{JobView, kept_after}
 use Rattle.duct_system.specs.declared.system.Fault.{Fault}
 use Rattle.duct_system.specs.declared.system.Said.{Said}
 use Rattle.duct_system.specs.declared.system.Said.TheVariants as said
-use Rattle.duct_system.specs.declared.system.Side.{Side}
 use Rattle.duct_system.specs.declared.system.Side.TheVariants as side
 use Rattle.duct_status.specs.Endings.{Endings}
 use Rattle.duct_status.specs.EventView.{bytes_said}
@@ -20,7 +19,7 @@ use Rattle.duct_status.specs.ShapeView.{ShapeView, command, pipe, input, uncheck
 use Rattle.duct_status.specs.declared.status.Word.{Word}
 use Rattle.duct_status.specs.declared.status.Word.TheVariants as word
 use Rattle.duct_run.specs.SystemViews.{SystemViews}
-use Rattle.duct_running.specs.Polled.{AllAsked, AllPolled, AskedIfDue, Gives, IsOutcome, IsPolled, IsThereAndPolled, PolledWhere, WhileRuns}
+use Rattle.duct_running.specs.Polled.{AllAsked, AllPolled, AskedIfDue, Gives, IsOutcome, IsPolled, IsThereAndPolled, WhileRuns, is_awaited}
 use Rattle.duct_running.specs.Stored.{Bytes, stored_latest, stored_word}
 use Rattle.duct_running.specs.Allowed.{OneRuns, SomeSays}
 
@@ -210,28 +209,20 @@ module _ (may : ℕ → Said Bytes → Type 0) (same : Bytes → Bytes → Type 
   drain_runs (Some before) None polled runs = absurd polled
   drain_runs (Some before) (Some after) polled runs = says_here may said.Running after.number [] (job_runs may same refusable before after polled (no_bytes after.kept runs))
 
-  output_runs : (waited : Option Side) (before after : Option (JobView Bytes))
-      → PolledWhere may same refusable side.Out waited before after
-      → (captured (bytes_in before) ≡ said.Running → waited ≡ Some side.Out) →
+  -- so may one that was polled where the test holds, if the test holds while it runs
+  polled_runs : (test : Bool) (before after : Option (JobView Bytes))
+      → MatchBool test (IsThereAndPolled may same refusable before after) (after ≡ before)
+      → (captured (bytes_in before) ≡ said.Running → test ≡ true) →
       captured (bytes_in after) ≡ said.Running → SomeSays may said.Running (numbers after)
-  output_runs (Some side.Out) before after polled wait runs = drain_runs before after polled runs
-  output_runs (Some side.Err) before after left wait runs = absurd (let e : Some side.Err ≡ Some side.Out = wait (ap (λ o. captured (bytes_in o)) (sym left) ∙ runs) in cc)
-  output_runs None before after left wait runs = absurd (let e : None ≡ Some side.Out = wait (ap (λ o. captured (bytes_in o)) (sym left) ∙ runs) in cc)
-
-  error_runs : (waited : Option Side) (before after : Option (JobView Bytes))
-      → PolledWhere may same refusable side.Err waited before after
-      → (captured (bytes_in before) ≡ said.Running → waited ≡ Some side.Err) →
-      captured (bytes_in after) ≡ said.Running → SomeSays may said.Running (numbers after)
-  error_runs (Some side.Err) before after polled wait runs = drain_runs before after polled runs
-  error_runs (Some side.Out) before after left wait runs = absurd (let e : Some side.Out ≡ Some side.Err = wait (ap (λ o. captured (bytes_in o)) (sym left) ∙ runs) in cc)
-  error_runs None before after left wait runs = absurd (let e : None ≡ Some side.Err = wait (ap (λ o. captured (bytes_in o)) (sym left) ∙ runs) in cc)
+  polled_runs true before after polled wait runs = drain_runs before after polled runs
+  polled_runs false before after left wait runs = absurd (let e : false ≡ true = wait (ap (λ o. captured (bytes_in o)) (sym left) ∙ runs) in cc)
 
 -- where a poll returns nothing yet, one of these children and workers may return that it runs
 module _ {S E C F D : Type 0} (views : SystemViews S E C F D (Unit {0}) Bytes) (shape : ShapeView)
     (children asked : List ChildView) (feeds fed : List (JobView (Unit {0}))) (output read error drained : Option (JobView Bytes)) where
   pub one_runs : AllAsked views.may_answer children asked → AllPolled views.feed_says views.feed_same views.feed_refusable feeds fed
-      → PolledWhere views.drain_says views.drain_same views.drain_refusable side.Out (awaited shape (stored_latest asked fed output error)) output read
-      → PolledWhere views.drain_says views.drain_same views.drain_refusable side.Err (awaited shape (stored_latest asked fed read error)) error drained
+      → MatchBool (is_awaited side.Out (awaited shape (stored_latest asked fed output error))) (IsThereAndPolled views.drain_says views.drain_same views.drain_refusable output read) (read ≡ output)
+      → MatchBool (is_awaited side.Err (awaited shape (stored_latest asked fed read error))) (IsThereAndPolled views.drain_says views.drain_same views.drain_refusable error drained) (drained ≡ error)
       → command_count shape ≤ length asked → input_count shape ≤ length fed
       → IsOutcome shape (stored_latest asked fed read drained) (Ok None)
       → OneRuns views (record {
@@ -251,10 +242,10 @@ module _ {S E C F D : Type 0} (views : SystemViews S E C F D (Unit {0}) Bytes) (
       (λ one. inl (children_run views.may_answer children asked one.0 ask one.1)) (λ one. inr (inl (feeds_run views.feed_says views.feed_same views.feed_refusable feeds fed one.0 poll one.1))))
       (λ ended. either (waits_for_bytes (captured words.drains.out) (captured words.drains.err) ended.2)
       (λ here.
-      let wait : captured (bytes_in views.drain_says views.drain_same views.drain_refusable output) ≡ said.Running → awaited shape (stored_latest asked fed output error) ≡ Some side.Out =
-      λ before. (λ i. awaited_by (ended.0 i) (ended.1 i) (before i) (captured (bytes_in views.drain_says views.drain_same views.drain_refusable error))) in
-      inr (inr (says_left views.drain_says said.Running (numbers views.drain_says views.drain_same views.drain_refusable read) (numbers views.drain_says views.drain_same views.drain_refusable drained) (output_runs views.drain_says views.drain_same views.drain_refusable _ output read out wait here))))
+      let wait : captured (bytes_in views.drain_says views.drain_same views.drain_refusable output) ≡ said.Running → is_awaited side.Out (awaited shape (stored_latest asked fed output error)) ≡ true =
+      λ before. (λ i. is_awaited side.Out (awaited_by (ended.0 i) (ended.1 i) (before i) (captured (bytes_in views.drain_says views.drain_same views.drain_refusable error)))) in
+      inr (inr (says_left views.drain_says said.Running (numbers views.drain_says views.drain_same views.drain_refusable read) (numbers views.drain_says views.drain_same views.drain_refusable drained) (polled_runs views.drain_says views.drain_same views.drain_refusable _ output read out wait here))))
       (λ here.
-      let wait : captured (bytes_in views.drain_says views.drain_same views.drain_refusable error) ≡ said.Running → awaited shape (stored_latest asked fed read error) ≡ Some side.Err =
-      λ before. (λ i. awaited_by (ended.0 i) (ended.1 i) (here.1.1 i) (before i)) in
-      inr (inr (says_right views.drain_says said.Running (numbers views.drain_says views.drain_same views.drain_refusable read) (numbers views.drain_says views.drain_same views.drain_refusable drained) (error_runs views.drain_says views.drain_same views.drain_refusable _ error drained err wait here.0)))))
+      let wait : captured (bytes_in views.drain_says views.drain_same views.drain_refusable error) ≡ said.Running → is_awaited side.Err (awaited shape (stored_latest asked fed read error)) ≡ true =
+      λ before. (λ i. is_awaited side.Err (awaited_by (ended.0 i) (ended.1 i) (here.1.1 i) (before i))) in
+      inr (inr (says_right views.drain_says said.Running (numbers views.drain_says views.drain_same views.drain_refusable read) (numbers views.drain_says views.drain_same views.drain_refusable drained) (polled_runs views.drain_says views.drain_same views.drain_refusable _ error drained err wait here.0)))))

@@ -6,6 +6,8 @@ use denote.Struct.Declared.{shape}
 use denote.Struct.Field
 use Rattle.std.proofs.Crossing.{Vec-send}
 use Rattle.std.specs.declared.alloc.Global
+use Rattle.std.proofs.option.Option.TheSendSync as option
+use Rattle.std.specs.contracts.option.Option
 use Rattle.std.specs.declared.io.traits.Read
 use Rattle.std.specs.declared.sync.Arc
 use Rattle.std.specs.declared.vec.Vec
@@ -16,6 +18,7 @@ use Rattle.duct_system.specs.declared.system.System
 use Rattle.duct_base.specs.contracts.pool.Place
 use Rattle.duct_base.proofs.pool.Place.TheSendSync as place
 use Rattle.duct_status.proofs.Threads.{core_field_send}
+use Rattle.duct_status.proofs.per_side.PerSide.TheSendSync as sides
 use Rattle.duct_running.specs.contracts.running.Running
 use Rattle.duct_running.specs.contracts.running.Running.TheInside
 
@@ -38,11 +41,8 @@ module _ (S E C F D R : RattleType)
         (
           Vec-send F feed,
           (
-            search (drain, sendable) depth 20,
-            (
-              search (drain, sendable) depth 20,
-              (search sendable, (Vec-send D drain, tt)),
-            ),
+            sides.the_field_send (Option.the_row D) (option.the_send D drain),
+            (search sendable, (Vec-send D drain, tt)),
           ),
         ),
       ),

@@ -1,8 +1,8 @@
 -- After one more result, each stored result still is one that may be returned.
-use Rattle.std.specs.Prelude.{ℕ, zero, suc, Bool, List, [], ◌∷◌, All, IfSome, map, length, get_or, set, Ok, Err, Some, None}
+use Rattle.std.specs.Prelude.{ℕ, zero, suc, Bool, List, [], ◌∷◌, ◌++◌, All, IfSome, map, length, get_or, set, Ok, Err, Some, None}
 use Rattle.std.specs.Option.{option_map, option_to_list}
 use Rattle.std.specs.declared.option.Option.{Option}
-use Rattle.std.proofs.Common.{◌≡◌, ◌<◌, ap, sym, subst, arith, inl, inr}
+use Rattle.std.proofs.Common.{◌≡◌, ◌<◌, ◌≤◌, refl, ap, sym, ◌∙◌, subst, arith, inl, inr}
 use Rattle.std.proofs.lemmas.List.Elements.{All-cons, All-head, All-nil, All-tail}
 use mathlib.Core.Logic.{∥∥₁_map}
 use Rattle.duct_system.specs.Child.{Answer, ChildView, IsUnasked, Obeyed, OrdersChild, PollsChild, child_after, child_ordered, ending_after}
@@ -11,9 +11,19 @@ use Rattle.duct_system.specs.declared.system.ExitStatus.{ExitStatus}
 use Rattle.duct_system.specs.declared.system.Order.{Order}
 use Rattle.duct_system.specs.declared.system.Said.{Said}
 use Rattle.duct_system.specs.declared.system.Said.TheVariants as said
+use Rattle.std.specs.declared.alloc.Global.{Global}
+use Rattle.std.specs.declared.vec.Vec.{Vec}
+use Rattle.duct_system.specs.declared.system.Side.{Side}
+use Rattle.duct_system.specs.declared.system.Side.TheVariants as side
+use Rattle.duct_status.specs.EventView.{bytes_said, from_drain}
+use Rattle.duct_status.specs.Latest.{Latest, latest_after}
+use Rattle.duct_status.specs.PerSide.{at_side, with_side}
+use Rattle.duct_status.specs.declared.per_side.PerSide.{PerSide}
+use Rattle.duct_status.specs.ShapeView.{ShapeView}
 use Rattle.duct_run.specs.SystemViews.{SystemViews}
 use Rattle.duct_running.specs.Polled.{WhileRuns}
-use Rattle.duct_running.specs.Stored.{AreUnasked, Bytes}
+use Rattle.duct_running.specs.Stored.{AreUnasked, Bytes, stored_latest}
+use Rattle.duct_running.specs.RunningInvariant.{RunningInvariant}
 use Rattle.duct_running.specs.Allowed.{AnswersAllowed, WorkerResultAllowed, ChildAnswersAllowed}
 
 -- the ending of a child after a poll is one that it may return
@@ -109,30 +119,6 @@ module _ (answer : ℕ → Answer → Type 0) (feed : ℕ → Said (Unit {0}) �
         error_told = t.error_told;
       })
 
-  module _ {D : Type 0} (view : D → JobView Bytes) (children : List ChildView) (feeds : List (JobView (Unit {0}))) (before after : D) (same : Bytes → Bytes → Type 0) (refusable : Type 0)
-      (heard : Said Bytes) (polls : PollsJob drain same refusable (view before) heard (view after)) where
-    -- where stdout's capture worker was polled
-    pub output_told : (output : Option D) (error : Option (JobView Bytes)) → output ≡ Some before
-        → ∥ AnswersAllowed answer feed drain children feeds (option_map view output) error ∥₁
-        → ∥ AnswersAllowed answer feed drain children feeds (option_map view (Some after)) error ∥₁
-    output_told output error there told = ∥∥₁_map told (λ t. record {
-      children_told = t.children_told;
-      feeds_told = t.feeds_told;
-      output_told = job_told drain same refusable (view before) (view after) heard polls (rw there at t.output_told);
-      error_told = t.error_told;
-    })
-
-    -- where stderr's capture worker was polled
-    pub error_told : (output : Option (JobView Bytes)) (error : Option D) → error ≡ Some before
-        → ∥ AnswersAllowed answer feed drain children feeds output (option_map view error) ∥₁
-        → ∥ AnswersAllowed answer feed drain children feeds output (option_map view (Some after)) ∥₁
-    error_told output error there told = ∥∥₁_map told (λ t. record {
-      children_told = t.children_told;
-      feeds_told = t.feeds_told;
-      output_told = t.output_told;
-      error_told = job_told drain same refusable (view before) (view after) heard polls (rw there at t.error_told);
-    })
-
   -- children and workers that were never polled store no result
   module _ {C F D : Type 0} (child : C → ChildView) (job : F → JobView (Unit {0})) (worker : D → JobView Bytes) where
     silent_child : (c : ChildView) → IsUnasked c → ChildAnswersAllowed answer c
@@ -171,3 +157,64 @@ module _ {S E C F D : Type 0} (views : SystemViews S E C F D (Unit {0}) Bytes) (
     output_told = drain_silent views.may_answer views.feed_says views.drain_says views.child views.feed views.drain output unasked.output_unpolled;
     error_told = drain_silent views.may_answer views.feed_says views.drain_says views.child views.feed views.drain error unasked.error_unpolled;
   } ∣₁
+
+-- the bytes of a capture worker's word after one more result
+bytes_kept : (kept heard : Said Bytes)
+    → kept_after (bytes_said kept) (bytes_said heard) ≡ bytes_said (kept_after kept heard)
+bytes_kept said.Running heard = refl
+bytes_kept (said.Done value) heard = refl
+bytes_kept (said.Fault fault) heard = refl
+
+-- there is still room for the capture workers, where stderr's is replaced
+error_fits : {D : Type 0} (output : Option D) (before after : D) (room : ℕ)
+    → length (option_to_list output ++ before ∷ []) ≤ room → length (option_to_list output ++ after ∷ []) ≤ room
+error_fits None before after room fits = fits
+error_fits (Some worker) before after room fits = fits
+
+-- a value that a stream has already changes nothing
+pub with_same : {T : Type 0} (both : PerSide T) (stream : Side) (value : T)
+    → at_side both stream ≡ value → both ≡ with_side both stream value
+with_same both side.Out value is = ap (λ v. record both { out = v }) is
+with_same both side.Err value is = ap (λ v. record both { err = v }) is
+
+-- where a capture worker was polled
+module _ {C F D : Type 0} (child : C → ChildView) (feed : F → JobView (Unit {0})) (drain : D → JobView Bytes) (answer : ℕ → Answer → Type 0)
+    (feed_says : ℕ → Said (Unit {0}) → Type 0) (drain_says : ℕ → Said Bytes → Type 0) (ids : List ℕ) (children : List C) (feeds : List F) (room : Vec D Global) where
+  abbrev Holds : ShapeView → Latest → PerSide (Option D) → Type 0
+  Holds shape words drains = RunningInvariant child feed drain answer feed_says drain_says shape words ids children feeds drains.out drains.err room
+
+  abbrev stored_with : PerSide (Option D) → Latest
+  stored_with drains = stored_latest (map child children) (map feed feeds) (option_map drain drains.out) (option_map drain drains.err)
+
+  module _ (same : Bytes → Bytes → Type 0) (refusable : Type 0) (before after : D) (heard : Said Bytes) (polls : PollsJob drain_says same refusable (drain before) heard (drain after)) where
+    word_is : kept_after (bytes_said (drain before).kept) (bytes_said heard) ≡ bytes_said (drain after).kept
+    word_is = bytes_kept (drain before).kept heard ∙ sym (ap (λ (j : JobView Bytes). bytes_said j.kept) polls.after_is)
+
+    holds : (shape : ShapeView) (words : Latest) (stream : Side) (drains : PerSide (Option D)) → Holds shape words (with_side drains stream (Some before))
+        → Holds shape (latest_after words (from_drain stream (bytes_said heard))) (with_side drains stream (Some after))
+    holds shape words side.Out drains old = record {
+      heard = ap (λ (w : Latest). latest_after w (from_drain side.Out (bytes_said heard))) old.heard
+          ∙ ap (λ (s : Said (List ℕ)). record (stored_with drains) { drains = record (stored_with drains).drains { out = Some s } }) word_is;
+      told = ∥∥₁_map old.told (λ t. record { children_told = t.children_told; feeds_told = t.feeds_told; output_told = job_told drain_says same refusable (drain before) (drain after) heard polls t.output_told; error_told = t.error_told });
+      commands = old.commands;
+      inputs = old.inputs;
+      named = old.named;
+      empty = old.empty;
+      fits = old.fits;
+    }
+    holds shape words side.Err drains old = record {
+      heard = ap (λ (w : Latest). latest_after w (from_drain side.Err (bytes_said heard))) old.heard
+          ∙ ap (λ (s : Said (List ℕ)). record (stored_with drains) { drains = record (stored_with drains).drains { err = Some s } }) word_is;
+      told = ∥∥₁_map old.told (λ t. record { children_told = t.children_told; feeds_told = t.feeds_told; output_told = t.output_told; error_told = job_told drain_says same refusable (drain before) (drain after) heard polls t.error_told });
+      commands = old.commands;
+      inputs = old.inputs;
+      named = old.named;
+      empty = old.empty;
+      fits = error_fits drains.out before after _ old.fits;
+    }
+
+    pub drain_holds : (shape later : ShapeView) (words told : Latest) (stream : Side) (drains : PerSide (Option D)) → Holds shape words drains → at_side drains stream ≡ Some before
+        → later ≡ shape → told ≡ latest_after words (from_drain stream (bytes_said heard)) → Holds later told (with_side drains stream (Some after))
+    drain_holds shape later words told stream drains old there shapes tells =
+        subst (λ w. Holds later w (with_side drains stream (Some after))) (sym tells) (subst (λ s. Holds s (latest_after words (from_drain stream (bytes_said heard))) (with_side drains stream (Some after))) (sym shapes)
+        (holds shape words stream drains (subst (λ ds. Holds shape words ds) (with_same drains stream (Some before) there) old)))

@@ -1,6 +1,6 @@
 -- What a poll of a running expression polls, and what it returns for the outcome of the stored
 -- words.
-use Rattle.std.specs.Prelude.{ℕ, zero, suc, List, [], ◌∷◌, ◌≡◌, MatchOption, map, string_bytes, Ok, Err, Some, None, IsOkAnd, IsErrAnd, IsSomeAnd}
+use Rattle.std.specs.Prelude.{ℕ, zero, suc, Bool, false, List, [], ◌∷◌, ◌≡◌, MatchBool, MatchOption, map, string_bytes, Ok, Err, Some, None, IsOkAnd, IsErrAnd, IsSomeAnd}
 use Rattle.std.specs.Option.{option_map}
 use Rattle.std.specs.declared.option.Option.{Option}
 use Rattle.std.specs.declared.result.Result.{Result}
@@ -13,7 +13,7 @@ use Rattle.duct_system.specs.Job.{JobView, PollsJob}
 use Rattle.duct_status.specs.Outcome.{Concludes, awaited}
 use Rattle.duct_status.specs.ShapeView.{ShapeView, shape_view}
 use Rattle.duct_status.specs.ReplyView.{ReplyView, noted, unknown, pending, faulted, answered, failed, no_memory}
-use Rattle.duct_status.specs.Latest.{Latest}
+use Rattle.duct_status.specs.Latest.{Latest, is_same_side}
 use Rattle.duct_system.specs.declared.error.Error.{Error}
 use Rattle.duct_system.specs.declared.error.Error.TheVariants as error
 use Rattle.duct_system.specs.declared.system.ExitStatus.{ExitStatus}
@@ -107,20 +107,10 @@ IsThereAndPolled may same refusable (Some before) None = ⊥
 IsThereAndPolled may same refusable (Some before) (Some after) =
     IsPolled may same refusable before after
 
--- the first where the outcome waits for this stream's capture worker, else the second
-abbrev pub WhereAwaited : Side → Option Side → Type 0 → Type 0 → Type 0
-WhereAwaited stream None waits left = left
-WhereAwaited side.Out (Some side.Out) waits left = waits
-WhereAwaited side.Out (Some side.Err) waits left = left
-WhereAwaited side.Err (Some side.Out) waits left = left
-WhereAwaited side.Err (Some side.Err) waits left = waits
-
--- a stream's capture worker was polled once where the outcome waited for it, else it is as before
-abbrev pub PolledWhere : {T : Type 0} → (ℕ → Said T → Type 0) → (T → T → Type 0) → Type 0 → Side
-    → Option Side → Option (JobView T) → Option (JobView T) → Type 0
-PolledWhere may same refusable stream awaited before after =
-    WhereAwaited stream awaited (IsThereAndPolled may same refusable before after)
-    (after ≡ before)
+-- whether the outcome waits for this stream's capture worker
+abbrev pub is_awaited : Side → Option Side → Bool
+is_awaited stream None = false
+is_awaited stream (Some other) = is_same_side other stream
 
 -- the relation holds of the item at this place before and after, and the other items are as before
 abbrev pub ChangedAt : {T : Type 0} → (T → T → Type 0) → ℕ → List T → List T → Type 0
@@ -160,9 +150,18 @@ module _ {S E C F D : Type 0} (views : SystemViews S E C F D (Unit {0}) Bytes) w
   -- stores waited for it, else it is as before
   abbrev pub DrainPolled : Side → RunningView C F D → Option D → Option D → Type 0
   DrainPolled stream running before after =
-      PolledWhere views.drain_says views.drain_same views.drain_refusable stream
-      (awaited (shape_view running.shape) (stored_in views.child views.feed views.drain running))
-      (option_map views.drain before) (option_map views.drain after)
+      let words = stored_in views.child views.feed views.drain running in
+      MatchBool (is_awaited stream (awaited (shape_view running.shape) words))
+      (IsThereAndPolled views.drain_says views.drain_same views.drain_refusable
+      (option_map views.drain before) (option_map views.drain after))
+      (option_map views.drain after ≡ option_map views.drain before)
+
+  -- the same of one stream's capture worker, and the other's is as before
+  abbrev pub StreamPolled : Side → RunningView C F D → RunningView C F D → Type 0
+  StreamPolled side.Out before after =
+      DrainPolled side.Out before before.output after.output × (after.error ≡ before.error)
+  StreamPolled side.Err before after =
+      DrainPolled side.Err before before.error after.error × (after.output ≡ before.output)
 
   -- a poll returned the outcome of what a running expression stores
   abbrev pub ReturnsOutcome : RunningView C F D → Polled → Type 0

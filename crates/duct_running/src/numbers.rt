@@ -122,8 +122,8 @@ impl<S: System> Running<S> {
     {
         note(&mut numbers.children, &self.children);
         note(&mut numbers.feeds, &self.feeds);
-        numbers.output = number_of(&self.output);
-        numbers.error = number_of(&self.error);
+        numbers.output = number_of(&self.drains.out);
+        numbers.error = number_of(&self.drains.err);
     }
 
     /// Returns whether it has this shape, and children and workers with these numbers.
@@ -134,8 +134,8 @@ impl<S: System> Running<S> {
         let numbered = are_numbered(
             &self.children,
             &self.feeds,
-            &self.output,
-            &self.error,
+            &self.drains.out,
+            &self.drains.err,
             numbers,
         );
         numbered && self.core.shape().is_same(shape)

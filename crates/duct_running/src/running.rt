@@ -7,7 +7,7 @@ ghost use Rattle.duct_status.specs.CoreView.{latest_in, shape_in};
 ghost use Rattle.duct_status.specs.Latest.{latest_told};
 ghost use Rattle.duct_status.specs.ReplyView.{reply_view};
 ghost use Rattle.duct_status.specs.ShapeView.{command_count, input_count, shape_view};
-ghost use Rattle.duct_running.specs.Polled.{IsConclusion, Gives, ReturnsOutcome, ChildAskedAt, ChildrenAsked, FeedPolledAt, FeedsPolled, DrainPolled};
+ghost use Rattle.duct_running.specs.Polled.{IsConclusion, Gives, ReturnsOutcome, ChildAskedAt, ChildrenAsked, FeedPolledAt, FeedsPolled, DrainPolled, StreamPolled, is_awaited};
 ghost use Rattle.duct_running.specs.Stored.{AreUnasked, word_of};
 ghost use Rattle.duct_running.specs.NumbersView.{numbers_of};
 ghost use Rattle.duct_running.specs.Allowed.{OneRuns, StoresAllowed};
@@ -15,6 +15,7 @@ ghost use Rattle.duct_running.specs.Allowed.{OneRuns, StoresAllowed};
 mod orders;
 
 use duct_base::error::Error;
+use duct_base::per_side::PerSide;
 use duct_base::pool::Place;
 use duct_base::status::{Core, Event, Reply, Word};
 use duct_base::system::{Child, ExitStatus, Fault, Job, Output, Side, System};
@@ -31,8 +32,7 @@ pub struct Running<S: System> {
     ids: Vec<u32>,
     pub(crate) children: Vec<Place<S::Child>>,
     pub(crate) feeds: Vec<S::Feed>,
-    pub(crate) output: Option<S::Drain>,
-    pub(crate) error: Option<S::Drain>,
+    pub(crate) drains: PerSide<Option<S::Drain>>,
     // Whether a command reported `Running` at the last poll; true before the first poll.
     busy: bool,
     // Empty, with room for the capture workers, so that `into_parts` allocates nothing.
@@ -55,13 +55,13 @@ impl<S: System> Model for Running<S> {
       shape = arc_value r.core.shape;
       children = r.children.items;
       feeds = r.feeds.items;
-      output = r.output;
-      error = r.error;
+      output = r.drains.out;
+      error = r.drains.err;
     } };
 
     ghost invariant = { λ r. RunningInvariant S.Child.child_view S.Feed.job_view S.Drain.job_view
         S.Child.may_answer S.Feed.may_say S.Drain.may_say (shape_in r.core) (latest_in r.core)
-        r.ids.items r.children.items r.feeds.items r.output r.error r.room };
+        r.ids.items r.children.items r.feeds.items r.drains.out r.drains.err r.room };
 }
 
 // Returns the word for the result of a child's poll.
@@ -72,6 +72,16 @@ fn word(answer: Result<Option<ExitStatus>, Fault>) -> Word
         Ok(Some(status)) => Word::Ended(status),
         Ok(None) => Word::Running,
         Err(fault) => Word::Fault(fault),
+    }
+}
+
+// Returns whether the outcome waits for the capture worker of this stream.
+fn is_awaited(stream: Side, awaited: Option<Side>) -> bool
+    ensures { result ≡ is_awaited stream awaited }
+{
+    match (stream, awaited) {
+        (Side::Out, Some(Side::Out)) | (Side::Err, Some(Side::Err)) => true,
+        (Side::Out, Some(Side::Err)) | (Side::Err, Some(Side::Out)) | (_, None) => false,
     }
 }
 
@@ -125,17 +135,22 @@ pub fn running_of<S: System>(
       error = error;
     } }
 {
-    let RunningBuffers { mut ids, drains } = room;
+    let RunningBuffers {
+        mut ids,
+        drains: room,
+    } = room;
     note_ids(&mut ids, &children);
     Running {
         core,
         ids,
         children,
         feeds,
-        output,
-        error,
+        drains: PerSide {
+            out: output,
+            err: error,
+        },
         busy: true,
-        room: drains,
+        room,
     }
 }
 
@@ -176,8 +191,10 @@ impl<S: System> Running<S> {
             ids,
             children,
             feeds,
-            output,
-            error,
+            drains: PerSide {
+                out: output,
+                err: error,
+            },
             busy: _,
             room: mut drains,
         } = self;
@@ -258,44 +275,22 @@ impl<S: System> Running<S> {
         }
     }
 
-    // Polls stdout's capture worker, if the outcome waits for it, and passes the result to the
-    // core.
-    fn ask_output(&mut self)
+    // Polls the capture worker of this stream, if the outcome waits for it, and passes the result
+    // to the core.
+    fn ask_drain(&mut self, side: Side)
         ensures shape { shape_view self.new.shape ≡ shape_view self.old.shape }
         ensures children { self.new.children ≡ self.old.children }
         ensures feeds { self.new.feeds ≡ self.old.feeds }
-        ensures asked { DrainPolled ⟦<S as Viewed>⟧.views Out self.old self.old.output
-            self.new.output }
-        ensures error { self.new.error ≡ self.old.error }
+        ensures asked { StreamPolled ⟦<S as Viewed>⟧.views side self.old self.new }
     {
-        let Some(Side::Out) = self.core.awaited() else {
+        if !is_awaited(side, self.core.awaited()) {
             return;
-        };
-        let Some(worker) = &mut self.output else {
+        }
+        let Some(worker) = self.drains.of_mut(side) else {
             return;
         };
         let heard = worker.poll();
-        let _ = self.core.step(Event::Drain(Side::Out, heard));
-    }
-
-    // Polls stderr's capture worker, if the outcome waits for it, and passes the result to the
-    // core.
-    fn ask_error(&mut self)
-        ensures shape { shape_view self.new.shape ≡ shape_view self.old.shape }
-        ensures children { self.new.children ≡ self.old.children }
-        ensures feeds { self.new.feeds ≡ self.old.feeds }
-        ensures output { self.new.output ≡ self.old.output }
-        ensures asked { DrainPolled ⟦<S as Viewed>⟧.views Err self.old self.old.error
-            self.new.error }
-    {
-        let Some(Side::Err) = self.core.awaited() else {
-            return;
-        };
-        let Some(worker) = &mut self.error else {
-            return;
-        };
-        let heard = worker.poll();
-        let _ = self.core.step(Event::Drain(Side::Err, heard));
+        let _ = self.core.step(Event::Drain(side, heard));
     }
 
     /// Polls each child that has not ended, once and from left to right, and then each input worker
@@ -331,8 +326,8 @@ impl<S: System> Running<S> {
         self.begin_poll();
         self.ask_children();
         self.ask_feeds();
-        self.ask_output();
-        self.ask_error();
+        self.ask_drain(Side::Out);
+        self.ask_drain(Side::Err);
         self.conclude()
     }
 

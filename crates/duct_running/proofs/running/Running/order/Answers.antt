@@ -9,15 +9,15 @@ use Rattle.duct_running.proofs.running.Running.order.Goals as goal
 
 pub returns-then-not-is_due-clause-ordered : goal.returns-then-not-is_due-clause-ordered
 returns-then-not-is_due-clause-ordered g c =
-    unordered_in g.S.Child.Child.may_obey c.args.order g.S.Child.Child.child_view (map g.S.Feed.Job.job_view c.self.inside.feeds.items) (option_map g.S.Drain.Job.job_view c.self.inside.output) (option_map g.S.Drain.Job.job_view c.self.inside.error)
+    unordered_in g.S.Child.Child.may_obey c.args.order g.S.Child.Child.child_view (map g.S.Feed.Job.job_view c.self.inside.feeds.items) (option_map g.S.Drain.Job.job_view c.self.inside.drains.out) (option_map g.S.Drain.Job.job_view c.self.inside.drains.err)
     c.self.inside.children.items c.args.self.now.children c.args.at _ (ap (λ (r : RunningView _ _ _). r.children) c.self.view_is) c.self.invariant.heard c.requires (sym c.if-not-is_due.ensures)
 
 pub invariant_of-self : goal.invariant_of-self
 invariant_of-self g c = record {
-  heard = words_in_order g.S.Child.Child.may_obey c.args.order g.S.Child.Child.child_view (map g.S.Feed.Job.job_view c.self.inside.feeds.items) (option_map g.S.Drain.Job.job_view c.self.inside.output) (option_map g.S.Drain.Job.job_view c.self.inside.error)
+  heard = words_in_order g.S.Child.Child.may_obey c.args.order g.S.Child.Child.child_view (map g.S.Feed.Job.job_view c.self.inside.feeds.items) (option_map g.S.Drain.Job.job_view c.self.inside.drains.out) (option_map g.S.Drain.Job.job_view c.self.inside.drains.err)
       c.self.inside.children.items c.args.self.now.children c.args.at c.index_mut.result.now c.give.new.child c.give.result _ (ap (λ (r : RunningView _ _ _). r.children) c.self.view_is)
       c.self.invariant.heard c.requires c.index_mut.ensures.value c.give.ensures;
-  told = ordered_told g.S.Child.Child.may_answer g.S.Feed.Job.may_say g.S.Drain.Job.may_say g.S.Child.Child.child_view (map g.S.Feed.Job.job_view c.self.inside.feeds.items) (option_map g.S.Drain.Job.job_view c.self.inside.output) (option_map g.S.Drain.Job.job_view c.self.inside.error)
+  told = ordered_told g.S.Child.Child.may_answer g.S.Feed.Job.may_say g.S.Drain.Job.may_say g.S.Child.Child.child_view (map g.S.Feed.Job.job_view c.self.inside.feeds.items) (option_map g.S.Drain.Job.job_view c.self.inside.drains.out) (option_map g.S.Drain.Job.job_view c.self.inside.drains.err)
       c.self.inside.children.items c.args.self.now.children c.args.at c.index_mut.result.now c.give.new.child (ap (λ (r : RunningView _ _ _). r.children) c.self.view_is) c.requires c.index_mut.ensures.value g.S.Child.Child.may_obey c.args.order c.give.result c.give.ensures c.self.invariant.told;
   commands = length-set c.self.inside.children.items c.args.at c.give.new.child ∙ c.self.invariant.commands;
   inputs = c.self.invariant.inputs;
@@ -29,6 +29,6 @@ invariant_of-self g c = record {
 
 pub returns-clause-ordered : goal.returns-clause-ordered
 returns-clause-ordered g c =
-    ordered_in g.S.Child.Child.may_obey c.args.order g.S.Child.Child.child_view (map g.S.Feed.Job.job_view c.self.inside.feeds.items) (option_map g.S.Drain.Job.job_view c.self.inside.output) (option_map g.S.Drain.Job.job_view c.self.inside.error)
+    ordered_in g.S.Child.Child.may_obey c.args.order g.S.Child.Child.child_view (map g.S.Feed.Job.job_view c.self.inside.feeds.items) (option_map g.S.Drain.Job.job_view c.self.inside.drains.out) (option_map g.S.Drain.Job.job_view c.self.inside.drains.err)
     c.self.inside.children.items c.args.self.now.children c.args.at c.index_mut.result.now c.give.new.child c.give.result _ (ap (λ (r : RunningView _ _ _). r.children) c.self.view_is) c.self.invariant.heard c.requires
     (sym c.if-not-is_due.ensures) c.index_mut.ensures.value c.give.ensures

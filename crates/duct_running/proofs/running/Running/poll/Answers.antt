@@ -1,18 +1,21 @@
 use Rattle.std.proofs.Common.{◌≡◌, ap, arith, map, subst, sym, ◌∙◌}
 use Rattle.duct_start.specs.Running.{RunningView}
 use Rattle.std.proofs.lemmas.List.{length-map}
+use Rattle.std.specs.Prelude.{Bool, MatchBool}
 use Rattle.std.specs.Option.{option_map}
+use Rattle.std.specs.declared.option.Option.{Option}
+use Rattle.duct_system.specs.Job.{JobView}
 use Rattle.duct_system.specs.declared.system.Side.TheVariants as side
 use Rattle.duct_status.specs.Outcome.{awaited}
 use Rattle.duct_status.specs.ShapeView.{shape_view}
 use Rattle.duct_run.proofs.Seeing.{views_of}
-use Rattle.duct_running.specs.Polled.{AllAsked, AllPolled, IsOutcome, PolledWhere}
-use Rattle.duct_running.specs.Stored.{stored_in, stored_latest}
+use Rattle.duct_running.specs.Polled.{AllAsked, AllPolled, IsOutcome, IsThereAndPolled, is_awaited}
+use Rattle.duct_running.specs.Stored.{Bytes, stored_in, stored_latest}
 use Rattle.duct_running.proofs.Pending.{one_runs}
 use Rattle.duct_running.proofs.running.Running.poll.Goals as goal
 
 pub returns-clause-asked_feeds : goal.returns-clause-asked_feeds
-returns-clause-asked_feeds g c = rw (c.conclude.ensures.feeds, c.ask_error.ensures.feeds, c.ask_output.ensures.feeds, ← (c.ask_children.ensures.feeds ∙ ap (λ (r : RunningView _ _ _). r.feeds) c.begin_poll.ensures)) c.ask_feeds.ensures.asked
+returns-clause-asked_feeds g c = rw (c.conclude.ensures.feeds, c.ask_drain-2.ensures.feeds, c.ask_drain.ensures.feeds, ← (c.ask_children.ensures.feeds ∙ ap (λ (r : RunningView _ _ _). r.feeds) c.begin_poll.ensures)) c.ask_feeds.ensures.asked
 
 pub returns-clause-pending : goal.returns-clause-pending
 returns-clause-pending g c = λ none.
@@ -20,26 +23,26 @@ returns-clause-pending g c = λ none.
     let feed = g.S.Feed.Job.job_view in
     let drain = g.S.Drain.Job.job_view in
     let one = c.ask_feeds.new.self in
-    let two = c.ask_output.new.self in
-    let three = c.ask_error.new.self in
+    let two = c.ask_drain.new.self in
+    let three = c.ask_drain-2.new.self in
     let now = c.conclude.new.self in
-    let shapes : shape_view now.shape ≡ shape_view two.shape = c.conclude.ensures.shape ∙ c.ask_error.ensures.shape in
-    let children : now.children ≡ two.children = c.conclude.ensures.children ∙ c.ask_error.ensures.children in
-    let feeds : now.feeds ≡ two.feeds = c.conclude.ensures.feeds ∙ c.ask_error.ensures.feeds in
-    let output : now.output ≡ two.output = c.conclude.ensures.output ∙ c.ask_error.ensures.output in
+    let shapes : shape_view now.shape ≡ shape_view two.shape = c.conclude.ensures.shape ∙ c.ask_drain-2.ensures.shape in
+    let children : now.children ≡ two.children = c.conclude.ensures.children ∙ c.ask_drain-2.ensures.children in
+    let feeds : now.feeds ≡ two.feeds = c.conclude.ensures.feeds ∙ c.ask_drain-2.ensures.feeds in
+    let output : now.output ≡ two.output = c.conclude.ensures.output ∙ c.ask_drain-2.ensures.asked.1 in
     let error : now.error ≡ three.error = c.conclude.ensures.error in
-    let first = sym (children ∙ c.ask_output.ensures.children ∙ c.ask_feeds.ensures.children) in
-    let second = sym (feeds ∙ c.ask_output.ensures.feeds) in
-    let third = sym (children ∙ c.ask_output.ensures.children) in
-    let whole = sym (shapes ∙ c.ask_output.ensures.shape) in
-    let Polled = PolledWhere g.S.Drain.Job.may_say g.S.Drain.Job.same g.S.Drain.Job.refusable in
+    let first = sym (children ∙ c.ask_drain.ensures.children ∙ c.ask_feeds.ensures.children) in
+    let second = sym (feeds ∙ c.ask_drain.ensures.feeds) in
+    let third = sym (children ∙ c.ask_drain.ensures.children) in
+    let whole = sym (shapes ∙ c.ask_drain.ensures.shape) in
+    let Polled = λ (test : Bool) (before after : Option (JobView Bytes)). MatchBool test (IsThereAndPolled g.S.Drain.Job.may_say g.S.Drain.Job.same g.S.Drain.Job.refusable before after) (after ≡ before) in
     one_runs (views_of g.S.System g.S.End.Numbered g.S.Child.Child g.S.Feed.Job g.S.Drain.Job) (shape_view now.shape) (map child c.begin_poll.new.self.children) (map child now.children) (map feed c.ask_children.new.self.feeds) (map feed now.feeds)
     (option_map drain one.output) (option_map drain now.output) (option_map drain one.error) (option_map drain now.error)
     (subst (λ cs. AllAsked g.S.Child.Child.may_answer (map child c.begin_poll.new.self.children) (map child cs)) first c.ask_children.ensures.asked)
     (subst (λ fs. AllPolled g.S.Feed.Job.may_say g.S.Feed.Job.same g.S.Feed.Job.refusable (map feed c.ask_children.new.self.feeds) (map feed fs)) second c.ask_feeds.ensures.asked)
-    (subst (λ (X : Type 0). X) (λ i. Polled side.Out (awaited (whole i) (stored_latest (map child (third i)) (map feed (second i)) (option_map drain one.output) (option_map drain one.error)))
-    (option_map drain one.output) (option_map drain (sym output i))) c.ask_output.ensures.asked)
-    (subst (λ (X : Type 0). X) (λ i. Polled side.Err (awaited (sym shapes i) (stored_latest (map child (sym children i)) (map feed (sym feeds i)) (option_map drain (sym output i)) (option_map drain (c.ask_output.ensures.error i))))
-    (option_map drain (c.ask_output.ensures.error i)) (option_map drain (sym error i))) c.ask_error.ensures.asked)
+    (subst (λ (X : Type 0). X) (λ i. Polled (is_awaited side.Out (awaited (whole i) (stored_latest (map child (third i)) (map feed (second i)) (option_map drain one.output) (option_map drain one.error))))
+    (option_map drain one.output) (option_map drain (sym output i))) c.ask_drain.ensures.asked.0)
+    (subst (λ (X : Type 0). X) (λ i. Polled (is_awaited side.Err (awaited (sym shapes i) (stored_latest (map child (sym children i)) (map feed (sym feeds i)) (option_map drain (sym output i)) (option_map drain (c.ask_drain.ensures.asked.1 i)))))
+    (option_map drain (c.ask_drain.ensures.asked.1 i)) (option_map drain (sym error i))) c.ask_drain-2.ensures.asked.0)
     (omega (arith, c.conclude.ensures.commands, length-map now.children child)) (omega (arith, c.conclude.ensures.inputs, length-map now.feeds feed))
     (subst (λ r. IsOutcome (shape_view now.shape) (stored_in child feed drain now) r) none c.conclude.ensures.outcome)
