@@ -9,7 +9,6 @@ use Rattle.duct_base.specs.Pool.{PoolView, IsGiven}
 use Rattle.duct_system.specs.Child.{Answer, ChildView, IsUnasked}
 use Rattle.duct_system.specs.EntryView.{EntryView}
 use Rattle.duct_system.specs.Job.{JobView}
-use Rattle.duct_system.specs.Started.{children_in}
 use Rattle.duct_start.specs.Left.{Leaves, LeavesStarted, pool_view}
 use Rattle.duct_start.specs.Running.{IsRunning, RunningView}
 use Rattle.duct_start.specs.TreeView.{TreeView}

@@ -10,7 +10,6 @@ use Rattle.duct_system.specs.Trace.{segment}
 use Rattle.duct_system.specs.declared.error.Error.{Error}
 use Rattle.duct_status.specs.ShapeView.{command_count, input_count, shape_view}
 use Rattle.duct_status.specs.declared.status.Shape.{Shape}
-use Rattle.duct_start.specs.ActionList.{list_of, resolved_all}
 use Rattle.duct_start.specs.Actions.{Action}
 use Rattle.duct_start.specs.Chain.{Allows, Refuses}
 use Rattle.duct_start.specs.Flat.{actions_of}

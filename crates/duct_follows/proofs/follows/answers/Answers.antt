@@ -1,4 +1,4 @@
-use Rattle.std.proofs.Common.{List, map, string_bytes}
+use Rattle.std.proofs.Common.{map, string_bytes}
 use Rattle.duct_system.specs.EntryView.{entry_view}
 use Rattle.duct_system.specs.Trace.{trace}
 use Rattle.duct_follows.proofs.Given.{given_by}
