@@ -12,11 +12,12 @@ use Rattle.duct_status.specs.ShapeView.{command_count, input_count, shape_view}
 use Rattle.duct_status.specs.declared.status.Shape.{Shape}
 use Rattle.duct_start.specs.Actions.{Action}
 use Rattle.duct_start.specs.Chain.{Allows, Refuses}
+use Rattle.duct_start.specs.Commands.{StoppedWithCause}
 use Rattle.duct_start.specs.Flat.{actions_of}
 use Rattle.duct_start.specs.Left.{LeavesStarted}
 use Rattle.duct_start.specs.Plan.{initial_plan, plan_of_subtree}
 use Rattle.duct_start.specs.ResourcesView.{ResourcesView}
-use Rattle.duct_start.specs.RunContract.{ActionsSucceed, HavePipes, PlanTail, drain_and_reader_tail, drain_tail}
+use Rattle.duct_start.specs.RunContract.{ActionsSucceed, HavePipes, PlanTail, context_of, drain_and_reader_tail, drain_tail}
 use Rattle.duct_start.specs.Running.{IsRunning}
 use Rattle.duct_start.specs.ShapeOfTree.{shape_of_tree}
 use Rattle.duct_start.specs.Start.{StartRefused, StartSucceeds, ceiling, depth}
@@ -73,7 +74,11 @@ module _ {E H C F D V W : Type 0} (allows : Allows H) (number_of : E → ℕ) (c
   -- the run failed, and gave up its resources
   module _ (refuses : Refuses H) (may : ℕ → Answer → Type 0) (old next : JournalView) (before after : PoolView C) (error : Error)
       (gives : GivesUp allows refuses number_of child feed drain may (tail_for kind) actions old next before after error) where
-    abbrev stopped = refused_launched allows number_of (tree_for kind tree) actions same (tail_for kind) refuses old gives.stopped (resources_view number_of child feed drain gives.held) error gives.refused
+    stopped : StoppedWithCause allows refuses number_of
+        (context_of old (ceiling number_of (tree_for kind tree)) (2 * depth (tree_for kind tree) + 4) gives.refused.0)
+        (tail_for kind (plan_of_subtree [] (tree_for kind tree) initial_plan)).items gives.stopped
+        (resources_view number_of child feed drain gives.held) error
+    stopped = refused_launched allows number_of (tree_for kind tree) actions same (tail_for kind) refuses old gives.stopped (resources_view number_of child feed drain gives.held) error gives.refused
 
     pub refused : StartRefused allows refuses number_of tree (plan_for kind tree) old next error
     refused = given_up allows refuses number_of child feed drain _ _ gives.stopped gives.held error stopped next gives.closes tree (plan_for kind tree)
