@@ -1,5 +1,6 @@
 //! Tests of the documents' examples over the real machine, and of a script over the scripted
 //! system.
+use crate::adopted::start_to_file;
 use crate::build::build;
 use crate::clock::MachineClock;
 use crate::cookbook::{counted, fed, listed, merged, placed, stopped, swapped, unchecked};
@@ -7,12 +8,13 @@ use crate::files::writer;
 use crate::harness::started;
 use crate::script::run_script;
 use crate::tour::{filed, piped};
-use duct::{Clock, Error, ExitStatus, Expression, Pool, System, cmd};
+use duct::{Clock, Error, ExitStatus, Expression, Fault, Pool, System, cmd};
 use duct_host::end::End;
 use duct_host::host::Host;
 use duct_script::child::PollAnswer;
 use duct_script::system::Script;
 use std::alloc::Global;
+use std::fs::File;
 use std::sync::Wait;
 use std::test::Fail;
 use std::time::Duration;
@@ -163,6 +165,20 @@ fn an_open_file_is_written(rt: HostRuntime) -> Result<(), Error> {
     let path = new_file(&rt, rt.alloc(), &mut host)?;
     let echo = writer(&rt, &mut host, rt.alloc(), path.as_str())?;
     let text = written(&rt, rt.alloc(), &mut host, &echo, path.as_str())?;
+    assert_eq!(rt; text.as_str(), "foo");
+    Ok(())
+}
+
+#[test]
+fn an_adopted_file_is_written(rt: HostRuntime) -> Result<(), Error> {
+    let mut host = Host::new(&rt, rt.alloc());
+    let mut pool = Pool::new(rt.alloc());
+    let path = new_file(&rt, rt.alloc(), &mut host)?;
+    let file = File::create(&rt, path.as_str()).map_err(Fault::from)?;
+    let echo: Expression<End> = cmd!(in rt.alloc(); "echo", "foo")?;
+    let handle = start_to_file(&echo, file, &mut host, &mut pool)?;
+    handle.into_output(&rt, &mut pool)?;
+    let text = take_file(&rt, rt.alloc(), &mut host, path.as_str())?;
     assert_eq!(rt; text.as_str(), "foo");
     Ok(())
 }
