@@ -20,6 +20,7 @@ use Rattle.std.specs.contracts.sync.Arc
 use Rattle.std.specs.contracts.sync.OnceLock
 use Rattle.std.specs.contracts.vec.Vec
 use Rattle.duct_host.specs.contracts.child.Child
+use Rattle.duct_host.specs.contracts.child.Seen
 use Rattle.duct_host.specs.contracts.reader.Reader
 use Rattle.duct_worker.specs.contracts.shared.ArcVecU8Shared.TheImpl as bytes_shared
 use Rattle.duct_worker.specs.contracts.shared.UnitShared.TheImpl as unit_shared
@@ -27,11 +28,16 @@ use Rattle.duct_worker.specs.contracts.worker.Worker
 use Rattle.duct_worker.specs.declared.shared.Shared
 use Rattle.duct_system.specs.contracts.system.Fault
 use Rattle.duct_system.specs.contracts.system.Said
-use Rattle.duct_host.proofs.child.Child.TheSendSync as child
+
+-- how a poll saw a child end
+seen_send : IsSend (Seen.the_field).row
+seen_send = search (sendable, crosses) depth 40
 
 pub child_send : (ℓ : Lifetime) (κ : Lft) → IsSend (Child.the_row (ShrRef ℓ κ LibcRuntime.the_row)
     SystemProcess.the_row ChildStdin.the_row ChildStdout.the_row ChildStderr.the_row)
-child_send ℓ κ = search (child.the_send, sendable, crosses) depth 40
+child_send ℓ κ =
+    let child = Child.the_type (ShrRef ℓ κ LibcRuntime.the_row) SystemProcess.the_row ChildStdin.the_row ChildStdout.the_row ChildStderr.the_row in
+    recorded_send _ _ _ child.to_one (struct_send (shape child) (search (sendable, crosses) depth 40, (search (sendable, crosses) depth 40, (search sendable, (search sendable, (search sendable, (search (sendable, crosses) depth 40, (seen_send, (search (sendable, crosses) depth 40, (search (sendable, crosses) depth 40, (search (sendable, crosses) depth 40, tt)))))))))))
 
 -- a worker may be sent to another thread if its result may
 worker_send : (T : RattleType) (g : Shared.Ghosts T.Denot) → IsSend (Arc.the_row
