@@ -44,7 +44,7 @@ module _ {E H : Type 0} (answer : ℕ → Answer → Type 0) (feed : ℕ → Sai
       × (reader : R) × MadeReader may added reader
       × ReadsText answer feed drain (shape_of_tree tree) numbers (remaining reader) result
 
--- the pool was given each child that the entries name, in order; none of them had been given an
+-- the pool takes in the children that the entries name, in order; none of them had been given an
 -- order
 abbrev pub LeavesGiven : {C : Type 0} → (ℕ → Answer → Type 0) → (C → ChildView) → List EntryView
     → PoolView C → PoolView C → Type 0

@@ -20,6 +20,7 @@ pub use expression::{Expression, cmd};
 
 /// The tree of an expression, for crates that read it.
 pub mod tree {
+    pub use duct_base::names::EnvNameString;
     pub use duct_tree::tree::{Modifier, Node};
 }
 

@@ -1,8 +1,8 @@
 -- Which endings the statuses of the machine come to.
-use Rattle.std.specs.Prelude.{ℕ, Bool, true, false, pos, Some, None, Ok, Err, IfOk, IsTrue, ◌==◌, ◌||◌, ◌&&◌, ◌%◌, ◌/◌, nat_lt, if◌then◌else◌}
+use Rattle.std.specs.Prelude.{ℕ, Bool, true, false, pos, Some, None, IfOk, IsTrue, ◌==◌, ◌||◌, ◌%◌, ◌/◌, nat_lt, if◌then◌else◌}
 use Rattle.std.specs.Process.{exit_code, exit_signal}
 use Rattle.std.specs.declared.process.ExitStatus as machine
-use Rattle.std.proofs.Common.{◌≡◌, ◌<◌, ◌≤◌, refl, arith}
+use Rattle.std.proofs.Common.{◌≡◌, ◌<◌, refl, arith}
 use Rattle.std.proofs.lemmas.Bool.{and_from, eqb-false, lt-ltb}
 use Rattle.std.proofs.lemmas.Nat.{mod_below}
 use Rattle.duct_host.specs.Endings.{can_end, ending_said}

@@ -1,5 +1,5 @@
 //! What the machine gave for a path, with that path.
-ghost use Rattle.std.specs.Prelude.{◌≡◌, true, IfOk, IfErr, string_bytes};
+ghost use Rattle.std.specs.Prelude.{◌≡◌, true, IfOk, string_bytes};
 ghost use Rattle.std.specs.Fs.{new_options, with_read, with_write, with_create, with_truncate};
 
 use crate::fault::{ask, no_memory};

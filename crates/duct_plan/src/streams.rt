@@ -12,13 +12,13 @@ use duct::{Entry, Numbered, Port, Side, Stdio, Stream};
 use duct_plain::checker::Source;
 
 /// Returns the port of a stream that goes to this target. A stream that goes to the same stream of
-/// the parent is inherited.
+/// the parent is inherited; only stdin goes to the parent's stdin.
 pub(crate) fn port_to<E>(stream: Stream, target: Target<'_, E>) -> Port
     ensures { result ≡ port_to stream (target_of target.entry) }
 {
     match target {
         Target::Parents(parents) => {
-            if stream == parents {
+            if stream == parents || parents == Stream::In {
                 Port::Inherit
             } else {
                 Port::Given

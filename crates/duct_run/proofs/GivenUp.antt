@@ -1,6 +1,6 @@
 -- A run that failed and gave up what it held is a start that failed and left its children to the
 -- pool.
-use Rattle.std.proofs.Common.{◌≡◌, ℕ, ◌+◌, ◌*◌, ◌^◌, ◌<◌, ◌≤◌, List, [], ◌++◌, length, arith, length-append}
+use Rattle.std.proofs.Common.{◌≡◌, ℕ, ◌+◌, ◌*◌, ◌≤◌, List, [], length, arith, length-append}
 use Rattle.std.proofs.lemmas.List.{length-reverse}
 use Rattle.std.specs.Prelude.{map, reverse}
 use Rattle.duct_base.specs.Pool.{PoolView, IsGiven}
@@ -8,7 +8,6 @@ use Rattle.duct_system.specs.Child.{Answer, ChildView}
 use Rattle.duct_system.specs.Job.{JobView}
 use Rattle.duct_system.specs.Journal.{JournalView}
 use Rattle.duct_system.specs.Ledger.{count_of}
-use Rattle.duct_system.specs.Started.{children_in}
 use Rattle.duct_system.specs.Trace.{segment}
 use Rattle.duct_system.specs.declared.error.Error.{Error}
 use Rattle.duct_start.specs.Chain.{Allows, Refuses}

@@ -1,5 +1,5 @@
 -- Where stdout's capture pipe is open, there is room to give away its two ends.
-use Rattle.std.proofs.Common.{◌≡◌, ℕ, ◌≤◌, true, ◌++◌, length, arith, length-append}
+use Rattle.std.proofs.Common.{◌≡◌, ℕ, ◌≤◌, true, length, arith, length-append}
 use Rattle.std.specs.Prelude.{Some, None, is_some}
 use Rattle.std.specs.declared.option.Option.{Option}
 use Rattle.duct_start.specs.ResourcesView.{ResourcesView, open_ends, ends_of_pipes, pipe_ends}

@@ -1,12 +1,16 @@
 -- Actions as contracts see them.
 use Rattle.std.specs.Prelude.{ℕ, List, map, string_bytes}
 use Rattle.std.specs.Arc.{arc_value}
+use Rattle.std.specs.declared.string.String.{String}
 use Rattle.duct_system.specs.declared.spec.Port.{Port}
 use Rattle.duct_start.specs.Actions as action
+use Rattle.duct_start.specs.ActionList.{resolved_all, scope_in}
 use Rattle.duct_start.specs.Actions.{ActionOf, PerStream}
+use Rattle.duct_run.specs.ScopeView.{all_scopes, scopes_view}
 use Rattle.duct_run.specs.declared.action.Action.{Action}
 use Rattle.duct_run.specs.declared.action.Action.TheVariants.{OpenRead, Create, Pipe, Input, Capture, Duplicate, DuplicateCapture, DuplicateCallerEnd, Parent, Close, Spawn, Feed}
 use Rattle.duct_run.specs.declared.action.Ports.{Ports}
+use Rattle.duct_run.specs.declared.scope.Scope.{Scope}
 
 -- the ports of three streams
 abbrev pub ports_view : Ports → PerStream Port
@@ -31,3 +35,14 @@ action_view (Feed bytes) = action.feed (arc_value bytes.now).items
 -- the actions of a list
 abbrev pub actions_view : {E : Type 0} → List (Action E) → List (ActionOf E ℕ)
 actions_view actions = map (λ a. action_view a) actions
+
+-- the actions of a list, each with what its scope sets
+abbrev pub resolved_in : {E H : Type 0} → List (Scope E H) → List (Action E)
+    → List (action.Action E H)
+resolved_in scopes actions = resolved_all (all_scopes scopes) (actions_view actions)
+
+-- the spawn of a command in the scope of this index
+abbrev pub spawn_in : {E H Z : Type 0} → List (Scope E H) → ℕ → List (String Z) → Ports
+    → action.Action E H
+spawn_in scopes index words ports =
+    action.spawn (scope_in (scopes_view scopes) index) (map string_bytes words) (ports_view ports)

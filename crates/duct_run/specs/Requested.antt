@@ -1,21 +1,23 @@
 -- What a request of a run does, by the views of its system.
 use Rattle.std.specs.Prelude.{OnOk, IfErr}
 use Rattle.std.specs.declared.result.Result.{Result}
-use Rattle.duct_start.specs.Actions.{Action}
+use Rattle.duct_start.specs.Actions.{Action, State}
 use Rattle.duct_start.specs.Chain.{Allows, Refuses}
 use Rattle.duct_start.specs.ResourcesView.{ResourcesView}
-use Rattle.duct_start.specs.RunInvariant.{ActionSucceeds, IsHookError, ActionFails}
+use Rattle.duct_start.specs.RunInvariant.{ActionSucceeds, IsHookError, ActionFails, ReadyForActions, RunContext, RunInvariant}
 use Rattle.duct_system.specs.declared.error.Error.{Error}
-use Rattle.std.specs.Prelude.{List, []}
+use Rattle.std.specs.Prelude.{List, [], ◌≡◌}
 use Rattle.duct_base.specs.Pool.{PoolView, IsGiven}
-use Rattle.duct_system.specs.SpecView.{Vars}
-use Rattle.duct_start.specs.Commands.{ActionSucceedsWith, ActionFailsWith}
+use Rattle.duct_system.specs.SpecView.{SpecView, Vars}
+use Rattle.duct_start.specs.Commands.{ActionSucceedsWith, ActionFailsWith, HooksFail, HooksSucceed, StoppedWithCause}
 use Rattle.duct_start.specs.Left.{Leaves, pool_view}
 use Rattle.duct_start.specs.RunContract.{PlanTail, ActionsFail, ActionsSucceed}
 use Rattle.duct_run.specs.GivesUp.{GivesUp}
 use Rattle.duct_run.specs.ResourcesView.{AreNew, HasSameWorkers, resources_view}
+use Rattle.duct_run.specs.StreamsView.{streams_view}
 use Rattle.duct_run.specs.SystemViews.{SystemViews}
 use Rattle.duct_run.specs.declared.resources.Resources.{Resources}
+use Rattle.duct_run.specs.declared.streams.Streams.{Streams}
 
 module _ {S E C F D V W : Type 0} (views : SystemViews S E C F D V W) where
   -- the resources, by numbers
@@ -72,6 +74,39 @@ module _ {S E C F D V W : Type 0} (views : SystemViews S E C F D V W) where
     pub err : IfErr result (CommandFails allows refuses pairs action sys after held kept)
     pub new : IsNew held → IsNew kept
     pub workers : HasSameWorkers held kept
+
+  -- the actions succeed: whatever run is ready for them goes on to where they lead
+  abbrev pub ActionsPerformed : {H : Type 0} → Allows H → Vars → List (Action E H) → S → S
+      → Resources E C F D → Resources E C F D → Type 0
+  ActionsPerformed {H} allows pairs actions sys after held kept =
+      (context : RunContext) (goal : State E H) → context.pairs ≡ pairs
+      → ReadyForActions allows views.number_of context goal actions (views.journal sys)
+      (resources_of held)
+      → RunInvariant allows views.number_of context goal (views.journal after) (resources_of kept)
+
+  -- the actions fail with this error: whatever run is ready for them stops before where they lead
+  abbrev pub ActionsStopped : {H : Type 0} → Allows H → Refuses H → Vars → List (Action E H) → S → S
+      → Resources E C F D → Resources E C F D → Error → Type 0
+  ActionsStopped {H} allows refuses pairs actions sys after held kept error =
+      (context : RunContext) (goal : State E H) → context.pairs ≡ pairs
+      → ReadyForActions allows views.number_of context goal actions (views.journal sys)
+      (resources_of held)
+      → StoppedWithCause allows refuses views.number_of context goal.plan.items
+      (views.journal after) (resources_of kept) error
+
+  -- the hooks of a command succeed: they change its spec and its streams
+  abbrev pub ChangeSucceeds : {H : Type 0} → Allows H → List (H × List E) → S → S → SpecView
+      → SpecView → Streams E → Streams E → Type 0
+  ChangeSucceeds allows hooks sys after spec made old new = HooksSucceed allows views.number_of
+      hooks (views.journal sys) (views.journal after) spec made
+      (streams_view views.number_of old) (streams_view views.number_of new)
+
+  -- a hook of a command fails with this error
+  abbrev pub ChangeFails : {H : Type 0} → Allows H → Refuses H → List (H × List E) → S → S
+      → SpecView → Streams E → Streams E → Error → Type 0
+  ChangeFails allows refuses hooks sys after spec old new error = HooksFail allows refuses
+      views.number_of hooks (views.journal sys) (views.journal after) spec
+      (streams_view views.number_of old) (streams_view views.number_of new) error
 
   -- the pool keeps each of its children, or counts it as reaped or lost by a result that the child
   -- may give

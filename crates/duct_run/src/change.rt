@@ -1,15 +1,16 @@
 //! Runs the hooks of a command, one after the other.
 ghost use Rattle.std.specs.Prelude.{◌≡◌, ◌≤◌, ◌+◌, ◌∷◌, [], length, map, OnOk, IfErr};
 ghost use Rattle.std.specs.Option.{option_to_list};
-ghost use Rattle.duct_start.specs.Commands.{HooksSucceed, HooksFail};
 ghost use Rattle.duct_start.specs.ActionList.{AreOutwards, scope_in};
 ghost use Rattle.duct_start.specs.Step.{step_of_setting};
+ghost use Rattle.duct_run.specs.Requested.{ChangeFails, ChangeSucceeds};
 ghost use Rattle.duct_run.specs.ScopeView.{scopes_view, setting_view};
-ghost use Rattle.duct_run.specs.StreamsView.{many_ends, streams_view};
+ghost use Rattle.duct_run.specs.StreamsView.{many_ends};
 
 use crate::places::{find, missing_place};
 use crate::scope::{Scope, Setting};
 use crate::streams::{Streams, settle};
+use crate::views::Viewed;
 use duct_base::error::Error;
 use duct_base::spec::{CommandSpec, Hook, Stream};
 use duct_base::system::System;
@@ -24,12 +25,10 @@ fn change<S: System, H: Hook>(
     streams: &mut Streams<S::End>,
 ) -> Result<(), Error>
     requires room { many_ends streams.old ≤ (S.journal_view sys.old).room }
-    ensures ok { OnOk result (HooksSucceed H.allows S.End.number_of ((hook.now, ends.now) ∷ [])
-        (S.journal_view sys.old) (S.journal_view sys.new) spec.old spec.new
-        (streams_view S.End.number_of streams.old) (streams_view S.End.number_of streams.new)) }
-    ensures err { IfErr result (HooksFail H.allows H.refuses S.End.number_of
-        ((hook.now, ends.now) ∷ []) (S.journal_view sys.old) (S.journal_view sys.new) spec.old
-        (streams_view S.End.number_of streams.old) (streams_view S.End.number_of streams.new)) }
+    ensures ok { OnOk result (ChangeSucceeds ⟦<S as Viewed>⟧.views H.allows
+        ((hook.now, ends.now) ∷ []) sys.old sys.new spec.old spec.new streams.old streams.new) }
+    ensures err { IfErr result (ChangeFails ⟦<S as Viewed>⟧.views H.allows H.refuses
+        ((hook.now, ends.now) ∷ []) sys.old sys.new spec.old streams.old streams.new) }
     ensures left { OnOk result (many_ends streams.new + (S.journal_view sys.old).room
         ≤ (S.journal_view sys.new).room + many_ends streams.old) }
 {
@@ -57,14 +56,10 @@ pub(crate) fn change_all<S: System, H: Hook>(
     requires within { scope ≤ length scopes.now }
     requires outwards { AreOutwards (scopes_view scopes.now) }
     requires room { many_ends streams.old ≤ (S.journal_view sys.old).room }
-    ensures ok { OnOk result (HooksSucceed H.allows S.End.number_of
-        (scope_in (scopes_view scopes.now) scope).hooks (S.journal_view sys.old)
-        (S.journal_view sys.new) spec.old spec.new (streams_view S.End.number_of streams.old)
-        (streams_view S.End.number_of streams.new)) }
-    ensures err { IfErr result (HooksFail H.allows H.refuses S.End.number_of
-        (scope_in (scopes_view scopes.now) scope).hooks (S.journal_view sys.old)
-        (S.journal_view sys.new) spec.old (streams_view S.End.number_of streams.old)
-        (streams_view S.End.number_of streams.new)) }
+    ensures ok { OnOk result (ChangeSucceeds ⟦<S as Viewed>⟧.views H.allows (scope_in (scopes_view
+        scopes.now) scope).hooks sys.old sys.new spec.old spec.new streams.old streams.new) }
+    ensures err { IfErr result (ChangeFails ⟦<S as Viewed>⟧.views H.allows H.refuses (scope_in
+        (scopes_view scopes.now) scope).hooks sys.old sys.new spec.old streams.old streams.new) }
     ensures left { OnOk result (many_ends streams.new + (S.journal_view sys.old).room
         ≤ (S.journal_view sys.new).room + many_ends streams.old) }
 {

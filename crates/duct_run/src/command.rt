@@ -4,13 +4,12 @@
 ghost use Rattle.std.specs.Prelude.{◌≡◌, ◌≤◌, ◌+◌, ◌++◌, length, map, string_bytes, IfOk, IfErr, OnOk, vec_len, vec_capacity};
 ghost use Rattle.duct_system.specs.SpecView.{pair_text};
 ghost use Rattle.duct_system.specs.Streams.{end_of, stream_of};
-ghost use Rattle.duct_start.specs.Actions as action;
 ghost use Rattle.duct_start.specs.Actions.{stack_after_ports, stack_after_port, port_end_count};
 ghost use Rattle.duct_start.specs.Commands.{NameSucceeds, ActionFailsWith, stack_with_streams, port_stream, port_streams};
 ghost use Rattle.duct_start.specs.ResourcesView.{ResourcesView, open_ends};
 ghost use Rattle.duct_start.specs.ActionList.{AreOutwards, scope_in};
 ghost use Rattle.duct_start.specs.Plan.{program_of};
-ghost use Rattle.duct_run.specs.ActionView.{ports_view};
+ghost use Rattle.duct_run.specs.ActionView.{ports_view, spawn_in};
 ghost use Rattle.duct_run.specs.ResourcesView.{HasRoom, HasSameWorkers, stack_view};
 ghost use Rattle.duct_run.specs.Made.{IsPrepared, program_text};
 ghost use Rattle.duct_run.specs.NameRefused.{NameRefused};
@@ -139,14 +138,12 @@ fn prepared<S: System, H: Hook>(
 ) -> Result<(Seat<S::Child>, CommandSpec), Error>
     requires within { scope ≤ length scopes.now }
     requires outwards { AreOutwards (scopes_view scopes.now) }
-    ensures ok { IfOk result (λ made. IsPrepared {E = S.End} {H = H} H.allows S.End.number_of
-        (map pair_text pairs.now.items) (scope_in (scopes_view scopes.now) scope)
-        (map string_bytes words.now) (ports_view ports) (S.journal_view sys.old)
-        (S.journal_view sys.new) made.1) }
+    ensures ok { IfOk result (λ made. IsPrepared {E = S.End} {H = H} H.allows S.End.number_of (map
+        pair_text pairs.now.items) (scope_in (scopes_view scopes.now) scope) (map string_bytes
+        words.now) (ports_view ports) (S.journal_view sys.old) (S.journal_view sys.new) made.1) }
     ensures err { IfErr result (λ error. (held : ResourcesView) → ActionFailsWith H.allows H.refuses
-        S.End.number_of (map pair_text pairs.now.items)
-        (action.spawn (scope_in (scopes_view scopes.now) scope) (map string_bytes words.now)
-        (ports_view ports)) (S.journal_view sys.old) (S.journal_view sys.new) held held error) }
+        S.End.number_of (map pair_text pairs.now.items) (spawn_in scopes.now scope words.now ports)
+        (S.journal_view sys.old) (S.journal_view sys.new) held held error) }
     ensures left { OnOk result ((S.journal_view sys.old).room ≤ (S.journal_view sys.new).room) }
 {
     let alloc = *pairs.allocator();
@@ -175,11 +172,11 @@ pub(crate) fn command<S: System, H: Hook>(
         ≤ (S.journal_view sys.old).room }
     requires reserved { HasRoom held.old }
     ensures ok { OnOk result (CommandSucceeds ⟦<S as Viewed>⟧.views H.allows (map pair_text
-        pairs.now.items) (action.spawn (scope_in (scopes_view scopes.now) scope) (map string_bytes
-        words.now) (ports_view ports)) sys.old sys.new held.old held.new) }
+        pairs.now.items) (spawn_in scopes.now scope words.now ports) sys.old sys.new held.old
+        held.new) }
     ensures err { IfErr result (CommandFails ⟦<S as Viewed>⟧.views H.allows H.refuses (map pair_text
-        pairs.now.items) (action.spawn (scope_in (scopes_view scopes.now) scope) (map string_bytes
-        words.now) (ports_view ports)) sys.old sys.new held.old held.new) }
+        pairs.now.items) (spawn_in scopes.now scope words.now ports) sys.old sys.new held.old
+        held.new) }
     ensures new { IsNew ⟦<S as Viewed>⟧.views held.old → IsNew ⟦<S as Viewed>⟧.views held.new }
     ensures workers { HasSameWorkers held.old held.new }
 {

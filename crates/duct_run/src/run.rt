@@ -1,14 +1,13 @@
 //! Runs a list of actions on a system.
-ghost use Rattle.std.specs.Prelude.{◌≡◌, ◌≤◌, [], All, length, map, OnOk, IfErr, vec_len};
+ghost use Rattle.std.specs.Prelude.{◌≤◌, All, length, map, OnOk, IfErr, vec_len};
 ghost use Rattle.duct_system.specs.SpecView.{pair_text};
-ghost use Rattle.duct_start.specs.Actions.{State, pop_count};
-ghost use Rattle.duct_start.specs.Commands.{StoppedWithCause};
+ghost use Rattle.duct_start.specs.Actions.{pop_count};
 ghost use Rattle.duct_start.specs.ResourcesView.{open_ends};
-ghost use Rattle.duct_start.specs.ActionList.{AreOutwards, IsWithin, resolved, resolved_all};
-ghost use Rattle.duct_start.specs.RunInvariant.{FindsItsEnds, RunContext, RunInvariant, ReadyForActions};
-ghost use Rattle.duct_run.specs.ActionView.{action_view, actions_view};
+ghost use Rattle.duct_start.specs.ActionList.{AreOutwards, IsWithin, resolved};
+ghost use Rattle.duct_start.specs.RunInvariant.{FindsItsEnds};
+ghost use Rattle.duct_run.specs.ActionView.{action_view, actions_view, resolved_in};
 ghost use Rattle.duct_run.specs.ResourcesView.{HasRoom, HasSameWorkers, SomeReadyForActions};
-ghost use Rattle.duct_run.specs.Requested.{IsNew, Performed, PoolLeaves, resources_of};
+ghost use Rattle.duct_run.specs.Requested.{ActionsPerformed, ActionsStopped, IsNew, Performed, PoolLeaves, resources_of};
 ghost use Rattle.duct_run.specs.ScopeView.{all_scopes, scopes_view};
 
 use crate::action::Action;
@@ -81,19 +80,13 @@ pub(crate) fn perform_all<S: System, H: Hook>(
     requires outwards { AreOutwards (scopes_view scopes.now) }
     requires within { All (IsWithin (length scopes.now)) (actions_view actions.now) }
     requires stood { SomeReadyForActions H.allows S.End.number_of (map pair_text pairs.now.items)
-        (resolved_all (all_scopes scopes.now) (actions_view actions.now)) (S.journal_view sys.old)
+        (resolved_in scopes.now actions.now) (S.journal_view sys.old)
         (resources_of ⟦<S as Viewed>⟧.views held.old) }
-    ensures ok { OnOk result ((context : RunContext) (goal : State S.End H) → context.pairs
-        ≡ map pair_text pairs.now.items → ReadyForActions H.allows S.End.number_of context goal
-        (resolved_all (all_scopes scopes.now) (actions_view actions.now)) (S.journal_view sys.old)
-        (resources_of ⟦<S as Viewed>⟧.views held.old) → RunInvariant H.allows S.End.number_of context
-        goal (S.journal_view sys.new) (resources_of ⟦<S as Viewed>⟧.views held.new)) }
-    ensures err { IfErr result (λ error. (context : RunContext) (goal : State S.End H)
-        → context.pairs ≡ map pair_text pairs.now.items → ReadyForActions H.allows S.End.number_of
-        context goal (resolved_all (all_scopes scopes.now) (actions_view actions.now))
-        (S.journal_view sys.old) (resources_of ⟦<S as Viewed>⟧.views held.old)
-        → StoppedWithCause H.allows H.refuses S.End.number_of context goal.plan.items
-        (S.journal_view sys.new) (resources_of ⟦<S as Viewed>⟧.views held.new) error) }
+    ensures ok { OnOk result (ActionsPerformed ⟦<S as Viewed>⟧.views H.allows (map pair_text
+        pairs.now.items) (resolved_in scopes.now actions.now) sys.old sys.new held.old held.new) }
+    ensures err { IfErr result (ActionsStopped ⟦<S as Viewed>⟧.views H.allows H.refuses (map
+        pair_text pairs.now.items) (resolved_in scopes.now actions.now) sys.old sys.new held.old
+        held.new) }
     ensures new { IsNew ⟦<S as Viewed>⟧.views held.old → IsNew ⟦<S as Viewed>⟧.views held.new }
     ensures workers { HasSameWorkers held.old held.new }
     ensures pool { PoolLeaves ⟦<S as Viewed>⟧.views pool.old pool.new }

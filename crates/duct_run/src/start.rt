@@ -2,13 +2,13 @@
 ghost use Rattle.std.specs.Prelude.{◌≡◌, ◌≤◌, All, length, is_some, true, None, OnOk, IfOk, IfErr, IsSome};
 ghost use Rattle.duct_system.specs.Trace.{segment};
 ghost use Rattle.duct_start.specs.ResourcesView.{empty_resources};
-ghost use Rattle.duct_start.specs.ActionList.{AreOutwards, IsWithin, resolved_all};
+ghost use Rattle.duct_start.specs.ActionList.{AreOutwards, IsWithin};
 ghost use Rattle.duct_start.specs.RunContract.{HavePipes, MadeReader, OpenOutputCapture, LeadToSomePlan, drain_tail, drain_and_reader_tail, no_tail};
-ghost use Rattle.duct_run.specs.ActionView.{actions_view};
+ghost use Rattle.duct_run.specs.ActionView.{actions_view, resolved_in};
 ghost use Rattle.duct_run.specs.ResourcesView.{HasSameWorkers};
 ghost use Rattle.duct_run.specs.OutputRead.{IsRead, pipe_view};
 ghost use Rattle.duct_run.specs.Requested.{RunGivesUp, IsNew, PoolLeaves, RunFails, RunSucceeds, resources_of};
-ghost use Rattle.duct_run.specs.ScopeView.{all_scopes, scopes_view};
+ghost use Rattle.duct_run.specs.ScopeView.{scopes_view};
 
 use crate::action::Action;
 use crate::ending::give_up;
@@ -33,14 +33,11 @@ fn run_actions<S: System, H: Hook>(
     requires outwards { AreOutwards (scopes_view scopes.now) }
     requires within { All (IsWithin (length scopes.now)) (actions_view actions.now) }
     requires begun { resources_of ⟦<S as Viewed>⟧.views held.old ≡ empty_resources }
-    requires leads { LeadToSomePlan S.End.number_of (resolved_all (all_scopes scopes.now)
-        (actions_view actions.now)) }
-    ensures ok { OnOk result (RunSucceeds ⟦<S as Viewed>⟧.views H.allows no_tail
-        (resolved_all (all_scopes scopes.now) (actions_view actions.now)) sys.old sys.new
-        held.new) }
+    requires leads { LeadToSomePlan S.End.number_of (resolved_in scopes.now actions.now) }
+    ensures ok { OnOk result (RunSucceeds ⟦<S as Viewed>⟧.views H.allows no_tail (resolved_in
+        scopes.now actions.now) sys.old sys.new held.new) }
     ensures err { IfErr result (RunFails ⟦<S as Viewed>⟧.views H.allows H.refuses no_tail
-        (resolved_all (all_scopes scopes.now) (actions_view actions.now)) sys.old sys.new
-        held.new) }
+        (resolved_in scopes.now actions.now) sys.old sys.new held.new) }
     ensures workers { HasSameWorkers held.old held.new }
     ensures new { IsNew ⟦<S as Viewed>⟧.views held.old → IsNew ⟦<S as Viewed>⟧.views held.new }
     ensures pool { PoolLeaves ⟦<S as Viewed>⟧.views pool.old pool.new }
@@ -60,16 +57,12 @@ fn run<S: System, H: Hook>(
     requires outwards { AreOutwards (scopes_view scopes.now) }
     requires within { All (IsWithin (length scopes.now)) (actions_view actions.now) }
     requires begun { resources_of ⟦<S as Viewed>⟧.views held.old ≡ empty_resources }
-    requires leads { LeadToSomePlan S.End.number_of (resolved_all (all_scopes scopes.now)
-        (actions_view actions.now)) }
-    ensures ok { OnOk result (RunSucceeds ⟦<S as Viewed>⟧.views H.allows drain_tail
-        (resolved_all (all_scopes scopes.now) (actions_view actions.now)) sys.old sys.new
-        held.new) }
+    requires leads { LeadToSomePlan S.End.number_of (resolved_in scopes.now actions.now) }
+    ensures ok { OnOk result (RunSucceeds ⟦<S as Viewed>⟧.views H.allows drain_tail (resolved_in
+        scopes.now actions.now) sys.old sys.new held.new) }
     ensures err { IfErr result (RunFails ⟦<S as Viewed>⟧.views H.allows H.refuses drain_tail
-        (resolved_all (all_scopes scopes.now) (actions_view actions.now)) sys.old sys.new
-        held.new) }
-    ensures workers { OnOk result (HavePipes S.End.number_of
-        (resolved_all (all_scopes scopes.now) (actions_view actions.now))
+        (resolved_in scopes.now actions.now) sys.old sys.new held.new) }
+    ensures workers { OnOk result (HavePipes S.End.number_of (resolved_in scopes.now actions.now)
         (is_some held.new.drains.out) (is_some held.new.drains.err)) }
     ensures new { IsNew ⟦<S as Viewed>⟧.views held.old → IsNew ⟦<S as Viewed>⟧.views held.new }
     ensures pool { PoolLeaves ⟦<S as Viewed>⟧.views pool.old pool.new }
@@ -108,21 +101,17 @@ fn run_reader<S: System, H: Hook>(
     requires outwards { AreOutwards (scopes_view scopes.now) }
     requires within { All (IsWithin (length scopes.now)) (actions_view actions.now) }
     requires begun { resources_of ⟦<S as Viewed>⟧.views held.old ≡ empty_resources }
-    requires leads { LeadToSomePlan S.End.number_of (resolved_all (all_scopes scopes.now)
-        (actions_view actions.now)) }
-    requires opens { OpenOutputCapture S.End.number_of (resolved_all (all_scopes scopes.now)
-        (actions_view actions.now)) }
+    requires leads { LeadToSomePlan S.End.number_of (resolved_in scopes.now actions.now) }
+    requires opens { OpenOutputCapture S.End.number_of (resolved_in scopes.now actions.now) }
     ensures ok { OnOk result (RunSucceeds ⟦<S as Viewed>⟧.views H.allows drain_and_reader_tail
-        (resolved_all (all_scopes scopes.now) (actions_view actions.now)) sys.old sys.new
-        held.new) }
+        (resolved_in scopes.now actions.now) sys.old sys.new held.new) }
     ensures reader { IfOk result (MadeReader S.may_read (segment (S.journal_view sys.old).entries
         (S.journal_view sys.new).entries)) }
     ensures err { IfErr result (RunFails ⟦<S as Viewed>⟧.views H.allows H.refuses
-        drain_and_reader_tail (resolved_all (all_scopes scopes.now) (actions_view actions.now))
-        sys.old sys.new held.new) }
+        drain_and_reader_tail (resolved_in scopes.now actions.now) sys.old sys.new held.new) }
     ensures output { OnOk result (held.new.drains.out ≡ None) }
-    ensures workers { OnOk result (HavePipes S.End.number_of (resolved_all (all_scopes scopes.now)
-        (actions_view actions.now)) true (is_some held.new.drains.err)) }
+    ensures workers { OnOk result (HavePipes S.End.number_of (resolved_in scopes.now actions.now)
+        true (is_some held.new.drains.err)) }
     ensures new { IsNew ⟦<S as Viewed>⟧.views held.old → IsNew ⟦<S as Viewed>⟧.views held.new }
     ensures pool { PoolLeaves ⟦<S as Viewed>⟧.views pool.old pool.new }
 {
@@ -149,18 +138,15 @@ pub fn start<S: System, H: Hook>(
     requires within { All (IsWithin (length scopes.now)) (actions_view actions.now) }
     requires begun { resources_of ⟦<S as Viewed>⟧.views held ≡ empty_resources }
     requires new { IsNew ⟦<S as Viewed>⟧.views held }
-    requires leads { LeadToSomePlan S.End.number_of (resolved_all (all_scopes scopes.now)
-        (actions_view actions.now)) }
+    requires leads { LeadToSomePlan S.End.number_of (resolved_in scopes.now actions.now) }
     ensures ok { IfOk result (λ kept. RunSucceeds ⟦<S as Viewed>⟧.views H.allows drain_tail
-        (resolved_all (all_scopes scopes.now) (actions_view actions.now)) sys.old sys.new kept) }
+        (resolved_in scopes.now actions.now) sys.old sys.new kept) }
     ensures kept { IfOk result (λ kept. IsNew ⟦<S as Viewed>⟧.views kept) }
-    ensures workers { IfOk result (λ kept. HavePipes S.End.number_of
-        (resolved_all (all_scopes scopes.now) (actions_view actions.now))
-        (is_some kept.drains.out) (is_some kept.drains.err)) }
+    ensures workers { IfOk result (λ kept. HavePipes S.End.number_of (resolved_in scopes.now
+        actions.now) (is_some kept.drains.out) (is_some kept.drains.err)) }
     ensures swept { OnOk result (PoolLeaves ⟦<S as Viewed>⟧.views pool.old pool.new) }
     ensures err { IfErr result (RunGivesUp ⟦<S as Viewed>⟧.views H.allows H.refuses drain_tail
-        (resolved_all (all_scopes scopes.now) (actions_view actions.now)) sys.old sys.new pool.old
-        pool.new) }
+        (resolved_in scopes.now actions.now) sys.old sys.new pool.old pool.new) }
 {
     let mut held = held;
     match run(sys, pool, scopes, actions, &mut held) {
@@ -194,22 +180,19 @@ pub fn start_reader<S: System, H: Hook>(
     requires within { All (IsWithin (length scopes.now)) (actions_view actions.now) }
     requires begun { resources_of ⟦<S as Viewed>⟧.views held ≡ empty_resources }
     requires new { IsNew ⟦<S as Viewed>⟧.views held }
-    requires leads { LeadToSomePlan S.End.number_of (resolved_all (all_scopes scopes.now)
-        (actions_view actions.now)) }
-    requires opens { OpenOutputCapture S.End.number_of (resolved_all (all_scopes scopes.now)
-        (actions_view actions.now)) }
-    ensures ok { IfOk result (λ made. RunSucceeds ⟦<S as Viewed>⟧.views H.allows drain_and_reader_tail
-        (resolved_all (all_scopes scopes.now) (actions_view actions.now)) sys.old sys.new made.0) }
+    requires leads { LeadToSomePlan S.End.number_of (resolved_in scopes.now actions.now) }
+    requires opens { OpenOutputCapture S.End.number_of (resolved_in scopes.now actions.now) }
+    ensures ok { IfOk result (λ made. RunSucceeds ⟦<S as Viewed>⟧.views H.allows
+        drain_and_reader_tail (resolved_in scopes.now actions.now) sys.old sys.new made.0) }
     ensures reader { IfOk result (λ made. MadeReader S.may_read
         (segment (S.journal_view sys.old).entries (S.journal_view sys.new).entries) made.1) }
     ensures kept { IfOk result (λ made. IsNew ⟦<S as Viewed>⟧.views made.0) }
     ensures output { IfOk result (λ made. made.0.drains.out ≡ None) }
-    ensures workers { IfOk result (λ made. HavePipes S.End.number_of
-        (resolved_all (all_scopes scopes.now) (actions_view actions.now)) true
-        (is_some made.0.drains.err)) }
+    ensures workers { IfOk result (λ made. HavePipes S.End.number_of (resolved_in scopes.now
+        actions.now) true (is_some made.0.drains.err)) }
     ensures swept { OnOk result (PoolLeaves ⟦<S as Viewed>⟧.views pool.old pool.new) }
     ensures err { IfErr result (RunGivesUp ⟦<S as Viewed>⟧.views H.allows H.refuses
-        drain_and_reader_tail (resolved_all (all_scopes scopes.now) (actions_view actions.now))
+        drain_and_reader_tail (resolved_in scopes.now actions.now)
         sys.old sys.new pool.old pool.new) }
 {
     let mut held = held;

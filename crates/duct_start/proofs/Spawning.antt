@@ -22,7 +22,7 @@ use Rattle.duct_system.specs.declared.system.Stdio.{Stdio}
 use Rattle.duct_system.specs.declared.system.Stdio.TheVariants.{Inherit, Null, End}
 use Rattle.duct_start.specs.Actions as action
 use Rattle.duct_start.specs.Actions.{Scope, State, PerStream, stack_after_ports, port_end_count, surroundings_by}
-use Rattle.duct_start.specs.Asked.{IsAsked}
+use Rattle.duct_start.specs.Asked.{IsAsked, origin_to}
 use Rattle.duct_start.specs.Causes.{StoppedBy}
 use Rattle.duct_start.specs.Chain.{Allows, Refuses, HooksChange, HooksStop, SpecWithStreams, hooks_by_origin}
 use Rattle.duct_start.specs.Commands.{AreAlike, StopsAmongHooks, IsAlike, StoppedWithCause, HooksInvariant, stack_with_streams, resources_with_stack, asks_canonical_path, hooks_by_target, after_canonical_path, program_in, streams_in, port_streams, with_stack}
@@ -31,7 +31,7 @@ use Rattle.duct_start.specs.Surroundings.{Surroundings, Target, Parents, Nothing
 use Rattle.duct_start.specs.ResourcesView.{ResourcesView, ends_of_pipes}
 use Rattle.duct_start.specs.Plan.{Plan, with_item, program_of}
 use Rattle.duct_start.specs.Sources.{IsGivenFrom, Pairwise}
-use Rattle.duct_start.specs.RunInvariant.{RunContext, GivesUnder, IsEarly, IsFrom, IsHookError, IsLater, HasOrigins, RunInvariant, StopInvariant, hooked, origin_to}
+use Rattle.duct_start.specs.RunInvariant.{RunContext, GivesUnder, IsEarly, IsFrom, IsHookError, IsLater, HasOrigins, RunInvariant, StopInvariant, hooked}
 use Rattle.duct_start.specs.Step.{Item, AskCanonicalize, AskSpawn}
 use Rattle.duct_start.proofs.Chained.{chain_as, chain_stops_as, lends_lent, wired_as}
 use Rattle.duct_start.proofs.Changing.{alike_long, handed_long}

@@ -10,10 +10,9 @@ use Rattle.duct_system.specs.declared.spec.Stream.{Stream}
 use Rattle.duct_system.specs.declared.spec.Stream.TheVariants.{In, Out, Err}
 use Rattle.duct_system.specs.declared.system.Stdio.TheVariants.{Inherit, Null, End}
 use Rattle.duct_start.specs.Actions.{Scope, PerStream, surroundings_by, stream_target, stack_after_ports, stack_after_port, port_end_count, port_in}
-use Rattle.duct_start.specs.Asked.{port_to, stream_to, streams_to}
+use Rattle.duct_start.specs.Asked.{origin_to, port_to, stream_to, streams_to}
 use Rattle.duct_start.specs.Commands.{AreAlike, IsAlike, stack_with_streams, port_stream, port_streams}
 use Rattle.duct_start.specs.Surroundings.{Target, target_of, Parents, Nothing, ReaderAt, WriterAt, FileAt, Lends}
-use Rattle.duct_start.specs.RunInvariant.{origin_to}
 
 -- what a port takes of a stack, put back on what it leaves, is the stack
 taken_less : {A : Type 0} (p : Port) (stack : List A) → port_end_count p ≤ length stack
@@ -88,28 +87,7 @@ module _ {E : Type 0} (entries : List EntryView) (number_of : E → ℕ) where
   -- a stream that is given the top of the stack goes where the top comes from
   given_top : (s : Stream) (t : Target E) (o : Origin) → port.Given ≡ port_to s t
       → Some o ≡ origin_to entries number_of t → End (origin_of t) ≡ stream_to entries number_of s t
-  given_top In (Parents In) o is from = absurd (cc)
-  given_top In (Parents Out) o is from = refl
-  given_top In (Parents Err) o is from = refl
-  given_top Out (Parents In) o is from = absurd (cc)
-  given_top Out (Parents Out) o is from = absurd (cc)
-  given_top Out (Parents Err) o is from = refl
-  given_top Err (Parents In) o is from = absurd (cc)
-  given_top Err (Parents Out) o is from = refl
-  given_top Err (Parents Err) o is from = absurd (cc)
-  given_top s Nothing o is from = absurd (cc)
-  given_top In (ReaderAt place) o is from = refl
-  given_top Out (ReaderAt place) o is from = refl
-  given_top Err (ReaderAt place) o is from = refl
-  given_top In (WriterAt place) o is from = refl
-  given_top Out (WriterAt place) o is from = refl
-  given_top Err (WriterAt place) o is from = refl
-  given_top In (FileAt place) o is from = refl
-  given_top Out (FileAt place) o is from = refl
-  given_top Err (FileAt place) o is from = refl
-  given_top In (Lends end) o is from = refl
-  given_top Out (Lends end) o is from = refl
-  given_top Err (Lends end) o is from = refl
+  given_top s t o is from = rw (← is, ← from) refl
 
   inherits : (s : Stream) → Inherit ≡ stream_to entries number_of s (Parents s)
   inherits In = refl

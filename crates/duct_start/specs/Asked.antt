@@ -1,6 +1,7 @@
 -- The spec and the streams that a tree gives a command, before its hooks.
-use Rattle.std.specs.Prelude.{ℕ, List, [], ◌∷◌, ◌≡◌, slice_index, slice_get, flat_map}
+use Rattle.std.specs.Prelude.{ℕ, List, [], ◌∷◌, ◌≡◌, None, Some, slice_index, slice_get, flat_map}
 use Rattle.std.specs.Option.{option_to_list}
+use Rattle.std.specs.declared.option.Option.{Option}
 use Rattle.duct_system.specs.Ledger.{opened_by}
 use Rattle.duct_system.specs.EntryView.{EntryView}
 use Rattle.duct_system.specs.Origin.{Origin, Opened, ParentOf, Lent}
@@ -15,9 +16,9 @@ use Rattle.duct_system.specs.declared.system.Stdio.TheVariants.{Inherit, Null, E
 use Rattle.duct_start.specs.Surroundings.{Surroundings, Target, Parents, Nothing, ReaderAt, WriterAt, FileAt, Lends, target_of, variable}
 
 -- the port of a stream that goes there: it inherits the parent's own stream where that is the same
--- stream
+-- stream, or stdin, to which no other stream goes
 abbrev pub port_to : {E : Type 0} → Stream → Target E → Port
-port_to In (Parents In) = port.Inherit
+port_to stream (Parents In) = port.Inherit
 port_to Out (Parents Out) = port.Inherit
 port_to Err (Parents Err) = port.Inherit
 port_to stream Nothing = port.Null
@@ -44,20 +45,31 @@ abbrev pub end_at : List EntryView → ℕ → ℕ → ℕ
 end_at entries place which =
     slice_index (flat_map opened_by (option_to_list (slice_get entries place))) which
 
+-- the origin of the end that a stream goes to, by the numbers of a trace and those of the caller's
+-- ends; stdin of the parent has no end, since a stream can only inherit it
+abbrev pub origin_to : {E : Type 0} → List EntryView → (E → ℕ) → Target E → Option Origin
+origin_to entries number_of (Parents In) = None
+origin_to entries number_of (Parents Out) = Some (ParentOf side.Out)
+origin_to entries number_of (Parents Err) = Some (ParentOf side.Err)
+origin_to entries number_of Nothing = None
+origin_to entries number_of (ReaderAt place) = Some (Opened (end_at entries place 0))
+origin_to entries number_of (WriterAt place) = Some (Opened (end_at entries place 1))
+origin_to entries number_of (FileAt place) = Some (Opened (end_at entries place 0))
+origin_to entries number_of (Lends end) = Some (Lent (number_of end))
+
+-- the stream of a port, with the origin of its end where it is given one
+abbrev pub stream_by : Port → Option Origin → Stdio Origin
+stream_by port.Given (Some origin) = End origin
+stream_by port.Given None = Inherit
+stream_by port.Null origin = Null
+stream_by port.Inherit origin = Inherit
+stream_by (port.Place place) origin = Inherit
+
 -- the stream that goes there, by the origin of its end, from the trace and the numbers of the
 -- caller's ends
 abbrev pub stream_to : {E : Type 0} → List EntryView → (E → ℕ) → Stream → Target E → Stdio Origin
-stream_to entries number_of In (Parents In) = Inherit
-stream_to entries number_of Out (Parents Out) = Inherit
-stream_to entries number_of Err (Parents Err) = Inherit
-stream_to entries number_of stream (Parents In) = Inherit
-stream_to entries number_of stream (Parents Out) = End (ParentOf side.Out)
-stream_to entries number_of stream (Parents Err) = End (ParentOf side.Err)
-stream_to entries number_of stream Nothing = Null
-stream_to entries number_of stream (ReaderAt place) = End (Opened (end_at entries place 0))
-stream_to entries number_of stream (WriterAt place) = End (Opened (end_at entries place 1))
-stream_to entries number_of stream (FileAt place) = End (Opened (end_at entries place 0))
-stream_to entries number_of stream (Lends end) = End (Lent (number_of end))
+stream_to entries number_of stream target =
+    stream_by (port_to stream target) (origin_to entries number_of target)
 
 -- the three streams of a command, in the order stdin, stdout, stderr
 abbrev pub streams_to : {E H : Type 0} → List EntryView → (E → ℕ) → Surroundings E H → List

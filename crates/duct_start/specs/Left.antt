@@ -59,8 +59,8 @@ pub record TakesIn (may : ℕ → Answer → Type 0) (given : List ChildView)
   pub old : LeavesOld may given before after
   pub all : length before.children + length given < 2 ^ 63 → Leaves may given before after
 
--- the pool after a failed start: it was given each child that the start had started, none of which
--- was polled or given an order before
+-- a failed start: the pool takes in the children that the start had started, in order; none of them
+-- had been polled or given an order
 abbrev pub LeavesStarted : {C : Type 0} → (ℕ → Answer → Type 0) → (C → ChildView) → List EntryView
     → PoolView C → PoolView C → Type 0
 LeavesStarted may view added before after =

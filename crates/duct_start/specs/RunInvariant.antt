@@ -6,12 +6,11 @@ use Rattle.duct_system.specs.EntryView.{EntryView}
 use Rattle.duct_system.specs.Journal.{JournalView}
 use Rattle.duct_system.specs.Ledger.{opened_numbers, closed_numbers, count_of, open_count}
 use Rattle.duct_system.specs.SpecView.{Vars}
-use Rattle.duct_system.specs.Origin.{Origin, Opened, ParentOf, Lent, origin}
+use Rattle.duct_system.specs.Origin.{Origin, Opened, origin}
 use Rattle.duct_system.specs.Started.{children_in, feeds_in, drains_in}
 use Rattle.duct_system.specs.Trace.{trace, IsClean, fault_of}
 use Rattle.duct_system.specs.declared.error.Error.{Error}
 use Rattle.duct_system.specs.declared.error.Error.TheVariants.{System, Memory, Hook, HookEnd}
-use Rattle.duct_system.specs.declared.spec.Stream.TheVariants.{In, Out, Err}
 use Rattle.duct_system.specs.declared.system.Fault.{Fault}
 use Rattle.duct_system.specs.declared.system.Kind.TheVariants.{OutOfMemory}
 use Rattle.duct_system.specs.declared.system.Side.{Side}
@@ -19,25 +18,14 @@ use Rattle.duct_system.specs.declared.system.Side.TheVariants as side
 use Rattle.duct_status.specs.PerSide.{at_side}
 use Rattle.duct_start.specs.Actions as action
 use Rattle.duct_start.specs.Actions.{Action, State, IsReady, AreReady, advance, after_actions}
-use Rattle.duct_start.specs.Asked.{end_at}
+use Rattle.duct_start.specs.Asked.{origin_to}
 use Rattle.duct_start.specs.Chain.{Allows}
 use Rattle.duct_start.specs.Follows.{AnswersFromBy, Gives, GivesExactly, pairs_in}
-use Rattle.duct_start.specs.Surroundings.{Target, Parents, Nothing, ReaderAt, WriterAt, FileAt, Lends}
+use Rattle.duct_start.specs.Surroundings.{Target}
 use Rattle.duct_start.specs.ResourcesView.{ResourcesView, open_ends}
 use Rattle.duct_start.specs.Kinds.{entry_kind, item_kind}
 use Rattle.duct_start.specs.Sources.{ComesFrom, IsGivenFrom, Pairwise}
 use Rattle.duct_start.specs.Step.{Item}
-
--- the origin of an end with this target, by the numbers of a trace
-abbrev pub origin_to : {E : Type 0} → List EntryView → (E → ℕ) → Target E → Option Origin
-origin_to entries number_of (Parents In) = None
-origin_to entries number_of (Parents Out) = Some (ParentOf side.Out)
-origin_to entries number_of (Parents Err) = Some (ParentOf side.Err)
-origin_to entries number_of Nothing = None
-origin_to entries number_of (ReaderAt place) = Some (Opened (end_at entries place 0))
-origin_to entries number_of (WriterAt place) = Some (Opened (end_at entries place 1))
-origin_to entries number_of (FileAt place) = Some (Opened (end_at entries place 0))
-origin_to entries number_of (Lends end) = Some (Lent (number_of end))
 
 -- the numbers were given in between: each is at least `next` and below `then`, and occurs once
 pub record AreFresh (next then : ℕ) (numbers : List ℕ) : Type 0 where
