@@ -8,6 +8,7 @@ use Rattle.duct_system.specs.Job.{JobView}
 use Rattle.duct_system.specs.Journal.{JournalView}
 use Rattle.duct_system.specs.Trace.{segment}
 use Rattle.duct_system.specs.declared.error.Error.{Error}
+use Rattle.duct_system.specs.declared.error.Error.TheVariants.{Memory}
 use Rattle.duct_status.specs.ShapeView.{command_count, input_count, shape_view}
 use Rattle.duct_status.specs.declared.status.Shape.{Shape}
 use Rattle.duct_start.specs.Actions.{Action}
@@ -23,13 +24,17 @@ use Rattle.duct_start.specs.ShapeOfTree.{shape_of_tree}
 use Rattle.duct_start.specs.Start.{StartRefused, StartSucceeds, ceiling, depth}
 use Rattle.duct_start.specs.TreeView.{TreeView}
 use Rattle.duct_start.proofs.Counted.{reader_counts, started_counts}
-use Rattle.duct_start.proofs.Launched.{drained_items, drained_pipes, launched, list_leads, read_items, read_launched, read_pipe, refused_launched, stands_launched}
+use Rattle.duct_start.proofs.Launched.{drained_items, drained_pipes, launched, list_leads, read_items, read_launched, read_pipe, refused_launched, stands_launched, unasked_launch}
+use Rattle.duct_start.proofs.Leaving.{leaves_unasked}
 use Rattle.duct_run.specs.GivesUp.{GivesUp}
 use Rattle.duct_run.specs.ResourcesView.{AreNew, resources_view}
+use Rattle.duct_run.specs.SystemViews.{SystemViews}
 use Rattle.duct_run.specs.declared.resources.Resources.{Resources}
 use Rattle.duct_run.proofs.GivenUp.{given_up, left_started}
 use Rattle.duct_run.proofs.New.{run, runs_started}
-use Rattle.duct.specs.Launched.{StartKind, drains_error, drains_output, draining, plan_for, reading, tree_for}
+use Rattle.duct.specs.Launched.{LaunchRefused, StartKind, drains_error, drains_output, draining, plan_for, reading, tree_for}
+use Rattle.duct.specs.TreeView.{tree_view}
+use Rattle.duct.specs.declared.expression.Expression.{Expression}
 
 -- how the plan goes on once the commands of such a start run
 abbrev pub tail_for : {E H : Type 0} → StartKind → PlanTail E H
@@ -123,3 +128,13 @@ module _ {E H : Type 0} (allows : Allows H) (number_of : E → ℕ) (tree : Tree
   drains_err kind actions same output error have =
       let listed = tree_for kind tree in
       (have (ceiling number_of listed) (2 * depth listed + 4) (plan_of_subtree [] listed initial_plan) (list_leads allows number_of listed actions same)).1 ∙ err_pipe kind
+
+-- a start that failed on an allocation before its first request: it asked for nothing, and the pool
+-- is as before
+pub refused_unasked : {S E H C F D V W : Type 0} (views : SystemViews S E C F D V W) (allows : Allows H)
+    (refuses : Refuses H) (kind : StartKind) (root : Expression E H) (sys : S) (pool : PoolView C)
+    → LaunchRefused views allows refuses kind root sys sys pool pool Memory
+refused_unasked views allows refuses kind root sys pool = record {
+  asked = unasked_launch allows refuses views.number_of (tree_view root) (plan_for kind (tree_view root)) (views.journal sys);
+  given = leaves_unasked views.may_answer views.child (views.journal sys).entries pool;
+}

@@ -7,7 +7,8 @@ ghost use Rattle.duct_status.specs.CoreView.{latest_in, shape_in};
 ghost use Rattle.duct_status.specs.Latest.{latest_told};
 ghost use Rattle.duct_status.specs.ReplyView.{reply_view};
 ghost use Rattle.duct_status.specs.ShapeView.{command_count, input_count, shape_view};
-ghost use Rattle.duct_running.specs.Polled.{IsConclusion, Gives, ReturnsOutcome, ChildAskedAt, ChildrenAsked, FeedPolledAt, FeedsPolled, DrainPolled, StreamPolled, is_awaited};
+ghost use Rattle.duct_running.specs.Polled.{IsConclusion, Gives, ReturnsOutcome, ChildAskedAt, ChildrenAsked, FeedPolledAt, FeedsPolled, StreamPolled, is_awaited};
+ghost use Rattle.duct_running.specs.PolledOnce.{PolledOnce};
 ghost use Rattle.duct_running.specs.Stored.{AreUnasked, word_of};
 ghost use Rattle.duct_running.specs.NumbersView.{numbers_of};
 ghost use Rattle.duct_running.specs.Allowed.{OneRuns, StoresAllowed};
@@ -305,20 +306,7 @@ impl<S: System> Running<S> {
     /// or where the output has too many owners. No result is lost by `Error::Memory`: the next poll
     /// tries again.
     pub fn poll(&mut self) -> Result<Option<Arc<Output>>, Error>
-        ensures shape { shape_view self.new.shape ≡ shape_view self.old.shape }
-        ensures asked { ChildrenAsked ⟦<S as Viewed>⟧.views self.old self.new }
-        ensures asked_feeds { FeedsPolled ⟦<S as Viewed>⟧.views self.old self.new }
-
-        // Whether it is polled depends on what the children and input workers store now, and on
-        // what the capture workers stored before.
-        ensures asked_output { DrainPolled ⟦<S as Viewed>⟧.views Out
-            (record self.new { output = self.old.output; error = self.old.error })
-            self.old.output self.new.output }
-
-        // Whether it is polled depends on what the children, the input workers and stdout's capture
-        // worker store now, and on what stderr's stored before.
-        ensures asked_error { DrainPolled ⟦<S as Viewed>⟧.views Err
-            (record self.new { error = self.old.error }) self.old.error self.new.error }
+        ensures polls { PolledOnce ⟦<S as Viewed>⟧.views self.old self.new }
         ensures outcome { ReturnsOutcome ⟦<S as Viewed>⟧.views self.new result }
         ensures pending { result ≡ Ok None
             → OneRuns ⟦<S as Viewed>⟧.views (numbers_of ⟦<S as Viewed>⟧.views self.new) }

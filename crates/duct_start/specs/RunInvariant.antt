@@ -18,7 +18,7 @@ use Rattle.duct_system.specs.declared.system.Side.TheVariants as side
 use Rattle.duct_status.specs.PerSide.{at_side}
 use Rattle.duct_start.specs.Actions as action
 use Rattle.duct_start.specs.Actions.{Action, State, IsReady, AreReady, advance, after_actions}
-use Rattle.duct_start.specs.Asked.{origin_to}
+use Rattle.duct_start.specs.Asked.{end_at, origin_to}
 use Rattle.duct_start.specs.Chain.{Allows}
 use Rattle.duct_start.specs.Follows.{AnswersFromBy, Gives, GivesExactly, pairs_in}
 use Rattle.duct_start.specs.Surroundings.{Target}

@@ -2,34 +2,26 @@
 use Rattle.std.proofs.Common.{subst, sym}
 use Rattle.std.proofs.lemmas.Result.{err_from_is_err_and}
 use Rattle.duct_system.specs.Trace.{segment}
-use Rattle.duct_start.specs.Plan.{plan_of_reader}
-use Rattle.duct_start.proofs.Launched.{unasked_launch}
-use Rattle.duct_start.proofs.Leaving.{leaves_unasked}
 use Rattle.duct_run.proofs.Seeing.{views_of}
 use Rattle.duct_running.proofs.Launched.{launched_unasked}
 use Rattle.duct.specs.TreeView.{tree_view}
 use Rattle.duct_handle.specs.HandleView.{HandleView}
 use Rattle.duct_handle.proofs.Beginning.{are_ids, is_handle}
 use Rattle.duct.specs.Launched.{Handles, drains_error, drains_output, reading}
+use Rattle.duct.proofs.Launching.{refused_unasked}
 use Rattle.duct.proofs.expression.Expression.reader.Goals as goal
 
 pub returns-in_err-ready-clause-refused : goal.returns-in_err-ready-clause-refused
 returns-in_err-ready-clause-refused g c =
     let p = err_from_is_err_and c.from_residual.result c.from_residual.ensures.1 in
-    let tree = tree_view c.args.self.now in
-    rw (p.1, p.2, c.in_err-ready.ensures.memory) (record {
-      asked = unasked_launch g.H.Hook.allows g.H.Hook.refuses g.E.Numbered.number_of tree (plan_of_reader tree) (g.S.System.journal_view c.args.sys.now);
-      given = leaves_unasked g.S.Child.Child.may_answer g.S.Child.Child.child_view (g.S.System.journal_view c.args.sys.now).entries c.args.pool.now;
-    })
+    rw (p.1, p.2, c.in_err-ready.ensures.memory) (refused_unasked (views_of g.S.System g.E.Numbered g.S.Child.Child g.S.Feed.Job g.S.Drain.Job)
+        g.H.Hook.allows g.H.Hook.refuses reading c.args.self.now c.args.sys.now c.args.pool.now)
 
 pub returns-in_err-room-clause-refused : goal.returns-in_err-room-clause-refused
 returns-in_err-room-clause-refused g c =
     let p = err_from_is_err_and c.from_residual-in_err-room.result c.from_residual-in_err-room.ensures.1 in
-    let tree = tree_view c.args.self.now in
-    rw (p.1, p.2, c.in_err-room.ensures.memory) (record {
-      asked = unasked_launch g.H.Hook.allows g.H.Hook.refuses g.E.Numbered.number_of tree (plan_of_reader tree) (g.S.System.journal_view c.args.sys.now);
-      given = leaves_unasked g.S.Child.Child.may_answer g.S.Child.Child.child_view (g.S.System.journal_view c.args.sys.now).entries c.args.pool.now;
-    })
+    rw (p.1, p.2, c.in_err-room.ensures.memory) (refused_unasked (views_of g.S.System g.E.Numbered g.S.Child.Child g.S.Feed.Job g.S.Drain.Job)
+        g.H.Hook.allows g.H.Hook.refuses reading c.args.self.now c.args.sys.now c.args.pool.now)
 
 pub returns-in_err-running-clause-refused : goal.returns-in_err-running-clause-refused
 returns-in_err-running-clause-refused g c =

@@ -14,8 +14,36 @@ use Rattle.duct_running.specs.Stored.{Bytes, stored_in, stored_latest}
 use Rattle.duct_running.proofs.Pending.{one_runs}
 use Rattle.duct_running.proofs.running.Running.poll.Goals as goal
 
-pub returns-clause-asked_feeds : goal.returns-clause-asked_feeds
-returns-clause-asked_feeds g c = rw (c.conclude.ensures.feeds, c.ask_drain-2.ensures.feeds, c.ask_drain.ensures.feeds, ← (c.ask_children.ensures.feeds ∙ ap (λ (r : RunningView _ _ _). r.feeds) c.begin_poll.ensures)) c.ask_feeds.ensures.asked
+pub returns-clause-polls : goal.returns-clause-polls
+returns-clause-polls g c =
+    let drain = g.S.Drain.Job.job_view in
+    let one = c.ask_feeds.new.self in
+    let two = c.ask_drain.new.self in
+    let now = c.conclude.new.self in
+    let shape : shape_view now.shape ≡ shape_view two.shape = c.conclude.ensures.shape ∙ c.ask_drain-2.ensures.shape in
+    let children : now.children ≡ two.children = c.conclude.ensures.children ∙ c.ask_drain-2.ensures.children in
+    let feeds : now.feeds ≡ two.feeds = c.conclude.ensures.feeds ∙ c.ask_drain-2.ensures.feeds in
+    let output : now.output ≡ two.output = c.conclude.ensures.output ∙ c.ask_drain-2.ensures.asked.1 in
+    let error = c.conclude.ensures.error in
+    let shape_first : shape_view now.shape ≡ shape_view one.shape = shape ∙ c.ask_drain.ensures.shape in
+    let children_first : now.children ≡ one.children = children ∙ c.ask_drain.ensures.children in
+    let feeds_first : now.feeds ≡ one.feeds = feeds ∙ c.ask_drain.ensures.feeds in
+    let output_before : one.output ≡ c.args.self.now.output = c.ask_feeds.ensures.output ∙ c.ask_children.ensures.output ∙ ap (λ (r : RunningView _ _ _). r.output) c.begin_poll.ensures in
+    let error_before : one.error ≡ c.args.self.now.error = c.ask_feeds.ensures.error ∙ c.ask_children.ensures.error ∙ ap (λ (r : RunningView _ _ _). r.error) c.begin_poll.ensures in
+    let error_still : two.error ≡ c.args.self.now.error = c.ask_drain.ensures.asked.1 ∙ error_before in
+    let words = λ (cs : List _) (fs : List _) (o e : Option _). stored_latest (map g.S.Child.Child.child_view cs) (map g.S.Feed.Job.job_view fs) (option_map drain o) (option_map drain e) in
+    let Polled = λ (test : Bool) (before after : Option _). MatchBool test (IsThereAndPolled g.S.Drain.Job.may_say g.S.Drain.Job.same g.S.Drain.Job.refusable (option_map drain before) (option_map drain after)) (option_map drain after ≡ option_map drain before) in
+    record {
+      shape = shape_first ∙ c.ask_feeds.ensures.shape ∙ c.ask_children.ensures.shape ∙ ap (λ (r : RunningView _ _ _). shape_view r.shape) c.begin_poll.ensures;
+      children = rw (children_first, c.ask_feeds.ensures.children, ← ap (λ (r : RunningView _ _ _). r.children) c.begin_poll.ensures) c.ask_children.ensures.asked;
+      feeds = rw (feeds_first, ← (c.ask_children.ensures.feeds ∙ ap (λ (r : RunningView _ _ _). r.feeds) c.begin_poll.ensures)) c.ask_feeds.ensures.asked;
+      output = subst (λ (X : Type 0). X)
+          (λ i. Polled (is_awaited side.Out (awaited (sym shape_first i) (words (sym children_first i) (sym feeds_first i) (output_before i) (error_before i)))) (output_before i) (sym output i))
+          c.ask_drain.ensures.asked.0;
+      error = subst (λ (X : Type 0). X)
+          (λ i. Polled (is_awaited side.Err (awaited (sym shape i) (words (sym children i) (sym feeds i) (sym output i) (error_still i)))) (error_still i) (sym error i))
+          c.ask_drain-2.ensures.asked.0;
+    }
 
 pub returns-clause-pending : goal.returns-clause-pending
 returns-clause-pending g c = λ none.
