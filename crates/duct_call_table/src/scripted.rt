@@ -10,7 +10,8 @@
 //! `ids` is a call that names the programs of the children with the ids of what runs.
 //!
 //! These lines are compared.
-//! - `calls`: the requests, the polls and the orders of children since the last start.
+//! - `calls`: the requests since the last start, and the polls and orders of what it started. Feeds
+//!   are shown by their bytes, drains in the order of their start.
 //! - `times`: how often children were polled and given an order in the row. Those of the pool and
 //!   those that were given up count, too.
 //! - `asked`: how often the clock was read.
@@ -85,7 +86,8 @@ impl Scripted {
             match self.bench.calls.get(place as usize) {
                 Some(Call::Poll(_)) => polls = polls.saturating_add(1),
                 Some(Call::Order(_)) => orders = orders.saturating_add(1),
-                Some(Call::Request(_) | Call::Hook(_)) | None => (),
+                Some(Call::Request(_) | Call::Hook(_) | Call::PollFeed(_) | Call::PollDrain(_))
+                | None => (),
             }
         }
         (polls, orders)

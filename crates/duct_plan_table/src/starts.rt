@@ -431,7 +431,10 @@ fn is_still(log: &CallLog, part: (u64, u64)) -> bool {
     for place in part.0..part.1 {
         match log.get(place as usize) {
             Some(Call::Hook(_)) => (hooked, still) = (true, true),
-            Some(Call::Request(Sort::Close) | Call::Poll(_)) | None => (),
+            Some(
+                Call::Request(Sort::Close) | Call::Poll(_) | Call::PollFeed(_) | Call::PollDrain(_),
+            )
+            | None => (),
             Some(Call::Request(_) | Call::Order(_)) => still = !hooked,
         }
     }

@@ -1,8 +1,9 @@
-//! A log to which a scripted system, its children and the hooks of a test write, so that a test
-//! sees the order of their calls. Threads may share it, and no call of it blocks.
+//! A log to which a scripted system, its children and workers, and the hooks of a test write, so that
+//! a test sees the order of their calls. Threads may share it, and no call of it blocks.
 
 use crate::requests::Sort;
 use std::alloc::{AllocError, Global};
+use std::sync::Arc;
 use std::sync::atomic::{AtomicU64, Ordering};
 
 /// What was called.
@@ -16,6 +17,10 @@ pub enum Call {
     Poll(u64),
     /// A kill or a signal of the child with this number.
     Order(u64),
+    /// A poll of the feed of the end with this number.
+    PollFeed(u64),
+    /// A poll of the drain of the end with this number.
+    PollDrain(u64),
 }
 
 /// Calls in the order in which they were noted, up to a number that is fixed when the log is made.
@@ -46,6 +51,8 @@ impl CallLog {
             Call::Hook(label) => (HOOK, u64::from(label)),
             Call::Poll(child) => (POLL, child),
             Call::Order(child) => (ORDER, child),
+            Call::PollFeed(end) => (POLL_FEED, end),
+            Call::PollDrain(end) => (POLL_DRAIN, end),
         };
         if let Some(cell) = self.cells.get(place as usize) {
             cell[1].store(number, Ordering::SeqCst);
@@ -68,8 +75,17 @@ impl CallLog {
             HOOK => Some(Call::Hook((number % 256) as u8)),
             POLL => Some(Call::Poll(number)),
             ORDER => Some(Call::Order(number)),
+            POLL_FEED => Some(Call::PollFeed(number)),
+            POLL_DRAIN => Some(Call::PollDrain(number)),
             word => Sort::at((word - 1) as usize).map(Call::Request),
         }
+    }
+}
+
+/// Notes a call in the log, if there is one.
+pub fn note(calls: &Option<Arc<CallLog>>, call: Call) {
+    if let Some(calls) = calls {
+        calls.write(call);
     }
 }
 
@@ -79,3 +95,7 @@ const HOOK: u64 = 100;
 const POLL: u64 = 101;
 
 const ORDER: u64 = 102;
+
+const POLL_FEED: u64 = 103;
+
+const POLL_DRAIN: u64 = 104;

@@ -4,7 +4,7 @@ ghost use Rattle.duct_system.specs.Child.{OrdersChild, IsUnasked};
 ghost use Rattle.duct_script.specs.Obeying.{IsObeying};
 
 use crate::answers::Answers;
-use crate::calls::{Call, CallLog};
+use crate::calls::{Call, CallLog, note};
 use crate::gate::Gate;
 use duct_system::system::{Child, ExitStatus, Fault, Kind, Numbered, Order};
 use std::alloc::Global;
@@ -102,13 +102,6 @@ impl ScriptChild {
         }
     }
 
-    /// Notes a call in the log, if there is one.
-    fn note(&self, call: Call) {
-        if let Some(calls) = &self.calls {
-            calls.write(call);
-        }
-    }
-
     /// Notes an order with the next result of its list, and returns that result. On allocation
     /// failure nothing is noted, and the result is `OutOfMemory`.
     fn order(&mut self, order: Order) -> Result<(), Fault>
@@ -118,7 +111,7 @@ impl ScriptChild {
         if self.orders.reserve(1).is_err() {
             return Err(Fault::new(Kind::OutOfMemory));
         }
-        self.note(Call::Order(self.number));
+        note(&self.calls, Call::Order(self.number));
         let answer = match order {
             Order::Kill => self.script.kills.next_or(Ok(())),
             Order::Signal(_) => self.script.signals.next_or(Ok(())),
@@ -171,7 +164,7 @@ impl Child for ScriptChild {
             (λ _ _. Unit {0}) (child_view self.old) result (child_view self.new) }
         ensures told { result ≡ poll_of self.old }
     {
-        self.note(Call::Poll(self.number));
+        note(&self.calls, Call::Poll(self.number));
         self.polls = self.polls.saturating_add(1);
         let answer = match self.ending {
             Some(status) => Ok(Some(status)),

@@ -6,7 +6,7 @@ ghost use Rattle.duct_system.specs.SpecView.{GivesNothing};
 ghost use Rattle.duct_script.specs.declared.hook.HookAnswer.TheVariants.{Obey};
 ghost use Rattle.duct_script.specs.Change.{port_to, with_port, changed_by, changed, has_word, refusal_of};
 
-use crate::calls::{Call, CallLog};
+use crate::calls::{Call, CallLog, note};
 use duct_system::error::Error;
 use duct_system::spec::{CommandSpec, Hook, Port, Stream};
 use duct_system::system::{Fault, Kind};
@@ -96,9 +96,7 @@ impl Hook for ScriptHook {
         ⊎ (fault.kind ≡ OutOfMemory) };
 
     fn change(&self, spec: &mut CommandSpec) -> Result<(), Fault> {
-        if let Some(calls) = &self.calls {
-            calls.write(Call::Hook(self.label));
-        }
+        note(&self.calls, Call::Hook(self.label));
         let refusal = refusal(&self.answer, spec);
         make_all(self.changes.as_slice(), spec)?;
         match refusal {

@@ -5,6 +5,7 @@ ghost use Rattle.duct_system.specs.declared.system.Said.TheVariants.{Running, Do
 ghost use Rattle.duct_script.specs.Said.{word_of, SameBytes};
 
 use crate::answers::Answers;
+use crate::calls::{Call, CallLog, note};
 use duct_system::system::{Job, Numbered, Said};
 use std::collections::VecDeque;
 use std::snapshot::Snapshot;
@@ -28,21 +29,25 @@ pub struct ScriptFeed {
     script: FeedScript,
     polls: u64,
     kept: Said<()>,
+    calls: Option<Arc<CallLog>>,
 }
 
 impl ScriptFeed {
     ghost use Rattle.duct_script.specs.Views.{feed_view};
 
-    /// Returns the feed of the end with this number, before any poll.
-    pub fn new(number: u64, script: FeedScript) -> ScriptFeed
+    /// Returns the feed of the end with this number, before any poll. It notes its polls in this
+    /// log, if there is one.
+    pub fn new(number: u64, script: FeedScript, calls: Option<Arc<CallLog>>) -> ScriptFeed
         ensures job { feed_view result ≡ unpolled_job number }
         ensures script { result.script ≡ script }
+        ensures calls { result.calls ≡ calls }
     {
         ScriptFeed {
             number,
             script,
             polls: 0,
             kept: Said::Running,
+            calls,
         }
     }
 
@@ -86,6 +91,7 @@ impl Job for ScriptFeed {
             (λ _ _. Unit {0}) (λ _ _. Unit {0}) ⊥ (feed_view self.old) result (feed_view self.new) }
         ensures told { result ≡ said_by self.old }
     {
+        note(&self.calls, Call::PollFeed(self.number));
         self.polls = self.polls.saturating_add(1);
         if self.kept == Said::Running {
             self.kept = self.script.next_or(Said::Done(()));
@@ -103,6 +109,7 @@ pub struct ScriptDrain {
     polls: u64,
     said: Said<Arc<Vec<u8>>>,
     kept: Snapshot<Said<Arc<Vec<u8>>>>,
+    calls: Option<Arc<CallLog>>,
     ghost same_word: { word_of said ≡ word_of kept.value },
 }
 
@@ -110,11 +117,18 @@ impl ScriptDrain {
     ghost use Rattle.duct_script.specs.Views.{drain_view};
 
     /// Returns the drain of the end with this number, before any poll. If `script` is empty, its
-    /// polls return `empty`, which should hold no bytes.
-    pub fn new(number: u64, script: DrainScript, empty: Arc<Vec<u8>>) -> ScriptDrain
+    /// polls return `empty`, which should hold no bytes. It notes its polls in this log, if there is
+    /// one.
+    pub fn new(
+        number: u64,
+        script: DrainScript,
+        empty: Arc<Vec<u8>>,
+        calls: Option<Arc<CallLog>>,
+    ) -> ScriptDrain
         ensures job { drain_view result ≡ unpolled_job number }
         ensures script { result.script ≡ script }
         ensures otherwise { result.otherwise ≡ Done empty }
+        ensures calls { result.calls ≡ calls }
     {
         let said = Said::Running;
         let kept = Snapshot::of(&said);
@@ -125,6 +139,7 @@ impl ScriptDrain {
             polls: 0,
             said,
             kept,
+            calls,
         }
     }
 
@@ -161,6 +176,7 @@ impl Job for ScriptDrain {
     ghost has_number = { λ d. refl };
 
     fn poll(&mut self) -> Said<Arc<Vec<u8>>> {
+        note(&self.calls, Call::PollDrain(self.number));
         self.polls = self.polls.saturating_add(1);
         if !is_running(&self.said) {
             return said_again(&self.said).unwrap_or(Said::Running);

@@ -15,7 +15,7 @@ ghost use Rattle.duct_script.specs.Shares.{SharesLog};
 ghost use Rattle.duct_script.specs.declared.requests.Sort.TheVariants.{Drain};
 
 use crate::answers::Answers;
-use crate::calls::{Call, CallLog};
+use crate::calls::{Call, CallLog, note};
 use crate::child::{ChildScript, PollAnswer, ScriptChild};
 use crate::job::{DrainScript, FeedScript, ScriptDrain, ScriptFeed};
 use crate::reader::{ReaderScript, ScriptReader};
@@ -212,9 +212,10 @@ impl Script {
         Ok(())
     }
 
-    /// Sets the log that notes each later request, and each poll and order of the children that are
-    /// spawned later. A child notes nothing if the log can't get one more owner when it is spawned.
-    /// An order that fails on allocation failure isn't noted.
+    /// Sets the log that notes each later request, each poll and order of the children that are
+    /// spawned later, and each poll of the workers that are started later. A child or worker notes
+    /// nothing if the log can't get one more owner when it is started. An order that fails on
+    /// allocation failure isn't noted.
     pub fn note_in(&mut self, calls: Arc<CallLog>)
         ensures { self.new ≡ record self.old { calls = Some calls } }
     {
@@ -279,9 +280,7 @@ impl Script {
         ensures counted { self.new
             ≡ record self.old { requests = with_request sort self.old.requests } }
     {
-        if let Some(calls) = &self.calls {
-            calls.write(Call::Request(sort));
-        }
+        note(&self.calls, Call::Request(sort));
         self.requests.count(sort)
     }
 
@@ -414,6 +413,7 @@ impl Script {
         ensures job { feed_view result ≡ unpolled_job number }
         ensures script { IsNext self.old.feeds.items
             (λ script. script.items.items ≡ []) result.script }
+        ensures calls { SharesLog self.old.calls result.calls }
         ensures feeds { self.new.feeds.items ≡ drop 1 self.old.feeds.items }
         ensures rest { self.new ≡ record self.old { feeds = self.new.feeds } }
     {
@@ -421,7 +421,7 @@ impl Script {
             Some(script) => script,
             None => FeedScript::none(self.journal.allocator()),
         };
-        ScriptFeed::new(number, script)
+        ScriptFeed::new(number, script, self.shared_calls())
     }
 
     /// Counts the start of a drain, and returns the next one, with this number. Fails with the
@@ -433,6 +433,7 @@ impl Script {
             IsNext self.old.drains.items (λ script. script.items ≡ []) job.script) }
         ensures empty { IfOk result (λ job.
             word_of job.otherwise ≡ Done (arc_value self.old.empty).items) }
+        ensures calls { IfOk result (λ job. SharesLog self.old.calls job.calls) }
         ensures refused { IfSome (next_fault Drain self.old.requests)
             (λ fault. result ≡ Err fault) }
         ensures err { IfNone (next_fault Drain self.old.requests)
@@ -455,7 +456,7 @@ impl Script {
             Some(script) => script,
             None => DrainScript::new(self.journal.allocator()),
         };
-        Ok(ScriptDrain::new(number, script, empty))
+        Ok(ScriptDrain::new(number, script, empty, self.shared_calls()))
     }
 }
 

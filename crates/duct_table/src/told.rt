@@ -164,7 +164,8 @@ pub fn lent_text(alloc: Global, entries: &[Entry]) -> Result<String, AllocError>
 
 /// Returns the calls in the log from the first of two indices up to, but not including, the second,
 /// in order and without the requests `Duplicate`, `Parent` and `Close`. A child of the start is
-/// shown by its program, a child of the pool by its number. Fails on an allocation failure.
+/// shown by its program, a child of the pool by its number, a feed by its bytes, and a drain by its
+/// place among those that were started. Fails on an allocation failure.
 pub fn noted_text(alloc: Global, bench: &Bench, places: (u64, u64)) -> Result<String, AllocError> {
     let mut text = String::new(alloc);
     let (from, to) = places;
@@ -189,6 +190,8 @@ fn push_call(text: &mut String, entries: &[Entry], call: Call) -> Result<(), All
         }
         Call::Poll(child) => push_child(text, "poll", entries, child),
         Call::Order(child) => push_child(text, "order", entries, child),
+        Call::PollFeed(end) => push_feed_poll(text, entries, end),
+        Call::PollDrain(end) => push_drain_poll(text, entries, end),
     }
 }
 
@@ -203,6 +206,40 @@ fn push_child(
         Some(program) if child >= FIRST => write!(text, "{call} {program}"),
         _ => write!(text, "{call} {child}"),
     }
+}
+
+/// Appends the poll of a feed, which is shown by its bytes.
+fn push_feed_poll(text: &mut String, entries: &[Entry], feed: u64) -> Result<(), AllocError> {
+    begin(text)?;
+    let bytes = fed(entries, feed).unwrap_or(&[]);
+    write!(text, "poll feed {}", str::from_utf8(bytes).unwrap_or("?"))
+}
+
+/// Returns the bytes of the feed of the end with this number, if the journal has its start.
+fn fed(entries: &[Entry], feed: u64) -> Option<&[u8]> {
+    for entry in entries {
+        if let Entry::Feed(end, bytes, Ok(())) = entry {
+            if *end == feed {
+                return Some(bytes.as_slice());
+            }
+        }
+    }
+    None
+}
+
+/// Appends the poll of a drain, which is shown by its place among those that were started.
+fn push_drain_poll(text: &mut String, entries: &[Entry], drain: u64) -> Result<(), AllocError> {
+    let mut place = 0_usize;
+    for entry in entries {
+        if let Entry::Drain(end, Ok(())) = entry {
+            place = place.saturating_add(1);
+            if *end == drain {
+                break;
+            }
+        }
+    }
+    begin(text)?;
+    write!(text, "poll drain {place}")
 }
 
 /// Returns the program of the child with this number, if the journal has its spawn.
