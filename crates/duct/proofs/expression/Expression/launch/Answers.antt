@@ -9,7 +9,7 @@ pub returns-in_err-ready-clause-refused : goal.returns-in_err-ready-clause-refus
 returns-in_err-ready-clause-refused g c =
     let p = err_from_is_err_and c.from_residual.result c.from_residual.ensures.1 in
     rw (p.1, p.2, c.in_err-ready.ensures.memory) (refused_unasked (views_of g.S.System g.E.Numbered g.S.Child.Child g.S.Feed.Job g.S.Drain.Job)
-        g.H.Hook.allows g.H.Hook.refuses draining c.args.self.now c.args.sys.now c.args.pool.now)
+    g.H.Hook.allows g.H.Hook.refuses draining c.args.self.now c.args.sys.now c.args.pool.now)
 
 pub returns-clause-launched : goal.returns-clause-launched
 returns-clause-launched g c = c.launch_ready.ensures.launched
