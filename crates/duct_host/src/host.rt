@@ -13,7 +13,7 @@ use crate::fault::{ask, no_memory};
 use crate::opened::{canonical_twice, descriptor_of, names_of, open_to_read, open_to_write};
 use crate::parents::Parents;
 use crate::reader::Reader;
-use crate::spawn::{all_wired, count_of_ends, start};
+use crate::spawn::{all_numbered, all_wired, count_of_ends, start};
 use crate::standard::Standard;
 use duct_base::journal::Journal;
 use duct_base::spec::CommandSpec;
@@ -22,6 +22,7 @@ use duct_worker::spawn::{spawn_numbered_drain, spawn_numbered_feed};
 use duct_worker::worker::Worker;
 use std::alloc::{AllocError, Global};
 use std::fs::File;
+use std::io;
 use std::io::{PipeReader, PipeWriter};
 use std::marker::Model;
 use std::os::fd::OwnedFd;
@@ -29,15 +30,14 @@ use std::process::{ChildStdin, ChildStdout, Processes};
 use std::rt::{Env, Files};
 use std::sync::Arc;
 use std::thread::Threads;
-use std::{io, process};
 
 /// A system over the real machine, by the runtime `R`, with its journal. Each request of a start
 /// adds an entry: a program that runs for long empties the journal between two starts, by
 /// `clear_journal`.
 ///
 /// It owns none of the ends that it returns: whoever has one closes it. Where a standard stream was
-/// closed when the host was made, `/dev/null` is open in its place until the host is dropped, and a
-/// child that inherits it gets `/dev/null` too.
+/// closed when the host was made, `/dev/null` is open in its place until the host is dropped, for
+/// both reading and writing, and a child that inherits that stream gets a duplicate of it.
 #[derive(Drop)]
 pub struct Host<R> {
     rt: R,
@@ -220,12 +220,9 @@ impl<R: Processes + Files<File = File> + Env + Parents + Clone + Drop> Host<R> {
         Ok((read, write))
     }
 
-    /// Starts a child with the next number, which is taken before any call to the machine.
-    fn new_child(
-        &mut self,
-        spec: &CommandSpec,
-        streams: [process::Stdio; 3],
-    ) -> Result<Child<R>, Fault>
+    /// Starts a child with the next number, which is taken before any call to the machine. Each end
+    /// among its streams is closed here, also where the start fails.
+    fn new_child(&mut self, spec: &CommandSpec, io: [Stdio<End>; 3]) -> Result<Child<R>, Fault>
         ensures kept { OnlyCounts self.old self.new }
         ensures fresh { IfOk result (λ child. IsNew self.old self.new child.number) }
         ensures unasked { IfOk result (λ child. IsUnasked (child_view child)) }
@@ -235,6 +232,7 @@ impl<R: Processes + Files<File = File> + Env + Parents + Clone + Drop> Host<R> {
         let Ok(rt) = self.rt.clone() else {
             return Err(no_memory());
         };
+        let streams = all_wired(io, &self.standard)?;
         let started = start(&self.rt, self.alloc, spec, streams)?;
         Ok(Child::new(rt, self.alloc, number, started))
     }
@@ -396,8 +394,8 @@ impl<R: Processes + Files<File = File> + Env + Parents + Threads + Clone + Drop>
     {
         let ends = count_of_ends(&io);
         self.prepare_spawn(ends)?;
-        let (kept, streams) = all_wired(io, self.standard.closed());
-        match self.new_child(&spec, streams) {
+        let kept = all_numbered(&io);
+        match self.new_child(&spec, io) {
             Ok(child) => {
                 self.journal
                     .add(Entry::Spawn(spec, kept, Ok(child.number())));

@@ -7,11 +7,13 @@ ghost use Rattle.duct_host.specs.Commands.{IsCommandOf};
 ghost use Rattle.duct_host.specs.Variables.{IsWholeEnvironment, Sets};
 
 use crate::end::End;
-use crate::fault::no_memory;
+use crate::fault::{ask, no_memory};
+use crate::standard::Standard;
 use crate::started::{Started, start_command};
 use duct_base::spec::CommandSpec;
 use duct_base::system::{Fault, Kind, Numbered, Stdio};
 use std::alloc::{AllocError, Global};
+use std::fs::File;
 use std::process;
 use std::process::{Command, Processes};
 
@@ -130,37 +132,49 @@ fn set_folder(command: &mut Command, spec: &CommandSpec) -> Result<(), AllocErro
     Ok(())
 }
 
-/// Three streams as the journal has them, and as std takes them. `closed` says which streams of the
-/// parent are closed.
-pub(crate) fn all_wired(
-    streams: [Stdio<End>; 3],
-    closed: [bool; 3],
-) -> ([Stdio<u64>; 3], [process::Stdio; 3])
-    ensures { result.0 ≡ map (stream_of (λ e. e)) streams }
+/// Three streams as the journal has them.
+pub(crate) fn all_numbered(streams: &[Stdio<End>; 3]) -> [Stdio<u64>; 3]
+    ensures { result ≡ map (stream_of (λ e. e)) streams.now }
 {
     let [input, output, error] = streams;
-    let (input, their_input) = wired(input, closed[0]);
-    let (output, their_output) = wired(output, closed[1]);
-    let (error, their_error) = wired(error, closed[2]);
-    (
-        [input, output, error],
-        [their_input, their_output, their_error],
-    )
+    [numbered(input), numbered(output), numbered(error)]
 }
 
-/// A stream as the journal has it, and as std takes it. Where the parent's is closed nothing is
-/// inherited.
-fn wired(stream: Stdio<End>, closed: bool) -> (Stdio<u64>, process::Stdio)
-    ensures { result.0 ≡ stream_of (λ e. e) stream }
+/// A stream as the journal has it.
+fn numbered(stream: &Stdio<End>) -> Stdio<u64>
+    ensures { result ≡ stream_of (λ e. e) stream.now }
 {
     match stream {
-        Stdio::Inherit if closed => (Stdio::Inherit, process::Stdio::null()),
-        Stdio::Inherit => (Stdio::Inherit, process::Stdio::inherit()),
-        Stdio::Null => (Stdio::Null, process::Stdio::null()),
-        Stdio::End(end) => (
-            Stdio::End(end.number()),
-            process::Stdio::from(end.into_descriptor()),
-        ),
+        Stdio::Inherit => Stdio::Inherit,
+        Stdio::Null => Stdio::Null,
+        Stdio::End(end) => Stdio::End(end.number()),
+    }
+}
+
+/// Three streams as std takes them. Where this fails, each end among them is closed.
+pub(crate) fn all_wired(
+    streams: [Stdio<End>; 3],
+    standard: &Standard,
+) -> Result<[process::Stdio; 3], Fault> {
+    let [input, output, error] = streams;
+    let [no_input, no_output, no_error] = standard.filled();
+    Ok([
+        wired(input, no_input)?,
+        wired(output, no_output)?,
+        wired(error, no_error)?,
+    ])
+}
+
+/// A stream as std takes it. Where the parent's was closed, what is open in its place is inherited,
+/// by a descriptor that the child keeps.
+fn wired(stream: Stdio<End>, filled: &Option<File>) -> Result<process::Stdio, Fault> {
+    match stream {
+        Stdio::Inherit => match filled {
+            None => Ok(process::Stdio::inherit()),
+            Some(file) => Ok(process::Stdio::from(ask(|| file.try_clone())?)),
+        },
+        Stdio::Null => Ok(process::Stdio::null()),
+        Stdio::End(end) => Ok(process::Stdio::from(end.into_descriptor())),
     }
 }
 

@@ -3,8 +3,8 @@ use std::fs::{File, OpenOptions};
 use std::os::fd::AsRawFd;
 use std::rt::Files;
 
-/// What is open at the descriptors of stdin, stdout and stderr that were closed. A read of it is at
-/// EOF, and what is written to it is discarded.
+/// What is open at the descriptors of stdin, stdout and stderr that were closed, for both reading
+/// and writing. A read of it is at EOF, and what is written to it is discarded.
 #[derive(Drop)]
 pub(crate) struct Standard {
     filled: [Option<File>; 3],
@@ -36,9 +36,8 @@ impl Standard {
         Standard { filled }
     }
 
-    /// Whether each of stdin, stdout and stderr was closed.
-    pub(crate) fn closed(&self) -> [bool; 3] {
-        let [input, output, error] = &self.filled;
-        [input.is_some(), output.is_some(), error.is_some()]
+    /// What is open in place of stdin, stdout and stderr, for each that was closed.
+    pub(crate) fn filled(&self) -> &[Option<File>; 3] {
+        &self.filled
     }
 }
