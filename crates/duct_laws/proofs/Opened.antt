@@ -11,6 +11,7 @@ use Rattle.duct_start.specs.Plan.{Plan, with_item, with_opening, place_for, plan
 use Rattle.duct_start.specs.Step.{Item, Opening, OpensNothing, Opens, Captures, AskPipe, step}
 use Rattle.duct_start.specs.TreeView.{ModifierView, TreeView, command, pipe, around}
 use Rattle.duct_start.proofs.Commanded.{items_of, commanded_is}
+use Rattle.duct_laws.specs.Laws.{OverriddenStillOpens}
 
 -- the second list of items is the first with more at its end
 abbrev GoesOn : {E H : Type 0} → List (Item E H) → List (Item E H) → Type 0
@@ -57,19 +58,15 @@ module _ {E H : Type 0} where
       (goes_on plan.items begun.items inside.items (opened_on opening plan) (planned_on inner (within place modifier ∷ up) begun))
       ((step modifier).closing place, refl)
 
-  -- the item that a node adds before its inner expression is in the plan, even if an inner node
-  -- overrides what the node sets
-  pub outer_opened : (modifier : ModifierView E H) (item : Item E H)
-      → (step modifier).opening ≡ Opens item
-      → (inner : TreeView E H) (up : Path E H) (plan : Plan E H)
-      → (later : List (Item E H))
-      × ((plan_of_subtree up (around modifier inner) plan).items ≡ plan.items ++ item ∷ later)
-  outer_opened modifier item is inner up plan =
-      let opening = (step modifier).opening in
-      let place = place_for opening plan in
-      let inside = planned_on inner (within place modifier ∷ up) (with_opening opening plan) in
-      let closing = (step modifier).closing place in (
-        inside.0 ++ closing,
-        ap (λ items. items ++ closing) (inside.1 ∙ ap (λ start. (with_opening start plan).items ++ inside.0) is ∙ append_assoc plan.items (item ∷ []) inside.0)
-            ∙ append_assoc plan.items (item ∷ inside.0) closing,
-      )
+-- the item that a node adds before its inner expression is in the plan, even if an inner node
+-- overrides what the node sets
+pub still_opens : (E H : Type 0) → OverriddenStillOpens E H
+still_opens E H modifier item is inner up plan =
+    let opening = (step modifier).opening in
+    let place = place_for opening plan in
+    let inside = planned_on inner (within place modifier ∷ up) (with_opening opening plan) in
+    let closing = (step modifier).closing place in (
+      inside.0 ++ closing,
+      ap (λ items. items ++ closing) (inside.1 ∙ ap (λ start. (with_opening start plan).items ++ inside.0) is ∙ append_assoc plan.items (item ∷ []) inside.0)
+          ∙ append_assoc plan.items (item ∷ inside.0) closing,
+    )

@@ -6,6 +6,7 @@ use Rattle.std.specs.declared.option.Option.{Option}
 use Rattle.std.proofs.lemmas.List.{append-nil}
 use Rattle.duct_system.specs.declared.spec.Stream.{Stream}
 use Rattle.duct_system.specs.declared.spec.Stream.TheVariants.{In, Out, Err}
+use Rattle.duct_laws.specs.Laws.{InnerRedirectionCounts, SwapsCancel}
 use Rattle.duct_laws.specs.Redirected.{redirected}
 use Rattle.duct_start.specs.Surroundings.{Target}
 use Rattle.duct_start.specs.Lookup.{resolved_turn, stream_goes, folder_on, changes_on, hooks_on, surroundings_on}
@@ -157,40 +158,35 @@ module _ {E H : Type 0} where
   speaks_of modifier place stream is =
       subst (λ which. Says which modifier place) is (says modifier place)
 
-  -- two redirections of one stream, one directly around the other: a command finds the same as with
-  -- the inner one alone
-  pub redirected_once : (front up : Path E H) (inner outer : ModifierView E H) (p q : ℕ)
-      (stream : Stream) → redirected inner ≡ Some stream → redirected outer ≡ Some stream
-      → surroundings_on (front ++ within p inner ∷ within q outer ∷ up)
-      ≡ surroundings_on (front ++ within p inner ∷ up)
-  redirected_once front up inner outer p q stream one other =
-      let a = speaks_of inner p stream one in
-      let b = speaks_of outer q stream other in
-      found_alike _ _
-      (alike_within front (within p inner ∷ within q outer ∷ up) (within p inner ∷ up) record {
-        streams = λ s. passes stream ((step inner).turn p s) (a.turns.apart s) ((step outer).turn q) b.turns (λ t. stream_goes up t);
-        folders = ap (λ f. option_or (step inner).folder (option_or f (folder_on up))) b.no_folder;
-        variables = ap (λ c. (step inner).changes ++ (c ++ changes_on up)) b.no_changes;
-        hooked = ap (λ h. (hooks_on up ++ h) ++ (step inner).hooks) b.no_hooks ∙ ap (λ h. h ++ (step inner).hooks) (append-nil (hooks_on up));
-      })
+-- two redirections of one stream, one directly around the other: a command finds the same as with
+-- the inner one alone
+pub inner_counts : (E H : Type 0) → InnerRedirectionCounts E H
+inner_counts E H inner outer p q stream one other front up =
+    let a = speaks_of inner p stream one in
+    let b = speaks_of outer q stream other in
+    found_alike _ _
+    (alike_within front (within p inner ∷ within q outer ∷ up) (within p inner ∷ up) record {
+      streams = λ s. passes stream ((step inner).turn p s) (a.turns.apart s) ((step outer).turn q) b.turns (λ t. stream_goes up t);
+      folders = ap (λ f. option_or (step inner).folder (option_or f (folder_on up))) b.no_folder;
+      variables = ap (λ c. (step inner).changes ++ (c ++ changes_on up)) b.no_changes;
+      hooked = ap (λ h. (hooks_on up ++ h) ++ (step inner).hooks) b.no_hooks ∙ ap (λ h. h ++ (step inner).hooks) (append-nil (hooks_on up));
+    })
 
-  -- two swaps of stdout and stderr, one directly around the other: a command finds the same as
-  -- without them
-  pub swapped_back : (front up : Path E H) (p q : ℕ)
-      → surroundings_on (front ++ within p stdout_stderr_swap ∷ within q stdout_stderr_swap ∷ up)
-      ≡ surroundings_on (front ++ up)
-  swapped_back front up p q =
-      found_alike _ _
-      (alike_within front (within p stdout_stderr_swap ∷ within q stdout_stderr_swap ∷ up) up record {
-        streams = back;
-        folders = refl;
-        variables = refl;
-        hooked = append-nil (hooks_on up ++ []) ∙ append-nil (hooks_on up);
-      })
-    where
-      back : (stream : Stream)
-          → stream_goes (within p stdout_stderr_swap ∷ within q stdout_stderr_swap ∷ up) stream
-          ≡ stream_goes up stream
-      back In = refl
-      back Out = refl
-      back Err = refl
+-- two swaps of stdout and stderr, one directly around the other: a command finds the same as
+-- without them
+pub swaps_cancel : (E H : Type 0) → SwapsCancel E H
+swaps_cancel E H p q front up =
+    found_alike _ _
+    (alike_within front (within p stdout_stderr_swap ∷ within q stdout_stderr_swap ∷ up) up record {
+      streams = back;
+      folders = refl;
+      variables = refl;
+      hooked = append-nil (hooks_on up ++ []) ∙ append-nil (hooks_on up);
+    })
+  where
+    back : (stream : Stream)
+        → stream_goes (within p stdout_stderr_swap ∷ within q stdout_stderr_swap ∷ up) stream
+        ≡ stream_goes up stream
+    back In = refl
+    back Out = refl
+    back Err = refl

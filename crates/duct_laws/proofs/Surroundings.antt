@@ -9,15 +9,14 @@ use Rattle.duct_system.proofs.Variables.{name_equiv, same_at}
 use Rattle.duct_start.specs.Surroundings.{VariableChange, Sets, Removes, Replaces, variable, value_found}
 use Rattle.duct_start.specs.Lookup.{folder_on, changes_on}
 use Rattle.duct_start.specs.Path.{Path, within, step_of}
-use Rattle.duct_start.specs.TreeView.{dir, env, full_env}
+use Rattle.duct_start.specs.TreeView.{env, full_env}
+use Rattle.duct_laws.specs.Laws.{InnerEnvironmentHides, InnerFolderReplaces, InnerVariableHides}
 
-module _ {E H : Type 0} where
-  -- a folder that is set inside overrides each folder that is set outside
-  pub inner_folder : (front up other : Path E H) (p : ℕ) (path : List ℕ)
-      → folder_on (front ++ within p (dir path) ∷ up) ≡ folder_on (front ++ within p (dir path) ∷ other)
-  inner_folder [] up other p path = refl
-  inner_folder (crumb ∷ front) up other p path =
-      ap (option_or (step_of crumb).folder) (inner_folder front up other p path)
+-- a folder that is set inside replaces each one that is set outside
+pub inner_folder : (E H : Type 0) → InnerFolderReplaces E H
+inner_folder E H [] up other p path = refl
+inner_folder E H (crumb ∷ front) up other p path =
+    ap (option_or (step_of crumb).folder) (inner_folder E H front up other p path)
 
 -- if two lists of changes agree on a name, they still do with the same nearer changes added to both
 behind : (pairs others : Vars) (name : List ℕ) (near one other : List VariableChange)
@@ -74,51 +73,43 @@ module _ {E H : Type 0} where
       value_behind pairs name (step_of crumb).changes (changes_on (front ++ one))
       (changes_on (front ++ other)) (value_round pairs name front one other same)
 
-  -- a variable that is set inside overrides one of the same name that is set anywhere outside: the
-  -- values of all names are the same without the outer one
-  pub inner_variable : (pairs : Vars) (front middle up : Path E H) (p q : ℕ)
-      (inner value outer hidden : List ℕ) → is_same_name inner outer ≡ true → (name : List ℕ)
-      → value_found pairs
-      (changes_on (front ++ within p (env inner value) ∷ (middle ++ within q (env outer hidden) ∷ up)))
-      name
-      ≡ value_found pairs (changes_on (front ++ within p (env inner value) ∷ (middle ++ up))) name
-  inner_variable pairs front middle up p q inner value outer hidden same name =
-      value_round pairs name front
-      (within p (env inner value) ∷ (middle ++ within q (env outer hidden) ∷ up))
-      (within p (env inner value) ∷ (middle ++ up))
-      (by (is_same_name name inner) (is_same_name name outer) refl
-      (name_equiv.symm name inner ∙ same_at inner outer name same ∙ name_equiv.symm outer name))
-    where
-      -- the path outside the inner change, with the outer change and without it
-      both : Path E H
-      both = middle ++ within q (env outer hidden) ∷ up
+-- a variable that is set inside hides the value of one of its name that is set outside
+pub inner_variable : (E H : Type 0) → InnerVariableHides E H
+inner_variable E H pairs front middle up p q inner value outer hidden same name =
+    value_round pairs name front
+    (within p (env inner value) ∷ (middle ++ within q (env outer hidden) ∷ up))
+    (within p (env inner value) ∷ (middle ++ up))
+    (by (is_same_name name inner) (is_same_name name outer) refl
+    (name_equiv.symm name inner ∙ same_at inner outer name same ∙ name_equiv.symm outer name))
+  where
+    -- the path outside the inner change, with the outer change and without it
+    both : Path E H
+    both = middle ++ within q (env outer hidden) ∷ up
 
-      one : Path E H
-      one = middle ++ up
+    one : Path E H
+    one = middle ++ up
 
-      far : Option (List ℕ × List ℕ)
-      far = variable pairs (changes_on up) name
+    far : Option (List ℕ × List ℕ)
+    far = variable pairs (changes_on up) name
 
-      passed : is_same_name name outer ≡ false
-          → value_found pairs (changes_on (within q (env outer hidden) ∷ up)) name ≡ valued far
-      passed differs = ap (λ b. valued_by b outer hidden far) differs
+    passed : is_same_name name outer ≡ false
+        → value_found pairs (changes_on (within q (env outer hidden) ∷ up)) name ≡ valued far
+    passed differs = ap (λ b. valued_by b outer hidden far) differs
 
-      by : (b c : Bool) → is_same_name name outer ≡ c → b ≡ c
-          → valued_by b inner value (variable pairs (changes_on both) name)
-          ≡ valued_by b inner value (variable pairs (changes_on one) name)
-      by true c is tied = refl
-      by false false is tied =
-          value_round pairs name middle (within q (env outer hidden) ∷ up) up (passed is)
-      by false true is tied = absurd (cc)
+    by : (b c : Bool) → is_same_name name outer ≡ c → b ≡ c
+        → valued_by b inner value (variable pairs (changes_on both) name)
+        ≡ valued_by b inner value (variable pairs (changes_on one) name)
+    by true c is tied = refl
+    by false false is tied =
+        value_round pairs name middle (within q (env outer hidden) ∷ up) up (passed is)
+    by false true is tied = absurd (cc)
 
-  -- a whole environment that is set inside overrides the changes of variables outside, and the
-  -- parent's environment
-  pub inner_environment : (pairs others : Vars) (front up other : Path E H) (p : ℕ) (vars : Vars)
-      (name : List ℕ) → variable pairs (changes_on (front ++ within p (full_env vars) ∷ up)) name
-      ≡ variable others (changes_on (front ++ within p (full_env vars) ∷ other)) name
-  inner_environment pairs others [] up other p vars name = refl
-  inner_environment pairs others (crumb ∷ front) up other p vars name =
-      behind pairs others name (step_of crumb).changes
-      (changes_on (front ++ within p (full_env vars) ∷ up))
-      (changes_on (front ++ within p (full_env vars) ∷ other))
-      (inner_environment pairs others front up other p vars name)
+-- a full environment that is set inside hides the changes of variables outside, and the variables
+-- of the parent
+pub inner_environment : (E H : Type 0) → InnerEnvironmentHides E H
+inner_environment E H pairs others [] up other p vars name = refl
+inner_environment E H pairs others (crumb ∷ front) up other p vars name =
+    behind pairs others name (step_of crumb).changes
+    (changes_on (front ++ within p (full_env vars) ∷ up))
+    (changes_on (front ++ within p (full_env vars) ∷ other))
+    (inner_environment E H pairs others front up other p vars name)

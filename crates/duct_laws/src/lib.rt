@@ -1,3 +1,78 @@
-//! Laws of the definitions that the contracts of a start cite: what an inner node overrides, and
-//! what stays in the plan although it is overridden.
+//! Laws of the definitions that the contracts of a start cite. Each function does nothing: its
+//! contract is the law. Ends are of type `E`, hooks of `H`.
 #![tactic(auto)]
+
+ghost use Rattle.std.specs.Prelude.{ℕ, List, ◌≡◌, ◌≤◌, true, is_some, map};
+ghost use Rattle.std.specs.Cmp.{IsEquivalence, IsTotalOrder};
+ghost use Rattle.std.specs.Ordering.{is_eq};
+ghost use Rattle.duct_system.specs.EntryView.{EntryView};
+ghost use Rattle.duct_system.specs.Ledger.{count_of, opened_numbers};
+ghost use Rattle.duct_system.specs.Name.{is_same_name, name_cmp, name_hash_input};
+ghost use Rattle.duct_system.specs.Origin.{Lent, origin};
+ghost use Rattle.duct_system.specs.declared.system.Side.{Side};
+ghost use Rattle.duct_start.specs.Actions.{capture_place};
+ghost use Rattle.duct_start.specs.Plan.{plan_of, plan_of_reader};
+ghost use Rattle.duct_start.specs.Sources.{IsDuplicate};
+ghost use Rattle.duct_start.specs.TreeView.{TreeView};
+ghost use Rattle.duct_laws.specs.Laws.{InnerRedirectionCounts, OverriddenStillOpens, SwapsCancel, InnerFolderReplaces, InnerVariableHides, InnerEnvironmentHides};
+ghost use Rattle.duct_laws.specs.Order.{captured, capture_place_in, has_capture, order_of, request_of, requests_of, requests_of_reader};
+
+/// Of two redirections of one stream, one directly around the other, the inner one counts alone,
+/// and what the outer one opens is still opened. Two swaps of stdout and stderr, one directly
+/// around the other, change nothing.
+pub fn redirections<E, H>()
+    ensures inner { InnerRedirectionCounts E H }
+    ensures opened { OverriddenStillOpens E H }
+    ensures swaps { SwapsCancel E H }
+{}
+
+/// An inner folder replaces an outer one, an inner variable hides the value of an outer one, and an
+/// inner full environment hides all that is set of variables outside of it.
+pub fn settings<E, H>()
+    ensures folder { InnerFolderReplaces E H }
+    ensures variable { InnerVariableHides E H }
+    ensures environment { InnerEnvironmentHides E H }
+{}
+
+/// The plan of a tree can be read off the order of its nodes alone: it makes the requests of each
+/// node, and the one capture pipe of a stream is opened by the first capture of it, if there is
+/// one.
+pub fn plans<E, H>()
+    ensures requests { (tree : TreeView E H)
+        → map (λ item. request_of item) (plan_of tree).items ≡ requests_of tree }
+    ensures place { (tree : TreeView E H) (stream : Side)
+        → capture_place stream (plan_of tree) ≡ capture_place_in (order_of tree) stream }
+    ensures capture { (tree : TreeView E H) (stream : Side)
+        → is_some (capture_place stream (plan_of tree)) ≡ has_capture (order_of tree) stream }
+{}
+
+/// The same of the plan of a reader's start, which has one more capture of stdout around the tree.
+pub fn reader_plans<E, H>()
+    ensures requests { (tree : TreeView E H)
+        → map (λ item. request_of item) (plan_of_reader tree).items ≡ requests_of_reader tree }
+    ensures place { (tree : TreeView E H) (stream : Side)
+        → capture_place stream (plan_of_reader tree)
+        ≡ capture_place_in (order_of (captured tree)) stream }
+    ensures capture { (tree : TreeView E H) (stream : Side)
+        → is_some (capture_place stream (plan_of_reader tree))
+        ≡ has_capture (order_of (captured tree)) stream }
+{}
+
+/// The duplicate of a caller's end comes from exactly that end, where no request got the number of
+/// that end, and none got a number twice.
+pub fn duplicates()
+    ensures { (entries : List EntryView) (lent number : ℕ) → IsDuplicate entries lent number
+        → count_of lent (opened_numbers entries) ≡ 0
+        → ((k : ℕ) → count_of k (opened_numbers entries) ≤ 1)
+        → origin entries number ≡ Lent lent }
+{}
+
+/// To be the same name is an equivalence, and names are in a total order. The two agree, and names
+/// that are the same have the same hash.
+pub fn names()
+    ensures equal { IsEquivalence is_same_name }
+    ensures order { IsTotalOrder name_cmp }
+    ensures agree { (one other : List ℕ) → is_same_name one other ≡ is_eq (name_cmp one other) }
+    ensures hash { (one other : List ℕ)
+        → is_same_name one other ≡ true → name_hash_input one ≡ name_hash_input other }
+{}
