@@ -6,4 +6,5 @@ pub mod Options
 pub mod OptionsView
 pub mod Parsed
 pub mod Pieces
+pub mod Printed
 pub mod Status

@@ -4,16 +4,15 @@ ghost use Rattle.duct_program.specs.Status.{status_of};
 
 use crate::usage::Usage;
 use duct::Error;
+use std::{error, fmt};
 
 /// Why the program has no text to print.
-#[derive(Debug, Drop, thiserror::Error)]
+#[derive(Debug, Drop)]
 pub enum Failure {
     /// The arguments are no valid line, or an allocation failed while they were read: nothing was
     /// started.
-    #[error("{0}")]
     Usage(Usage),
     /// The expression failed, at its start or later.
-    #[error("{0}")]
     Error(Error),
 }
 
@@ -29,3 +28,18 @@ impl Failure {
         }
     }
 }
+
+impl fmt::Display for Failure {
+    ghost use Rattle.duct_program.specs.Printed.{failure_text};
+
+    ghost output = { failure_text };
+
+    fn fmt<W: fmt::Write>(&self, f: &mut fmt::Formatter<W>) -> fmt::Result {
+        match self {
+            Failure::Usage(usage) => write!(f, "{usage}"),
+            Failure::Error(error) => write!(f, "{error}"),
+        }
+    }
+}
+
+impl error::Error for Failure {}

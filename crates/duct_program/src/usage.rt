@@ -3,24 +3,38 @@ ghost use Rattle.std.specs.Prelude.{◌≡◌};
 ghost use Rattle.duct_program.specs.declared.usage.Usage.TheVariants.{Memory};
 
 use std::alloc::{AllocError, AllocFailed};
-use thiserror::Error;
+use std::{error, fmt};
 
 /// Why arguments are no valid line. The first error, from left to right, is named.
-#[derive(Clone, Copy, Debug, PartialEq, Eq, Error)]
+#[derive(Clone, Copy, Debug, Drop, PartialEq, Eq)]
 pub enum Usage {
     /// A command has no words. It is found where the command ends: at its `|`, or at the end.
-    #[error("empty command")]
     EmptyCommand,
     /// Nothing follows a `--stdin`.
-    #[error("missing text")]
     MissingText,
     /// No path follows a `<`, `>` or `2>`.
-    #[error("missing path")]
     MissingPath,
     /// An allocation failed.
-    #[error("out of memory")]
     Memory,
 }
+
+impl fmt::Display for Usage {
+    ghost use Rattle.std.specs.Prelude.{Some};
+    ghost use Rattle.duct_program.specs.Printed.{usage_text};
+
+    ghost output = { λ usage. Some (usage_text usage) };
+
+    fn fmt<W: fmt::Write>(&self, f: &mut fmt::Formatter<W>) -> fmt::Result {
+        f.write_str(match self {
+            Usage::EmptyCommand => "empty command",
+            Usage::MissingText => "missing text",
+            Usage::MissingPath => "missing path",
+            Usage::Memory => "out of memory",
+        })
+    }
+}
+
+impl error::Error for Usage {}
 
 impl From<AllocError> for Usage {
     ghost from_gives = { λ _ usage. usage ≡ Memory };
