@@ -36,7 +36,7 @@
 //! - `trace` and `journal`: the requests that were made. `spec`: the spec of the journal's last
 //!   entry, which has to be a spawn.
 //! - `line`: the debug text of the expression that the arguments mean. `status`, `out` and `err`
-//!   are those of the program.
+//!   are those of the program, and `writes` is how often it wrote to `out` and `err`.
 //!
 //! At the end of a row each end that the row got has to be spent. For each line that started
 //! children, the pool has to have been given as many, or none if the call keeps them.
@@ -239,7 +239,7 @@ impl<'t, 'r, R: Wait, M: Machine> Calls<'t, 'r, R, M> {
         let found = match key {
             "answers" => self.answers_text()?,
             "line" => line_text(alloc, self.arguments)?,
-            "status" | "out" | "err" => self.performed.text(key)?,
+            "status" | "out" | "err" | "writes" => self.performed.text(key)?,
             "pool" => pool_text(alloc, self.machine.stage().1)?,
             "trace" => trace_text(alloc, self.machine.stage().0.journal())?,
             "journal" => journal_text(alloc, self.machine.stage().0.journal())?,

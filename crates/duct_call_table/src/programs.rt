@@ -6,6 +6,8 @@ use duct_program::perform::perform;
 use duct_script::hook::ScriptHook;
 use duct_table::stop::TableError;
 use std::alloc::{AllocError, Global};
+use std::io;
+use std::io::Write;
 use std::sync::Wait;
 
 /// Returns the arguments of a text.
@@ -41,13 +43,48 @@ pub fn line_text(alloc: Global, args: &str) -> Result<String, TableError> {
     Ok(text)
 }
 
+/// A stream of the program, which takes each write as one piece.
+#[derive(Drop)]
+struct Stream {
+    taken: Vec<u8>,
+    writes: u32,
+}
+
+impl Stream {
+    fn new(alloc: Global) -> Stream {
+        Stream {
+            taken: Vec::new(alloc),
+            writes: 0,
+        }
+    }
+
+    /// Forgets what was written, and reserves room for what will be. Fails on allocation failure.
+    fn restart(&mut self) -> Result<(), AllocError> {
+        self.taken.clear();
+        self.writes = 0;
+        self.taken.reserve(ROOM)
+    }
+}
+
+impl Write for Stream {
+    fn write(&mut self, buf: &[u8]) -> io::Result<usize> {
+        self.taken.extend_from_slice(buf)?;
+        self.writes = self.writes.saturating_add(1);
+        Ok(buf.len())
+    }
+
+    fn flush(&mut self) -> io::Result<()> {
+        Ok(())
+    }
+}
+
 /// What the program did last: its status, and what it wrote.
 #[derive(Drop)]
 pub struct Performed {
     alloc: Global,
     status: u8,
-    out: Vec<u8>,
-    err: Vec<u8>,
+    out: Stream,
+    err: Stream,
 }
 
 impl Performed {
@@ -56,8 +93,8 @@ impl Performed {
         Performed {
             alloc,
             status: 0,
-            out: Vec::new(alloc),
-            err: Vec::new(alloc),
+            out: Stream::new(alloc),
+            err: Stream::new(alloc),
         }
     }
 
@@ -86,20 +123,20 @@ impl Performed {
         system: &mut S,
         args: &[String],
     ) -> Result<u8, AllocError> {
-        self.out.clear();
-        self.err.clear();
-        self.out.reserve(ROOM)?;
-        self.err.reserve(ROOM)?;
+        self.out.restart()?;
+        self.err.restart()?;
         Ok(perform(rt, self.alloc, system, args, &mut self.out, &mut self.err))
     }
 
-    /// Returns the status, or what was written. Fails on allocation failure.
+    /// Returns the status, in how many writes each stream got its bytes, or what was written. Fails
+    /// on allocation failure.
     pub fn text(&self, key: &str) -> Result<String, AllocError> {
         let mut text = String::new(self.alloc);
         match key {
             "status" => write!(text, "{}", self.status)?,
-            "out" => push_bytes(&mut text, self.out.as_slice())?,
-            _ => push_bytes(&mut text, self.err.as_slice())?,
+            "writes" => write!(text, "out {}, err {}", self.out.writes, self.err.writes)?,
+            "out" => push_bytes(&mut text, self.out.taken.as_slice())?,
+            _ => push_bytes(&mut text, self.err.taken.as_slice())?,
         }
         Ok(text)
     }

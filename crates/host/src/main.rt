@@ -17,11 +17,11 @@ fn arguments<R: std::rt::Env + AllocGlobal>(rt: &R) -> io::Result<Vec<String>> {
     Ok(words)
 }
 
-/// The status and the text for arguments that could not be read.
+/// The status and the line for arguments that could not be read.
 fn unread(error: &io::Error) -> (u8, &'static str) {
     match error.kind() {
-        ErrorKind::OutOfMemory => (1, "host: out of memory"),
-        _ => (2, "host: argument is not UTF-8"),
+        ErrorKind::OutOfMemory => (1, "host: out of memory\n"),
+        _ => (2, "host: argument is not UTF-8\n"),
     }
 }
 
@@ -41,8 +41,8 @@ fn main(rt: HostRuntime) -> ExitCode {
             )
         }
         Err(error) => {
-            let (status, text) = unread(&error);
-            match writeln!(err, "{text}") {
+            let (status, line) = unread(&error);
+            match err.write_all(line.as_bytes()) {
                 Ok(()) => status,
                 Err(_) => 1,
             }
