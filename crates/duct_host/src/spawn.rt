@@ -158,11 +158,10 @@ pub(crate) fn all_wired(
 ) -> Result<[process::Stdio; 3], Fault> {
     let [input, output, error] = streams;
     let [no_input, no_output, no_error] = standard.filled();
-    Ok([
-        wired(input, no_input)?,
-        wired(output, no_output)?,
-        wired(error, no_error)?,
-    ])
+    let input = wired(input, no_input);
+    let output = wired(output, no_output);
+    let error = wired(error, no_error);
+    Ok([input?, output?, error?])
 }
 
 /// A stream as std takes it. Where the parent's was closed, what is open in its place is inherited,
