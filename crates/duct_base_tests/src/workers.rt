@@ -8,13 +8,14 @@ use duct_worker::spawn::{spawn_drain, spawn_feed};
 use duct_worker::worker::Worker;
 use std::alloc::Global;
 use std::io::{self, Read, Write};
-use std::rt::{Clock, Files};
+use std::rt::Clock;
 use std::sync::Arc;
+use std::sync::atomic::{AtomicU8, AtomicUsize, Ordering};
 use std::test::Fail;
 use std::thread::Threads;
 
-/// How many bytes go through a pipe, which is more than it holds.
-const MANY: usize = 1_000_000;
+/// How many bytes go through a buffer.
+const MANY: usize = 100_000;
 
 /// This many bytes, shared.
 fn shared(alloc: Global, count: usize) -> Result<Arc<Vec<u8>>, Fail> {
@@ -50,16 +51,84 @@ fn a_feed_runs_beside_its_caller(rt: HostRuntime) -> Result<(), Fail> {
     feed_at_a_gate(&rt, rt.alloc(), &gate)
 }
 
-/// Starts both workers of a pipe. The feed's writer passes a gate first.
-fn workers_of_a_pipe<R: Threads + Files>(
+/// Bytes in memory that a writer adds and a reader takes, each in its own thread.
+#[derive(Drop)]
+struct Buffer {
+    bytes: Vec<AtomicU8>,
+    written: AtomicUsize,
+}
+
+/// Returns a buffer with room for this many bytes.
+fn buffer(alloc: Global, room: usize) -> Result<Arc<Buffer>, Fail> {
+    let mut bytes = Vec::new(alloc);
+    for _ in 0..room {
+        bytes.push(AtomicU8::new(0))?;
+    }
+    let written = AtomicUsize::new(0);
+    Ok(Arc::new(alloc, Buffer { bytes, written })?)
+}
+
+/// The writer of a buffer, which takes one byte at a time.
+#[derive(Drop)]
+struct Inlet {
+    buffer: Arc<Buffer>,
+}
+
+impl Write for Inlet {
+    fn write(&mut self, buf: &[u8]) -> io::Result<usize> {
+        let place = self.buffer.written.load(Ordering::SeqCst);
+        match (self.buffer.bytes.get(place), buf.first()) {
+            (Some(cell), Some(byte)) => {
+                cell.store(*byte, Ordering::SeqCst);
+                self.buffer.written.fetch_add(1, Ordering::SeqCst);
+                Ok(1)
+            }
+            (_, _) => Ok(0),
+        }
+    }
+
+    fn flush(&mut self) -> io::Result<()> {
+        Ok(())
+    }
+}
+
+/// The reader of a buffer, which waits for each byte. At EOF it has taken as many as there is room
+/// for.
+#[derive(Drop)]
+struct Outlet {
+    buffer: Arc<Buffer>,
+    taken: usize,
+}
+
+impl Read for Outlet {
+    fn read(&mut self, buf: &mut [u8]) -> io::Result<usize> {
+        let place = self.taken;
+        match (self.buffer.bytes.get(place), buf.first_mut()) {
+            (Some(cell), Some(byte))
+                if until(|| self.buffer.written.load(Ordering::SeqCst) > place) => {
+                *byte = cell.load(Ordering::SeqCst);
+                self.taken = place.saturating_add(1);
+                Ok(1)
+            }
+            (_, _) => Ok(0),
+        }
+    }
+}
+
+/// Starts both workers of a buffer. The feed's writer passes a gate first.
+fn workers_of_a_buffer<R: Threads>(
     rt: &R,
     alloc: Global,
     gate: &Gate,
 ) -> Result<(Worker<()>, Worker<Arc<Vec<u8>>>), Fail> {
-    let (reader, writer) = io::pipe(rt)?;
-    let drain = spawn_drain(rt, alloc, reader)?;
-    let writer = gated(gate, writer)?;
-    let feed = spawn_feed(rt, alloc, writer, shared(alloc, MANY)?)?;
+    let buffer = buffer(alloc, MANY)?;
+    let outlet = Outlet {
+        buffer: Arc::try_clone(&buffer)?,
+        taken: 0,
+    };
+    let drain = spawn_drain(rt, alloc, outlet)?;
+    let inlet = gated(gate, Inlet { buffer })?;
+    let feed = spawn_feed(rt, alloc, inlet, shared(alloc, MANY)?)?;
     Ok((feed, drain))
 }
 
@@ -73,13 +142,9 @@ fn lengths(rt: &impl Clock, drain: &mut Worker<Arc<Vec<u8>>>) -> Result<(usize, 
     Err(Fail::new("other bytes were read"))
 }
 
-fn through_a_pipe<R: Threads + Files + Clock>(
-    rt: &R,
-    alloc: Global,
-    gate: &Gate,
-) -> Result<(), Fail> {
+fn through_a_buffer<R: Threads + Clock>(rt: &R, alloc: Global, gate: &Gate) -> Result<(), Fail> {
     gate.shut();
-    let (mut feed, mut drain) = workers_of_a_pipe(rt, alloc, gate)?;
+    let (mut feed, mut drain) = workers_of_a_buffer(rt, alloc, gate)?;
     let stands = until(|| gate.standing() > 0);
     gate.open();
     let lengths = lengths(rt, &mut drain)?;
@@ -89,12 +154,12 @@ fn through_a_pipe<R: Threads + Files + Clock>(
     Err(Fail::new(format_args!("{lengths:?}")))
 }
 
-/// Checks that a feed and a drain of one pipe finish by themselves, though the pipe holds less than
-/// they move.
+/// Checks that a feed and a drain that a buffer in memory joins finish by themselves, though their
+/// caller goes on before the first byte is written.
 #[test]
-fn two_workers_of_a_pipe(rt: HostRuntime) -> Result<(), Fail> {
+fn two_workers_of_a_buffer(rt: HostRuntime) -> Result<(), Fail> {
     let gate = Gate::new(rt.alloc())?;
-    through_a_pipe(&rt, rt.alloc(), &gate)
+    through_a_buffer(&rt, rt.alloc(), &gate)
 }
 
 /// A writer and a reader whose writes and reads fail.

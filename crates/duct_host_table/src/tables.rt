@@ -18,7 +18,7 @@ pub fn requests<R: Real, W: Write>(rt: &R, file: File, out: &mut W) -> io::Resul
     let file = File {
         name: file.name,
         text: text.as_str(),
-        memory: file.memory,
+        mode: file.mode,
     };
     let mut table = HostRequests::new(rt.clone()?);
     compare(&mut table, file, out)
@@ -31,7 +31,7 @@ pub fn calls<R: Real + Wait, W: Write>(rt: &R, file: File, out: &mut W) -> io::R
     let file = File {
         name: file.name,
         text: text.as_str(),
-        memory: file.memory,
+        mode: file.mode,
     };
     match HostMachine::new(rt, None) {
         Ok(machine) => {
@@ -61,7 +61,7 @@ pub fn rare_requests<R: Real, W: Write>(rt: &R, file: File, out: &mut W) -> io::
     let file = File {
         name: file.name,
         text: text.as_str(),
-        memory: file.memory,
+        mode: file.mode,
     };
     let script = Script::new(alloc, answers_in(alloc, file.text)?.as_str())?;
     let odd = Odd::new(alloc, rt.clone()?, script.clone()?);
@@ -77,7 +77,7 @@ pub fn rare_calls<R: Real + Wait, W: Write>(rt: &R, file: File, out: &mut W) -> 
     let file = File {
         name: file.name,
         text: text.as_str(),
-        memory: file.memory,
+        mode: file.mode,
     };
     let script = Script::new(alloc, answers_in(alloc, file.text)?.as_str())?;
     let odd = Odd::new(alloc, rt.clone()?, script.clone()?);

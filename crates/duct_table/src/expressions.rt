@@ -74,28 +74,32 @@ pub fn written_with<L: Lender>(
     calls: Log,
     text: &str,
 ) -> Result<Tree<L::End>, TableError> {
-    only(written_all(alloc, lender, calls, text)?)
+    let mut built = Vec::new(alloc);
+    write_all(alloc, lender, calls, text, &mut built)?;
+    only(built)
 }
 
-/// Builds all expressions that the steps of a text leave, in order. Fails if a step is malformed,
-/// if an end can't be lent, or on an allocation failure.
-pub fn written_all<L: Lender>(
+/// Adds all expressions that the steps of a text leave, in order. If a step fails, those that the
+/// steps before it left stay. Fails if a step is malformed, if an end can't be lent, or on an
+/// allocation failure.
+pub fn write_all<L: Lender>(
     alloc: Global,
     lender: &mut L,
     calls: Log,
     text: &str,
-) -> Result<Vec<Tree<L::End>>, TableError> {
+    built: &mut Vec<Tree<L::End>>,
+) -> Result<(), TableError> {
     let steps = steps(alloc, text)?;
     let mut writing = Writing {
         alloc,
         lender,
         calls,
-        built: Vec::new(alloc),
+        built,
     };
     for step in steps.iter() {
         writing.step(step.as_str())?;
     }
-    Ok(writing.built)
+    Ok(())
 }
 
 /// Splits a text into steps at whitespace, but not between two backticks. Between two spaces in a
@@ -155,7 +159,7 @@ struct Writing<'l, 'c, L: Lender> {
     alloc: Global,
     lender: &'l mut L,
     calls: Log<'c>,
-    built: Vec<Tree<L::End>>,
+    built: &'l mut Vec<Tree<L::End>>,
 }
 
 impl<L: Lender> Writing<'_, '_, L> {
@@ -180,11 +184,11 @@ impl<L: Lender> Writing<'_, '_, L> {
             "pipe" => self.pipe(),
             "again" => self.again(),
             "unchecked" => {
-                let made = last(&mut self.built)?.unchecked()?;
+                let made = last(self.built)?.unchecked()?;
                 self.push(made)
             }
             _ if step.starts_with("std") => {
-                let made = redirected(&last(&mut self.built)?, step)?;
+                let made = redirected(&last(self.built)?, step)?;
                 self.push(made)
             }
             _ => self.command(step),
@@ -192,8 +196,8 @@ impl<L: Lender> Writing<'_, '_, L> {
     }
 
     fn pipe(&mut self) -> Result<(), TableError> {
-        let right = last(&mut self.built)?;
-        let piped = last(&mut self.built)?.pipe(&right)?;
+        let right = last(self.built)?;
+        let piped = last(self.built)?.pipe(&right)?;
         self.push(piped)
     }
 
@@ -223,13 +227,13 @@ impl<L: Lender> Writing<'_, '_, L> {
         if let Some(command) = program(self.alloc, call, values)? {
             return self.push(command);
         }
-        let inner = last(&mut self.built)?;
+        let inner = last(self.built)?;
         let made = match call {
             "stdin_file" | "stdout_file" | "stderr_file" => {
                 with_end(&inner, call, self.lender.lend(values.parse()?)?)?
             }
             "before_spawn" => self.hooked(&inner, values)?,
-            "pipes" => pipes(last(&mut self.built)?, &inner, values)?,
+            "pipes" => pipes(last(self.built)?, &inner, values)?,
             _ => with_texts(self.alloc, &inner, call, values)?,
         };
         self.push(made)

@@ -78,7 +78,7 @@ pub struct Bench {
 pub const FIRST: u64 = 100;
 
 /// How many calls the log keeps.
-pub const CALLS: usize = 512;
+pub const CALLS: usize = 8192;
 
 /// Builds the system and the pool of a scene. Fails if a line of the scene is malformed, or on an
 /// allocation failure.

@@ -16,24 +16,21 @@ pub trait Table<'t> {
     fn end(&mut self) -> Result<(), TableError>;
 }
 
-/// Whether allocations can fail.
+/// What is done with the texts that are found.
 #[derive(Clone, Copy, Debug, PartialEq, Eq)]
-pub enum Memory {
-    /// No allocation is expected to fail.
-    Ample,
-    /// Allocations may fail. If a found text reports an allocation failure in place of what was
-    /// wanted, or if an allocation failure stops a line, the later lines of the row are skipped,
-    /// and there is no difference.
-    Refused,
+pub enum Mode {
+    /// Each is compared with the text of its line. A difference is written, and the later lines of
+    /// the row are skipped.
+    Compare,
+    /// Each is written, whatever the line has.
+    Tell,
 }
 
-/// How many texts were compared, how many differences were found, and how many times an allocation
-/// failure stopped a row.
+/// How many texts were found, and how many of them differ or stopped a row.
 #[derive(Clone, Copy, Debug, PartialEq, Eq)]
 pub struct Counts {
     pub compared: u64,
     pub differing: u64,
-    pub refused: u64,
 }
 
 /// A file of rows.
@@ -43,18 +40,27 @@ pub struct File<'t> {
     pub name: &'t str,
     /// The whole text of the file.
     pub text: &'t str,
-    /// Whether allocations can fail while its rows are tried.
-    pub memory: Memory,
+    /// What is done with the texts that are found.
+    pub mode: Mode,
+}
+
+impl File<'_> {
+    /// Writes why a row stops at the line of this number. Fails if the output can't be written.
+    fn stops<W: Write>(self, number: u64, stop: &TableError, out: &mut W) -> io::Result<()> {
+        match self.mode {
+            Mode::Compare => writeln!(out, "{}:{number}: {stop}", self.name),
+            Mode::Tell => writeln!(out, "{number} stops: {stop}"),
+        }
+    }
 }
 
 /// Writes why no row of a file can be tried, and returns counts with one difference. Fails if the
 /// output can't be written.
 pub fn untried<W: Write>(file: File, stop: &TableError, out: &mut W) -> io::Result<Counts> {
-    writeln!(out, "{}:1: {stop}", file.name)?;
+    file.stops(1, stop, out)?;
     Ok(Counts {
         compared: 0,
         differing: 1,
-        refused: 0,
     })
 }
 
@@ -62,14 +68,7 @@ impl Counts {
     /// Writes the counts of a file. Fails if the output can't be written.
     pub fn tell<W: Write>(self, file: File, out: &mut W) -> io::Result<()> {
         let (name, compared, differing) = (file.name, self.compared, self.differing);
-        match file.memory {
-            Memory::Ample => writeln!(out, "{name}: {compared} compared, {differing} differ"),
-            Memory::Refused => writeln!(
-                out,
-                "{name}: {compared} compared, {differing} differ, {} refused",
-                self.refused
-            ),
-        }
+        writeln!(out, "{name}: {compared} compared, {differing} differ")
     }
 }
 
@@ -79,13 +78,14 @@ struct Reading<'t, 'o, W> {
     file: File<'t>,
     out: &'o mut W,
     counts: Counts,
-    /// Whether the later lines of the row are skipped, after a difference or an allocation failure.
+    /// Whether the later lines of the row are skipped.
     is_over: bool,
 }
 
-/// Reads the rows of a file, and writes a line for each difference: the file, the number of the
-/// line, and what was found and wanted, or the reason why the row stopped. After a difference, the
-/// later lines of the row are skipped. Returns the counts. Fails if the output can't be written.
+/// Reads the rows of a file, and writes a line for each difference, or for each text that is found:
+/// the file, the number of the line, and what was found and wanted, or the reason why the row
+/// stopped. If a row stops, its later lines are skipped. Returns the counts. Fails if the output
+/// can't be written.
 pub fn compare<'t, T: Table<'t>, W: Write>(
     table: &mut T,
     file: File<'t>,
@@ -97,7 +97,6 @@ pub fn compare<'t, T: Table<'t>, W: Write>(
         counts: Counts {
             compared: 0,
             differing: 0,
-            refused: 0,
         },
         is_over: false,
     };
@@ -112,21 +111,6 @@ pub fn compare<'t, T: Table<'t>, W: Write>(
 
 fn line_number(before: u64) -> u64 {
     before.saturating_add(1)
-}
-
-/// Whether a text reports an allocation failure, and its other sentences are the wanted ones.
-fn tells_refusal(found: &str, wanted: &str) -> bool {
-    let mut wanted = wanted.split(". ");
-    let mut is_refused = false;
-    for sentence in found.split(". ") {
-        let expected = wanted.next();
-        if sentence.contains("out of memory") || sentence.contains("OutOfMemory") {
-            is_refused = true;
-        } else if expected != Some(sentence) {
-            return false;
-        }
-    }
-    is_refused
 }
 
 impl<W: Write> Reading<'_, '_, W> {
@@ -146,40 +130,27 @@ impl<W: Write> Reading<'_, '_, W> {
         let wanted = wanted.trim();
         match table.line(key.trim(), wanted) {
             Ok(None) => Ok(()),
-            Ok(Some(found)) => self.same(number, key, found.as_str().trim(), wanted),
-            Err(stop) => self.stopped(number, line, &stop),
+            Ok(Some(found)) => self.found(number, key, found.as_str().trim(), wanted),
+            Err(stop) => self.stopped(number, &stop),
         }
     }
 
-    fn same(&mut self, number: u64, key: &str, found: &str, wanted: &str) -> io::Result<()> {
+    fn found(&mut self, number: u64, key: &str, found: &str, wanted: &str) -> io::Result<()> {
         self.counts.compared = self.counts.compared.saturating_add(1);
+        if self.file.mode == Mode::Tell {
+            return writeln!(self.out, "{number} {key}: {found}");
+        }
         if found == wanted {
             return Ok(());
         }
-        if self.file.memory == Memory::Refused && tells_refusal(found, wanted) {
-            self.is_refused();
-            return Ok(());
-        }
         self.differs();
-        writeln!(
-            self.out,
-            "{}:{number}: {key}: {found}, not {wanted}",
-            self.file.name
-        )
+        let name = self.file.name;
+        writeln!(self.out, "{name}:{number}: {key}: {found}, not {wanted}")
     }
 
-    fn stopped(&mut self, number: u64, line: &str, stop: &TableError) -> io::Result<()> {
-        if self.file.memory == Memory::Refused && stop.is_memory() {
-            self.is_refused();
-            return Ok(());
-        }
+    fn stopped(&mut self, number: u64, stop: &TableError) -> io::Result<()> {
         self.differs();
-        writeln!(self.out, "{}:{number}: {line}: {stop}", self.file.name)
-    }
-
-    fn is_refused(&mut self) {
-        self.is_over = true;
-        self.counts.refused = self.counts.refused.saturating_add(1);
+        self.file.stops(number, stop, self.out)
     }
 
     fn differs(&mut self) {
@@ -189,7 +160,7 @@ impl<W: Write> Reading<'_, '_, W> {
 
     fn end<'t, T: Table<'t>>(&mut self, table: &mut T, number: u64) -> io::Result<()> {
         if let Err(stop) = table.end() {
-            self.stopped(number, "the row", &stop)?;
+            self.stopped(number, &stop)?;
         }
         self.is_over = false;
         Ok(())

@@ -18,7 +18,7 @@ impl Hook for OneMore {
 
     fn change(&self, spec: &mut CommandSpec) -> Result<(), Fault> {
         spec.stdin(Port::Null);
-        match spec.arg("bar") {
+        match spec.args(&["bar"]) {
             Ok(()) => Ok(()),
             Err(_) => Err(Fault::new(duct::Kind::OutOfMemory)),
         }

@@ -1,11 +1,14 @@
 //! The program `rows`: reads the files of rows that its arguments name, and tries each row. Prints
 //! a line for each file with the number of texts that were compared, and a line for each row that
 //! differs: its file and line, what was found and what was wanted. Exits with status 1 if a row
-//! differs, if a file can't be read, and if a file compares nothing and counts no refused row.
+//! differs or stops, if a file can't be read, and if nothing is compared in a file.
 //!
-//! Two options apply to the files after them. With `--quiet` only the rows that differ are printed.
-//! With `--refused` allocations may fail: the rest of a row that reports this is skipped, and the
-//! row is counted.
+//! With `--quiet` only the rows that differ are printed. With `--tell` nothing is compared: each
+//! text that is found is printed after its line's number and key, and so is the reason why a row
+//! stops. The line `spent 7` before them says that seven allocations were made before the first
+//! row, as many as `--spend=7` asks for. The line `left 9` after them says that nine more succeeded
+//! before one failed, of ten thousand at most. So if the Nth allocation of the process fails,
+//! `--spend` chooses which one of a row that is.
 #![tactic(auto)]
 
 use duct_call_table::calls::Calls;
@@ -22,7 +25,7 @@ use duct_plan_table::plans::Plans;
 use duct_request_table::machine::Real;
 use duct_script_table::scripts::Scripts;
 use duct_table::stop::TableError;
-use duct_table::table::{Counts, File, Memory, compare, untried};
+use duct_table::table::{Counts, File, Mode, compare, untried};
 use duct_walk_table::starts::Starts;
 use std::alloc::Global;
 use std::io::{self, Write};
@@ -72,11 +75,78 @@ fn tried_by_table<R: Real + Wait, W: Write>(rt: &R, file: File, out: &mut W) -> 
 /// How files are tried.
 #[derive(Clone, Copy)]
 struct Options {
-    memory: Memory,
+    mode: Mode,
     is_quiet: bool,
+    /// How many allocations are made before the rows of a file that are told.
+    spent: u64,
+}
+
+impl Options {
+    /// Returns the options with this argument added. An argument that is no option adds nothing.
+    /// Fails if an option is malformed.
+    fn with(self, argument: &str) -> io::Result<Options> {
+        let mut options = self;
+        match argument.split_once('=') {
+            None if argument == "--quiet" => options.is_quiet = true,
+            None if argument == "--tell" => options.mode = Mode::Tell,
+            Some(("--spend", count)) => options.spent = number(count)?,
+            Some(_) | None => {}
+        }
+        Ok(options)
+    }
+}
+
+fn number(text: &str) -> io::Result<u64> {
+    text.parse()
+        .map_err(|_| io::Error::from(io::ErrorKind::InvalidInput))
+}
+
+/// Makes this many allocations, and frees each of them at once. Stops at one that fails. Returns
+/// how many succeeded.
+fn allocations(alloc: Global, count: u64) -> u64 {
+    for made in 0..count {
+        if Box::new(alloc, 0_u8).is_err() {
+            return made;
+        }
+    }
+    count
+}
+
+/// The greatest number of allocations that are made after the rows of a file that are told.
+const LEFT: u64 = 10_000;
+
+/// Prints what is found for each line of a file, between how many allocations were made before and
+/// how many more succeed. Returns whether no row stopped.
+fn told<R: Real + Wait, W: Write>(
+    rt: &R,
+    file: File,
+    options: Options,
+    out: &mut W,
+) -> io::Result<bool> {
+    writeln!(out, "{}", file.name)?;
+    let spent = allocations(rt.alloc(), options.spent);
+    writeln!(out, "spent {spent}")?;
+    let counts = tried_by_table(rt, file, out)?;
+    let left = allocations(rt.alloc(), LEFT);
+    writeln!(out, "left {left}")?;
+    Ok(counts.differing == 0)
 }
 
 /// Tries a file, and prints how many texts were compared. Returns whether all of its rows hold.
+fn compared<R: Real + Wait, W: Write>(
+    rt: &R,
+    file: File,
+    options: Options,
+    out: &mut W,
+) -> io::Result<bool> {
+    let counts = tried_by_table(rt, file, out)?;
+    if !options.is_quiet {
+        counts.tell(file, out)?;
+    }
+    Ok(counts.differing == 0 && counts.compared > 0)
+}
+
+/// Tries the file of this name. Returns whether all of its rows hold.
 fn file<R: Real + Wait, W: Write>(
     rt: &R,
     name: &str,
@@ -87,27 +157,28 @@ fn file<R: Real + Wait, W: Write>(
     let file = File {
         name,
         text: text.as_str(),
-        memory: options.memory,
+        mode: options.mode,
     };
-    let counts = tried_by_table(rt, file, out)?;
-    if !options.is_quiet {
-        counts.tell(file, out)?;
+    match options.mode {
+        Mode::Compare => compared(rt, file, options, out),
+        Mode::Tell => told(rt, file, options, out),
     }
-    Ok(counts.differing == 0 && (counts.compared > 0 || counts.refused > 0))
 }
 
 /// Tries the files that the arguments name. Returns whether all of their rows hold.
 fn files<R: Real + Wait, W: Write>(rt: &R, out: &mut W) -> io::Result<bool> {
     let mut options = Options {
-        memory: Memory::Ample,
+        mode: Mode::Compare,
         is_quiet: false,
+        spent: 0,
     };
+    for argument in env::args(rt)?.skip(1) {
+        options = options.with(argument.as_str())?;
+    }
     let mut holds = true;
     for name in env::args(rt)?.skip(1) {
-        match name.as_str() {
-            "--refused" => options.memory = Memory::Refused,
-            "--quiet" => options.is_quiet = true,
-            name => holds = file(rt, name, options, out)? && holds,
+        if !name.starts_with("--") {
+            holds = file(rt, name.as_str(), options, out)? && holds;
         }
     }
     Ok(holds)
