@@ -1,5 +1,4 @@
 //! Outcomes of calls while allocations may fail.
-use crate::stop::TableError;
 use duct_base::error::Error;
 use duct_base::system::Kind;
 
@@ -21,16 +20,6 @@ impl MemoryOutcome {
         match made {
             Ok(came) => came,
             Err(error) => MemoryOutcome::refused_if(is_memory(&error)),
-        }
-    }
-
-    /// Returns the outcome of lines that make no request to a system, so that an allocation failure
-    /// is the library's own. Any error but `Error::Memory` is `Wrong`.
-    pub fn of_lines(tried: Result<MemoryOutcome, TableError>) -> MemoryOutcome {
-        match tried {
-            Ok(came) => came,
-            Err(TableError::Error(Error::Memory)) => MemoryOutcome::Refused,
-            Err(_) => MemoryOutcome::Wrong,
         }
     }
 

@@ -1,4 +1,4 @@
-//! What the tests of threads and of allocation failures share: a handle of an expression, its waits
+//! What the tests of threads and pools share: a handle of an expression, its waits
 //! by name, and a read of a reader handle.
 ghost use Rattle.std.specs.Prelude.{◌≡◌};
 

@@ -1,5 +1,5 @@
 //! Tests of `duct` over the scripted system that no row of data can express: threads that share
-//! handles and pools, and what an allocation failure leaves.
+//! handles and pools, and two pools of one test.
 #![tactic(auto)]
 
 #[cfg(test)]
@@ -7,6 +7,6 @@ mod bench;
 #[cfg(test)]
 mod gates;
 #[cfg(test)]
-mod memory;
+mod pools;
 #[cfg(test)]
 mod threads;
