@@ -1,7 +1,9 @@
 //! What the program does over any system: it reads the expression of its arguments, and prints the
 //! text or the error.
-ghost use Rattle.std.specs.Prelude.{◌≡◌, ◌≢◌, ◌≤◌, ℕ, List, map, string_bytes, IfOk, IfErr, IfSome};
+ghost use Rattle.std.specs.Prelude.{◌≡◌, ◌≢◌, ◌⊎◌, ◌≤◌, ℕ, List, map, string_bytes, IfOk, IfErr, IfSome};
 ghost use Rattle.std.specs.Io.KnownBytes.{Appends};
+ghost use Rattle.std.specs.declared.alloc.Global.{Global};
+ghost use Rattle.std.specs.declared.string.String.{String};
 ghost use Rattle.duct_program.specs.Answered.{IfRefused, IfUsage, PrintsError, PrintsText, line_of};
 ghost use Rattle.duct_program.specs.Parsed.{RefusesAs};
 ghost use Rattle.duct_program.specs.Printed.{AppendsFailure, PrintsFailure, failure_text, line_of_error, line_of_text};
@@ -60,7 +62,7 @@ pub fn perform<S: System, O: Write, E: Write>(
     out: &mut O,
     err: &mut E,
 ) -> u8
-    ensures text { result ≡ 0 → (text : String) × PrintsText ⟦<S as Viewed>⟧.views HookBox.allows
+    ensures text { result ≡ 0 → (text : String Global) × PrintsText ⟦<S as Viewed>⟧.views HookBox.allows
         S.may_read S.Reader.remaining (map string_bytes args.now) sys.old sys.new text
         × Appends (O.contents out.old) (O.contents out.new) (line_of_text (string_bytes text))
         × (err.new ≡ err.old) }
@@ -70,6 +72,7 @@ pub fn perform<S: System, O: Write, E: Write>(
         × AppendsFailure (failures.Usage usage) (E.contents err.old) (E.contents err.new)
         × (out.new ≡ out.old) }
     ensures status { result ≤ 2 }
+    ensures one { (out.new ≡ out.old) ⊎ (err.new ≡ err.old) }
 {
     match answer::<S, HookBox>(rt, alloc, sys, args) {
         Ok(text) => print_text(text, out, err).unwrap_or(1),
@@ -86,6 +89,7 @@ fn print_text<O: Write, E: Write>(text: String, out: &mut O, err: &mut E) -> io:
     ensures memory { IfOk result (λ status. status ≢ 0 → (status ≡ 1)
         × AppendsFailure (failures.Usage Memory) (E.contents err.old) (E.contents err.new)
         × (out.new ≡ out.old)) }
+    ensures one { (out.new ≡ out.old) ⊎ (err.new ≡ err.old) }
 {
     let mut line = text;
     if line.push('\n').is_err() {
