@@ -62,12 +62,14 @@ pub fn perform<S: System, O: Write, E: Write>(
     out: &mut O,
     err: &mut E,
 ) -> u8
-    ensures text { result ≡ 0 → (text : String Global) × PrintsText ⟦<S as Viewed>⟧.views HookBox.allows
-        S.may_read S.Reader.remaining (map string_bytes args.now) sys.old sys.new text
+    ensures text { result ≡ 0 → (text : String Global) × PrintsText ⟦<S as Viewed>⟧.views
+        ⟦<HookBox as Hook>⟧.allows S.may_read S.Reader.remaining (map string_bytes args.now)
+        sys.old sys.new text
         × Appends (O.contents out.old) (O.contents out.new) (line_of_text (string_bytes text))
         × (err.new ≡ err.old) }
     ensures usage { result ≡ 2 → (usage : Usage)
-        × RefusesAs usage (line_of S.End.number_of HookBox.allows (map string_bytes args.now))
+        × RefusesAs usage
+        (line_of S.End.number_of ⟦<HookBox as Hook>⟧.allows (map string_bytes args.now))
         × (S.journal_view sys.new ≡ S.journal_view sys.old)
         × AppendsFailure (failures.Usage usage) (E.contents err.old) (E.contents err.new)
         × (out.new ≡ out.old) }
