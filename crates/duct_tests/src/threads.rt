@@ -153,7 +153,8 @@ fn polls_round_order(log: &CallLog) -> (u32, u32) {
             Some(Call::Order(_)) => ordered = true,
             Some(Call::Poll(_)) if ordered => behind = behind.saturating_add(1),
             Some(Call::Poll(_)) => before = before.saturating_add(1),
-            Some(Call::Request(_) | Call::Hook(_)) | None => (),
+            Some(Call::Request(_) | Call::Hook(_) | Call::PollFeed(_) | Call::PollDrain(_))
+            | None => {}
         }
     }
     (before, behind)
