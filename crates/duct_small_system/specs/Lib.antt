@@ -1,0 +1,2 @@
+pub mod ChildView
+pub mod Told
