@@ -13,7 +13,7 @@ ghost use Rattle.duct_program.specs.declared.usage.Usage.TheVariants.{Memory};
 
 use crate::failure::Failure;
 use crate::line::line;
-use duct::{Expression, Hook, HookBox, Pool, System};
+use duct::{CommandSpec, Expression, Fault, Hook, Pool, System};
 use duct_run::views::Viewed;
 use std::alloc::{AllocError, Global};
 use std::io;
@@ -46,6 +46,22 @@ pub fn answer<S: System, H: Hook + Drop>(
     }
 }
 
+/// The type of a line's hooks, of which it has none. Such a hook changes nothing.
+#[derive(Drop)]
+pub struct NoHook;
+
+impl Hook for NoHook {
+    ghost use Rattle.std.specs.Prelude.{◌≡◌};
+
+    ghost allows = { λ _ spec changed. changed ≡ spec };
+
+    ghost refuses = { λ _ _ _. ⊥ };
+
+    fn change(&self, _spec: &mut CommandSpec) -> Result<(), Fault> {
+        Ok(())
+    }
+}
+
 /// Does the program's work and returns its exit status. The text that is read is written to `out`
 /// with a newline, and the status is 0. An error is written to `err` with `host: ` before it and a
 /// newline after it, and the status is 2 where the arguments are no valid line, otherwise 1. It
@@ -63,20 +79,20 @@ pub fn perform<S: System, O: Write, E: Write>(
     err: &mut E,
 ) -> u8
     ensures text { result ≡ 0 → (text : String Global) × PrintsText ⟦<S as Viewed>⟧.views
-        ⟦<HookBox as Hook>⟧.allows S.may_read S.Reader.remaining (map string_bytes args.now)
+        ⟦<NoHook as Hook>⟧.allows S.may_read S.Reader.remaining (map string_bytes args.now)
         sys.old sys.new text
         × Appends (O.contents out.old) (O.contents out.new) (line_of_text (string_bytes text))
         × (err.new ≡ err.old) }
     ensures usage { result ≡ 2 → (usage : Usage)
         × RefusesAs usage
-        (line_of S.End.number_of ⟦<HookBox as Hook>⟧.allows (map string_bytes args.now))
+        (line_of S.End.number_of ⟦<NoHook as Hook>⟧.allows (map string_bytes args.now))
         × (S.journal_view sys.new ≡ S.journal_view sys.old)
         × AppendsFailure (failures.Usage usage) (E.contents err.old) (E.contents err.new)
         × (out.new ≡ out.old) }
     ensures status { result ≤ 2 }
     ensures one { (out.new ≡ out.old) ⊎ (err.new ≡ err.old) }
 {
-    match answer::<S, HookBox>(rt, alloc, sys, args) {
+    match answer::<S, NoHook>(rt, alloc, sys, args) {
         Ok(text) => print_text(text, out, err).unwrap_or(1),
         Err(failure) => print_failure(alloc, &failure, err).unwrap_or(1),
     }
