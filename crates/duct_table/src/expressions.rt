@@ -155,14 +155,14 @@ fn is_call(name: &str) -> bool {
 
 /// The expressions that the steps so far made.
 #[derive(Drop)]
-struct Writing<'l, 'c, L: Lender> {
+struct Writing<'l, 'c, 'b, L: Lender> {
     alloc: Global,
     lender: &'l mut L,
     calls: Log<'c>,
-    built: &'l mut Vec<Tree<L::End>>,
+    built: &'b mut Vec<Tree<L::End>>,
 }
 
-impl<L: Lender> Writing<'_, '_, L> {
+impl<L: Lender> Writing<'_, '_, '_, L> {
     /// Makes a step: a call with arguments, a call without arguments, or a command. A quoted step
     /// is a command.
     fn step(&mut self, step: &str) -> Result<(), TableError> {
