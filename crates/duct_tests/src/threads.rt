@@ -412,7 +412,8 @@ fn is_step(one: Call, other: Call) -> bool {
 }
 
 /// Whether the calls from this place on are whole steps: of two children that end together, both
-/// are polled, or both are given an order.
+/// are polled, or both are given an order. A capture worker is polled between two steps or after the
+/// last one.
 fn are_steps(log: &CallLog, from: u64) -> bool {
     let mut begun = None;
     for place in from..log.noted() {
@@ -420,6 +421,7 @@ fn are_steps(log: &CallLog, from: u64) -> bool {
             return false;
         };
         begun = match begun {
+            None if matches!(call, Call::PollDrain(_)) => None,
             None => Some(call),
             Some(left) if is_step(left, call) => None,
             Some(_) => return false,
