@@ -4,17 +4,20 @@ use std::alloc::Global;
 use std::sync::Wait;
 
 /// Runs the command of each line, in order, up to the first that fails. Returns what they printed,
-/// with a newline after the text of each line.
+/// with a newline after the text of each line. The pool keeps what a line leaves running, and is
+/// swept after each.
 pub fn run_script<S: System>(
     rt: &impl Wait,
     alloc: Global,
     system: &mut S,
+    pool: &mut Pool<S::Child>,
     script: &str,
 ) -> Result<String, Error> {
     let mut printed = String::new(alloc);
     for line in script.lines() {
-        let text = run_line(rt, alloc, system, line)?;
-        printed.push_str(text.as_str())?;
+        let text = run_line(rt, alloc, system, pool, line);
+        pool.sweep();
+        printed.push_str(text?.as_str())?;
         printed.push('\n')?;
     }
     Ok(printed)
@@ -25,6 +28,7 @@ fn run_line<S: System>(
     rt: &impl Wait,
     alloc: Global,
     system: &mut S,
+    pool: &mut Pool<S::Child>,
     line: &str,
 ) -> Result<String, Error> {
     let mut words = Vec::new(alloc);
@@ -35,6 +39,5 @@ fn run_line<S: System>(
         return Ok(String::new(alloc));
     };
     let command: Expression<S::End> = cmd(alloc, *program, arguments)?;
-    let mut pool = Pool::new(alloc);
-    command.read(rt, system, &mut pool)
+    command.read(rt, system, pool)
 }

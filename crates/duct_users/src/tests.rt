@@ -1,10 +1,9 @@
 //! Tests of these programs over the scripted system, and of two callers over the real machine.
 use crate::build::build;
 use crate::harness::started;
-use crate::hello::hello;
 use crate::kinds::{echoed, shown};
 use crate::script::run_script;
-use crate::supervisor::supervise;
+use crate::supervisor::{Supervised, supervise};
 use duct::{Error, Expression, Output, cmd};
 use duct_host::host::Host;
 use duct_script::calls::{Call, CallLog};
@@ -22,7 +21,13 @@ type Tree = Expression<ScriptEnd>;
 
 /// Returns what a script of two lines prints, and which commands were started.
 fn scripted(rt: &impl Wait, alloc: Global, bench: &mut Bench) -> Result<String, Error> {
-    let mut text = run_script(rt, alloc, &mut bench.sys, "echo hi\nmake all")?;
+    let mut text = run_script(
+        rt,
+        alloc,
+        &mut bench.sys,
+        &mut bench.pool,
+        "echo hi\nmake all",
+    )?;
     text.push_str(started(alloc, &bench.sys)?.as_str())?;
     Ok(text)
 }
@@ -125,17 +130,28 @@ fn steps_with_a_time_limit(rt: HostRuntime) -> Result<(), Fail> {
     Ok(())
 }
 
-/// Supervises a service, and returns how many times it was restarted.
-fn supervised(rt: &impl Wait, alloc: Global, bench: &mut Bench) -> Result<u32, Error> {
-    let service: Tree = cmd!(in alloc; "server")?;
-    supervise(rt, &mut bench.sys, &mut bench.pool, &service, 5)
+/// Supervises a service that may take an hour, and returns how many times it was restarted.
+fn supervised(rt: &impl Wait, alloc: Global, bench: &mut Bench) -> Result<Option<u32>, Error> {
+    let mut killed = Vec::new(alloc);
+    let service = Supervised {
+        service: &cmd!(in alloc; "server")?,
+        limit: Duration::from_secs(3600),
+        restarts: 5,
+    };
+    let clock = clock(alloc, [1, 2])?;
+    let Bench {
+        sys,
+        pool,
+        calls: _,
+    } = bench;
+    supervise(rt, &clock, sys, pool, &service, &mut killed)
 }
 
 /// Checks a service that fails twice and then succeeds.
 #[test]
 fn a_service(rt: HostRuntime) -> Result<(), Fail> {
     let mut bench = bench_of(rt.alloc(), Scene::of("code 1; signal 9; running, code 0"))?;
-    assert_eq!(rt; supervised(&rt, rt.alloc(), &mut bench)?, 2);
+    assert_eq!(rt; supervised(&rt, rt.alloc(), &mut bench)?, Some(2));
     Ok(())
 }
 
@@ -151,13 +167,5 @@ fn a_boxed_hook_adds_an_argument(rt: HostRuntime) -> Result<(), Error> {
     let mut host = Host::new(&rt, rt.alloc());
     let text = echoed(&rt, rt.alloc(), &mut host)?;
     assert_eq!(rt; text.as_str(), "foo bar");
-    Ok(())
-}
-
-#[test]
-fn hello_ends_well(rt: HostRuntime) -> Result<(), Error> {
-    let mut host = Host::new(&rt, rt.alloc());
-    let answer = hello(rt.alloc(), &mut host)?;
-    assert!(rt; answer.is_some_and(|output| output.status.success()));
     Ok(())
 }

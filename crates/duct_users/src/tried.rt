@@ -2,13 +2,13 @@
 //! system.
 use crate::adopted::start_to_file;
 use crate::build::build;
-use crate::clock::MachineClock;
 use crate::cookbook::{counted, fed, listed, merged, placed, stopped, swapped, unchecked};
 use crate::files::writer;
 use crate::harness::started;
 use crate::script::run_script;
 use crate::tour::{filed, piped};
 use duct::{Clock, Error, ExitStatus, Expression, Fault, Pool, System, cmd};
+use duct_host::clock::HostClock;
 use duct_host::end::End;
 use duct_host::host::Host;
 use duct_script::child::PollAnswer;
@@ -24,8 +24,10 @@ use std::time::Duration;
 #[test]
 fn a_script_stops_at_a_failure(rt: HostRuntime) -> Result<(), Fail> {
     let mut system = Script::new(rt.alloc())?;
+    let mut pool = Pool::new(rt.alloc());
     system.polls(&[PollAnswer::Running, PollAnswer::Ended(ExitStatus::Code(2))])?;
-    let told = run_script(&rt, rt.alloc(), &mut system, "make all\nmake install");
+    let script = "make all\nmake install";
+    let told = run_script(&rt, rt.alloc(), &mut system, &mut pool, script);
     assert!(rt; matches!(told, Err(Error::Checked(_))));
     assert_eq!(rt; started(rt.alloc(), &system)?.as_str(), "make all \n"); // from the journal
     Ok(())
@@ -55,22 +57,22 @@ fn is_late<S: System, C: Clock>(
 }
 
 #[test]
-fn a_deadline_and_a_kill(rt: HostRuntime) -> Result<(), Error> {
+fn a_deadline_and_a_kill(rt: HostRuntime) -> Result<(), Fail> {
     let mut host = Host::new(&rt, rt.alloc());
-    let clock = MachineClock { rt: &rt };
+    let clock = HostClock::new(&rt)?;
     assert!(rt; is_late(&rt, rt.alloc(), &mut host, &clock)?);
     Ok(())
 }
 
 /// Makes a new file, and returns its path.
-fn new_file<S: System>(rt: &impl Wait, alloc: Global, system: &mut S) -> Result<String, Error> {
+pub fn new_file<S: System>(rt: &impl Wait, alloc: Global, system: &mut S) -> Result<String, Error> {
     let mut pool = Pool::new(alloc);
     let mktemp: Expression<S::End> = cmd!(in alloc; "mktemp")?;
     mktemp.read(rt, system, &mut pool)
 }
 
 /// Returns the text of a file, and removes the file.
-fn take_file<S: System>(
+pub fn take_file<S: System>(
     rt: &impl Wait,
     alloc: Global,
     system: &mut S,
