@@ -1,0 +1,2 @@
+pub mod EntryForm
+pub mod FailedRequest
