@@ -15,6 +15,8 @@ mod build;
 #[cfg(test)]
 mod cookbook;
 #[cfg(test)]
+mod entries;
+#[cfg(test)]
 mod everyday;
 #[cfg(test)]
 mod files;
@@ -30,6 +32,8 @@ mod kinds;
 mod lines;
 #[cfg(test)]
 mod logged;
+#[cfg(test)]
+mod report;
 #[cfg(test)]
 mod script;
 #[cfg(test)]

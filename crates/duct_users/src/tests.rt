@@ -2,6 +2,7 @@
 use crate::build::build;
 use crate::harness::started;
 use crate::kinds::{echoed, shown};
+use crate::report::reason;
 use crate::script::run_script;
 use crate::supervisor::{Supervised, supervise};
 use duct::{Error, Expression, Output, cmd};
@@ -152,6 +153,58 @@ fn supervised(rt: &impl Wait, alloc: Global, bench: &mut Bench) -> Result<Option
 fn a_service(rt: HostRuntime) -> Result<(), Fail> {
     let mut bench = bench_of(rt.alloc(), Scene::of("code 1; signal 9; running, code 0"))?;
     assert_eq!(rt; supervised(&rt, rt.alloc(), &mut bench)?, Some(2));
+    Ok(())
+}
+
+/// A system whose children return these results, and which refuses one start of a child.
+fn refusing(alloc: Global, children: &str, refuse: &str) -> Result<Bench, TableError> {
+    let mut scene = Scene::of(children);
+    scene.refuse = refuse;
+    bench_of(alloc, scene)
+}
+
+/// Returns what is printed of the error of a call, and the commands that it had started before.
+fn printed(alloc: Global, bench: &Bench, error: Option<Error>) -> Result<String, TableError> {
+    let error = error.ok_or("no error")?;
+    let reason = reason(alloc, &bench.sys, &error)?;
+    let started = started(alloc, &bench.sys)?;
+    Ok(format!(in alloc; "{reason}, after {started}")?)
+}
+
+#[test]
+fn a_script_prints_what_did_not_start(rt: HostRuntime) -> Result<(), Fail> {
+    let mut bench = refusing(rt.alloc(), "code 0", "Spawn 2 NotFound")?;
+    let failed = run_script(&rt, rt.alloc(), &mut bench.sys, "echo hi\nmake all").err();
+    let text = printed(rt.alloc(), &bench, failed)?;
+    assert_eq!(rt;
+        text.as_str(),
+        "spawn of \"make\": NotFound, after echo hi \n"
+    );
+    Ok(())
+}
+
+#[test]
+fn a_step_prints_what_did_not_start(rt: HostRuntime) -> Result<(), Fail> {
+    let mut bench = refusing(rt.alloc(), "running", "Spawn 2 PermissionDenied")?;
+    let (clock, step) = (clock(rt.alloc(), [1, 2])?, step(rt.alloc())?);
+    let failed = built(&rt, &mut bench, &clock, &step).err();
+    let text = printed(rt.alloc(), &bench, failed)?;
+    assert_eq!(rt;
+        text.as_str(),
+        "spawn of \"tee\": PermissionDenied, after make \n"
+    );
+    Ok(())
+}
+
+#[test]
+fn a_supervisor_prints_what_did_not_start(rt: HostRuntime) -> Result<(), Fail> {
+    let mut bench = refusing(rt.alloc(), "code 1", "Spawn 2 OutOfMemory")?;
+    let failed = supervised(&rt, rt.alloc(), &mut bench).err();
+    let text = printed(rt.alloc(), &bench, failed)?;
+    assert_eq!(rt;
+        text.as_str(),
+        "spawn of \"server\": OutOfMemory, after server \n"
+    );
     Ok(())
 }
 
