@@ -1,0 +1,158 @@
+-- How what a start left ended, by the numbers of its journal.
+use Rattle.std.specs.Prelude.{ℕ, List, ◌∷◌, ◌++◌, IfErr, IfSome, Ok, Err, Some, None, map}
+use Rattle.std.specs.Option.{option_map, option_to_list}
+use Rattle.std.specs.declared.alloc.Global.{Global}
+use Rattle.std.specs.declared.option.Option.{Option}
+use Rattle.std.specs.declared.result.Result.{Result}
+use Rattle.std.specs.declared.sync.Arc.{Arc}
+use Rattle.std.proofs.Common.{◌≡◌, ◌∙◌, ap, refl, subst, sym}
+use Rattle.duct_base.specs.Pool.{PoolView}
+use Rattle.duct_system.specs.EntryView.{EntryView}
+use Rattle.duct_system.specs.Started.{drains_in}
+use Rattle.duct_system.specs.declared.system.Said.TheVariants as said
+use Rattle.duct_system.specs.declared.error.Error.{Error}
+use Rattle.duct_system.specs.declared.system.Output.{Output}
+use Rattle.duct_status.specs.ReplyView.{answered}
+use Rattle.duct_status.specs.ShapeView.{ShapeView, shape_view}
+use Rattle.duct_start.specs.Running.{RunningView}
+use Rattle.duct_start.specs.ShapeOfTree.{shape_of_tree}
+use Rattle.duct_start.specs.TreeView.{TreeView}
+use Rattle.duct_start.proofs.Leaving.{takes_in}
+use Rattle.duct_run.specs.Requested.{PoolGets, PoolLeaves}
+use Rattle.duct_run.specs.SystemViews.{SystemViews}
+use Rattle.duct_running.specs.Answered.{EndsAs, IsConcluded, IsEnding}
+use Rattle.duct_running.specs.NumbersView.{NumbersView, numbers_of}
+use Rattle.duct_running.specs.Polled.{Polled}
+use Rattle.duct_running.specs.Stays.{PoolGetsWaited, StaysSame}
+use Rattle.duct_running.specs.Stored.{Bytes}
+use Rattle.duct_handle.specs.Started.{AreNumbers}
+use Rattle.duct_handle.specs.Waited.{at_end}
+use Rattle.duct.specs.Launched.{Fails, Returns, Runs, StartKind, drains_error, drains_output}
+use Rattle.duct.specs.RunResults.{LeavesGiven}
+use Rattle.duct.proofs.Finished.{given_after, started_numbers}
+use Rattle.duct_deadline.specs.Moment.{HasNotEnded, MayRun}
+use Rattle.duct_deadline.specs.Stopped.{AreStopped}
+use Rattle.duct_deadline.specs.Until.{IsLate, LeavesStopped}
+use Rattle.duct_deadline.specs.declared.late.Late.{Late}
+use Rattle.duct_deadline.proofs.Keeping.{stays_on}
+
+-- what holds of what is there is kept by what follows from it
+pub if_some_with : {T : Type 0} (o : Option T) {P Q : T → Type 0}
+    → ((value : T) → P value → Q value) → IfSome o P → IfSome o Q
+if_some_with (Some value) step holds = step value holds
+if_some_with None step holds = tt
+
+-- what ended as this did with the same shape and the same numbers
+pub ended_same : {S E C F D : Type 0} (views : SystemViews S E C F D (Unit {0}) Bytes)
+    (before after : RunningView C F D) → shape_view after.shape ≡ shape_view before.shape
+    → numbers_of views after ≡ numbers_of views before
+    → (ended : Option (Result (Arc Output Global) Error))
+    → IfSome ended (λ how. EndsAs views after (at_end how))
+    → IfSome ended (λ how. EndsAs views before (at_end how))
+ended_same views before after shape same ended =
+    if_some_with ended (λ how ends.
+    subst (λ (s : ShapeView). IsEnding views.may_answer views.feed_says views.drain_says s (numbers_of views before) (at_end how)) shape
+    (subst (λ (n : NumbersView). IsEnding views.may_answer views.feed_says views.drain_says (shape_view after.shape) n (at_end how)) same ends))
+
+-- an error with which something ended is still its error while it stays the same
+pub still_failed : {S E C F D : Type 0} (views : SystemViews S E C F D (Unit {0}) Bytes)
+    (before after : RunningView C F D) → StaysSame views before after
+    → (ended : Result (Arc Output Global) Error) → EndsAs views before (at_end ended)
+    → IfErr ended (λ e. EndsAs views after (Err e))
+still_failed views before after stays (Ok output) ends = tt
+still_failed views before after stays (Err e) ends =
+    subst (λ (s : ShapeView). IsEnding views.may_answer views.feed_says views.drain_says s (numbers_of views after) (Err e)) (sym stays.shape_is)
+    (subst (λ (n : NumbersView). IsEnding views.may_answer views.feed_says views.drain_says (shape_view before.shape) n (Err e)) (sym stays.numbers_are) ends)
+
+-- what may run later might run before, while it stayed the same
+pub still_running : {S E C F D : Type 0} (views : SystemViews S E C F D (Unit {0}) Bytes)
+    (before after : RunningView C F D) → StaysSame views before after → HasNotEnded views after
+    → HasNotEnded views before
+still_running views before after stays runs =
+    subst (λ (s : ShapeView). MayRun views s (numbers_of views before)) stays.shape_is
+    (subst (λ (n : NumbersView). MayRun views (shape_view after.shape) n) stays.numbers_are runs)
+
+module _ {S E C F D H : Type 0} (views : SystemViews S E C F D (Unit {0}) Bytes) (kind : StartKind)
+    (tree : TreeView E H) (added : List EntryView) (running : RunningView C F D)
+    (runs : Runs views running kind tree added) where
+  numbers : AreNumbers (drains_output kind tree) (drains_error kind tree) added (numbers_of views running)
+  numbers = started_numbers views.child views.feed views.drain tree (drains_output kind tree) (drains_error kind tree) added running runs
+
+  -- what was waited for ended with this
+  module _ (waited : RunningView C F D) (stays : StaysSame views running waited) where
+    shape_waited : shape_view waited.shape ≡ shape_of_tree tree
+    shape_waited = stays.shape_is ∙ runs.shape_is
+
+    ending : (polled : Polled) → EndsAs views waited polled
+        → IsEnding views.may_answer views.feed_says views.drain_says (shape_of_tree tree) (numbers_of views running) polled
+    ending polled ends =
+        subst (λ (s : ShapeView). IsEnding views.may_answer views.feed_says views.drain_says s (numbers_of views running) polled) shape_waited
+        (subst (λ (n : NumbersView). IsEnding views.may_answer views.feed_says views.drain_says (shape_view waited.shape) n polled) stays.numbers_are ends)
+
+    pub returns : (output : Output)
+        → IsConcluded views (shape_view waited.shape) (numbers_of views waited) (answered output.status output.stdout.items output.stderr.items)
+        → Returns views output kind tree added
+    returns output concluded = (
+      numbers_of views running,
+      numbers,
+      subst (λ (s : ShapeView). IsConcluded views s (numbers_of views running) (answered output.status output.stdout.items output.stderr.items)) shape_waited
+          (subst (λ (n : NumbersView). IsConcluded views (shape_view waited.shape) n (answered output.status output.stdout.items output.stderr.items)) stays.numbers_are concluded),
+    )
+
+    pub fails : (e : Error) → EndsAs views waited (Err e) → Fails views e kind tree added
+    fails e ends = (numbers_of views running, numbers, ending (Err e) ends)
+
+    -- the pool was swept, and then it was given what was waited for
+    pub gives : (before mid after : PoolView C) → PoolLeaves views before mid
+        → PoolGetsWaited views waited mid after
+        → LeavesGiven views.may_answer views.child added before after
+    gives before mid after swept gets =
+        given_after views.child views.feed views.drain tree (drains_output kind tree) (drains_error kind tree) added running runs
+        views.may_answer gets.0 before mid after swept (stays_on views.child views.feed views.drain running waited gets.0 stays gets.1) gets.2
+
+    -- it was late, and was then stopped
+    pub is_late : (late : Late) (stopped : RunningView C F D) → HasNotEnded views running
+        → IfSome late.ended (λ ended. EndsAs views waited (at_end ended))
+        → numbers_of views stopped ≡ numbers_of views waited
+        → IsLate views late kind tree added (numbers_of views stopped)
+    is_late late stopped unended ended same =
+        subst (λ (n : NumbersView). IsLate views late kind tree added n) (sym (same ∙ stays.numbers_are)) (record {
+          are_numbers = numbers;
+          may_run = subst (λ (s : ShapeView). MayRun views s (numbers_of views running)) runs.shape_is unended;
+          ended = if_some_with late.ended (λ how ends. ending (at_end how) ends) ended;
+        })
+
+-- the pool was swept, and then it was given what was stopped
+pub gives_stopped : {S E C F D H : Type 0} (views : SystemViews S E C F D (Unit {0}) Bytes)
+    (kind : StartKind) (tree : TreeView E H) (added : List EntryView) (late : Late)
+    (running : RunningView C F D) → IsLate views late kind tree added (numbers_of views running)
+    → AreStopped views.may_obey late.killed (map views.child running.children)
+    → (before mid after : PoolView C) → PoolLeaves views before mid
+    → PoolGets views running.children mid after
+    → LeavesStopped views.may_answer views.may_obey views.child late.killed added before after
+gives_stopped views kind tree added late running is stopped before mid after swept gets = (
+  map views.child running.children,
+  is.are_numbers.children_are,
+  stopped,
+  takes_in views.may_answer views.child running.children before mid after swept gets,
+)
+
+listed : {X Y Z : Type 0} (f : X → Y) (g : Y → Z) (one other : Option X) →
+    option_to_list (option_map g (option_map f one)) ++ option_to_list (option_map g (option_map f other)) ≡ map (λ x. g (f x)) (option_to_list one ++ option_to_list other)
+listed f g None None = refl
+listed f g None (Some y) = refl
+listed f g (Some x) None = refl
+listed f g (Some x) (Some y) = refl
+
+-- the first of the workers that were held is the first of the entries
+pub first_drain : {S E C F D H : Type 0} (views : SystemViews S E C F D (Unit {0}) Bytes)
+    (kind : StartKind) (tree : TreeView E H) (added : List EntryView) (late : Late)
+    (running : RunningView C F D) → IsLate views late kind tree added (numbers_of views running)
+    → (workers : List D) → workers ≡ option_to_list running.output ++ option_to_list running.error
+    → (read : Option Bytes)
+    → IfSome read (λ bytes. (number : ℕ) × (others : List ℕ) × (map (λ d. (views.drain d).number) workers ≡ number ∷ others) × views.drain_says number (said.Done bytes))
+    → IfSome read (λ bytes. (number : ℕ) × (others : List ℕ) × (drains_in added ≡ number ∷ others) × views.drain_says number (said.Done bytes))
+first_drain views kind tree added late running is workers held read first =
+    let same : drains_in added ≡ map (λ d. (views.drain d).number) workers =
+    sym is.are_numbers.drains_are ∙ listed views.drain (λ d. d.number) running.output running.error ∙ ap (map (λ d. (views.drain d).number)) (sym held) in
+    if_some_with read (λ bytes one. (one.0, one.1, same ∙ one.2, one.3)) first

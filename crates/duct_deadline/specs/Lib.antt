@@ -1,0 +1,4 @@
+pub mod Moment
+pub mod ReadUntil
+pub mod Stopped
+pub mod Until

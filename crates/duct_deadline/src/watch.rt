@@ -1,0 +1,66 @@
+//! The wait for what runs until a moment.
+ghost use Rattle.std.specs.Prelude.{◌≡◌, IfSome, IfNone, Ok, None};
+ghost use Rattle.std.specs.Duration.{as_nanos};
+ghost use Rattle.duct_running.specs.Allowed.{OneRuns};
+ghost use Rattle.duct_running.specs.Answered.{EndsAs};
+ghost use Rattle.duct_running.specs.NumbersView.{numbers_of};
+ghost use Rattle.duct_running.specs.Stays.{StaysSame};
+ghost use Rattle.duct_handle.specs.Waited.{at_end};
+ghost use Rattle.duct_deadline.specs.Moment.{HasReached, HasNotEnded};
+ghost use Rattle.duct_deadline.specs.Stopped.{ChildrenKeep};
+
+use duct_base::error::Error;
+use duct_base::system::{Clock, Output, System};
+use duct_run::views::Viewed;
+use duct_running::running::Running;
+use std::sync::{Arc, Wait};
+use std::thread::Parker;
+use std::time::Duration;
+
+/// How long a wait pauses between two polls, in microseconds.
+pub(crate) const PAUSE: u64 = 1_000;
+
+// Polls what runs, once. The result is concluded from what was reported under its numbers.
+fn polled<S: System>(running: &mut Running<S>) -> Result<Option<Arc<Output>>, Error>
+    ensures stays { StaysSame ⟦<S as Viewed>⟧.views running.old running.new }
+    ensures kept { ChildrenKeep ⟦<S as Viewed>⟧.views running.old running.new }
+    ensures ending { EndsAs ⟦<S as Viewed>⟧.views running.new result }
+    ensures runs { result ≡ Ok None
+        → OneRuns ⟦<S as Viewed>⟧.views (numbers_of ⟦<S as Viewed>⟧.views running.new) }
+{
+    let polled = running.poll();
+    running.answers_allowed();
+    polled
+}
+
+/// Waits until what runs has ended and returns how, or `None` where the clock shows this moment or
+/// a later one first. It reads the clock after each poll that doesn't end the wait, and polls at
+/// least once. It gives the children no order.
+pub(crate) fn watch<S: System, C: Clock>(
+    rt: &impl Wait,
+    clock: &C,
+    moment: Duration,
+    running: &mut Running<S>,
+) -> Option<Result<Arc<Output>, Error>>
+    ensures stays { StaysSame ⟦<S as Viewed>⟧.views running.old running.new }
+    ensures kept { ChildrenKeep ⟦<S as Viewed>⟧.views running.old running.new }
+    ensures ended { IfSome result
+        (λ ended. EndsAs ⟦<S as Viewed>⟧.views running.old (at_end ended)) }
+    ensures late { IfNone result (HasReached (C.may_show clock.now) (as_nanos moment)) }
+    ensures runs { IfNone result (HasNotEnded ⟦<S as Viewed>⟧.views running.old) }
+{
+    let parker = Parker::new();
+    for _ in rt.forever() {
+        match polled(running) {
+            Ok(Some(output)) => return Some(Ok(output)),
+            Ok(None) => (),
+            Err(Error::System(_)) if running.is_busy() => (),
+            Err(error) => return Some(Err(error)),
+        }
+        if moment <= clock.now() {
+            return None;
+        }
+        parker.park_timeout(rt, Duration::from_micros(PAUSE));
+    }
+    unreachable!()
+}
