@@ -1,0 +1,4 @@
+pub mod Closing
+pub mod Copying
+pub mod Guarding
+pub mod Prefixes
