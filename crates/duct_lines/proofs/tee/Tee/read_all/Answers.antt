@@ -19,3 +19,31 @@ loop-preserved g c =
       appends_more _ _ _ _ _ _ c.args.bytes.now.items c.loop.bytes.items c.read_more.new.bytes.items _ _ _
           before.0 before.1 before.2 now.kept now.read now.copied,
     )
+
+pub returns-in_err-read_more-clause-read : goal.returns-in_err-read_more-clause-read
+returns-in_err-read_more-clause-read g c =
+    let before = c.loop.invariant.1 in
+    let now = c.read_more.ensures in
+    (appends_more _ _ _ _ _ _ c.args.bytes.now.items c.loop.bytes.items c.read_more.new.bytes.items _ _ _
+    before.0 before.1 before.2 now.kept now.read now.copied).1
+
+pub returns-in_err-read_more-clause-copied : goal.returns-in_err-read_more-clause-copied
+returns-in_err-read_more-clause-copied g c =
+    let before = c.loop.invariant.1 in
+    let now = c.read_more.ensures in
+    (appends_more _ _ _ _ _ _ c.args.bytes.now.items c.loop.bytes.items c.read_more.new.bytes.items _ _ _
+    before.0 before.1 before.2 now.kept now.read now.copied).2
+
+pub returns-then-branch-eq0-clause-read : goal.returns-then-branch-eq0-clause-read
+returns-then-branch-eq0-clause-read g c =
+    let before = c.loop.invariant.1 in
+    let now = c.read_more.ensures in
+    (appends_more _ _ _ _ _ _ c.args.bytes.now.items c.loop.bytes.items c.read_more.new.bytes.items _ _ _
+    before.0 before.1 before.2 now.kept now.read now.copied).1
+
+pub returns-then-branch-eq0-clause-copied : goal.returns-then-branch-eq0-clause-copied
+returns-then-branch-eq0-clause-copied g c =
+    let before = c.loop.invariant.1 in
+    let now = c.read_more.ensures in
+    (appends_more _ _ _ _ _ _ c.args.bytes.now.items c.loop.bytes.items c.read_more.new.bytes.items _ _ _
+    before.0 before.1 before.2 now.kept now.read now.copied).2
