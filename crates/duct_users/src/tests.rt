@@ -174,7 +174,8 @@ fn printed(alloc: Global, bench: &Bench, error: Option<Error>) -> Result<String,
 #[test]
 fn a_script_prints_what_did_not_start(rt: HostRuntime) -> Result<(), Fail> {
     let mut bench = refusing(rt.alloc(), "code 0", "Spawn 2 NotFound")?;
-    let failed = run_script(&rt, rt.alloc(), &mut bench.sys, "echo hi\nmake all").err();
+    let script = "echo hi\nmake all";
+    let failed = run_script(&rt, rt.alloc(), &mut bench.sys, &mut bench.pool, script).err();
     let text = printed(rt.alloc(), &bench, failed)?;
     assert_eq!(rt;
         text.as_str(),
