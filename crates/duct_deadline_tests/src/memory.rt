@@ -75,11 +75,17 @@ fn stopped(rt: &impl Wait, alloc: Global, reads: bool) -> Result<MemoryOutcome, 
     })
 }
 
+/// The outcome of one call; an allocation failure of the scene itself counts as refused.
+fn outcome(rt: &impl Wait, alloc: Global, reads: bool) -> MemoryOutcome {
+    match stopped(rt, alloc, reads) {
+        Ok(outcome) => outcome,
+        Err(error) => MemoryOutcome::refused_if(error.is_memory()),
+    }
+}
+
 /// The outcome of both calls.
 fn both(rt: &impl Wait, alloc: Global) -> MemoryOutcome {
-    MemoryOutcome::of_lines(stopped(rt, alloc, false)).then(MemoryOutcome::of_lines(stopped(
-        rt, alloc, true,
-    )))
+    outcome(rt, alloc, false).then(outcome(rt, alloc, true))
 }
 
 /// Checks that a call fails or leaves out one order.

@@ -226,7 +226,8 @@ fn push_left(alloc: Global, text: &mut String, bench: &Bench) -> Result<(), Allo
         match bench.calls.get(place as usize) {
             Some(Call::Poll(_)) => text.push('p')?,
             Some(Call::Order(_)) => text.push('o')?,
-            Some(Call::Request(_) | Call::Hook(_)) | None => (),
+            Some(Call::Request(_) | Call::Hook(_) | Call::PollFeed(_) | Call::PollDrain(_))
+            | None => (),
         }
     }
     write!(text, ", {}", pool_text(alloc, &bench.pool)?)
