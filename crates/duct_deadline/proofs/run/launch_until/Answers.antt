@@ -1,10 +1,12 @@
-use Rattle.std.proofs.Common.{inl, inr}
+use Rattle.std.specs.Prelude.{ℕ, IfNone}
+use Rattle.std.proofs.Common.{inl, inr, subst}
 use Rattle.std.proofs.lemmas.Result.{err_from_is_err_and}
 use Rattle.duct_run.proofs.Seeing.{views_of}
 use Rattle.duct_running.proofs.Launched.{launched_unordered}
 use Rattle.duct.specs.Launched.{added_between, draining}
 use Rattle.duct.specs.TreeView.{tree_view}
 use Rattle.duct.proofs.Finished.{given_started}
+use Rattle.duct_deadline.specs.Moment.{HasReached}
 use Rattle.duct_deadline.proofs.Ending.{fails, gives, is_late, returns, still_failed}
 use Rattle.duct_deadline.proofs.Keeping.{still_unordered}
 use Rattle.duct_deadline.proofs.run.launch_until.Goals as goal
@@ -75,3 +77,8 @@ returns-in-None-clause-stopped g c =
       );
       swept = l.swept;
     }
+
+pub returns-in-None-clause-grace : goal.returns-in-None-clause-grace
+returns-in-None-clause-grace g c =
+    subst (λ (nanos : ℕ). IfNone c.stop-late.result.ended (HasReached (g.C.Clock.may_show c.args.clock.now) nanos))
+    c.saturating_add-last.ensures c.stop-late.ensures.late
