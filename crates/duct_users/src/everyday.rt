@@ -211,7 +211,12 @@ fn a_pipeline_of_a_loop(rt: HostRuntime) -> Result<(), Fail> {
 }
 
 /// Runs a command whose stderr is a log, whatever else is said of its streams.
-fn log<S: System>(rt: &impl Wait, alloc: Global, system: &mut S, end: S::End) -> Result<(), Error> {
+fn run_logged<S: System>(
+    rt: &impl Wait,
+    alloc: Global,
+    system: &mut S,
+    end: S::End,
+) -> Result<(), Error> {
     let mut pool = Pool::new(alloc);
     let command: Expression<S::End> = cmd!(in alloc; "sh", "-c", "echo $LOGGED >&2")?;
     let logged = logged(alloc, &command.stderr_null()?, end)?;
@@ -231,13 +236,13 @@ fn has_log<S: System>(system: &S) -> bool {
 fn a_hook_with_an_end(rt: HostRuntime) -> Result<(), Fail> {
     let mut bench = bench_of(rt.alloc(), Scene::of("code 0"))?;
     let end: ScriptEnd = bench.sys.adopt()?;
-    log(&rt, rt.alloc(), &mut bench.sys, end)?;
+    run_logged(&rt, rt.alloc(), &mut bench.sys, end)?;
     assert!(rt; has_log(&bench.sys));
     let mut host = Host::new(&rt, rt.alloc());
     let path = new_file(&rt, rt.alloc(), &mut host)?;
     let file = File::create(&rt, path.as_str())?;
     let end: End = host.adopt_file(file)?;
-    log(&rt, rt.alloc(), &mut host, end)?;
+    run_logged(&rt, rt.alloc(), &mut host, end)?;
     let text = take_file(&rt, rt.alloc(), &mut host, path.as_str())?;
     assert_eq!(rt; text.as_str(), "yes");
     Ok(())
