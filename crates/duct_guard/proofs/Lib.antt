@@ -1,4 +1,0 @@
-pub mod Closing
-pub mod Copying
-pub mod Guarding
-pub mod Prefixes

@@ -1,6 +1,0 @@
-use Rattle.duct_guard.proofs.Guarding.{below_allowed}
-use Rattle.duct_guard.proofs.guard.Guarded.inner.Goals as goal
-
-pub returns-clause-allowed : goal.returns-clause-allowed
-returns-clause-allowed g c =
-    below_allowed _ _ _ c.self.inside.forwards

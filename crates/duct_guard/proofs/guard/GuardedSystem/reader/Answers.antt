@@ -1,7 +1,0 @@
-use Rattle.std.proofs.Common.{rules, refl}
-use Rattle.duct_guard.proofs.Guarding.{one_noted, passed}
-use Rattle.duct_guard.proofs.guard.GuardedSystem.reader.Goals as goal
-
-pub invariant_of-self-clause-forwards : goal.invariant_of-self-clause-forwards
-invariant_of-self-clause-forwards g c =
-    one_noted _ _ _ _ _ _ c.self.inside.forwards (search rules) (passed _ _ _ _ refl c.reader.ensures.added)
