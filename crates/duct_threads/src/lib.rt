@@ -1,9 +1,0 @@
-//! Handles in several threads. The calls of a handle and of a reader handle are traits here, with
-//! `Sync` above them: a function over `H: SharedHandle` may lend its handle to other threads, and
-//! needs no proof. Where it is given a handle of a `Host`, the program owes one line of proof:
-//! `search main_handle_sync` or `search main_reader_handle_sync`, with the lemmas of this crate's
-//! `proofs/Sharing`.
-#![tactic(auto)]
-
-pub mod handle;
-pub mod reader;
