@@ -5,7 +5,7 @@ use Rattle.std.specs.Option.{option_map}
 use Rattle.std.specs.declared.option.Option.{Option}
 use Rattle.std.proofs.Common.{◌≡◌, refl, ap, sym, ◌∙◌, subst, inl, inr}
 use Rattle.std.proofs.lemmas.List.Elements.{All-cons, All-head, All-nil, All-tail}
-use Rattle.duct_system.specs.Child.{ChildView, Obeyed, OrdersChild, child_ordered}
+use Rattle.duct_system.specs.Child.{ChildView, Obeyed, OrdersChild}
 use Rattle.duct_system.specs.Job.{JobView}
 use Rattle.duct_system.specs.declared.system.ExitStatus.{ExitStatus}
 use Rattle.duct_system.specs.declared.system.Kind.TheVariants.{OutOfMemory}

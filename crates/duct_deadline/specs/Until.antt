@@ -1,5 +1,5 @@
 -- What an expression that runs until a moment returns, and what it leaves.
-use Rattle.std.specs.Prelude.{ℕ, Bool, List, ◌∷◌, ◌≡◌, IfSome, map}
+use Rattle.std.specs.Prelude.{ℕ, Bool, List, ◌≡◌, IfSome, map}
 use Rattle.std.specs.declared.result.Result.{Result}
 use Rattle.duct_base.specs.Pool.{PoolView}
 use Rattle.duct_system.specs.Child.{Answer, ChildView, Obeyed}

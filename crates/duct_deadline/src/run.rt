@@ -3,7 +3,6 @@ ghost use Rattle.std.specs.Prelude.{◌≡◌, ◌+◌, min, IfErr, IfNone, IfOk
 ghost use Rattle.std.specs.Duration.{as_nanos, max_nanos};
 ghost use Rattle.duct_status.specs.ReplyView.{answered};
 ghost use Rattle.duct_status.specs.ShapeView.{shape_view};
-ghost use Rattle.duct_run.specs.Requested.{PoolGets};
 ghost use Rattle.duct_running.specs.Answered.{EndsAs, IsConcluded};
 ghost use Rattle.duct_running.specs.NumbersView.{numbers_of};
 ghost use Rattle.duct_running.specs.Ordered.{IsUnordered};

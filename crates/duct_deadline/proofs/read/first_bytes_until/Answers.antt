@@ -1,4 +1,4 @@
-use Rattle.std.specs.Prelude.{List, ◌∷◌, map}
+use Rattle.std.specs.Prelude.{◌∷◌, map}
 use Rattle.std.proofs.Common.{◌≡◌, ap}
 use Rattle.duct_deadline.proofs.Ending.{if_some_with}
 use Rattle.duct_deadline.proofs.read.first_bytes_until.Goals as goal

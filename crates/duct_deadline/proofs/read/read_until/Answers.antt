@@ -18,10 +18,10 @@ returns-in_err-output-clause-failed g c =
     let p = err_from_is_err_and c.from_residual-in_err-output.result c.from_residual-in_err-output.ensures.1 in
     rw (p.1, p.2) (inr (inl (c.in_ok-captured.captured, c.in_ok-captured.ensures.tree, c.in_err-output.ensures.failed)))
 
-pub returns-in_err-text_of-clause-failed : goal.returns-in_err-text_of-clause-failed
-returns-in_err-text_of-clause-failed g c =
-    let p = err_from_is_err_and c.from_residual-in_err-text_of.result c.from_residual-in_err-text_of.ensures.1 in
-    let refused = c.in_err-text_of.ensures.err in
+pub returns-in_err-text_of-in-Done-clause-failed : goal.returns-in_err-text_of-in-Done-clause-failed
+returns-in_err-text_of-in-Done-clause-failed g c =
+    let p = err_from_is_err_and c.from_residual-in_err-text_of-in-Done.result c.from_residual-in_err-text_of-in-Done.ensures.1 in
+    let refused = c.in_err-text_of-in-Done.ensures.err in
     rw (p.1, p.2) (inr (inr (
       refused.0,
       record {
@@ -39,18 +39,18 @@ returns-in-Done-clause-text g c = record {
   is_captured = c.in_ok-captured.ensures.tree;
   output = c.in-Done.output;
   launched = rw c.in-Done.is at c.in_ok-output.ensures.done;
-  bytes = c.in_ok-text_of.ensures.ok;
+  bytes = c.in_ok-text_of-in-Done.ensures.ok;
 }
 
-pub returns-in-Late-clause-stopped : goal.returns-in-Late-clause-stopped
-returns-in-Late-clause-stopped g c =
+pub returns-clause-stopped : goal.returns-clause-stopped
+returns-clause-stopped g c =
     let views = views_of g.S.System g.E.Numbered g.S.Child.Child g.S.Feed.Job g.S.Drain.Job in
     let captured = c.in_ok-captured.captured in
     let l = rw c.in-Late.is at c.in_ok-output.ensures.stopped in
     let tree = tree_view captured in
     let added = added_between views c.args.sys.now c.launch_until.new.sys in
     let gets : PoolGets views c.in-Late.running.children c.launch_until.new.pool c.give_all.new.pool =
-    subst (λ children. PoolGets views children c.launch_until.new.pool c.give_all.new.pool) c.into_parts.ensures.children c.give_all.ensures in
+    subst (λ children. PoolGets views children c.launch_until.new.pool c.give_all.new.pool) c.into_parts-children.ensures.children c.give_all.ensures in
     record {
       captured = captured;
       is_captured = c.in_ok-captured.ensures.tree;
@@ -60,12 +60,12 @@ returns-in-Late-clause-stopped g c =
         given = gives_stopped views draining tree added c.in-Late.late c.in-Late.running l.makes.0 l.makes.1
             c.args.pool.now c.launch_until.new.pool c.give_all.new.pool l.swept gets;
       };
-      read = first_drain views draining tree added c.in-Late.late c.in-Late.running l.makes.0 _ c.into_parts.ensures.drains
+      read = first_drain views draining tree added c.in-Late.late c.in-Late.running l.makes.0 _ c.into_parts-children.ensures.drains
           c.first_bytes_until-read.result c.first_bytes_until-read.ensures;
     }
 
-pub returns-in-Late-clause-late : goal.returns-in-Late-clause-late
-returns-in-Late-clause-late g c = rw c.in-Late.is at c.in_ok-output.ensures.late
+pub returns-clause-late : goal.returns-clause-late
+returns-clause-late g c = rw c.in-Late.is at c.in_ok-output.ensures.late
 
-pub returns-in-Late-clause-grace : goal.returns-in-Late-clause-grace
-returns-in-Late-clause-grace g c = rw c.in-Late.is at c.in_ok-output.ensures.grace
+pub returns-clause-grace : goal.returns-clause-grace
+returns-clause-grace g c = rw c.in-Late.is at c.in_ok-output.ensures.grace

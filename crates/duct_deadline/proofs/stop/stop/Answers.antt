@@ -1,10 +1,8 @@
 use Rattle.std.specs.Prelude.{map, pos}
-use Rattle.std.proofs.Common.{◌≡◌, ◌∙◌, ap}
+use Rattle.std.proofs.Common.{◌∙◌, ap}
 use Rattle.duct_status.specs.ShapeView.{shape_view}
 use Rattle.duct_system.specs.declared.system.Order.TheVariants.{Kill, Signal}
-use Rattle.duct_start.specs.Running.{RunningView}
 use Rattle.duct_run.proofs.Seeing.{views_of}
-use Rattle.duct_running.specs.NumbersView.{numbers_in}
 use Rattle.duct_deadline.proofs.Ending.{ended_same}
 use Rattle.duct_deadline.proofs.Signalled.{all_kept, all_sent, numbers_after}
 use Rattle.duct_deadline.proofs.stop.stop.Goals as goal
