@@ -59,7 +59,7 @@ struct Buffer {
 }
 
 /// Returns a buffer with room for this many bytes.
-fn buffer(alloc: Global, room: usize) -> Result<Arc<Buffer>, Fail> {
+fn buffer_with_room(alloc: Global, room: usize) -> Result<Arc<Buffer>, Fail> {
     let mut bytes = Vec::new(alloc);
     for _ in 0..room {
         bytes.push(AtomicU8::new(0))?;
@@ -121,7 +121,7 @@ fn workers_of_a_buffer<R: Threads>(
     alloc: Global,
     gate: &Gate,
 ) -> Result<(Worker<()>, Worker<Arc<Vec<u8>>>), Fail> {
-    let buffer = buffer(alloc, MANY)?;
+    let buffer = buffer_with_room(alloc, MANY)?;
     let outlet = Outlet {
         buffer: Arc::try_clone(&buffer)?,
         taken: 0,
