@@ -6,7 +6,9 @@ use duct_deadline::late::{Late, Until};
 use duct_deadline::read::read_until;
 use duct_deadline::run::run_until;
 use duct_script::calls::{Call, CallLog};
-use duct_table::expressions::written;
+use duct_script::clock::ScriptClock;
+use duct_script::system::ScriptEnd;
+use duct_table::expressions::{Tree, written};
 use duct_table::memory::{MemoryOutcome, is_memory};
 use duct_table::scenes::{Bench, Scene, bench_of};
 use duct_table::stop::TableError;
@@ -48,27 +50,56 @@ fn of_error(bench: &Bench, error: &Error) -> MemoryOutcome {
     MemoryOutcome::refused_if(is_memory(error) && given && orders(&bench.calls) == 0)
 }
 
+/// Runs or reads an expression until a moment. Returns how it was stopped, or `None` where it ended
+/// in time.
+fn late_of(
+    rt: &impl Wait,
+    alloc: Global,
+    clock: &ScriptClock,
+    bench: &mut Bench,
+    tree: &Tree<ScriptEnd>,
+    reads: bool,
+) -> Result<Option<Late>, Error> {
+    let (moment, grace) = (Duration::from_secs(5), Duration::from_secs(2));
+    if reads {
+        let read = read_until(
+            tree,
+            alloc,
+            rt,
+            clock,
+            moment,
+            grace,
+            &mut bench.sys,
+            &mut bench.pool,
+        )?;
+        return Ok(match read {
+            Until::Late(late) => Some(late.late),
+            Until::Done(_text) => None,
+        });
+    }
+    let ran = run_until(
+        tree,
+        alloc,
+        rt,
+        clock,
+        moment,
+        grace,
+        &mut bench.sys,
+        &mut bench.pool,
+    )?;
+    Ok(match ran {
+        Until::Late(late) => Some(late),
+        Until::Done(_output) => None,
+    })
+}
+
 /// Runs or reads two commands that run on, until a moment that the clock shows at once.
 fn stopped(rt: &impl Wait, alloc: Global, reads: bool) -> Result<MemoryOutcome, TableError> {
     let mut bench = bench_of(alloc, Scene::of("running; running"))?;
     let clock = clock(alloc, "5, 7, 8")?;
     let tree = written(alloc, None, "a b pipe")?;
-    let (moment, grace) = (Duration::from_secs(5), Duration::from_secs(2));
-    let (sys, pool) = (&mut bench.sys, &mut bench.pool);
-    let ran = if reads {
-        match read_until(&tree, alloc, rt, &clock, moment, grace, sys, pool) {
-            Ok(Until::Late(late)) => Ok(Some(late.late)),
-            Ok(Until::Done(_)) => Ok(None),
-            Err(error) => Err(error),
-        }
-    } else {
-        match run_until(&tree, alloc, rt, &clock, moment, grace, sys, pool) {
-            Ok(Until::Late(late)) => Ok(Some(late)),
-            Ok(Until::Done(_)) => Ok(None),
-            Err(error) => Err(error),
-        }
-    };
-    Ok(match ran {
+    let late = late_of(rt, alloc, &clock, &mut bench, &tree, reads);
+    Ok(match late {
         Ok(Some(late)) => of_late(&bench, &late),
         Ok(None) => MemoryOutcome::Wrong,
         Err(error) => of_error(&bench, &error),

@@ -202,6 +202,14 @@ fn push_run(text: &mut String, ran: Result<Until<Output, Late>, Error>) -> Resul
     }
 }
 
+/// Adds bytes as text.
+fn push_bytes(text: &mut String, bytes: &[u8]) -> Result<(), AllocError> {
+    match str::from_utf8(bytes) {
+        Ok(read) => text.push_str(read),
+        Err(_) => text.push('?'),
+    }
+}
+
 /// Adds what `read_until` returned.
 fn push_read(
     text: &mut String,
@@ -210,9 +218,11 @@ fn push_read(
     match read {
         Ok(Until::Done(read)) => text.push_str(read.as_str()),
         Ok(Until::Late(late)) => {
-            let bytes = late.read.as_ref().map(|bytes| bytes.as_slice());
-            let read = bytes.map_or("nothing", |bytes| str::from_utf8(bytes).unwrap_or("?"));
-            write!(text, "{read}, ")?;
+            match &late.read {
+                Some(bytes) => push_bytes(text, bytes.as_slice())?,
+                None => text.push_str("nothing")?,
+            }
+            text.push_str(", ")?;
             push_late(text, &late.late)
         }
         Err(error) => write!(text, "{error}"),
