@@ -77,14 +77,6 @@ const REFUSING: &[&str] = &[
     "before_spawn=in>0+err>2,8,9",
 ];
 
-/// Hooks that refuse the commands with a word, and one that refuses none.
-const CHOOSING: &[&str] = &[
-    "before_spawn=refuse_word:a:Other",
-    "before_spawn=refuse_word:b:PermissionDenied",
-    "before_spawn=refuse_word:/y:NotFound",
-    "before_spawn=z",
-];
-
 const PARENTS: &[&str] = &["", "A:0,c:7", "b:1,A:2,a:3"];
 
 const CANONICAL: &[&str] = &["", "./x:/real/x,e/f:/real/f"];
@@ -117,38 +109,6 @@ pub(crate) fn random_case(seed: u64, expression: &mut String) -> Result<Case<'_>
     let way = way(&mut dice);
     let scene = scene(&mut dice);
     push_expression(expression, &mut dice)?;
-    Ok(Case {
-        expression: expression.as_str(),
-        way,
-        scene,
-    })
-}
-
-/// Returns a random case like that of `random_case`, with a hook around the whole expression that
-/// may refuse some of its commands.
-pub(crate) fn hooked_case(seed: u64, expression: &mut String) -> Result<Case<'_>, AllocError> {
-    let mut dice = Dice::new(seed);
-    let way = way(&mut dice);
-    let scene = scene(&mut dice);
-    push_expression(expression, &mut dice)?;
-    write!(expression, " {}", one_of(&mut dice, CHOOSING))?;
-    Ok(Case {
-        expression: expression.as_str(),
-        way,
-        scene,
-    })
-}
-
-/// Returns a random case whose expression has this many nodes, of which no two share their parts.
-pub(crate) fn large_case(
-    seed: u64,
-    nodes: u64,
-    expression: &mut String,
-) -> Result<Case<'_>, AllocError> {
-    let mut dice = Dice::new(seed);
-    let way = way(&mut dice);
-    let scene = scene(&mut dice);
-    push_nodes(expression, &mut dice, nodes)?;
     Ok(Case {
         expression: expression.as_str(),
         way,
@@ -213,34 +173,6 @@ fn push_expression(text: &mut String, dice: &mut Dice) -> Result<(), AllocError>
         text.push_str(" pipe")?;
     }
     Ok(())
-}
-
-/// Adds an expression of this many nodes: commands and calls, and as many pipes as join what they
-/// have built.
-fn push_nodes(text: &mut String, dice: &mut Dice, nodes: u64) -> Result<(), AllocError> {
-    text.push_str(one_of(dice, COMMANDS))?;
-    let mut built = 1_u64;
-    for made in 1..nodes {
-        if made.saturating_add(built) > nodes {
-            break;
-        }
-        built = push_node(text, dice, built)?;
-    }
-    for _ in 1..built {
-        text.push_str(" pipe")?;
-    }
-    Ok(())
-}
-
-/// Adds a node, when `built` expressions are built. Returns how many are built after it.
-fn push_node(text: &mut String, dice: &mut Dice, built: u64) -> Result<u64, AllocError> {
-    let (step, after) = match dice.roll(10) {
-        0..3 => (one_of(dice, COMMANDS), built.saturating_add(1)),
-        3..6 if built > 1 => ("pipe", built.saturating_sub(1)),
-        _ => (one_of(dice, CALLS), built),
-    };
-    write!(text, " {step}")?;
-    Ok(after)
 }
 
 /// Adds a step, when `built` expressions are built. Returns how many are built after it.

@@ -1,13 +1,11 @@
 //! Checks that starts by the library do only what a start may do, with a fault at each request in
 //! turn or at a random request. Lists the ends that a refused start closes.
 use crate::cases::{Case, drawn, refusable};
-use crate::waited::random_children;
 use duct::{Entry, Error, Fault, Kind, System};
 use duct_plain::checker::fault_of;
 use duct_plan_table::starts::{Start, started_tree};
-use duct_table::scenes::{Scene, bench_of};
+use duct_table::scenes::bench_of;
 use duct_table::stop::TableError;
-use duct_table::told::children_started;
 use std::alloc::Global;
 
 /// Whether a start failed with an allocation failure, which none of these may.
@@ -69,39 +67,6 @@ pub(crate) fn follow_random(alloc: Global, case: Case, seed: u64) -> Result<(), 
     let refused = drawn(start.bench.sys.journal(), seed);
     drop(start);
     drop(follows(alloc, case, refused)?);
-    Ok(())
-}
-
-/// Starts a case with two requests refused, and fails if the start does what no start may do. An
-/// allocation may fail in it.
-fn follow_both(alloc: Global, case: Case, refused: [u64; 2]) -> Result<Start, TableError> {
-    let mut bench = bench_of(alloc, case.scene)?;
-    for number in refused {
-        bench.sys.refuse(number, Fault::new(Kind::NotFound))?;
-    }
-    let tree = case.noted_tree(alloc, &bench)?;
-    started_tree(alloc, &tree, case.way, bench)
-}
-
-/// Starts the case of a seed with two random requests refused, of which one or none is met before
-/// a hook refuses a command. The children return random results to polls. An allocation may fail,
-/// too.
-pub(crate) fn follow_mixed(alloc: Global, case: Case, seed: u64) -> Result<(), TableError> {
-    let start = follow_both(alloc, case, [0, 0])?;
-    let entries = start.bench.sys.journal();
-    let children = random_children(alloc, seed, children_started(entries))?;
-    let refused = [drawn(entries, seed), drawn(entries, seed.wrapping_add(1))];
-    let mut scene: Scene = case.scene;
-    scene.children = children.as_str();
-    let case = Case {
-        expression: case.expression,
-        way: case.way,
-        scene,
-    };
-    let start = follow_both(alloc, case, refused)?;
-    if start.answer.is_ok() {
-        return Err(TableError::Text("a request was refused, and the start was not"));
-    }
     Ok(())
 }
 
