@@ -141,7 +141,9 @@ fn the_last_request_that_is_no_close(rt: HostRuntime) -> Result<(), Fail> {
     ];
     let found = failed_request(&entries);
     assert!(rt; matches!(found, Some(Entry::Spawn(_, _, Err(_)))));
-    assert!(rt; failed_request(&entries[2..]).is_none());
-    assert!(rt; failed_request(&entries[..1]).is_none());
+    let closes = [Entry::Close(3), Entry::Close(4)];
+    assert!(rt; failed_request(&closes).is_none());
+    let pipe = [Entry::Pipe(Ok((3, 4)))];
+    assert!(rt; failed_request(&pipe).is_none());
     Ok(())
 }

@@ -157,7 +157,7 @@ fn a_service(rt: HostRuntime) -> Result<(), Fail> {
 }
 
 /// A system whose children return these results, and which refuses one start of a child.
-fn refusing(alloc: Global, children: &str, refuse: &str) -> Result<Bench, TableError> {
+fn refusing<'s>(alloc: Global, children: &'s str, refuse: &'s str) -> Result<Bench, TableError> {
     let mut scene = Scene::of(children);
     scene.refuse = refuse;
     bench_of(alloc, scene)
