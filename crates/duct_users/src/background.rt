@@ -4,12 +4,12 @@ use std::sync::Wait;
 
 /// Starts a job, and does pieces of work until the job has ended or no piece is left. Then waits
 /// for the job. Returns its output, and how many pieces were done.
-pub fn work_beside<S: System, W: FnMut(u32) -> bool>(
+pub fn work_beside<S: System, W: Fn(u32) -> bool>(
     rt: &impl Wait,
     system: &mut S,
     pool: &mut Pool<S::Child>,
     job: &Expression<S::End>,
-    mut work: W,
+    work: W,
 ) -> Result<(Output, u32), Error>
     requires { W.IsAlwaysCallable work }
 {
