@@ -31,8 +31,8 @@ fn copy(alloc: Global, output: &Output) -> Result<Output, AllocError>
 {
     Ok(Output {
         status: output.status,
-        stdout: output.stdout.iter().copied().collect(alloc)?,
-        stderr: output.stderr.iter().copied().collect(alloc)?,
+        stdout: Vec::from_slice(alloc, &output.stdout)?,
+        stderr: Vec::from_slice(alloc, &output.stderr)?,
     })
 }
 
