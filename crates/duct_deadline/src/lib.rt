@@ -6,5 +6,4 @@ pub mod late;
 pub mod read;
 pub mod run;
 mod stop;
-mod text;
 mod watch;

@@ -8,13 +8,13 @@ ghost use Rattle.duct_deadline.specs.Until.{IfDone, IfLate};
 
 use crate::late::{LateRead, Until};
 use crate::run::launch_until;
-use crate::text::text_of;
 use crate::watch::PAUSE;
 use duct::Expression;
 use duct_base::error::Error;
 use duct_base::pool::Pool;
 use duct_base::spec::Hook;
 use duct_base::system::{Clock, Job, Said, System};
+use duct_reader::text::text_of;
 use duct_run::ending::give_all;
 use duct_run::views::Viewed;
 use std::alloc::Global;

@@ -6,4 +6,4 @@ mod error;
 mod io;
 pub mod read;
 pub mod reader;
-mod text;
+pub mod text;

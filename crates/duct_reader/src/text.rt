@@ -27,9 +27,9 @@ fn text_length(bytes: &[u8]) -> usize
     0
 }
 
-// The bytes as text, without their longest suffix of newlines and carriage returns. They are not
-// copied.
-pub(crate) fn text_of(mut bytes: Vec<u8>) -> Result<String, Error>
+/// Returns the bytes as text, without their longest suffix of newlines and carriage returns. They
+/// are not copied. Fails with `Error::NotUtf8` where what is left is not valid UTF-8.
+pub fn text_of(mut bytes: Vec<u8>) -> Result<String, Error>
     ensures ok { IfOk result (λ text. string_bytes text ≡ trimmed bytes.items) }
     ensures err { IfErr result (λ e. (e ≡ NotUtf8) × (IsUtf8 (trimmed bytes.items) → ⊥)) }
 {
