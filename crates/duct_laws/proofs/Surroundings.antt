@@ -10,7 +10,7 @@ use Rattle.duct_start.specs.Surroundings.{VariableChange, Sets, Removes, Replace
 use Rattle.duct_start.specs.Lookup.{folder_on, changes_on}
 use Rattle.duct_start.specs.Path.{Path, within, step_of}
 use Rattle.duct_start.specs.TreeView.{env, full_env}
-use Rattle.duct_laws.specs.Laws.{InnerEnvironmentHides, InnerFolderReplaces, InnerVariableHides}
+use Rattle.duct_laws.specs.Laws.{InnerEnvironmentHides, InnerFolderReplaces, InnerVariableHides, NearestVariableCounts}
 
 -- a folder that is set inside replaces each one that is set outside
 pub inner_folder : (E H : Type 0) → InnerFolderReplaces E H
@@ -72,6 +72,11 @@ module _ {E H : Type 0} where
   value_round pairs name (crumb ∷ front) one other same =
       value_behind pairs name (step_of crumb).changes (changes_on (front ++ one))
       (changes_on (front ++ other)) (value_round pairs name front one other same)
+
+-- the nearest change that sets a variable decides its value
+pub nearest_variable : (E H : Type 0) → NearestVariableCounts E H
+nearest_variable E H pairs up p set value name same =
+    ap (λ b. valued_by b set value (variable pairs (changes_on up) name)) same
 
 -- a variable that is set inside hides the value of one of its name that is set outside
 pub inner_variable : (E H : Type 0) → InnerVariableHides E H

@@ -46,6 +46,13 @@ InnerFolderReplaces E H =
     → folder_on (inside ++ within p (dir path) ∷ outside)
     ≡ folder_on (inside ++ within p (dir path) ∷ other)
 
+-- the nearest change that sets a variable decides its value, whatever is set outside
+abbrev pub NearestVariableCounts : (E H : Type 0) → Type 0
+NearestVariableCounts E H =
+    (pairs : Vars) (outside : Path E H) (p : ℕ) (set value name : List ℕ)
+    → is_same_name name set ≡ true
+    → value_found pairs (changes_on (within p (env set value) ∷ outside)) name ≡ Some value
+
 -- a variable that is set inside hides the value of one of its name that is set outside: each name
 -- has the value that it has without the outer one
 abbrev pub InnerVariableHides : (E H : Type 0) → Type 0

@@ -14,7 +14,7 @@ ghost use Rattle.duct_start.specs.Actions.{capture_place};
 ghost use Rattle.duct_start.specs.Plan.{plan_of, plan_of_reader};
 ghost use Rattle.duct_start.specs.Sources.{IsDuplicate};
 ghost use Rattle.duct_start.specs.TreeView.{TreeView};
-ghost use Rattle.duct_laws.specs.Laws.{InnerRedirectionCounts, OverriddenStillOpens, SwapsCancel, InnerFolderReplaces, InnerVariableHides, InnerEnvironmentHides};
+ghost use Rattle.duct_laws.specs.Laws.{InnerRedirectionCounts, OverriddenStillOpens, SwapsCancel, InnerFolderReplaces, NearestVariableCounts, InnerVariableHides, InnerEnvironmentHides};
 ghost use Rattle.duct_laws.specs.Order.{captured, capture_place_in, has_capture, order_of, request_of, requests_of, requests_of_reader};
 
 /// Of two redirections of one stream, one directly around the other, the inner one counts alone,
@@ -26,10 +26,12 @@ pub fn redirections<E, H>()
     ensures swaps { SwapsCancel E H }
 {}
 
-/// An inner folder replaces an outer one, an inner variable hides the value of an outer one, and an
-/// inner full environment hides all that is set of variables outside of it.
+/// An inner folder replaces an outer one, the nearest change that sets a variable decides its value
+/// and hides the value of an outer one, and an inner full environment hides all that is set of
+/// variables outside of it.
 pub fn settings<E, H>()
     ensures folder { InnerFolderReplaces E H }
+    ensures nearest { NearestVariableCounts E H }
     ensures variable { InnerVariableHides E H }
     ensures environment { InnerEnvironmentHides E H }
 {}
