@@ -4,9 +4,8 @@
 //! ```
 //! let hello: Expression<End> = cmd!(in alloc; "echo", "hi")?;
 //! let text = hello.read(&rt, &mut system, &mut pool)?; // hi
-//! let mut running = hello.launch(&mut system, &mut pool)?;
-//! let ended = running.poll(); // `Ok(None)` while it runs, then how it ended
-//! running.give_up(&mut pool); // what runs must be spent: here the pool takes its children
+//! let handle = hello.start(&mut system, &mut pool)?; // it runs in the background
+//! let output = handle.into_output(&rt, &mut pool)?; // waits until it has ended
 //! ```
 #![tactic(auto)]
 
