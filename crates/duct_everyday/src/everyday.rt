@@ -5,14 +5,12 @@ use crate::filters::filtered;
 use crate::hello::hello;
 use crate::lines::{copied, longest_line};
 use crate::logged::logged;
-use crate::supervisor::{Supervised, supervise};
-use crate::tried::{new_file, take_file};
-use duct::{Clock, Entry, Error, Expression, Fault, Kind, Pool, Stdio, System, cmd};
-use duct_host::clock::HostClock;
+use duct::{Entry, Error, Expression, Fault, Kind, Pool, Stdio, System, cmd};
 use duct_host::end::End;
 use duct_host::host::Host;
 use duct_script::requests::Sort;
 use duct_script::system::{Script, ScriptEnd};
+use duct_table::files::{new_file, take_file};
 use duct_table::scenes::{Scene, bench_of};
 use duct_table::stop::TableError;
 use duct_table::workers::set_reader;
@@ -158,38 +156,6 @@ fn work_beside_a_command(rt: HostRuntime) -> Result<(), Fail> {
     assert!(rt; worked(&rt, rt.alloc(), &mut bench.sys)?);
     let mut host = Host::new(&rt, rt.alloc());
     assert!(rt; worked(&rt, rt.alloc(), &mut host)?);
-    Ok(())
-}
-
-/// Supervises a service that hangs, and returns how many of its processes were killed, and how many
-/// children the pool keeps.
-fn supervised<S: System, C: Clock>(
-    rt: &impl Wait,
-    alloc: Global,
-    system: &mut S,
-    clock: &C,
-) -> Result<String, Error> {
-    let mut pool = Pool::new(alloc);
-    let mut killed = Vec::new(alloc);
-    let service = Supervised {
-        service: &cmd!(in alloc; "sleep", "20")?,
-        limit: Duration::from_millis(20),
-        restarts: 2,
-    };
-    let told = supervise(rt, clock, system, &mut pool, &service, &mut killed)?;
-    let (killed, given) = (killed.len(), pool.given());
-    Ok(format!(in alloc; "{told:?}, {killed} killed, {given} given")?)
-}
-
-#[test]
-fn a_service_that_hangs(rt: HostRuntime) -> Result<(), Fail> {
-    let clock = HostClock::new(&rt)?;
-    let mut bench = bench_of(rt.alloc(), Scene::plain())?;
-    let told = supervised(&rt, rt.alloc(), &mut bench.sys, &clock)?;
-    assert_eq!(rt; told.as_str(), "None, 3 killed, 3 given");
-    let mut host = Host::new(&rt, rt.alloc());
-    let told = supervised(&rt, rt.alloc(), &mut host, &clock)?;
-    assert_eq!(rt; told.as_str(), "None, 3 killed, 3 given");
     Ok(())
 }
 

@@ -6,6 +6,7 @@
 
 pub mod dice;
 pub mod expressions;
+pub mod files;
 pub mod hooks;
 pub mod journals;
 pub mod memory;

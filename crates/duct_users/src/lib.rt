@@ -1,37 +1,21 @@
 //! Programs that use `duct` as any user would: the examples of README and of docs/COOKBOOK.md, a
 //! caller that builds each kind of expression, and, over any system, a script runner, a build step
-//! with a time limit, a supervisor that restarts a service and kills one that hangs, attempts,
-//! lines of a command, work beside it, a pipeline of a loop, a hook with an end, and a test harness.
+//! with a time limit, a supervisor that restarts a service and kills one that hangs, and a test
+//! harness.
 #![tactic(auto)]
 
 #[cfg(test)]
 mod adopted;
 #[cfg(test)]
-mod attempted;
-#[cfg(test)]
-mod background;
-#[cfg(test)]
 mod build;
 #[cfg(test)]
 mod cookbook;
 #[cfg(test)]
-mod entries;
-#[cfg(test)]
-mod everyday;
-#[cfg(test)]
 mod files;
-#[cfg(test)]
-mod filters;
 #[cfg(test)]
 mod harness;
 #[cfg(test)]
-mod hello;
-#[cfg(test)]
 mod kinds;
-#[cfg(test)]
-mod lines;
-#[cfg(test)]
-mod logged;
 #[cfg(test)]
 mod report;
 #[cfg(test)]

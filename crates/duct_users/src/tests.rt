@@ -1,11 +1,12 @@
-//! Tests of these programs over the scripted system, and of two callers over the real machine.
+//! Tests of these programs over the scripted system, and of some over the real machine.
 use crate::build::build;
 use crate::harness::started;
 use crate::kinds::{echoed, shown};
 use crate::report::reason;
 use crate::script::run_script;
 use crate::supervisor::{Supervised, supervise};
-use duct::{Error, Expression, Output, cmd};
+use duct::{Clock, Error, Expression, Output, Pool, System, cmd};
+use duct_host::clock::HostClock;
 use duct_host::host::Host;
 use duct_script::calls::{Call, CallLog};
 use duct_script::clock::ScriptClock;
@@ -153,6 +154,38 @@ fn supervised(rt: &impl Wait, alloc: Global, bench: &mut Bench) -> Result<Option
 fn a_service(rt: HostRuntime) -> Result<(), Fail> {
     let mut bench = bench_of(rt.alloc(), Scene::of("code 1; signal 9; running, code 0"))?;
     assert_eq!(rt; supervised(&rt, rt.alloc(), &mut bench)?, Some(2));
+    Ok(())
+}
+
+/// Supervises a service that hangs, and returns how many of its processes were killed, and how many
+/// children the pool keeps.
+fn hanging<S: System, C: Clock>(
+    rt: &impl Wait,
+    alloc: Global,
+    system: &mut S,
+    clock: &C,
+) -> Result<String, Error> {
+    let mut pool = Pool::new(alloc);
+    let mut killed = Vec::new(alloc);
+    let service = Supervised {
+        service: &cmd!(in alloc; "sleep", "20")?,
+        limit: Duration::from_millis(20),
+        restarts: 2,
+    };
+    let told = supervise(rt, clock, system, &mut pool, &service, &mut killed)?;
+    let (killed, given) = (killed.len(), pool.given());
+    Ok(format!(in alloc; "{told:?}, {killed} killed, {given} given")?)
+}
+
+#[test]
+fn a_service_that_hangs(rt: HostRuntime) -> Result<(), Fail> {
+    let clock = HostClock::new(&rt)?;
+    let mut bench = bench_of(rt.alloc(), Scene::plain())?;
+    let told = hanging(&rt, rt.alloc(), &mut bench.sys, &clock)?;
+    assert_eq!(rt; told.as_str(), "None, 3 killed, 3 given");
+    let mut host = Host::new(&rt, rt.alloc());
+    let told = hanging(&rt, rt.alloc(), &mut host, &clock)?;
+    assert_eq!(rt; told.as_str(), "None, 3 killed, 3 given");
     Ok(())
 }
 

@@ -13,6 +13,7 @@ use duct_host::end::End;
 use duct_host::host::Host;
 use duct_script::child::PollAnswer;
 use duct_script::system::Script;
+use duct_table::files::{new_file, take_file};
 use std::alloc::Global;
 use std::fs::File;
 use std::sync::Wait;
@@ -62,25 +63,6 @@ fn a_deadline_and_a_kill(rt: HostRuntime) -> Result<(), Fail> {
     let clock = HostClock::new(&rt)?;
     assert!(rt; is_late(&rt, rt.alloc(), &mut host, &clock)?);
     Ok(())
-}
-
-/// Makes a new file, and returns its path.
-pub fn new_file<S: System>(rt: &impl Wait, alloc: Global, system: &mut S) -> Result<String, Error> {
-    let mut pool = Pool::new(alloc);
-    let mktemp: Expression<S::End> = cmd!(in alloc; "mktemp")?;
-    mktemp.read(rt, system, &mut pool)
-}
-
-/// Returns the text of a file, and removes the file.
-pub fn take_file<S: System>(
-    rt: &impl Wait,
-    alloc: Global,
-    system: &mut S,
-    path: &str,
-) -> Result<String, Error> {
-    let mut pool = Pool::new(alloc);
-    let take: Expression<S::End> = cmd!(in alloc; "sh", "-c", "cat \"$0\"; rm \"$0\"", path)?;
-    take.read(rt, system, &mut pool)
 }
 
 /// Returns what a command reads from a file that another command wrote.
