@@ -77,6 +77,14 @@ const REFUSING: &[&str] = &[
     "before_spawn=in>0+err>2,8,9",
 ];
 
+/// Hooks that refuse the commands with a word, and one that refuses none.
+const CHOOSING: &[&str] = &[
+    "before_spawn=refuse_word:a:Other",
+    "before_spawn=refuse_word:b:PermissionDenied",
+    "before_spawn=refuse_word:/y:NotFound",
+    "before_spawn=z",
+];
+
 const PARENTS: &[&str] = &["", "A:0,c:7", "b:1,A:2,a:3"];
 
 const CANONICAL: &[&str] = &["", "./x:/real/x,e/f:/real/f"];
@@ -102,13 +110,28 @@ pub(crate) fn one_of(dice: &mut Dice, texts: &[&'static str]) -> &'static str {
     texts.get(place).copied().unwrap_or("")
 }
 
+/// How the expression of a random case is made.
+#[derive(Clone, Copy)]
+pub(crate) enum Form {
+    /// Of at most sixteen steps.
+    Small,
+    /// Of at most sixteen steps, with a hook around the whole that may refuse some of its commands.
+    Hooked,
+    /// Of this many nodes or one more, of which no two share their parts.
+    Nodes(u64),
+}
+
 /// Returns the random case of a seed. Writes its expression into `expression`, which is empty
 /// before.
-pub(crate) fn random_case(seed: u64, expression: &mut String) -> Result<Case<'_>, AllocError> {
+pub(crate) fn random_case(
+    seed: u64,
+    form: Form,
+    expression: &mut String,
+) -> Result<Case<'_>, AllocError> {
     let mut dice = Dice::new(seed);
     let way = way(&mut dice);
     let scene = scene(&mut dice);
-    push_expression(expression, &mut dice)?;
+    push_form(expression, &mut dice, form)?;
     Ok(Case {
         expression: expression.as_str(),
         way,
@@ -161,6 +184,21 @@ fn scene(dice: &mut Dice) -> Scene<'static> {
     }
 }
 
+/// Adds an expression that is made in this way.
+fn push_form(text: &mut String, dice: &mut Dice, form: Form) -> Result<(), AllocError> {
+    match form {
+        Form::Small => push_expression(text, dice),
+        Form::Hooked => push_hooked(text, dice),
+        Form::Nodes(count) => push_nodes(text, dice, count),
+    }
+}
+
+fn push_hooked(text: &mut String, dice: &mut Dice) -> Result<(), AllocError> {
+    push_expression(text, dice)?;
+    let hook = one_of(dice, CHOOSING);
+    write!(text, " {hook}")
+}
+
 /// Adds an expression: a command, some steps, and pipes that join the expressions that the steps
 /// have built.
 fn push_expression(text: &mut String, dice: &mut Dice) -> Result<(), AllocError> {
@@ -173,6 +211,34 @@ fn push_expression(text: &mut String, dice: &mut Dice) -> Result<(), AllocError>
         text.push_str(" pipe")?;
     }
     Ok(())
+}
+
+/// Adds an expression of this many nodes, or one more: commands and calls, and as many pipes as
+/// join what they have built.
+fn push_nodes(text: &mut String, dice: &mut Dice, nodes: u64) -> Result<(), AllocError> {
+    text.push_str(one_of(dice, COMMANDS))?;
+    let mut built = 1_u64;
+    for made in 1..nodes {
+        if made.saturating_add(built) > nodes {
+            break;
+        }
+        built = push_node(text, dice, built)?;
+    }
+    for _ in 1..built {
+        text.push_str(" pipe")?;
+    }
+    Ok(())
+}
+
+/// Adds a node, when `built` expressions are built. Returns how many are built after it.
+fn push_node(text: &mut String, dice: &mut Dice, built: u64) -> Result<u64, AllocError> {
+    let (step, after) = match dice.roll(10) {
+        0 | 1 | 2 => (one_of(dice, COMMANDS), built.saturating_add(1)),
+        3 | 4 | 5 if built > 1 => ("pipe", built.saturating_sub(1)),
+        _ => (one_of(dice, CALLS), built),
+    };
+    write!(text, " {step}")?;
+    Ok(after)
 }
 
 /// Adds a step, when `built` expressions are built. Returns how many are built after it.

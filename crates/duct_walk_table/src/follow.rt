@@ -1,11 +1,13 @@
 //! Checks that starts by the library do only what a start may do, with a fault at each request in
 //! turn or at a random request. Lists the ends that a refused start closes.
 use crate::cases::{Case, drawn, refusable};
+use crate::waited::random_children;
 use duct::{Entry, Error, Fault, Kind, System};
 use duct_plain::checker::fault_of;
 use duct_plan_table::starts::{Start, started_tree};
-use duct_table::scenes::bench_of;
+use duct_table::scenes::{Scene, bench_of};
 use duct_table::stop::TableError;
+use duct_table::told::children_started;
 use std::alloc::Global;
 
 /// Whether a start failed with an allocation failure, which none of these may.
@@ -68,6 +70,59 @@ pub(crate) fn follow_random(alloc: Global, case: Case, seed: u64) -> Result<(), 
     drop(start);
     drop(follows(alloc, case, refused)?);
     Ok(())
+}
+
+/// Starts a case with two requests refused, by different faults. Fails if the start does what no
+/// start may do. An allocation may fail in it.
+fn refused_twice(alloc: Global, case: Case, first: u64, second: u64) -> Result<Start, TableError> {
+    let mut bench = bench_of(alloc, case.scene)?;
+    bench.sys.refuse(first, Fault::new(Kind::NotFound))?;
+    bench
+        .sys
+        .refuse(second, Fault::new(Kind::PermissionDenied))?;
+    let tree = case.noted_tree(alloc, &bench)?;
+    started_tree(alloc, &tree, case.way, bench)
+}
+
+/// Starts a case whose children return this to polls, with two requests refused. Fails if the start
+/// succeeds, too.
+fn fails_twice(
+    alloc: Global,
+    case: Case,
+    children: &str,
+    first: u64,
+    second: u64,
+) -> Result<(), TableError> {
+    let scene = Scene {
+        parent: case.scene.parent,
+        canonical: case.scene.canonical,
+        refuse: "",
+        children,
+        kept: case.scene.kept,
+    };
+    let case = Case {
+        expression: case.expression,
+        way: case.way,
+        scene,
+    };
+    let start = refused_twice(alloc, case, first, second)?;
+    if start.answer.is_ok() {
+        return Err(TableError::Text("a request was refused, and the start was not"));
+    }
+    Ok(())
+}
+
+/// Starts the case of a seed with two random requests refused, of which one is met, or none if a
+/// hook refuses a command before. The children return random results to polls. An allocation may
+/// fail, too.
+pub(crate) fn follow_mixed(alloc: Global, case: Case, seed: u64) -> Result<(), TableError> {
+    let start = refused_twice(alloc, case, 0, 0)?;
+    let started = children_started(start.bench.sys.journal());
+    let first = drawn(start.bench.sys.journal(), seed);
+    let second = drawn(start.bench.sys.journal(), seed.wrapping_add(1));
+    drop(start);
+    let children = random_children(alloc, seed, started)?;
+    fails_twice(alloc, case, children.as_str(), first, second)
 }
 
 /// Returns the numbers of the ends that a start closes after this request was refused.

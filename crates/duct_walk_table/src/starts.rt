@@ -4,7 +4,7 @@
 //! - `expression` adds a tree that is started by `launch`, and `reader` one that is started by
 //!   `launch_reader`.
 //! - `random` adds random trees. Each has its own way to be started and its own system:
-//!   `200 from 0` are those of the seeds 0 to 199.
+//!   `200 from 0` are those of the seeds 0 to 199. Those of a row with `nodes` have that many nodes.
 //! - `parent`, `canonical`, `children` and `kept` set up the system and the pool for the trees that
 //!   are not random, as in the table `plans`. `refused` is the number of the request that is
 //!   refused for `closed`, where all requests are counted from 1.
@@ -14,6 +14,8 @@
 //!   at each entry of the trace in turn.
 //! - `follow`: a start does only what a start may do, without a fault and with a fault at each
 //!   request in turn; for a random tree, with a fault at a random request.
+//! - `mixed`: a start of a random tree does only what a start may do, with two random requests
+//!   refused, with hooks that refuse commands, and with children that can't be polled.
 //! - `run` and `read`: the tree is run or read, however it would be started, with the same faults.
 //!   The error and the pool afterwards are what follows from the fault and from what the children
 //!   return.
@@ -21,8 +23,8 @@
 //! `closed` is compared with the numbers of the ends that the start of the last expression closes
 //! after the refused request.
 use crate::agree::agree_on_each;
-use crate::cases::{Case, random_case};
-use crate::follow::{closed, follow_each, follow_random};
+use crate::cases::{Case, Form, random_case};
+use crate::follow::{closed, follow_each, follow_mixed, follow_random};
 use crate::waited::{wait_each, wait_random};
 use duct_plan_table::starts::Way;
 use duct_table::scenes::Scene;
@@ -36,6 +38,7 @@ use std::sync::Wait;
 enum Check {
     Agree,
     Follow,
+    Mixed,
     Run,
     Read,
 }
@@ -48,6 +51,8 @@ pub struct Starts<'t, R> {
     expressions: Vec<(&'t str, Way)>,
     /// The first seed of the random trees, and the one after the last.
     seeds: (u64, u64),
+    /// How many nodes each random tree has, or 0 if that is random, too.
+    nodes: u64,
     scene: Scene<'t>,
     refused: u64,
 }
@@ -60,6 +65,7 @@ impl<'t, R: Wait> Starts<'t, R> {
             alloc,
             expressions: Vec::new(alloc),
             seeds: (0, 0),
+            nodes: 0,
             scene: Scene::plain(),
             refused: 0,
         }
@@ -93,15 +99,25 @@ impl<'t, R: Wait> Starts<'t, R> {
         match check {
             Check::Agree => agree_on_each(self.alloc, case),
             Check::Follow => follow_each(self.alloc, case),
+            Check::Mixed => Err(TableError::Text("only random trees")),
             Check::Run => wait_each(&self.rt, self.alloc, case.by(Way::Launched)),
             Check::Read => wait_each(&self.rt, self.alloc, case.by(Way::Read)),
+        }
+    }
+
+    /// Returns how the random trees of the row are made.
+    fn form(&self, check: Check) -> Form {
+        match (check, self.nodes) {
+            (Check::Mixed, 0) => Form::Hooked,
+            (_, 0) => Form::Small,
+            (_, nodes) => Form::Nodes(nodes),
         }
     }
 
     /// Checks the random tree of a seed.
     fn try_seed(&self, check: Check, seed: u64) -> Result<(), TableError> {
         let mut expression = String::new(self.alloc);
-        let case = random_case(seed, &mut expression)?;
+        let case = random_case(seed, self.form(check), &mut expression)?;
         named(self.alloc, case, self.try_random(check, case, seed))
     }
 
@@ -109,6 +125,7 @@ impl<'t, R: Wait> Starts<'t, R> {
         match check {
             Check::Agree => agree_on_each(self.alloc, case),
             Check::Follow => follow_random(self.alloc, case, seed),
+            Check::Mixed => follow_mixed(self.alloc, case, seed),
             Check::Run => wait_random(&self.rt, self.alloc, case.by(Way::Launched), seed),
             Check::Read => wait_random(&self.rt, self.alloc, case.by(Way::Read), seed),
         }
@@ -127,9 +144,11 @@ impl<'t, R: Wait> Table<'t> for Starts<'t, R> {
             "expression" => self.expressions.push((text, Way::Launched))?,
             "reader" => self.expressions.push((text, Way::Read))?,
             "random" => self.seeds = seeds(text)?,
+            "nodes" => self.nodes = text.parse()?,
             "refused" => self.refused = text.parse()?,
             "agree" => return Ok(Some(self.tried(Check::Agree)?)),
             "follow" => return Ok(Some(self.tried(Check::Follow)?)),
+            "mixed" => return Ok(Some(self.tried(Check::Mixed)?)),
             "run" => return Ok(Some(self.tried(Check::Run)?)),
             "read" => return Ok(Some(self.tried(Check::Read)?)),
             "closed" => return Ok(Some(self.closed()?)),
@@ -142,6 +161,7 @@ impl<'t, R: Wait> Table<'t> for Starts<'t, R> {
     fn end(&mut self) -> Result<(), TableError> {
         self.expressions.clear();
         self.seeds = (0, 0);
+        self.nodes = 0;
         self.scene = Scene::plain();
         self.refused = 0;
         Ok(())

@@ -203,7 +203,7 @@ pub(crate) fn wait_each(rt: &impl Wait, alloc: Global, case: Case) -> Result<(),
 const APART: u64 = 104_729;
 
 /// Returns what `count` children of a random tree return to polls.
-fn random_children(alloc: Global, seed: u64, count: u64) -> Result<String, AllocError> {
+pub(crate) fn random_children(alloc: Global, seed: u64, count: u64) -> Result<String, AllocError> {
     let mut dice = Dice::new(seed.wrapping_mul(APART));
     let mut text = String::from_str(alloc, one_of(&mut dice, ANSWERS))?;
     for _ in 1..count {
