@@ -12,8 +12,9 @@
 //!   call is `parts`, or `give`, which gives up the children.
 //! - `handle`: `try`, `wait`, `deadline 5s`, `timeout 5s`, `kill` and `signal 15`. A wait with
 //!   ` as` after it uses the token of the line, and one with ` new` a new token. The last call is
-//!   `give`; `leave`, which differs from it only for the line `calls`; `into` for `into_output`; or
-//!   `share` for `into_output` while somebody else keeps the output of a wait.
+//!   `give`; `leave`, which differs from it only for the line `calls`; `into` for `into_output`;
+//!   `share` for `into_output` while somebody else keeps the output of a wait; or `lend` while
+//!   another thread keeps it, whose result follows.
 //! - `reader`: `try`, `kill`, and reads. `read 4` reads at most 4 bytes with a new token. The
 //!   others are reads of std: `std 4` and `exact 4` by reference, `own 4` and `own_exact 4` by the
 //!   handle itself, and `all`. The last call is `give`. The byte count of a read is followed by the
@@ -52,6 +53,7 @@ use duct_table::table::Table;
 use duct_table::told::{children_started, pool_text, trace_text};
 use std::alloc::Global;
 use std::sync::Wait;
+use std::thread::Threads;
 
 /// The greatest number of polls or sweeps while something still runs.
 pub const TURNS: u32 = 30_000;
@@ -74,7 +76,7 @@ pub struct Calls<'t, 'r, R, M> {
     is_begun: bool,
 }
 
-impl<'t, 'r, R: Wait, M: Machine> Calls<'t, 'r, R, M> {
+impl<'t, 'r, R: Wait + Threads, M: Machine> Calls<'t, 'r, R, M> {
     /// Returns the table over a machine, at the beginning of a row.
     pub fn new(rt: &'r R, alloc: Global, machine: M) -> Calls<'t, 'r, R, M> {
         Calls {
@@ -278,7 +280,7 @@ impl<'t, 'r, R: Wait, M: Machine> Calls<'t, 'r, R, M> {
     }
 }
 
-impl<'t, R: Wait, M: Machine> Table<'t> for Calls<'t, '_, R, M> {
+impl<'t, R: Wait + Threads, M: Machine> Table<'t> for Calls<'t, '_, R, M> {
     fn line(&mut self, key: &'t str, text: &'t str) -> Result<Option<String>, TableError> {
         self.begin()?;
         match key {

@@ -6,9 +6,14 @@ use crate::machine::Machine;
 use crate::texts::{push_done, push_polled, push_run};
 use duct::unix::HandleExt;
 use duct::{Clock, Error, Handle, Output, Seen, System};
+use duct_script::gate::Gate;
 use duct_table::stop::TableError;
+use duct_table::waits::until;
 use duct_table::words::first_word;
+use std::alloc::{AllocError, Global};
 use std::sync::{Arc, Wait};
+use std::thread;
+use std::thread::{JoinHandle, Threads};
 use std::time::Duration;
 
 /// A wait on a handle.
@@ -23,12 +28,12 @@ enum Waiting {
 /// What a wait returns.
 type Waited = Result<Option<Arc<Output>>, Error>;
 
-impl<R: Wait, M: Machine> Calls<'_, '_, R, M> {
+impl<R: Wait + Threads, M: Machine> Calls<'_, '_, R, M> {
     /// Starts the expression of the row, and makes these calls on its handle.
     pub(crate) fn handle(&mut self, calls: &str) -> Result<(), TableError> {
         let (calls, end) = split_last(calls);
         let (refusal, end) = marked(end);
-        if !matches!(end, "give" | "leave" | "into" | "share") {
+        if !matches!(end, "give" | "leave" | "into" | "share" | "lend") {
             return Err(TableError::Text("no call that spends a handle"));
         }
         match self.started()? {
@@ -59,6 +64,7 @@ impl<R: Wait, M: Machine> Calls<'_, '_, R, M> {
                 made
             }
             "share" => self.share(handle, made, refusal),
+            "lend" => self.lend(handle, made, refusal),
             _ => self.into_output(handle, made, refusal),
         }
     }
@@ -99,10 +105,65 @@ impl<R: Wait, M: Machine> Calls<'_, '_, R, M> {
         drop(kept);
         told
     }
+
+    /// Calls `into_output` while another thread keeps the output of a wait. Adds what that thread
+    /// has afterwards.
+    fn lend(
+        &mut self,
+        handle: Handle<M::System>,
+        made: Result<(), TableError>,
+        refusal: Refusal,
+    ) -> Result<(), TableError> {
+        let kept = handle.wait(self.rt);
+        let keeper = started_keeper(self.rt, self.alloc, kept);
+        let told = self.into_output(handle, made, refusal);
+        let kept = some(returned(self.rt, keeper?));
+        told?;
+        let mut answer = String::new(self.alloc);
+        push_polled(&mut answer, &kept)?;
+        self.add(Refusal::Told, answer.as_str())
+    }
+}
+
+/// A thread that keeps the output of a wait, and the gate at which it stands.
+struct Keeper {
+    gate: Gate,
+    thread: JoinHandle<Result<Arc<Output>, Error>>,
+}
+
+/// Starts a thread that keeps the output of a wait until its gate is opened.
+fn started_keeper(
+    rt: &impl Threads,
+    alloc: Global,
+    kept: Result<Arc<Output>, Error>,
+) -> Result<Keeper, TableError> {
+    let gate = Gate::new(alloc)?;
+    let before = gate.share()?;
+    gate.shut();
+    match thread::spawn(rt, move || keep(&before, kept)) {
+        Ok(thread) => {
+            until(|| gate.standing() > 0);
+            Ok(Keeper { gate, thread })
+        }
+        Err(error) => Err(AllocError::from(error).into()),
+    }
+}
+
+/// Keeps the output of a wait until the gate is open, and returns it.
+fn keep(gate: &Gate, kept: Result<Arc<Output>, Error>) -> Result<Arc<Output>, Error> {
+    let _ = gate.pass();
+    kept
+}
+
+/// Opens the gate, and returns what the thread kept.
+fn returned(rt: &impl Threads, keeper: Keeper) -> Result<Arc<Output>, Error> {
+    let Keeper { gate, thread } = keeper;
+    gate.open();
+    thread.join(rt)
 }
 
 /// Makes these calls, which are separated by commas, all with one token.
-fn each_of_handle<R: Wait, M: Machine>(
+fn each_of_handle<R: Wait + Threads, M: Machine>(
     table: &mut Calls<'_, '_, R, M>,
     handle: &Handle<M::System>,
     calls: &str,
@@ -117,7 +178,7 @@ fn each_of_handle<R: Wait, M: Machine>(
     Ok(())
 }
 
-fn of_handle<R: Wait, M: Machine>(
+fn of_handle<R: Wait + Threads, M: Machine>(
     table: &mut Calls<'_, '_, R, M>,
     handle: &Handle<M::System>,
     seen: &mut Seen<M::System>,

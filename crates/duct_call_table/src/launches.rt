@@ -6,8 +6,9 @@ use duct::{Error, Output, Running};
 use duct_table::stop::TableError;
 use duct_table::words::first_word;
 use std::sync::{Arc, Wait};
+use std::thread::Threads;
 
-impl<R: Wait, M: Machine> Calls<'_, '_, R, M> {
+impl<R: Wait + Threads, M: Machine> Calls<'_, '_, R, M> {
     /// Launches the expression of the row, and makes these calls on what runs.
     pub(crate) fn launch(&mut self, calls: &str) -> Result<(), TableError> {
         let (calls, end) = split_last(calls);

@@ -8,8 +8,9 @@ use duct_table::words::first_word;
 use std::alloc::{AllocError, Global};
 use std::io::{self, Read};
 use std::sync::Wait;
+use std::thread::Threads;
 
-impl<'r, R: Wait, M: Machine> Calls<'_, 'r, R, M> {
+impl<'r, R: Wait + Threads, M: Machine> Calls<'_, 'r, R, M> {
     /// Starts the expression of the row with a reader, and makes these calls on its reader handle.
     pub(crate) fn reader(&mut self, calls: &str) -> Result<(), TableError> {
         let (calls, end) = split_last(calls);

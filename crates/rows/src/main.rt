@@ -31,11 +31,12 @@ use std::alloc::Global;
 use std::io::{self, Write};
 use std::process::ExitCode;
 use std::sync::Wait;
+use std::thread::Threads;
 use std::{env, fs};
 
 /// Tries the rows of a file by its table, which is over the scripted system or over single parts.
-fn tried<W: Write>(
-    rt: &impl Wait,
+fn tried<R: Wait + Threads, W: Write>(
+    rt: &R,
     alloc: Global,
     table: &str,
     file: File,
