@@ -185,6 +185,7 @@ pub fn message_text(alloc: Global, tree: &Tree<ScriptEnd>) -> Result<String, Tab
 fn message(alloc: Global, reply: Reply) -> Result<String, TableError> {
     match reply {
         Reply::Failed(text) => Ok(String::from_str(alloc, text.as_str())?),
+        Reply::Memory => Err(TableError::Error(Error::Memory)),
         _ => Err(TableError::Text("no failure")),
     }
 }

@@ -43,10 +43,11 @@ use crate::children::{Look, asked_text, child_text, known_text, message_text};
 use crate::starts::{Start, Way, answer_text, calls_text, most_text, planned, started};
 use crate::texts::{Find, TestPlan, found_text, items_text, places_text, plan_text};
 use crate::traces::entries;
-use duct::{Entry, System};
+use duct::{Entry, Error, System};
 use duct_script::system::ScriptEnd;
 use duct_table::expressions::{Tree, written};
 use duct_table::journals::journal;
+use duct_table::memory::is_memory;
 use duct_table::scenes::Scene;
 use duct_table::stop::TableError;
 use duct_table::table::Table;
@@ -199,7 +200,8 @@ fn of_journal(alloc: Global, plan: &TestPlan, text: &str, key: &str) -> Result<S
     of_added(alloc, plan, entries.as_slice(), key)
 }
 
-/// Returns what a line about the journal of a start of this expression is compared with.
+/// Returns what a line about the journal of a start of this expression is compared with. Fails if
+/// the start fails with an allocation failure.
 fn of_start(
     alloc: Global,
     plan: &TestPlan,
@@ -207,7 +209,18 @@ fn of_start(
     key: &str,
 ) -> Result<String, TableError> {
     let start = started(alloc, expression, Way::Launched, Scene::plain())?;
+    if wants_memory(&start) {
+        return Err(TableError::Error(Error::Memory));
+    }
     of_added(alloc, plan, start.bench.sys.journal(), key)
+}
+
+/// Whether a start failed with an allocation failure.
+fn wants_memory(start: &Start) -> bool {
+    match &start.answer {
+        Err(error) => is_memory(error),
+        Ok(_) => false,
+    }
 }
 
 /// Returns whether these entries follow the plan, or make its requests.
