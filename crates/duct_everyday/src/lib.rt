@@ -1,6 +1,7 @@
 //! Programs for every day, as any user would write them, over any system: attempts, the lines of a
 //! command, work beside it, a pipeline made in a loop, a hook with an end. Each is run over the
-//! real machine and over the scripted system. And tests of the text of each kind of request.
+//! real machine and over the scripted system. And tests of the texts of requests, of those that a
+//! system refused and of those that a start will make.
 #![tactic(auto)]
 
 #[cfg(test)]
@@ -19,3 +20,5 @@ mod hello;
 mod lines;
 #[cfg(test)]
 mod logged;
+#[cfg(test)]
+mod previewed;

@@ -1,0 +1,100 @@
+//! What a start will request, before anything runs.
+use crate::logged::logged;
+use duct::{Error, Expression, cmd};
+use duct_plan::plan::plan;
+use duct_preview::perform::perform;
+use duct_preview::preview::NoEnd;
+use duct_preview::text::PlanText;
+use std::alloc::{AllocError, Global};
+use std::test::Fail;
+
+/// Returns what a start of this expression will request, a line for each request.
+fn previewed<E: Drop>(alloc: Global, command: &Expression<E>) -> Result<String, AllocError> {
+    let plan = plan(alloc, command)?;
+    PlanText(&plan).to_string(alloc)
+}
+
+/// A program in a folder, with a variable set and one removed, and with both streams captured in
+/// one pipe.
+fn settings(alloc: Global) -> Result<Expression<NoEnd>, Error> {
+    let make: Expression<NoEnd> = cmd!(in alloc; "./make", "all")?;
+    let set = make.dir("/in")?.env("A", "1")?.env_remove("B")?;
+    set.stderr_to_stdout()?.stdout_capture()
+}
+
+#[test]
+fn folders_and_variables(rt: HostRuntime) -> Result<(), Fail> {
+    let text = previewed(rt.alloc(), &settings(rt.alloc())?)?;
+    let wanted = "0 environment\n1 pipe\n2 canonical path of \"./make\"\n3 spawn of ? \"all\" in \
+        \"/in\" with \"A\"=\"1\" without \"B\", stdin inherited, stdout pipe 1, stderr pipe 1\n\
+        4 capture worker of pipe 1\n";
+    assert_eq!(rt; text.as_str(), wanted);
+    Ok(())
+}
+
+/// A command with two variables alone, with no stdin, and whose stdout is the parent's stderr.
+fn streams(alloc: Global) -> Result<Expression<NoEnd>, Error> {
+    let echo: Expression<NoEnd> = cmd!(in alloc; "echo")?;
+    let alone = echo.full_env(&[("B", "2"), ("A", "1")])?;
+    alone.stdin_null()?.stdout_to_stderr()
+}
+
+#[test]
+fn streams_of_the_parent(rt: HostRuntime) -> Result<(), Fail> {
+    let text = previewed(rt.alloc(), &streams(rt.alloc())?)?;
+    let wanted = "0 environment\n1 spawn of \"echo\" with only \"A\"=\"1\" \"B\"=\"2\", stdin \
+        nothing, stdout the parent's stderr, stderr inherited\n";
+    assert_eq!(rt; text.as_str(), wanted);
+    Ok(())
+}
+
+#[test]
+fn a_hook_and_an_end(rt: HostRuntime) -> Result<(), Fail> {
+    let command = logged(rt.alloc(), &streams(rt.alloc())?.stderr_file(NoEnd)?, NoEnd)?;
+    let text = previewed(rt.alloc(), &command)?;
+    let wanted = "0 environment\n1 spawn of \"echo\" with only \"A\"=\"1\" \"B\"=\"2\", stdin \
+        nothing, stdout an end of the caller, stderr an end of the caller, hooks 1\n";
+    assert_eq!(rt; text.as_str(), wanted);
+    Ok(())
+}
+
+/// Returns the status of `plan` for these words, and what it writes to stdout and to stderr.
+fn printed(alloc: Global, words: &[&str]) -> Result<(u8, Vec<u8>, Vec<u8>), AllocError> {
+    let mut args = Vec::new(alloc);
+    for word in words {
+        args.push(String::from_str(alloc, word)?)?;
+    }
+    let (mut out, mut err) = (Vec::new(alloc), Vec::new(alloc));
+    let status = perform(alloc, args.as_slice(), &mut out, &mut err);
+    Ok((status, out, err))
+}
+
+#[test]
+fn a_line_with_all_redirections(rt: HostRuntime) -> Result<(), Fail> {
+    let words = [
+        "--unchecked",
+        "--stdin",
+        "x",
+        "./a",
+        "b",
+        ">",
+        "out",
+        "2>",
+        "err",
+    ];
+    let (status, out, err) = printed(rt.alloc(), &words)?;
+    let wanted = "0 environment\n1 pipe\n2 pipe\n3 create of \"out\"\n4 create of \"err\"\n\
+        5 spawn of \"./a\" \"b\", stdin pipe 2, stdout file 3, stderr file 4\n\
+        6 input worker of pipe 2\n7 reader of pipe 1\n";
+    assert_eq!(rt; String::from_utf8(out)?.as_str(), wanted);
+    assert_eq!(rt; (status, err.len()), (0, 0));
+    Ok(())
+}
+
+#[test]
+fn a_line_with_an_empty_command(rt: HostRuntime) -> Result<(), Fail> {
+    let (status, out, err) = printed(rt.alloc(), &["a", "|"])?;
+    assert_eq!(rt; String::from_utf8(err)?.as_str(), "plan: empty command\n");
+    assert_eq!(rt; (status, out.len()), (2, 0));
+    Ok(())
+}

@@ -1,0 +1,2 @@
+pub mod PlanForm
+pub mod Previewed

@@ -1,0 +1,119 @@
+-- The text of a plan: a line for each request, with its place.
+use Rattle.std.specs.Prelude.{ℕ, List, [], ◌∷◌, ◌++◌, ◌+◌, codes, drop, length, Some, None, if◌then◌else◌}
+use Rattle.std.specs.Fmt.{decimal}
+use Rattle.std.specs.declared.option.Option.{Option}
+use Rattle.duct_system.specs.SpecView.{Vars}
+use Rattle.duct_system.specs.declared.spec.Stream.{Stream}
+use Rattle.duct_system.specs.declared.spec.Stream.TheVariants.{In, Out, Err}
+use Rattle.duct_start.specs.Plan.{Plan, is_canonical, program_of}
+use Rattle.duct_start.specs.Step.{Item, AskEnvironment, AskPipe, AskOpenRead, AskCreate, AskCanonicalize, AskSpawn, AskFeed, AskDrain, AskReader}
+use Rattle.duct_start.specs.Surroundings.{Surroundings, Target, Parents, Nothing, ReaderAt, WriterAt, FileAt, Lends, VariableChange, Sets, Removes, Replaces}
+use Rattle.duct_tree.specs.Text.{Form, plain, quote, joined, form_text, is_form_printable}
+use Rattle.duct_report.specs.EntryForm.{of_text, of_end, folder_form}
+
+-- where a stream goes that goes to this stream of the parent
+abbrev pub parents_text : Stream → Stream → List ℕ
+parents_text stream In = codes "inherited"
+parents_text Out Out = codes "inherited"
+parents_text In Out = codes "the parent's stdout"
+parents_text Err Out = codes "the parent's stdout"
+parents_text Err Err = codes "inherited"
+parents_text In Err = codes "the parent's stderr"
+parents_text Out Err = codes "the parent's stderr"
+
+-- where a stream goes
+abbrev pub target_form : {E : Type 0} → Stream → Target E → Form
+target_form stream (Parents parents) = plain (parents_text stream parents)
+target_form stream Nothing = plain (codes "nothing")
+target_form stream (ReaderAt place) = of_end (codes "pipe ") place
+target_form stream (WriterAt place) = of_end (codes "pipe ") place
+target_form stream (FileAt place) = of_end (codes "file ") place
+target_form stream (Lends end) = plain (codes "an end of the caller")
+
+-- some variables, with a space before each
+abbrev pub variables_form : Vars → Form
+variables_form [] = plain []
+variables_form (variable ∷ others) =
+    joined (plain (codes " ") ∷ quote variable.0 ∷ plain (codes "=") ∷ quote variable.1
+    ∷ variables_form others ∷ [])
+
+-- a change of the variables
+abbrev pub change_form : VariableChange → Form
+change_form (Sets name value) =
+    joined (plain (codes " with ") ∷ quote name ∷ plain (codes "=") ∷ quote value ∷ [])
+change_form (Removes name) = of_text (codes " without ") name
+change_form (Replaces vars) = joined (plain (codes " with only") ∷ variables_form vars ∷ [])
+
+-- changes of the variables, the nearest first
+abbrev pub changes_form : List VariableChange → Form
+changes_form [] = plain []
+changes_form (change ∷ further) = joined (change_form change ∷ changes_form further ∷ [])
+
+-- arguments, with a space before each
+abbrev pub arguments_form : List (List ℕ) → Form
+arguments_form [] = plain []
+arguments_form (argument ∷ others) =
+    joined (of_text (codes " ") argument ∷ arguments_form others ∷ [])
+
+-- a program: unknown where its canonical path is requested first
+unfoldable pub program_form : {E H : Type 0} → Surroundings E H → List (List ℕ) → Form
+program_form found words =
+    if is_canonical found words then plain (codes "?") else quote (program_of words)
+
+-- how many hooks may change the command, if any
+abbrev pub hooks_form : {A : Type 0} → List A → Form
+hooks_form [] = plain []
+hooks_form (hook ∷ hooks) = of_end (codes ", hooks ") (length (hook ∷ hooks))
+
+-- a stream of a command, by its name, and where it goes
+unfoldable pub stream_form : {E : Type 0} → List ℕ → Stream → Target E → Form
+stream_form name stream target = joined (plain name ∷ target_form stream target ∷ [])
+
+-- where the streams of a command go
+unfoldable pub streams_form : {E H : Type 0} → Surroundings E H → Form
+streams_form found =
+    joined (stream_form (codes ", stdin ") In found.input
+    ∷ stream_form (codes ", stdout ") Out found.output
+    ∷ stream_form (codes ", stderr ") Err found.error ∷ [])
+
+-- a program and its arguments
+unfoldable pub command_form : {E H : Type 0} → Surroundings E H → List (List ℕ) → Form
+command_form found words =
+    joined (program_form found words ∷ arguments_form (drop 1 words) ∷ [])
+
+-- the folder and the changes of the variables of a command
+unfoldable pub settings_form : {E H : Type 0} → Surroundings E H → Form
+settings_form found = joined (folder_form found.folder ∷ changes_form found.changes ∷ [])
+
+-- the spawn of a command
+unfoldable pub spawn_form : {E H : Type 0} → Surroundings E H → List (List ℕ) → Form
+spawn_form found words =
+    joined (plain (codes "spawn of ") ∷ command_form found words ∷ settings_form found
+    ∷ streams_form found ∷ hooks_form found.hooks ∷ [])
+
+-- one request
+unfoldable pub item_form : {E H : Type 0} → Item E H → Form
+item_form AskEnvironment = plain (codes "environment")
+item_form AskPipe = plain (codes "pipe")
+item_form (AskOpenRead path) = of_text (codes "open of ") path
+item_form (AskCreate path) = of_text (codes "create of ") path
+item_form (AskCanonicalize program) = of_text (codes "canonical path of ") program
+item_form (AskSpawn found words) = spawn_form found words
+item_form (AskFeed place bytes) = of_end (codes "input worker of pipe ") place
+item_form (AskDrain place) = of_end (codes "capture worker of pipe ") place
+item_form (AskReader place) = of_end (codes "reader of pipe ") place
+
+-- a line for each request, the first of which has this place
+abbrev pub lines_form : {E H : Type 0} → ℕ → List (Item E H) → Form
+lines_form place [] = plain []
+lines_form place (item ∷ items) =
+    joined (of_end [] place ∷ plain (codes " ") ∷ item_form item ∷ plain (codes "\n")
+    ∷ lines_form (place + 1) items ∷ [])
+
+-- the lines of a plan
+abbrev pub plan_form : {E H : Type 0} → Plan E H → Form
+plan_form plan = lines_form 0 plan.items
+
+-- the text of a plan, where all texts of it are printable ASCII; else no promise
+abbrev pub plan_text : {E H : Type 0} → Plan E H → Option (List ℕ)
+plan_text plan = if is_form_printable (plan_form plan) then Some (form_text (plan_form plan)) else None

@@ -1,0 +1,18 @@
+-- What is printed of a line of words before anything runs.
+use Rattle.std.specs.Prelude.{◌≡◌, ℕ, List, ◌++◌, IfSome, codes}
+use Rattle.std.specs.declared.result.Result.{Result}
+use Rattle.duct_start.specs.Plan.{plan_of_reader}
+use Rattle.duct_start.specs.TreeView.{TreeView}
+use Rattle.duct_program.specs.Answered.{Means}
+use Rattle.duct_program.specs.Printed.{usage_text}
+use Rattle.duct_program.specs.declared.usage.Usage.{Usage}
+use Rattle.duct_preview.specs.PlanForm.{plan_text}
+
+-- this is the text of what a line's start requests, where a text is promised
+abbrev pub IsPreview : {E H : Type 0} → Result (TreeView E H) Usage → List ℕ → Type 0
+IsPreview line text =
+    Means line (λ tree. IfSome (plan_text (plan_of_reader tree)) (λ known. text ≡ known))
+
+-- the line of a usage error
+abbrev pub usage_line : Usage → List ℕ
+usage_line usage = codes "plan: " ++ usage_text usage ++ codes "\n"

@@ -1,0 +1,34 @@
+//! What a line of words will request.
+ghost use Rattle.std.specs.Prelude.{map, string_bytes, IfErr, IfOk};
+ghost use Rattle.duct_program.specs.Line.{meant};
+ghost use Rattle.duct_program.specs.Parsed.{RefusesAs};
+ghost use Rattle.duct_preview.specs.Previewed.{IsPreview};
+ghost use Rattle.duct_preview.specs.declared.preview.NoEnd.{NoEnd};
+ghost use Rattle.duct_program.specs.declared.perform.NoHook.{NoHook};
+
+use crate::text::PlanText;
+use duct::Expression;
+use duct_plan::plan::plan_of_reader;
+use duct_program::line::line;
+use duct_program::perform::NoHook;
+use duct_program::usage::Usage;
+use std::alloc::Global;
+
+/// The type of a line's ends of the caller, of which it has none.
+#[derive(Drop)]
+pub struct NoEnd;
+
+/// Returns what `host` will request of the system for these arguments, as text: a line for each
+/// request of the start of their expression, as `PlanText` has it. Nothing is requested and nothing
+/// runs. Fails with the first error in the arguments, from left to right, and with `Usage::Memory`
+/// at an allocation failure.
+pub fn preview(alloc: Global, args: &[String]) -> Result<String, Usage>
+    ensures text { IfOk result (λ text.
+        IsPreview {E = NoEnd} {H = NoHook} (meant (map string_bytes args.now)) (string_bytes text)) }
+    ensures usage { IfErr result (λ usage.
+        RefusesAs usage (meant {E = NoEnd} {H = NoHook} (map string_bytes args.now))) }
+{
+    let expression: Expression<NoEnd, NoHook> = line(alloc, args)?;
+    let plan = plan_of_reader(alloc, &expression)?;
+    Ok(PlanText(&plan).to_string(alloc)?)
+}
