@@ -1,0 +1,125 @@
+-- What a program owes that shares a handle of the machine's host with other threads: that a handle
+-- may be shared, since its children, its workers and its reader may be sent to another thread.
+use mir.Syntax.{Lifetime, Ty}
+use base.Fml.{Lft}
+use denote.Exit.{Kept}
+use denote.Param.{arg, param}
+use denote.Param.Send.{IsSend, IsSync, arg_send, arg_sync, param_send, param_sync, recorded_send, sendable, struct_send}
+use denote.RattleType.{RattleType}
+use denote.Ref.{ShrRef}
+use denote.Struct.Declared.{shape}
+use denote.Struct.Field
+use Rattle.std.proofs.Crossing.{crosses}
+use Rattle.std.proofs.sync.OnceLock.TheSendSync as once_lock
+use Rattle.std.specs.contracts.alloc.Global
+use Rattle.std.specs.contracts.impls.GlobalAllocator.TheImpl as heap
+use Rattle.std.specs.contracts.process.pipes.ChildStderr
+use Rattle.std.specs.contracts.process.pipes.ChildStdin
+use Rattle.std.specs.contracts.process.pipes.ChildStdout
+use Rattle.std.specs.contracts.process.system.SystemProcess
+use Rattle.std.specs.contracts.rt.LibcRuntime
+use Rattle.std.specs.contracts.result.Result
+use Rattle.std.specs.contracts.sync.Arc
+use Rattle.std.specs.contracts.sync.OnceLock
+use Rattle.std.specs.contracts.vec.Vec
+use Rattle.std.specs.declared.io.traits.Read
+use Rattle.duct_system.specs.contracts.system.Fault
+use Rattle.duct_system.specs.contracts.system.Said
+use Rattle.duct_system.specs.declared.system.Child as the_child
+use Rattle.duct_system.specs.declared.system.Job
+use Rattle.duct_system.specs.declared.system.Numbered
+use Rattle.duct_system.specs.declared.system.System
+use Rattle.duct_worker.specs.contracts.shared.ArcVecU8Shared.TheImpl as bytes_shared
+use Rattle.duct_worker.specs.contracts.shared.UnitShared.TheImpl as unit_shared
+use Rattle.duct_worker.specs.contracts.worker.Worker
+use Rattle.duct_worker.specs.declared.shared.Shared
+use Rattle.duct_running.proofs.Threads.{running_send}
+use Rattle.duct_running.specs.contracts.running.Running
+use Rattle.duct_handle.proofs.Threads.{handle_sync}
+use Rattle.duct_handle.specs.contracts.handle.Handle
+use Rattle.duct_reader.proofs.Threads.{reader_handle_sync}
+use Rattle.duct_reader.specs.contracts.reader.ReaderHandle
+use Rattle.duct_host.specs.contracts.child.Child
+use Rattle.duct_host.specs.contracts.child.Seen
+use Rattle.duct_host.specs.contracts.end.End
+use Rattle.duct_host.specs.contracts.host.Host
+use Rattle.duct_host.specs.contracts.reader.Reader
+
+-- a reference to the machine's runtime
+abbrev runtime_row : Lifetime → Lft → RattleType
+runtime_row ℓ κ = ShrRef ℓ κ LibcRuntime.the_row
+
+-- it may be shared
+runtime_sync : (ℓ : Lifetime) (κ : Lft) → IsSync (ShrRef ℓ κ LibcRuntime.the_row)
+runtime_sync ℓ κ = search (sendable, crosses) depth 20
+
+-- how a poll saw a child end
+seen_send : IsSend (Seen.the_field).row
+seen_send = search (sendable, crosses) depth 40
+
+-- a child of the host
+abbrev child_row : Lifetime → Lft → RattleType
+child_row ℓ κ = Child.the_row (runtime_row ℓ κ) SystemProcess.the_row ChildStdin.the_row ChildStdout.the_row ChildStderr.the_row
+
+-- a child may be sent
+child_send : (ℓ : Lifetime) (κ : Lft) → IsSend (child_row ℓ κ)
+child_send ℓ κ =
+    let child = Child.the_type (ShrRef ℓ κ LibcRuntime.the_row) SystemProcess.the_row ChildStdin.the_row ChildStdout.the_row ChildStderr.the_row in
+    recorded_send _ _ _ child.to_one (struct_send (shape child) (search (sendable, crosses) depth 40, (search (sendable, crosses) depth 40, (search sendable, (search sendable, (search sendable, (search (sendable, crosses) depth 40, (seen_send, (search (sendable, crosses) depth 40, (search (sendable, crosses) depth 40, (search (sendable, crosses) depth 40, tt)))))))))))
+
+-- a worker may be sent if its result may
+worker_send : (T : RattleType) (g : Shared.Ghosts T.Denot) → IsSend (Arc.the_row
+    (OnceLock.the_row (Result.the_row T Fault.the_row)) Global.the_row heap.ghosts)
+    → IsSend (Said.the_field T).row → IsSend (Worker.the_row T g)
+worker_send T g left said = recorded_send _ _ _ (Worker.the_type T g).to_one
+    (struct_send (shape (Worker.the_type T g)) (search sendable, (search sendable, (left, (said, (search sendable, tt))))))
+
+-- an input worker
+abbrev feed_row : RattleType
+feed_row = Worker.the_row (Field.unit-field).row unit_shared.ghosts
+
+-- an input worker may be sent
+feed_send : IsSend feed_row
+feed_send = worker_send (Field.unit-field).row unit_shared.ghosts (search (once_lock.the_send, once_lock.the_sync, sendable, crosses) depth 40)
+    (search sendable depth 20)
+
+-- the bytes that a capture worker reads
+abbrev bytes_row : RattleType
+bytes_row = Arc.the_row (Vec.the_row (Field.u8-field).row Global.the_row heap.ghosts) Global.the_row heap.ghosts
+
+-- a capture worker
+abbrev drain_row : RattleType
+drain_row = Worker.the_row bytes_row bytes_shared.ghosts
+
+-- a capture worker may be sent
+drain_send : IsSend drain_row
+drain_send = worker_send bytes_row bytes_shared.ghosts (search (once_lock.the_send, once_lock.the_sync, sendable, crosses) depth 40)
+    (search (sendable, crosses) depth 20)
+
+-- a reader of a pipe may be sent
+reader_send : IsSend Reader.the_row
+reader_send = search (sendable, crosses) depth 40
+
+-- what a program owes, as its goals name it, whatever the ghost members: the host's runtime is a
+-- reference with this lifetime
+module _ (δ : Ty) (k : Kept) (ℓ : Lifetime) (κ : Lft)
+    (s : System.Ghosts (Host.the_row (runtime_row ℓ κ)).Denot (End.the_row).Denot (child_row ℓ κ).Denot feed_row.Denot drain_row.Denot (Reader.the_row).Denot)
+    (e : Numbered.Ghosts (End.the_row).Denot)
+    (c : the_child.Ghosts (child_row ℓ κ).Denot) (cn : Numbered.Ghosts (child_row ℓ κ).Denot)
+    (f : Job.Ghosts feed_row.Denot (Field.unit-field).Value) (fn : Numbered.Ghosts feed_row.Denot)
+    (d : Job.Ghosts drain_row.Denot bytes_row.Denot) (dn : Numbered.Ghosts drain_row.Denot)
+    (r : Read.Ghosts (Reader.the_row).Denot) where
+  -- a handle may be shared
+  pub main_handle_sync : IsSync (param 0 (arg δ k (Handle.the_row (Host.the_row (runtime_row ℓ κ)) End.the_row (child_row ℓ κ) feed_row drain_row Reader.the_row s e c cn f fn d dn r)))
+  main_handle_sync = param_sync 0 _ (arg_sync δ k _ (handle_sync (Host.the_row (runtime_row ℓ κ)) End.the_row (child_row ℓ κ) feed_row drain_row Reader.the_row s e c cn f fn d dn r
+      (child_send ℓ κ) feed_send drain_send))
+
+  -- a reader handle, which keeps a reference to the runtime too, may be shared
+  pub main_reader_handle_sync : (ℓ' : Lifetime) (κ' : Lft) → IsSync (param 0 (arg δ k (ReaderHandle.the_row (Host.the_row (runtime_row ℓ κ)) (runtime_row ℓ' κ') End.the_row (child_row ℓ κ) feed_row drain_row Reader.the_row s e c cn f fn d dn r)))
+  main_reader_handle_sync ℓ' κ' = param_sync 0 _ (arg_sync δ k _ (reader_handle_sync (Host.the_row (runtime_row ℓ κ)) (runtime_row ℓ' κ') End.the_row (child_row ℓ κ) feed_row drain_row Reader.the_row s e c cn f fn d dn r
+      (runtime_sync ℓ' κ') (child_send ℓ κ) feed_send drain_send reader_send))
+
+  -- what runs may be sent
+  pub main_running_send : IsSend (param 0 (arg δ k (Running.the_row (Host.the_row (runtime_row ℓ κ)) End.the_row (child_row ℓ κ) feed_row drain_row Reader.the_row s e c cn f fn d dn r)))
+  main_running_send = param_send 0 _ (arg_send δ k _ (running_send (Host.the_row (runtime_row ℓ κ)) End.the_row (child_row ℓ κ) feed_row drain_row Reader.the_row s e c cn f fn d dn r
+      (child_send ℓ κ) feed_send drain_send))
