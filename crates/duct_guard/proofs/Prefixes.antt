@@ -1,0 +1,23 @@
+-- A test whether a list begins with another one.
+use Rattle.std.specs.Prelude.{ℕ, Bool, true, List, ◌++◌, length, take, drop, bytes_eq}
+use Rattle.std.specs.List.{starts_with}
+use Rattle.std.proofs.Common.{◌≡◌, ap, sym, ◌∙◌}
+use Rattle.std.proofs.Math.Seq.{take-append_seam}
+use Rattle.std.proofs.lemmas.List.{take-append-drop}
+use Rattle.std.specs.Bool.{one_answer}
+use lib.Pointwise.{pointwise_decides, bytes_decides}
+
+-- a test that is true exactly where a list begins with another one computes whether it does
+pub prefix_test : (xs ys : List (List ℕ)) (b : Bool)
+    → (b ≡ true → (rest : List (List ℕ)) × (xs ≡ ys ++ rest))
+    → (((rest : List (List ℕ)) × (xs ≡ ys ++ rest)) → b ≡ true)
+    → b ≡ starts_with bytes_eq xs ys
+prefix_test xs ys b only exactly =
+    let P : Type 0 = (rest : List (List ℕ)) × (xs ≡ ys ++ rest) in
+    let front : List (List ℕ) = take (length ys) xs in
+    let decides = pointwise_decides bytes_decides ys front in
+    one_answer {P = P} b (starts_with bytes_eq xs ys)
+    (only, exactly) (
+      λ e. (drop (length ys) xs, sym (take-append-drop (length ys) xs) ∙ ap (λ l. l ++ drop (length ys) xs) (sym (decides.0 e))),
+      λ p. decides.1 (sym (ap (λ l. take (length ys) l) p.1 ∙ take-append_seam ys p.0)),
+    )

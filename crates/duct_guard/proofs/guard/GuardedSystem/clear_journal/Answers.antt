@@ -1,0 +1,12 @@
+use Rattle.std.proofs.Common.{ap, arith}
+use Rattle.duct_system.specs.Journal.{JournalView}
+use Rattle.duct_guard.proofs.Guarding.{nothing_noted}
+use Rattle.duct_guard.proofs.guard.GuardedSystem.clear_journal.Goals as goal
+
+pub invariant_of-self-inside : goal.invariant_of-self-inside
+invariant_of-self-inside g c =
+    let room = ap (λ (j : JournalView). j.room) c.clear.ensures in
+    let none = ap (λ (j : JournalView). j.entries) c.clear.ensures in (
+      omega (arith, room, c.clear_journal.ensures.room_grows, c.self.inside.within),
+      (nothing_noted _ _ _ none c.clear_journal.ensures.entries_are, tt),
+    )

@@ -1,0 +1,19 @@
+use Rattle.std.proofs.Common.{refl, ap, ℕ}
+use Rattle.std.specs.declared.result.Result.{Result}
+use Rattle.duct_system.specs.EntryView.{OpenRead}
+use Rattle.duct_system.specs.Journal.{JournalView}
+use Rattle.duct_system.specs.declared.system.Fault.{Fault}
+use Rattle.duct_guard.proofs.Guarding.{end_room, one_noted}
+use Rattle.duct_guard.proofs.guard.GuardedSystem.open_read.Goals as goal
+
+pub invariant_of-self-inside-2 : goal.invariant_of-self-inside-2
+invariant_of-self-inside-2 g c =
+    let number = g.S.End.Numbered.number_of in
+    let rules = g.P.Policy.rules c.self.inside.policy in
+    let entry = λ (answer : Result ℕ Fault). OpenRead c.args.path.now answer in
+    let sent = c.open_read_allowed-made.ensures.forwards in
+    let ready = ap (λ (j : JournalView). j.room) c.in_ok-kept.ensures.ok.1 in
+    let same = ap (λ (j : JournalView). j.entries) c.in_ok-kept.ensures.ok.1 in (
+      end_room rules number entry _ _ c.open_read_allowed-made.result _ _ _ (λ n. refl) (λ fault. refl) (λ answer. refl) c.self.inside.within ready c.note_end.ensures.ok c.note_end.ensures.err sent,
+      (one_noted rules _ _ _ _ _ c.self.inside.forwards sent (cc (same, c.note_end.ensures.entries, c.in_ok-kept.ensures.ok.0)), tt),
+    )

@@ -1,0 +1,12 @@
+use Rattle.std.proofs.Common.{refl, ap, arith}
+use Rattle.duct_system.specs.Journal.{JournalView}
+use Rattle.duct_guard.proofs.Guarding.{one_noted, passed}
+use Rattle.duct_guard.proofs.guard.GuardedSystem.reader.Goals as goal
+
+pub invariant_of-self-inside : goal.invariant_of-self-inside
+invariant_of-self-inside g c =
+    let room = ap (λ (j : JournalView). j.room) c.add.ensures in
+    let noted = ap (λ (j : JournalView). j.entries) c.add.ensures in (
+      omega (arith, room, c.reader.ensures.added.room_is, c.self.inside.within),
+      (one_noted _ _ _ _ _ _ c.self.inside.forwards (passed _ _ _ _ refl c.reader.ensures.added) (cc noted), tt),
+    )

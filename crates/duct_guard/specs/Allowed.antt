@@ -1,0 +1,45 @@
+-- The entries of a journal whose requests some rules allow, and those that failed for being
+-- forbidden.
+use Rattle.std.specs.Prelude.{Bool, true, false, ◌≡◌, ◌||◌, List, Some, None}
+use Rattle.std.specs.List.{list_all}
+use Rattle.std.specs.declared.option.Option.{Option}
+use Rattle.duct_system.specs.EntryView.{EntryView, Environment, Pipe, OpenRead, Create, Duplicate, Parent, Canonicalize, Spawn, Feed, Drain, Reader, Close}
+use Rattle.duct_system.specs.Trace.{fault_of}
+use Rattle.duct_system.specs.declared.system.Fault.{Fault}
+use Rattle.duct_system.specs.declared.system.Kind.{Kind}
+use Rattle.duct_system.specs.declared.system.Kind.TheVariants.{PermissionDenied}
+use Rattle.duct_guard.specs.Rules.{Rules}
+
+-- whether an entry's request is allowed
+abbrev pub is_allowed : Rules → EntryView → Bool
+is_allowed rules (Environment answer) = true
+is_allowed rules (Pipe answer) = true
+is_allowed rules (OpenRead path answer) = rules.reads path
+is_allowed rules (Create path answer) = rules.creates path
+is_allowed rules (Duplicate lent answer) = true
+is_allowed rules (Parent side answer) = true
+is_allowed rules (Canonicalize path answer) = rules.canonicalizes path
+is_allowed rules (Spawn spec io answer) = rules.spawns spec
+is_allowed rules (Feed number bytes answer) = true
+is_allowed rules (Drain number answer) = true
+is_allowed rules (Reader number) = true
+is_allowed rules (Close number) = true
+
+-- each entry's request is allowed
+abbrev pub AreAllowed : Rules → List EntryView → Type 0
+AreAllowed rules entries = list_all (is_allowed rules) entries ≡ true
+
+-- whether it is the fault of what is forbidden
+abbrev pub is_permission_denied : Kind → Bool
+is_permission_denied PermissionDenied = true
+is_permission_denied _ = false
+
+-- whether a request failed for being forbidden
+abbrev pub is_denial : Option Fault → Bool
+is_denial (Some fault) = is_permission_denied fault.kind
+is_denial None = false
+
+-- each entry whose request isn't allowed failed with PermissionDenied
+abbrev pub AreDenied : Rules → List EntryView → Type 0
+AreDenied rules entries =
+    list_all (λ entry. is_allowed rules entry || is_denial (fault_of entry)) entries ≡ true

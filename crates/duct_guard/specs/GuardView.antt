@@ -1,0 +1,12 @@
+-- What contracts see of a guard.
+use Rattle.duct_system.specs.Journal.{JournalView}
+
+-- the system below, the policy, and the guard's own journal, whose count of numbers isn't used
+pub record GuardView (S P : Type 0) : Type 0 where
+  pub inner : S
+  pub policy : P
+  pub journal : JournalView
+
+-- its journal as a system: its own one, with the count of numbers of the system below
+abbrev pub guard_journal : JournalView → JournalView → JournalView
+guard_journal own below = record own { next = below.next }

@@ -1,0 +1,57 @@
+-- What the policies allow that come with the guard.
+use Rattle.std.specs.Prelude.{ℕ, Bool, true, false, ◌&&◌, not, List, [], ◌∷◌, bytes_eq}
+use Rattle.std.specs.List.{list_any, starts_with}
+use Rattle.std.specs.Path.{path_components, parent_dir}
+use Rattle.duct_guard.specs.Rules.{Rules}
+
+-- everything
+abbrev pub all_allowed : Rules
+all_allowed = record {
+  spawns = λ spec. true;
+  reads = λ path. true;
+  creates = λ path. true;
+  canonicalizes = λ path. true;
+}
+
+-- all but to create files
+abbrev pub read_only : Rules
+read_only = record all_allowed { creates = λ path. false }
+
+-- what both allow
+abbrev pub both_rules : Rules → Rules → Rules
+both_rules one other = record {
+  spawns = λ spec. one.spawns spec && other.spawns spec;
+  reads = λ path. one.reads path && other.reads path;
+  creates = λ path. one.creates path && other.creates path;
+  canonicalizes = λ path. one.canonicalizes path && other.canonicalizes path;
+}
+
+-- whether a text is one of these
+abbrev pub is_listed : List (List ℕ) → List ℕ → Bool
+is_listed names text = list_any (λ name. bytes_eq name text) names
+
+-- whether the first of some words is one of these
+abbrev pub is_program_of : List (List ℕ) → List (List ℕ) → Bool
+is_program_of names [] = false
+is_program_of names (program ∷ arguments) = is_listed names program
+
+-- all, but of children only those by these programs
+abbrev pub program_rules : List (List ℕ) → Rules
+program_rules names = record all_allowed { spawns = λ spec. is_program_of names spec.words }
+
+-- whether a path has `..` among its names
+abbrev pub climbs : List ℕ → Bool
+climbs path = list_any (λ name. bytes_eq name parent_dir) (path_components path)
+
+-- whether the names of a path begin with those of a folder
+abbrev pub is_below : List ℕ → List ℕ → Bool
+is_below path folder = starts_with bytes_eq (path_components path) (path_components folder)
+
+-- whether a path lies at or below one of these folders, as it is written
+abbrev pub lies_within : List (List ℕ) → List ℕ → Bool
+lies_within folders path = not (climbs path) && list_any (is_below path) folders
+
+-- all, but of files only those at or below these folders
+abbrev pub folder_rules : List (List ℕ) → Rules
+folder_rules folders =
+    record all_allowed { reads = lies_within folders; creates = lies_within folders }

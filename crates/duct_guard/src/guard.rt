@@ -1,0 +1,332 @@
+//! A guarded system.
+ghost use Rattle.std.specs.Prelude.{◌≡◌, ◌≤◌, ◌<◌, ◌+◌, ◌-◌, [], ◌∷◌, ◌++◌, false, map, string_bytes, IfOk, IfErr, OnOk, OnErr};
+ghost use Rattle.duct_system.specs.EntryView.{entry_view};
+ghost use Rattle.duct_system.specs.declared.system.Kind.TheVariants.{OutOfMemory};
+ghost use Rattle.duct_guard.specs.Allowed.{AreAllowed, AreDenied};
+ghost use Rattle.duct_guard.specs.Answer.{answer_of};
+ghost use Rattle.duct_guard.specs.Closed.{ClosesFirst};
+ghost use Rattle.duct_guard.specs.Forwarded.{ForwardsAll};
+ghost use Rattle.duct_guard.specs.GuardView.{GuardView};
+
+use crate::policy::Policy;
+use crate::requests::{
+    canonicalize_twice, create_allowed, environment_twice, no_memory, open_read_allowed,
+    spawn_allowed, start_shared_feed,
+};
+use crate::streams::{numbered_streams, prepare_spawn};
+use duct_system::journal::Journal;
+use duct_system::spec::CommandSpec;
+use duct_system::system::{Entry, Fault, Numbered, Side, Stdio, System};
+use std::alloc::Global;
+use std::marker::Model;
+use std::sync::Arc;
+
+/// A system over another one, to which it passes on only the requests that its policy allows. Each
+/// other request fails with `PermissionDenied`. Ends, children, workers and readers are those of
+/// the system below.
+///
+/// It has a journal of its own, with an entry for each request, also for one that it refused. A
+/// forbidden request asks nothing below but to close the ends that it took. What is passed on is
+/// asked once and returns what the system below returns; it fails with `OutOfMemory` where there is
+/// no memory for the entry.
+#[derive(Drop)]
+pub struct Guarded<S: System, P: Policy> {
+    inner: S,
+    policy: P,
+    journal: Journal,
+    ghost within: { journal.room ≤ (S.journal_view inner).room },
+    ghost forwards: { ∥ ForwardsAll (P.rules policy) journal.entries
+        (S.journal_view inner).entries ∥₁ },
+}
+
+impl<S: System, P: Policy> Model for Guarded<S, P> {
+    ghost use Rattle.duct_guard.specs.GuardView.{GuardView};
+
+    ghost Value = { GuardView S P };
+
+    ghost view = { λ g. record { inner = g.inner; policy = g.policy; journal = g.journal } };
+}
+
+impl<S: System, P: Policy> Guarded<S, P> {
+    /// Returns a guard over a system whose journal is empty, as it is at first and after
+    /// `clear_journal`. The guard's own journal is empty.
+    pub fn new(alloc: Global, inner: S, policy: P) -> Guarded<S, P>
+        requires { (S.journal_view inner).entries ≡ [] }
+        ensures inner { result.inner ≡ inner }
+        ensures policy { result.policy ≡ policy }
+        ensures journal { result.journal ≡ record { entries = []; added = 0; next = 1; room = 0 } }
+    {
+        Guarded {
+            inner,
+            policy,
+            journal: Journal::new(alloc),
+        }
+    }
+
+    /// Returns the system below. Its journal has what the guard forwards of each of its own
+    /// entries, and nothing else, so the policy allows each request in it.
+    pub fn inner(&self) -> &S
+        ensures same { result.now ≡ self.now.inner }
+        ensures allowed { AreAllowed (P.rules self.now.policy)
+            (S.journal_view result.now).entries }
+        ensures forwards { ∥ ForwardsAll (P.rules self.now.policy) self.now.journal.entries
+            (S.journal_view result.now).entries ∥₁ }
+    {
+        &self.inner
+    }
+
+    /// Returns the policy.
+    pub fn policy(&self) -> &P
+        ensures { result.now ≡ self.now.policy }
+    {
+        &self.policy
+    }
+
+    /// Returns the entries of the guard's own journal, oldest first. Each that the policy doesn't
+    /// allow failed with `PermissionDenied`.
+    pub fn asked(&self) -> &[Entry]
+        ensures same { map entry_view result.now ≡ self.now.journal.entries }
+        ensures denied { AreDenied (P.rules self.now.policy) (map entry_view result.now) }
+    {
+        self.journal.entries()
+    }
+
+    /// Returns the system below, whose journal has only requests that the policy allows, and the
+    /// policy. The guard's journal is dropped.
+    pub fn into_parts(self) -> (S, P)
+        ensures inner { result.0 ≡ self.inner }
+        ensures policy { result.1 ≡ self.policy }
+        ensures allowed { AreAllowed (P.rules result.1) (S.journal_view result.0).entries }
+        ensures forwards { ∥ ForwardsAll (P.rules result.1) self.journal.entries
+            (S.journal_view result.0).entries ∥₁ }
+    {
+        let Guarded {
+            inner,
+            policy,
+            journal: _,
+        } = self;
+        (inner, policy)
+    }
+}
+
+// Returns the number of what a request returned.
+fn number_of<T: Numbered>(made: &Result<T, Fault>) -> Result<u64, Fault>
+    ensures { result ≡ answer_of T.number_of made.now }
+{
+    match made {
+        Ok(it) => Ok(it.number()),
+        Err(fault) => Err(*fault),
+    }
+}
+
+// Returns whether a worker was started.
+fn done<T>(made: &Result<T, Fault>) -> Result<(), Fault>
+    ensures { result ≡ answer_of (λ job. tt) made.now }
+{
+    match made {
+        Ok(_) => Ok(()),
+        Err(fault) => Err(*fault),
+    }
+}
+
+// Adds the entry of a request for an end. If it failed, the room for the end is released.
+fn note_end<T>(journal: &mut Journal, entry: Entry, made: &Result<T, Fault>)
+    requires { 1 < journal.old.room }
+    ensures entries { journal.new.entries ≡ journal.old.entries ++ entry_view entry ∷ [] }
+    ensures added { journal.new.added ≡ journal.old.added + 1 }
+    ensures ok { OnOk made.now (journal.new.room ≡ journal.old.room - 1) }
+    ensures err { OnErr made.now (journal.new.room ≡ journal.old.room - 2) }
+{
+    if made.is_err() {
+        journal.give_back(1);
+    }
+    journal.add(entry);
+}
+
+// Makes room for an entry that names a path and for this many ends, and copies the path. Fails only
+// at an allocation failure, which leaves the journal as it was.
+fn prepare_named(journal: &mut Journal, path: &str, ends: usize) -> Result<String, Fault>
+    ensures ok { IfOk result (λ kept. (string_bytes kept ≡ path.now)
+        × (journal.new ≡ record journal.old { room = journal.old.room + ends + 1 })) }
+    ensures err { IfErr result
+        (λ fault. (fault.kind ≡ OutOfMemory) × (journal.new ≡ journal.old)) }
+{
+    let Ok(kept) = String::from_str(journal.allocator(), path) else {
+        return Err(no_memory());
+    };
+    journal.prepare(ends)?;
+    Ok(kept)
+}
+
+/// Where a request is forbidden, it fails with `PermissionDenied`; its entry is added, but nothing
+/// is asked below except to close ends. All else is as below.
+///
+/// Ends that a refused spawn took are closed below in their order, as far as there is room for the
+/// entries. Each end from a request of the guard brings this room; without it an end is dropped.
+impl<S: System, P: Policy> System for Guarded<S, P> {
+    ghost use Rattle.std.specs.Prelude.{length, min, Ok, Err};
+    ghost use Rattle.duct_system.specs.Child.{IsUnasked};
+    ghost use Rattle.duct_system.specs.EntryView.{Spawn};
+    ghost use Rattle.duct_system.specs.Journal.{GivesEnds, IsNew, IsRefused};
+    ghost use Rattle.duct_system.specs.Streams.{stream_of, ends_of};
+    ghost use Rattle.duct_guard.specs.GuardView.{guard_journal};
+
+    type End = S::End;
+
+    type Child = S::Child;
+
+    type Feed = S::Feed;
+
+    type Drain = S::Drain;
+
+    type Reader = S::Reader;
+
+    ghost journal_view = { λ g. guard_journal g.journal (S.journal_view g.inner) };
+
+    ghost may_read = { S.may_read };
+
+    ghost streams_fit = { S.streams_fit };
+
+    ghost same_bytes = { S.same_bytes };
+
+    ghost feeds_say_again = { S.feeds_say_again };
+
+    fn environment(&mut self) -> Result<Vec<(String, String)>, Fault> {
+        self.journal.prepare(0)?;
+        match environment_twice(self.journal.allocator(), &mut self.inner) {
+            Ok((pairs, kept)) => {
+                self.journal.add(Entry::Environment(Ok(kept)));
+                Ok(pairs)
+            }
+            Err(fault) => {
+                self.journal.add(Entry::Environment(Err(fault)));
+                Err(fault)
+            }
+        }
+    }
+
+    fn pipe(&mut self) -> Result<(S::End, S::End), Fault> {
+        self.journal.prepare(2)?;
+        match self.inner.pipe() {
+            Ok((reader, writer)) => {
+                let entry = Entry::Pipe(Ok((reader.number(), writer.number())));
+                self.journal.add(entry);
+                Ok((reader, writer))
+            }
+            Err(fault) => {
+                self.journal.give_back(2);
+                self.journal.add(Entry::Pipe(Err(fault)));
+                Err(fault)
+            }
+        }
+    }
+
+    fn open_read(&mut self, path: &str) -> Result<S::End, Fault> {
+        let kept = prepare_named(&mut self.journal, path, 1)?;
+        let made = open_read_allowed(&self.policy, &mut self.inner, path);
+        let entry = Entry::OpenRead(kept, number_of(&made));
+        note_end(&mut self.journal, entry, &made);
+        made
+    }
+
+    fn create(&mut self, path: &str) -> Result<S::End, Fault> {
+        let kept = prepare_named(&mut self.journal, path, 1)?;
+        let made = create_allowed(&self.policy, &mut self.inner, path);
+        let entry = Entry::Create(kept, number_of(&made));
+        note_end(&mut self.journal, entry, &made);
+        made
+    }
+
+    fn duplicate(&mut self, end: &S::End) -> Result<S::End, Fault> {
+        self.journal.prepare(1)?;
+        let made = self.inner.duplicate(end);
+        let entry = Entry::Duplicate(end.number(), number_of(&made));
+        note_end(&mut self.journal, entry, &made);
+        made
+    }
+
+    fn parent(&mut self, side: Side) -> Result<S::End, Fault> {
+        self.journal.prepare(1)?;
+        let made = self.inner.parent(side);
+        let entry = Entry::Parent(side, number_of(&made));
+        note_end(&mut self.journal, entry, &made);
+        made
+    }
+
+    fn canonicalize(&mut self, path: &str) -> Result<String, Fault> {
+        let asked = prepare_named(&mut self.journal, path, 0)?;
+        let alloc = self.journal.allocator();
+        match canonicalize_twice(alloc, &self.policy, &mut self.inner, path) {
+            Ok((text, kept)) => {
+                self.journal.add(Entry::Canonicalize(asked, Ok(kept)));
+                Ok(text)
+            }
+            Err(fault) => {
+                self.journal.add(Entry::Canonicalize(asked, Err(fault)));
+                Err(fault)
+            }
+        }
+    }
+
+    fn spawn(&mut self, spec: CommandSpec, io: [Stdio<S::End>; 3]) -> Result<S::Child, Fault>
+        requires { min 1 (length (ends_of io)) ≤ self.old.journal.room }
+        ensures ok { IfOk result (λ child.
+            let number = S.Child.number_of child in
+            let entry = Spawn spec (map (stream_of S.End.number_of) io) (Ok number) in
+            let old = guard_journal self.old.journal (S.journal_view self.old.inner) in
+            let new = guard_journal self.new.journal (S.journal_view self.new.inner) in
+            GivesEnds entry (length (ends_of io)) old new × IsNew old new number) }
+        ensures unasked { IfOk result (λ child. IsUnasked (S.Child.child_view child)) }
+        ensures err { IfErr result (λ fault.
+            let entry = Spawn spec (map (stream_of S.End.number_of) io) (Err fault) in
+            let old = guard_journal self.old.journal (S.journal_view self.old.inner) in
+            let new = guard_journal self.new.journal (S.journal_view self.new.inner) in
+            IsRefused entry (length (ends_of io)) fault old new) }
+        // Without ends, nothing is asked: there may be no memory for the entry.
+        ensures closes { (P.rules self.old.policy).spawns spec ≡ false →
+            ClosesFirst self.old.journal.room (map S.End.number_of (ends_of io))
+            (S.journal_view self.old.inner) (S.journal_view self.new.inner) }
+    {
+        let (streams, ends) = numbered_streams(&io);
+        let room = self.journal.room();
+        prepare_spawn(&mut self.journal, ends)?;
+        let alloc = self.journal.allocator();
+        let started = spawn_allowed(alloc, &self.policy, &mut self.inner, &spec, io, room);
+        self.journal
+            .add(Entry::Spawn(spec, streams, number_of(&started)));
+        started
+    }
+
+    fn start_feed(&mut self, end: S::End, bytes: Arc<Vec<u8>>) -> Result<S::Feed, Fault> {
+        let number = end.number();
+        let started = start_shared_feed(&mut self.inner, end, &bytes);
+        self.journal.add(Entry::Feed(number, bytes, done(&started)));
+        started
+    }
+
+    fn start_drain(&mut self, end: S::End) -> Result<S::Drain, Fault> {
+        let number = end.number();
+        let started = self.inner.start_drain(end);
+        self.journal.add(Entry::Drain(number, done(&started)));
+        started
+    }
+
+    fn reader(&mut self, end: S::End) -> S::Reader {
+        self.journal.add(Entry::Reader(end.number()));
+        self.inner.reader(end)
+    }
+
+    fn close(&mut self, end: S::End) {
+        self.journal.add(Entry::Close(end.number()));
+        self.inner.close(end);
+    }
+
+    fn journal(&self) -> &[Entry] {
+        self.journal.entries()
+    }
+
+    fn clear_journal(&mut self) {
+        self.inner.clear_journal();
+        self.journal.clear();
+    }
+}
