@@ -4,18 +4,21 @@
 //! first. `bin/test-program` runs it at the machine's limits, and `bin/soak` with random lines.
 //!
 //! A line has the arguments of the program `host`, separated by blanks, and its expression is run
-//! by `read`. The line `= 4` runs tree 4 of `trees`.
+//! by `read`. The line `= 4` runs tree 4 of `trees`. After `+ ` a line has an expression as
+//! `duct_table::expressions` describes it, where `stdin_file=4` is the file named `4`.
 #![tactic(auto)]
 
 mod trees;
 
 use crate::trees::{TREES_WITH_ENDS, Wires, tree};
-use duct::{Error, Expression, Fault, Pool, System};
+use duct::{Error, Expression, Fault, Hook, Pool, System};
 use duct_host::child::Child;
 use duct_host::end::End;
 use duct_host::host::Host;
 use duct_program::line::line;
 use duct_request_table::left::{Left, count_left};
+use duct_table::expressions::{Lender, Tree, written_with};
+use duct_table::stop::TableError;
 use std::alloc::{AllocError, Global};
 use std::fs::File;
 use std::io::Read;
@@ -51,12 +54,12 @@ fn line_text<S: System>(
 }
 
 /// Runs a tree. Returns its output or its error as text.
-fn run_text<S: System>(
+fn run_text<S: System, H: Hook>(
     rt: &impl Wait,
     alloc: Global,
     sys: &mut S,
     pool: &mut Pool<S::Child>,
-    tree: &Expression<S::End, Wires>,
+    tree: &Expression<S::End, H>,
 ) -> Result<String, AllocError> {
     match tree.run(rt, sys, pool) {
         Ok(output) => {
@@ -96,6 +99,44 @@ fn tree_of<R: Files<File = File>>(
     tree(alloc, number, ends)
 }
 
+/// Lends one end, once, under the number 4.
+#[derive(Drop)]
+struct EndFour {
+    end: Option<End>,
+}
+
+impl Lender for EndFour {
+    type End = End;
+
+    fn lend(&mut self, number: u64) -> Result<End, TableError> {
+        match (number, self.end.take()) {
+            (4, Some(end)) => Ok(end),
+            _ => Err(TableError::from("no such end")),
+        }
+    }
+}
+
+/// The file named `4` as an end, open for reading, if it is there.
+fn file_four<R: Files<File = File>>(rt: &R, host: &mut Host<&R>) -> Result<Option<End>, Fault> {
+    match File::open(rt, "4") {
+        Ok(file) => Ok(Some(host.adopt_file(file)?)),
+        Err(_) => Ok(None),
+    }
+}
+
+/// The expression of a text.
+fn written<R: Files<File = File>>(
+    rt: &R,
+    host: &mut Host<&R>,
+    alloc: Global,
+    text: &str,
+) -> Result<Tree<End>, TableError> {
+    let mut lender = EndFour {
+        end: file_four(rt, host)?,
+    };
+    written_with(alloc, &mut lender, None, text)
+}
+
 /// Waits until what is left is what there was before, for at most `LOOKS` checks. Returns how much
 /// more is left.
 fn rest<R: Files + AllocGlobal + Clone + Wait + Clock, C: duct::Child>(
@@ -126,12 +167,18 @@ fn main(rt: HostRuntime) -> io::Result<()> {
     let mut host = Host::new(&rt, alloc);
     let mut pool: Pool<Child<&HostRuntime>> = Pool::new(alloc);
     for text in input.lines() {
-        let told = match text.strip_prefix("= ") {
-            Some(number) => match tree_of(&rt, &mut host, alloc, number.parse().unwrap_or(0)) {
+        let told = if let Some(number) = text.strip_prefix("= ") {
+            match tree_of(&rt, &mut host, alloc, number.parse().unwrap_or(0)) {
                 Ok(tree) => run_text(&rt, alloc, &mut host, &mut pool, &tree)?,
                 Err(error) => format!(in alloc; "{error}")?,
-            },
-            None => line_text(&rt, alloc, &mut host, &mut pool, text)?,
+            }
+        } else if let Some(steps) = text.strip_prefix("+ ") {
+            match written(&rt, &mut host, alloc, steps) {
+                Ok(tree) => run_text(&rt, alloc, &mut host, &mut pool, &tree)?,
+                Err(stop) => format!(in alloc; "{stop}")?,
+            }
+        } else {
+            line_text(&rt, alloc, &mut host, &mut pool, text)?
         };
         println!(rt; "{told}")?;
         host.clear_journal();
