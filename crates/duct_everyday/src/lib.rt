@@ -1,15 +1,12 @@
 //! Programs for every day, as any user would write them, over any system: attempts, the lines of a
 //! command, work beside it, a pipeline made in a loop, a hook with an end. Each is run over the
-//! real machine and over the scripted system. And tests of the texts of requests, of those that a
-//! system refused and of those that a start will make.
+//! real machine and over the scripted system.
 #![tactic(auto)]
 
 #[cfg(test)]
 mod attempted;
 #[cfg(test)]
 mod background;
-#[cfg(test)]
-mod entries;
 #[cfg(test)]
 mod everyday;
 #[cfg(test)]
@@ -20,5 +17,3 @@ mod hello;
 mod lines;
 #[cfg(test)]
 mod logged;
-#[cfg(test)]
-mod previewed;

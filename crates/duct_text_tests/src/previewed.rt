@@ -1,60 +1,57 @@
 //! What a start will request, before anything runs.
-use crate::logged::logged;
-use duct::{Error, Expression, cmd};
 use duct_plan::plan::plan;
 use duct_preview::perform::perform;
-use duct_preview::preview::NoEnd;
 use duct_preview::text::PlanText;
+use duct_script::system::ScriptEnd;
+use duct_table::expressions::{Tree, written};
+use duct_table::stop::TableError;
 use std::alloc::{AllocError, Global};
 use std::test::Fail;
 
 /// Returns what a start of this expression will request, a line for each request.
-fn previewed<E: Drop>(alloc: Global, command: &Expression<E>) -> Result<String, AllocError> {
+fn previewed(alloc: Global, command: &Tree<ScriptEnd>) -> Result<String, AllocError> {
     let plan = plan(alloc, command)?;
     PlanText(&plan).to_string(alloc)
 }
 
-/// A program in a folder, with a variable set and one removed, and with both streams captured in
-/// one pipe.
-fn settings(alloc: Global) -> Result<Expression<NoEnd>, Error> {
-    let make: Expression<NoEnd> = cmd!(in alloc; "./make", "all")?;
-    let set = make.dir("/in")?.env("A", "1")?.env_remove("B")?;
-    set.stderr_to_stdout()?.stdout_capture()
+/// Returns what a start of the expression of a text will request.
+fn previewed_text(alloc: Global, text: &str) -> Result<String, TableError> {
+    Ok(previewed(alloc, &written(alloc, None, text)?)?)
 }
 
 #[test]
 fn folders_and_variables(rt: HostRuntime) -> Result<(), Fail> {
-    let text = previewed(rt.alloc(), &settings(rt.alloc())?)?;
+    let text = "./make,all dir=/in env=A,1 env_remove=B stderr_to_stdout stdout_capture";
+    let found = previewed_text(rt.alloc(), text)?;
     let wanted = "0 environment\n1 pipe\n2 canonical path of \"./make\"\n3 spawn of ? \"all\" in \
         \"/in\" with \"A\"=\"1\" without \"B\", stdin inherited, stdout pipe 1, stderr pipe 1\n\
         4 capture worker of pipe 1\n";
-    assert_eq!(rt; text.as_str(), wanted);
+    assert_eq!(rt; found.as_str(), wanted);
     Ok(())
-}
-
-/// A command with two variables alone, with no stdin, and whose stdout is the parent's stderr.
-fn streams(alloc: Global) -> Result<Expression<NoEnd>, Error> {
-    let echo: Expression<NoEnd> = cmd!(in alloc; "echo")?;
-    let alone = echo.full_env(&[("B", "2"), ("A", "1")])?;
-    alone.stdin_null()?.stdout_to_stderr()
 }
 
 #[test]
 fn streams_of_the_parent(rt: HostRuntime) -> Result<(), Fail> {
-    let text = previewed(rt.alloc(), &streams(rt.alloc())?)?;
+    let found = previewed_text(
+        rt.alloc(),
+        "echo full_env=B:2,A:1 stdin_null stdout_to_stderr",
+    )?;
     let wanted = "0 environment\n1 spawn of \"echo\" with only \"A\"=\"1\" \"B\"=\"2\", stdin \
         nothing, stdout the parent's stderr, stderr inherited\n";
-    assert_eq!(rt; text.as_str(), wanted);
+    assert_eq!(rt; found.as_str(), wanted);
     Ok(())
 }
 
 #[test]
 fn a_hook_and_an_end(rt: HostRuntime) -> Result<(), Fail> {
-    let command = logged(rt.alloc(), &streams(rt.alloc())?.stderr_file(NoEnd)?, NoEnd)?;
-    let text = previewed(rt.alloc(), &command)?;
-    let wanted = "0 environment\n1 spawn of \"echo\" with only \"A\"=\"1\" \"B\"=\"2\", stdin \
-        nothing, stdout an end of the caller, stderr an end of the caller, hooks 1\n";
-    assert_eq!(rt; text.as_str(), wanted);
+    let found = previewed_text(
+        rt.alloc(),
+        "echo before_spawn=x,7 stdout_to_stderr stderr_file=8",
+    )?;
+    let wanted =
+        "0 environment\n1 spawn of \"echo\", stdin inherited, stdout an end of the caller, \
+        stderr an end of the caller, hooks 1\n";
+    assert_eq!(rt; found.as_str(), wanted);
     Ok(())
 }
 
