@@ -1,5 +1,5 @@
 //! Tests of the documents' examples over the real machine, and of a script over the scripted
-//! system.
+//! system too.
 use crate::adopted::start_to_file;
 use crate::build::build;
 use crate::cookbook::{counted, fed, listed, merged, placed, stopped, swapped, unchecked};
@@ -31,6 +31,22 @@ fn a_script_stops_at_a_failure(rt: HostRuntime) -> Result<(), Fail> {
     let told = run_script(&rt, rt.alloc(), &mut system, &mut pool, script);
     assert!(rt; matches!(told, Err(Error::Checked(_))));
     assert_eq!(rt; started(rt.alloc(), &system)?.as_str(), "make all \n"); // from the journal
+    Ok(())
+}
+
+/// Returns what a script of two lines prints, and how many children the pool keeps.
+fn script_text<S: System>(rt: &impl Wait, alloc: Global, system: &mut S) -> Result<String, Error> {
+    let mut pool = Pool::new(alloc);
+    let text = run_script(rt, alloc, system, &mut pool, "echo hi\nprintf a%sc b")?;
+    let kept = pool.len();
+    Ok(format!(in alloc; "{text}{kept}")?)
+}
+
+#[test]
+fn a_script_over_the_machine(rt: HostRuntime) -> Result<(), Error> {
+    let mut host = Host::new(&rt, rt.alloc());
+    let text = script_text(&rt, rt.alloc(), &mut host)?;
+    assert_eq!(rt; text.as_str(), "hi\nabc\n0");
     Ok(())
 }
 
