@@ -8,5 +8,6 @@ pub record GuardView (S P : Type 0) : Type 0 where
   pub journal : JournalView
 
 -- its journal as a system: its own one, with the count of numbers of the system below
-abbrev pub guard_journal : JournalView → JournalView → JournalView
-guard_journal own below = record own { next = below.next }
+abbrev pub guard_journal : {S P : Type 0} → (S → JournalView) → GuardView S P → JournalView
+guard_journal journal_view guard =
+    record guard.journal { next = (journal_view guard.inner).next }

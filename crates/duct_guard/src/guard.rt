@@ -54,7 +54,8 @@ impl<S: System, P: Policy> Guarded<S, P> {
         requires { (S.journal_view inner).entries ≡ [] }
         ensures inner { result.inner ≡ inner }
         ensures policy { result.policy ≡ policy }
-        ensures journal { result.journal ≡ record { entries = []; added = 0; next = 1; room = 0 } }
+        ensures journal { result.journal
+            ≡ record { entries = []; added = 0; next = 1; room = 0 } }
     {
         Guarded {
             inner,
@@ -181,7 +182,7 @@ impl<S: System, P: Policy> System for Guarded<S, P> {
 
     type Reader = S::Reader;
 
-    ghost journal_view = { λ g. guard_journal g.journal (S.journal_view g.inner) };
+    ghost journal_view = { λ g. guard_journal S.journal_view g };
 
     ghost may_read = { S.may_read };
 
@@ -273,14 +274,14 @@ impl<S: System, P: Policy> System for Guarded<S, P> {
         ensures ok { IfOk result (λ child.
             let number = S.Child.number_of child in
             let entry = Spawn spec (map (stream_of S.End.number_of) io) (Ok number) in
-            let old = guard_journal self.old.journal (S.journal_view self.old.inner) in
-            let new = guard_journal self.new.journal (S.journal_view self.new.inner) in
+            let old = guard_journal S.journal_view self.old in
+            let new = guard_journal S.journal_view self.new in
             GivesEnds entry (length (ends_of io)) old new × IsNew old new number) }
         ensures unasked { IfOk result (λ child. IsUnasked (S.Child.child_view child)) }
         ensures err { IfErr result (λ fault.
             let entry = Spawn spec (map (stream_of S.End.number_of) io) (Err fault) in
-            let old = guard_journal self.old.journal (S.journal_view self.old.inner) in
-            let new = guard_journal self.new.journal (S.journal_view self.new.inner) in
+            let old = guard_journal S.journal_view self.old in
+            let new = guard_journal S.journal_view self.new in
             IsRefused entry (length (ends_of io)) fault old new) }
         // Without ends, nothing is asked: there may be no memory for the entry.
         ensures closes { (P.rules self.old.policy).spawns spec ≡ false →

@@ -9,7 +9,7 @@ ghost use Rattle.duct_system.specs.SpecView.{pair_text};
 ghost use Rattle.duct_system.specs.Streams.{stream_of, ends_of};
 ghost use Rattle.duct_guard.specs.Answer.{answer_of};
 ghost use Rattle.duct_guard.specs.Closed.{ClosesFirst};
-ghost use Rattle.duct_guard.specs.Forwarded.{IsForwarded, refusal};
+ghost use Rattle.duct_guard.specs.Forwarded.{ForwardsEnd, IsForwarded, refusal};
 ghost use Rattle.duct_guard.specs.Rules.{Rules};
 ghost use Rattle.std.specs.Arc.{arc_value};
 
@@ -63,7 +63,7 @@ pub(crate) fn open_read_allowed<S: System, P: Policy>(
     sys: &mut S,
     path: &str,
 ) -> Result<S::End, Fault>
-    ensures forwards { IsForwarded (P.rules policy.now) (OpenRead path.now (answer_of S.End.number_of result))
+    ensures forwards { ForwardsEnd (P.rules policy.now) S.End.number_of (OpenRead path.now) result
         (S.journal_view sys.old) (S.journal_view sys.new) }
     ensures fresh { IfOk result (λ end.
         IsNew (S.journal_view sys.old) (S.journal_view sys.new) (S.End.number_of end)) }
@@ -81,7 +81,7 @@ pub(crate) fn create_allowed<S: System, P: Policy>(
     sys: &mut S,
     path: &str,
 ) -> Result<S::End, Fault>
-    ensures forwards { IsForwarded (P.rules policy.now) (Create path.now (answer_of S.End.number_of result))
+    ensures forwards { ForwardsEnd (P.rules policy.now) S.End.number_of (Create path.now) result
         (S.journal_view sys.old) (S.journal_view sys.new) }
     ensures fresh { IfOk result (λ end.
         IsNew (S.journal_view sys.old) (S.journal_view sys.new) (S.End.number_of end)) }

@@ -116,4 +116,5 @@ plan_form plan = lines_form 0 plan.items
 
 -- the text of a plan, where all texts of it are printable ASCII; else no promise
 abbrev pub plan_text : {E H : Type 0} → Plan E H → Option (List ℕ)
-plan_text plan = if is_form_printable (plan_form plan) then Some (form_text (plan_form plan)) else None
+plan_text plan =
+    if is_form_printable (plan_form plan) then Some (form_text (plan_form plan)) else None

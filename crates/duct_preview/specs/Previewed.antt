@@ -4,9 +4,16 @@ use Rattle.std.specs.declared.result.Result.{Result}
 use Rattle.duct_start.specs.Plan.{plan_of_reader}
 use Rattle.duct_start.specs.TreeView.{TreeView}
 use Rattle.duct_program.specs.Answered.{Means}
+use Rattle.duct_program.specs.Line.{meant}
 use Rattle.duct_program.specs.Printed.{usage_text}
+use Rattle.duct_program.specs.declared.perform.NoHook.{NoHook}
 use Rattle.duct_program.specs.declared.usage.Usage.{Usage}
 use Rattle.duct_preview.specs.PlanForm.{plan_text}
+use Rattle.duct_preview.specs.declared.preview.NoEnd.{NoEnd}
+
+-- the expression that arguments mean, which has no ends of a caller and no hooks
+abbrev pub line_of : List (List ℕ) → Result (TreeView NoEnd NoHook) Usage
+line_of args = meant args
 
 -- this is the text of what a line's start requests, where a text is promised
 abbrev pub IsPreview : {E H : Type 0} → Result (TreeView E H) Usage → List ℕ → Type 0

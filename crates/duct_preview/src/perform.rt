@@ -1,14 +1,11 @@
 //! What the program `plan` does: it prints what `host` would request.
 ghost use Rattle.std.specs.Prelude.{◌≡◌, ◌≤◌, ℕ, List, map, string_bytes, IfOk};
 ghost use Rattle.std.specs.Io.KnownBytes.{Appends};
-ghost use Rattle.duct_program.specs.Line.{meant};
 ghost use Rattle.duct_program.specs.Parsed.{RefusesAs};
 ghost use Rattle.duct_program.specs.Status.{status_of};
 ghost use Rattle.duct_program.specs.declared.failure.Failure.TheVariants as failures;
-ghost use Rattle.duct_program.specs.declared.perform.NoHook.{NoHook};
 ghost use Rattle.duct_program.specs.declared.usage.Usage.{Usage};
-ghost use Rattle.duct_preview.specs.Previewed.{IsPreview, usage_line};
-ghost use Rattle.duct_preview.specs.declared.preview.NoEnd.{NoEnd};
+ghost use Rattle.duct_preview.specs.Previewed.{IsPreview, line_of, usage_line};
 
 use crate::preview::preview;
 use duct_program::failure::Failure;
@@ -24,10 +21,10 @@ use std::io::Write;
 /// then be written. It blocks as the writers do.
 pub fn perform<O: Write, E: Write>(alloc: Global, args: &[String], out: &mut O, err: &mut E) -> u8
     ensures text { result ≡ 0 → (text : List ℕ)
-        × IsPreview {E = NoEnd} {H = NoHook} (meant (map string_bytes args.now)) text
+        × IsPreview (line_of (map string_bytes args.now)) text
         × Appends (O.contents out.old) (O.contents out.new) text × (err.new ≡ err.old) }
     ensures usage { result ≡ 2 → (usage : Usage)
-        × RefusesAs usage (meant {E = NoEnd} {H = NoHook} (map string_bytes args.now))
+        × RefusesAs usage (line_of (map string_bytes args.now))
         × Appends (E.contents err.old) (E.contents err.new) (usage_line usage)
         × (out.new ≡ out.old) }
     ensures status { result ≤ 2 }
@@ -41,7 +38,8 @@ pub fn perform<O: Write, E: Write>(alloc: Global, args: &[String], out: &mut O, 
 // Writes a text, and returns the status 0. Fails where the write fails.
 fn print_text<O: Write>(text: &str, out: &mut O) -> io::Result<u8>
     ensures status { IfOk result (λ status. status ≡ 0) }
-    ensures text { IfOk result (λ status. Appends (O.contents out.old) (O.contents out.new) text.now) }
+    ensures text { IfOk result
+        (λ status. Appends (O.contents out.old) (O.contents out.new) text.now) }
 {
     out.write_all(text.as_bytes())?;
     Ok(0)

@@ -1,10 +1,7 @@
 //! What a line of words will request.
 ghost use Rattle.std.specs.Prelude.{map, string_bytes, IfErr, IfOk};
-ghost use Rattle.duct_program.specs.Line.{meant};
 ghost use Rattle.duct_program.specs.Parsed.{RefusesAs};
-ghost use Rattle.duct_preview.specs.Previewed.{IsPreview};
-ghost use Rattle.duct_preview.specs.declared.preview.NoEnd.{NoEnd};
-ghost use Rattle.duct_program.specs.declared.perform.NoHook.{NoHook};
+ghost use Rattle.duct_preview.specs.Previewed.{IsPreview, line_of};
 
 use crate::text::PlanText;
 use duct::Expression;
@@ -23,10 +20,10 @@ pub struct NoEnd;
 /// runs. Fails with the first error in the arguments, from left to right, and with `Usage::Memory`
 /// at an allocation failure.
 pub fn preview(alloc: Global, args: &[String]) -> Result<String, Usage>
-    ensures text { IfOk result (λ text.
-        IsPreview {E = NoEnd} {H = NoHook} (meant (map string_bytes args.now)) (string_bytes text)) }
-    ensures usage { IfErr result (λ usage.
-        RefusesAs usage (meant {E = NoEnd} {H = NoHook} (map string_bytes args.now))) }
+    ensures text { IfOk result
+        (λ text. IsPreview (line_of (map string_bytes args.now)) (string_bytes text)) }
+    ensures usage { IfErr result
+        (λ usage. RefusesAs usage (line_of (map string_bytes args.now))) }
 {
     let expression: Expression<NoEnd, NoHook> = line(alloc, args)?;
     let plan = plan_of_reader(alloc, &expression)?;
