@@ -1,11 +1,14 @@
-//! A build step that may start `echo` and `cat` alone, over the real machine. The program prints
-//! what each command comes to, and whether a forbidden one has made its file.
+//! A build step that may start `echo` and `cat` alone, and one whose programs are listed while it
+//! runs, over the real machine. The program prints what each command comes to, and whether a
+//! forbidden one has made its file.
 #![tactic(auto)]
 
 ghost use Rattle.std.specs.Prelude.{◌≡◌, []};
 
+mod listed;
 mod step;
 
+use crate::listed::read_listed;
 use crate::step::read_step;
 use duct::{Error, Expression, System, cmd};
 use duct_host::host::Host;
@@ -32,12 +35,36 @@ fn printed<S: System + Drop>(
     printed
 }
 
+// Returns what `cat` prints as a step that may start these programs alone.
+fn printed_by_list<S: System + Drop>(
+    rt: &impl Wait,
+    alloc: Global,
+    system: S,
+    names: &str,
+) -> Result<String, Error>
+    requires { (S.journal_view system).entries ≡ [] }
+{
+    let mut programs = Vec::new(alloc);
+    for name in names.split_whitespace() {
+        programs.push(String::from_str(alloc, name)?)?;
+    }
+    let command: Expression<S::End> = cmd!(in alloc; "cat", "/dev/null")?;
+    let (_system, printed) = read_listed(rt, alloc, system, programs, &command);
+    printed
+}
+
 fn main(rt: HostRuntime) -> io::Result<()> {
     let alloc = rt.alloc();
     for (program, argument) in [("echo", "compiled"), ("cat", "/dev/null"), ("touch", MADE)] {
         match printed(&rt, alloc, Host::new(&rt, alloc), program, argument) {
             Ok(text) => println!(rt; "{program}: {text}")?,
             Err(error) => println!(rt; "{program}: {error}")?,
+        }
+    }
+    for names in ["echo cat", "echo tee"] {
+        match printed_by_list(&rt, alloc, Host::new(&rt, alloc), names) {
+            Ok(text) => println!(rt; "cat by {names}: {text}")?,
+            Err(error) => println!(rt; "cat by {names}: {error}")?,
         }
     }
     match File::open(&rt, MADE) {
