@@ -1,16 +1,16 @@
 //! Tests of these programs over the scripted system, and of some over the real machine.
 use crate::build::build;
 use crate::harness::started;
-use crate::kinds::{echoed, shown};
 use crate::report::reason;
 use crate::script::run_script;
 use crate::supervisor::{Supervised, supervise};
-use duct::{Clock, Error, Expression, Output, Pool, System, cmd};
+use duct::{Clock, Error, ExitStatus, Expression, Output, Pool, System, cmd};
 use duct_host::clock::HostClock;
 use duct_host::host::Host;
 use duct_script::calls::{Call, CallLog};
+use duct_script::child::PollAnswer;
 use duct_script::clock::ScriptClock;
-use duct_script::system::ScriptEnd;
+use duct_script::system::{Script, ScriptEnd};
 use duct_table::scenes::{Bench, Scene, bench_of};
 use duct_table::stop::TableError;
 use duct_table::workers::set_reader;
@@ -242,17 +242,54 @@ fn a_supervisor_prints_what_did_not_start(rt: HostRuntime) -> Result<(), Fail> {
     Ok(())
 }
 
+/// Checks that a script stops at its first command that fails. No program runs: the test sets what
+/// the child returns to polls.
 #[test]
-fn a_hook_in_a_box(rt: HostRuntime) -> Result<(), Error> {
-    let text = shown(rt.alloc())?;
-    assert_eq!(rt; text.as_str(), "Io(BeforeSpawn(<closure>), Cmd([\"a\"]))");
+fn a_script_stops_at_a_failure(rt: HostRuntime) -> Result<(), Fail> {
+    let mut system = Script::new(rt.alloc())?;
+    let mut pool = Pool::new(rt.alloc());
+    system.polls(&[PollAnswer::Running, PollAnswer::Ended(ExitStatus::Code(2))])?;
+    let script = "make all\nmake install";
+    let told = run_script(&rt, rt.alloc(), &mut system, &mut pool, script);
+    assert!(rt; matches!(told, Err(Error::Checked(_))));
+    assert_eq!(rt; started(rt.alloc(), &system)?.as_str(), "make all \n"); // from the journal
     Ok(())
 }
 
+/// Returns what a script of two lines prints, and how many children the pool keeps.
+fn script_text<S: System>(rt: &impl Wait, alloc: Global, system: &mut S) -> Result<String, Error> {
+    let mut pool = Pool::new(alloc);
+    let text = run_script(rt, alloc, system, &mut pool, "echo hi\nprintf a%sc b")?;
+    let kept = pool.len();
+    Ok(format!(in alloc; "{text}{kept}")?)
+}
+
 #[test]
-fn a_boxed_hook_adds_an_argument(rt: HostRuntime) -> Result<(), Error> {
+fn a_script_over_the_machine(rt: HostRuntime) -> Result<(), Error> {
     let mut host = Host::new(&rt, rt.alloc());
-    let text = echoed(&rt, rt.alloc(), &mut host)?;
-    assert_eq!(rt; text.as_str(), "foo bar");
+    let text = script_text(&rt, rt.alloc(), &mut host)?;
+    assert_eq!(rt; text.as_str(), "hi\nabc\n0");
+    Ok(())
+}
+
+/// Returns whether a command that sleeps takes longer than its limit.
+fn is_late<S: System, C: Clock>(
+    rt: &impl Wait,
+    alloc: Global,
+    system: &mut S,
+    clock: &C,
+) -> Result<bool, Error> {
+    let mut pool = Pool::new(alloc);
+    let sleep: Expression<S::End> = cmd!(in alloc; "sleep", "20")?;
+    let limit = Duration::from_millis(50);
+    let built = build(rt, system, &mut pool, clock, &sleep, limit)?;
+    Ok(built.is_none())
+}
+
+#[test]
+fn a_deadline_and_a_kill(rt: HostRuntime) -> Result<(), Fail> {
+    let mut host = Host::new(&rt, rt.alloc());
+    let clock = HostClock::new(&rt)?;
+    assert!(rt; is_late(&rt, rt.alloc(), &mut host, &clock)?);
     Ok(())
 }

@@ -1,54 +1,16 @@
-//! Tests of the documents' examples over the real machine, and of a script over the scripted
-//! system too.
+//! Tests of these examples over the real machine.
 use crate::adopted::start_to_file;
-use crate::build::build;
 use crate::cookbook::{counted, fed, listed, merged, placed, stopped, swapped, unchecked};
 use crate::files::writer;
-use crate::harness::started;
-use crate::script::run_script;
+use crate::kinds::{echoed, shown};
 use crate::tour::{filed, piped};
-use duct::{Clock, Error, ExitStatus, Expression, Fault, Pool, System, cmd};
-use duct_host::clock::HostClock;
+use duct::{Error, ExitStatus, Expression, Fault, Pool, System, cmd};
 use duct_host::end::End;
 use duct_host::host::Host;
-use duct_script::child::PollAnswer;
-use duct_script::system::Script;
 use duct_table::files::{new_file, take_file};
 use std::alloc::Global;
 use std::fs::File;
 use std::sync::Wait;
-use std::test::Fail;
-use std::time::Duration;
-
-/// Checks that a script stops at its first command that fails. No program runs: the test sets what
-/// the child returns to polls.
-#[test]
-fn a_script_stops_at_a_failure(rt: HostRuntime) -> Result<(), Fail> {
-    let mut system = Script::new(rt.alloc())?;
-    let mut pool = Pool::new(rt.alloc());
-    system.polls(&[PollAnswer::Running, PollAnswer::Ended(ExitStatus::Code(2))])?;
-    let script = "make all\nmake install";
-    let told = run_script(&rt, rt.alloc(), &mut system, &mut pool, script);
-    assert!(rt; matches!(told, Err(Error::Checked(_))));
-    assert_eq!(rt; started(rt.alloc(), &system)?.as_str(), "make all \n"); // from the journal
-    Ok(())
-}
-
-/// Returns what a script of two lines prints, and how many children the pool keeps.
-fn script_text<S: System>(rt: &impl Wait, alloc: Global, system: &mut S) -> Result<String, Error> {
-    let mut pool = Pool::new(alloc);
-    let text = run_script(rt, alloc, system, &mut pool, "echo hi\nprintf a%sc b")?;
-    let kept = pool.len();
-    Ok(format!(in alloc; "{text}{kept}")?)
-}
-
-#[test]
-fn a_script_over_the_machine(rt: HostRuntime) -> Result<(), Error> {
-    let mut host = Host::new(&rt, rt.alloc());
-    let text = script_text(&rt, rt.alloc(), &mut host)?;
-    assert_eq!(rt; text.as_str(), "hi\nabc\n0");
-    Ok(())
-}
 
 #[test]
 fn a_pipeline_and_an_error(rt: HostRuntime) -> Result<(), Error> {
@@ -56,28 +18,6 @@ fn a_pipeline_and_an_error(rt: HostRuntime) -> Result<(), Error> {
     let text = piped(&rt, rt.alloc(), &mut host)?;
     let wanted = "6, 8, command [\"sh\", \"-c\", \"exit 3\"] exited with code 3";
     assert_eq!(rt; text.as_str(), wanted);
-    Ok(())
-}
-
-/// Returns whether a command that sleeps takes longer than its limit.
-fn is_late<S: System, C: Clock>(
-    rt: &impl Wait,
-    alloc: Global,
-    system: &mut S,
-    clock: &C,
-) -> Result<bool, Error> {
-    let mut pool = Pool::new(alloc);
-    let sleep: Expression<S::End> = cmd!(in alloc; "sleep", "20")?;
-    let limit = Duration::from_millis(50);
-    let built = build(rt, system, &mut pool, clock, &sleep, limit)?;
-    Ok(built.is_none())
-}
-
-#[test]
-fn a_deadline_and_a_kill(rt: HostRuntime) -> Result<(), Fail> {
-    let mut host = Host::new(&rt, rt.alloc());
-    let clock = HostClock::new(&rt)?;
-    assert!(rt; is_late(&rt, rt.alloc(), &mut host, &clock)?);
     Ok(())
 }
 
@@ -180,5 +120,20 @@ fn an_adopted_file_is_written(rt: HostRuntime) -> Result<(), Error> {
     handle.into_output(&rt, &mut pool)?;
     let text = take_file(&rt, rt.alloc(), &mut host, path.as_str())?;
     assert_eq!(rt; text.as_str(), "foo");
+    Ok(())
+}
+
+#[test]
+fn a_hook_in_a_box(rt: HostRuntime) -> Result<(), Error> {
+    let text = shown(rt.alloc())?;
+    assert_eq!(rt; text.as_str(), "Io(BeforeSpawn(<closure>), Cmd([\"a\"]))");
+    Ok(())
+}
+
+#[test]
+fn a_boxed_hook_adds_an_argument(rt: HostRuntime) -> Result<(), Error> {
+    let mut host = Host::new(&rt, rt.alloc());
+    let text = echoed(&rt, rt.alloc(), &mut host)?;
+    assert_eq!(rt; text.as_str(), "foo bar");
     Ok(())
 }

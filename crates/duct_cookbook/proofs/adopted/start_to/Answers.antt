@@ -1,7 +1,7 @@
 use Rattle.std.proofs.lemmas.Result.{IfOk-weaker}
 use Rattle.duct.specs.TreeView.{tree_view}
-use Rattle.duct_users.proofs.WholeStart.{whole_to}
-use Rattle.duct_users.proofs.adopted.start_to.Goals as goal
+use Rattle.duct_cookbook.proofs.WholeStart.{whole_to}
+use Rattle.duct_cookbook.proofs.adopted.start_to.Goals as goal
 
 pub returns : goal.returns
 returns g c =
