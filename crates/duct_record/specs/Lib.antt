@@ -1,0 +1,4 @@
+pub mod EntryData
+pub mod Meant
+pub mod Parsed
+pub mod Writable
