@@ -1,6 +1,9 @@
 pub mod Bytes
+pub mod JournalLines
+pub mod JournalReading
 pub mod Line
 pub mod Lists
+pub mod OneLine
 pub mod Ordered
 pub mod Reading
 pub mod RoundTrip

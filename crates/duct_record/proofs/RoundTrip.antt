@@ -1,5 +1,5 @@
 -- What an entry is written as means that entry.
-use Rattle.std.proofs.Common.{◌≡◌, ℕ, zero, suc, ◌<◌, List, [], ◌∷◌, ◌++◌, map, length, Bool, true, false, Some, None, Ok, Err, if◌then◌else◌, refl, ap, sym, ◌∙◌, arith, rules}
+use Rattle.std.proofs.Common.{◌≡◌, ℕ, suc, ◌<◌, List, [], ◌∷◌, ◌++◌, map, length, Bool, true, false, Some, None, Ok, Err, if◌then◌else◌, refl, ap, ◌∙◌, arith, rules}
 use Rattle.std.specs.Str.{is_utf8}
 use Rattle.std.specs.declared.option.Option.{Option}
 use Rattle.std.specs.declared.result.Result.{Result}
@@ -16,7 +16,7 @@ use Rattle.duct_system.specs.declared.system.Side.TheVariants as sides
 use Rattle.duct_system.specs.declared.system.Stdio.{Stdio}
 use Rattle.duct_system.specs.declared.system.Stdio.TheVariants.{Inherit, Null, End}
 use Rattle.duct_record.specs.EntryData.{answer_data, bytes_data, entry_data, folder_data, kind_name, list_data, number_answer_data, number_data, port_data, ports_data, refused_data, request_data, result_data, side_name, stream_data, variable_data, variables_data}
-use Rattle.duct_record.specs.Meant.{all_meant, answer_meant, byte_meant, bytes_meant, canonicalize_meant, close_meant, create_meant, drain_meant, duplicate_meant, ends_answer, ends_meant, entry_meant, environment_meant, fault_meant, feed_meant, first_meant, folder_meant, kind_named, list_meant, named_meant, number_answer, number_meant, only_meant, open_read_meant, pair_meant, parent_meant, pipe_meant, port_meant, port_named, ports_meant, reader_meant, set_in_turn, side_named, spawn_meant, spec_meant, stream_meant, stream_named, streams_meant, text_answer, text_meant, unit_answer, unit_meant, value_meant, variable_meant, variables_answer, variables_meant, words_meant}
+use Rattle.duct_record.specs.Meant.{all_meant, answer_meant, byte_meant, bytes_meant, canonicalize_meant, close_meant, create_meant, drain_meant, duplicate_meant, ends_answer, ends_meant, entry_meant, environment_meant, fault_meant, feed_meant, first_meant, folder_meant, kind_named, list_meant, named_meant, number_answer, number_meant, only_meant, open_read_meant, pair_meant, parent_meant, pipe_meant, port_meant, port_named, ports_meant, reader_meant, side_named, spawn_meant, spec_meant, stream_meant, stream_named, streams_meant, text_answer, text_meant, unit_answer, unit_meant, value_meant, variable_meant, variables_answer, variables_meant, words_meant}
 use Rattle.duct_record.specs.Parsed.{◌>>=◌}
 use Rattle.duct_record.specs.Writable.{IsWritable, AreBytes}
 use Rattle.duct_record.specs.declared.error.Refusal.{Refusal}

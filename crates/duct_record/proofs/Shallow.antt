@@ -1,5 +1,5 @@
 -- What an entry is written as nests no deeper than three, and has no float.
-use Rattle.std.proofs.Common.{◌≡◌, ℕ, suc, ◌≤◌, ◌||◌, List, [], ◌∷◌, ◌++◌, map, Bool, true, false, Some, None, Ok, Err, if◌then◌else◌, refl, ap, sym, ◌∙◌, arith}
+use Rattle.std.proofs.Common.{◌≡◌, ℕ, suc, ◌≤◌, List, [], ◌∷◌, ◌++◌, map, Bool, true, false, Some, None, Ok, Err, if◌then◌else◌, refl, arith}
 use Rattle.std.specs.Str.{is_utf8}
 use Rattle.std.specs.declared.option.Option.{Option}
 use Rattle.std.specs.declared.result.Result.{Result}
@@ -11,8 +11,6 @@ use Rattle.duct_system.specs.SpecView.{SpecView, Vars}
 use Rattle.duct_system.specs.declared.spec.Port.{Port}
 use Rattle.duct_system.specs.declared.spec.Port.TheVariants as ports
 use Rattle.duct_system.specs.declared.system.Fault.{Fault}
-use Rattle.duct_system.specs.declared.system.Side.{Side}
-use Rattle.duct_system.specs.declared.system.Side.TheVariants as sides
 use Rattle.duct_system.specs.declared.system.Stdio.{Stdio}
 use Rattle.duct_system.specs.declared.system.Stdio.TheVariants.{Inherit, Null, End}
 use Rattle.duct_record.specs.declared.write.Variables.{Variables}

@@ -1,4 +1,5 @@
 pub mod EntryData
+pub mod JournalMeant
 pub mod Meant
 pub mod Parsed
 pub mod Writable

@@ -37,3 +37,13 @@ impl<T: Drop> From<AllocFailed<T>> for Refusal {
         Refusal::Memory
     }
 }
+
+/// Why a text is read as no journal: its first line that is read as no entry, and why.
+#[derive(Clone, Copy, Debug, PartialEq, Eq, Drop, Error)]
+#[error("line {line}: {refusal}")]
+pub struct LineRefusal {
+    /// The line, counted from 1.
+    pub line: usize,
+    /// Why it is read as no entry.
+    pub refusal: Refusal,
+}

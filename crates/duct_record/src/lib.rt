@@ -2,6 +2,7 @@
 #![tactic(auto)]
 
 pub mod error;
+pub mod journal;
 mod parts;
 pub mod read;
 pub mod write;

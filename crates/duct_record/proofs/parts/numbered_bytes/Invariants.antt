@@ -1,5 +1,5 @@
 -- What was read so far, followed by what is read of the rest, is what is read of all.
-use Rattle.std.proofs.Common.{◌≡◌, map, string_bytes, length}
+use Rattle.std.proofs.Common.{◌≡◌, map, length}
 use Rattle.serde_json.specs.View.{view}
 use Rattle.duct_record.specs.Meant.{all_meant, byte_meant}
 use Rattle.duct_record.proofs.Reading.{behind}

@@ -1,5 +1,5 @@
 -- What was written so far.
-use Rattle.std.proofs.Common.{◌≡◌, map, take, string_bytes}
+use Rattle.std.proofs.Common.{◌≡◌, map, take}
 use Rattle.serde_json.specs.View.{view}
 use Rattle.duct_system.specs.SpecView.{pair_text}
 use Rattle.duct_record.specs.EntryData.{variable_data}
