@@ -1,0 +1,4 @@
+pub mod Copying
+pub mod Following
+pub mod Replaying
+pub mod Texts

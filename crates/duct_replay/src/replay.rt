@@ -1,0 +1,572 @@
+//! A system that answers from a recording.
+ghost use Rattle.std.specs.Prelude.{◌≡◌, ◌≤◌, ◌<◌, ◌+◌, ◌-◌, ◌++◌, [], map, max, min, length, unwrap_or, string_bytes, IfOk, IfSome, IfErr, IfNone, OnOk, OnErr, IsTrue, is_some};
+ghost use Rattle.std.specs.Option.{option_copied, option_map};
+ghost use Rattle.duct_system.specs.EntryView.{entry_view};
+ghost use Rattle.duct_system.specs.Journal.{IsNew};
+ghost use Rattle.duct_system.specs.Streams.{stream_of, end_of, ends_of};
+ghost use Rattle.duct_system.specs.declared.system.Kind.TheVariants.{OutOfMemory};
+ghost use Rattle.duct_replay.specs.Answers.{FitsNumber, FitsPipe, IsNext, IsToldRight, answer_of, next_view, no_memory, unrecorded};
+ghost use Rattle.duct_replay.specs.Follows.{Follows};
+ghost use Rattle.duct_replay.specs.Replays.{difference_after, next_of, noted};
+
+use crate::child::ReplayChild;
+use crate::found::{
+    found_canonicalize, found_create, found_drain, found_duplicate, found_environment, found_feed,
+    found_open_read, found_parent, found_pipe, found_spawn, is_close, is_reader, no_memory,
+    text_copy, unrecorded,
+};
+use crate::reader::ReplayReader;
+use crate::recording::Recording;
+use crate::worker::{ReplayDrain, ReplayFeed};
+use duct_system::journal::Journal;
+use duct_system::spec::CommandSpec;
+use duct_system::system::{Entry, Fault, Numbered, Side, Stdio, System};
+use std::alloc::Global;
+use std::marker::Model;
+use std::sync::Arc;
+
+/// An end of a replay: it has the number of the recorded end, and nothing else.
+#[derive(Drop)]
+pub struct ReplayEnd {
+    number: u64,
+}
+
+impl Numbered for ReplayEnd {
+    ghost number_of = { λ end. end.number };
+
+    fn number(&self) -> u64 {
+        self.number
+    }
+}
+
+/// A system that starts no process and opens no file: it answers each request as the recording does,
+/// while its requests are the recorded ones. At the first that isn't, it keeps the place in the
+/// recording, and from then on each request that can fail fails with `Other`.
+///
+/// A recorded number of an end or a child that can't be given, since it was given before, makes its
+/// request differ too. At an allocation failure a request fails with `OutOfMemory`; where it adds an
+/// entry nevertheless, that entry differs.
+#[derive(Drop)]
+pub struct Replay {
+    recording: Recording,
+    difference: Option<usize>,
+    journal: Journal,
+    ghost follows: { ∥ Follows recording.entries journal.entries journal.added difference ∥₁ },
+}
+
+impl Model for Replay {
+    ghost use Rattle.duct_replay.specs.Replays.{ReplayView};
+
+    ghost Value = { ReplayView };
+
+    ghost view = { λ r. record {
+      recording = r.recording;
+      difference = r.difference;
+      journal = r.journal;
+    } };
+}
+
+impl Replay {
+    /// Returns a replay that was asked nothing, and answers from the first entry of the recording.
+    pub fn new(alloc: Global, recording: Recording) -> Replay
+        ensures { result ≡ record {
+          recording = recording;
+          difference = None;
+          journal = record { entries = []; added = 0; next = 1; room = 0 };
+        } }
+    {
+        Replay {
+            recording,
+            difference: None,
+            journal: Journal::new(alloc),
+        }
+    }
+
+    /// Returns the recording.
+    pub fn recording(&self) -> &Recording
+        ensures { result.now ≡ self.now.recording }
+    {
+        &self.recording
+    }
+
+    /// Returns the place of the first entry that differs, counted from 0, or `None` while each entry
+    /// was the recorded one. Entries that were cleared count too.
+    pub fn difference(&self) -> Option<usize>
+        ensures place { result ≡ self.now.difference }
+        ensures follows { ∥ Follows self.now.recording.entries self.now.journal.entries
+            self.now.journal.added result ∥₁ }
+    {
+        self.difference
+    }
+
+    // Returns the entry that is recorded next, or `None` at the end and after a difference.
+    fn next(&self) -> Option<&Entry>
+        ensures { next_view result ≡ next_of self.now }
+    {
+        if self.difference.is_some() {
+            return None;
+        }
+        self.recording.entries().get(self.journal.added() as usize)
+    }
+
+    // Makes room for an entry and for this many after it.
+    fn prepare(&mut self, ends: usize) -> Result<(), Fault>
+        ensures ok { OnOk result (self.new ≡ record self.old {
+          journal = record self.old.journal { room = self.old.journal.room + ends + 1 };
+        }) }
+        ensures err { IfErr result (λ fault. fault ≡ no_memory) }
+        ensures unchanged { OnErr result (self.new ≡ self.old) }
+    {
+        self.journal.prepare(ends)
+    }
+
+    // Makes room for the entry of a spawn that takes this many ends, by `prepare_spawn`.
+    fn prepare_spawn(&mut self, ends: usize) -> Result<(), Fault>
+        requires { min 1 ends ≤ self.old.journal.room }
+        ensures ok { OnOk result (self.new ≡ record self.old {
+          journal = record self.old.journal { room = (self.old.journal.room - ends) + 1 };
+        }) }
+        ensures err { IfErr result
+            (λ fault. (fault ≡ no_memory) × (self.new ≡ self.old) × (ends ≡ 0)) }
+    {
+        prepare_spawn(&mut self.journal, ends)
+    }
+
+    // Returns the result of a request for an end or a child: what was found, and if nothing was, the
+    // fault `Other`. Counts up to its number; if it has none, releases the room for this many ends.
+    fn settle(&mut self, found: Option<Result<u64, Fault>>, ends: usize) -> Result<u64, Fault>
+        requires found { IfSome found (FitsNumber self.old.journal.next) }
+        requires room { ends ≤ self.old.journal.room }
+        ensures answer { result ≡ unwrap_or found (Err unrecorded) }
+        ensures ok { IfOk result (λ number. self.new ≡ record self.old {
+          journal = record self.old.journal { next = number + 1 };
+        }) }
+        ensures next { IfOk result (λ number. IsNext self.old.journal.next number) }
+        ensures err { OnErr result (self.new ≡ record self.old {
+          journal = record self.old.journal { room = self.old.journal.room - ends };
+        }) }
+        ensures rest { self.new ≡ record self.old {
+          journal = record self.old.journal
+              { next = self.new.journal.next; room = self.new.journal.room };
+        } }
+    {
+        let answer = found.unwrap_or(Err(unrecorded()));
+        count(&mut self.journal, &answer, ends);
+        answer
+    }
+
+    // Returns the result of opening a pipe, as `settle` does.
+    fn settle_pipe(&mut self, found: Option<Result<(u64, u64), Fault>>) -> Result<(u64, u64), Fault>
+        requires found { IfSome found (FitsPipe self.old.journal.next) }
+        requires room { 2 ≤ self.old.journal.room }
+        ensures answer { result ≡ unwrap_or found (Err unrecorded) }
+        ensures ok { IfOk result (λ ends. self.new ≡ record self.old {
+          journal = record self.old.journal { next = max ends.0 ends.1 + 1 };
+        }) }
+        ensures fits { FitsPipe self.old.journal.next result }
+        ensures err { OnErr result (self.new ≡ record self.old {
+          journal = record self.old.journal { room = self.old.journal.room - 2 };
+        }) }
+        ensures rest { self.new ≡ record self.old {
+          journal = record self.old.journal
+              { next = self.new.journal.next; room = self.new.journal.room };
+        } }
+    {
+        let answer = found.unwrap_or(Err(unrecorded()));
+        let greater = answer.map(|(reader, writer)| reader.max(writer));
+        count(&mut self.journal, &greater, 2);
+        answer
+    }
+
+    // Adds an entry, which is the one that is recorded next or isn't. Keeps the place of the first
+    // that isn't.
+    fn note(&mut self, entry: Entry, agrees: bool)
+        requires room { 0 < self.old.journal.room }
+        requires agrees { IsToldRight agrees (entry_view entry) (next_of self.old) }
+        ensures { self.new ≡ noted agrees (entry_view entry) self.old }
+    {
+        let place = self.journal.added() as usize;
+        self.difference = difference_after(agrees, place, self.difference);
+        self.journal.add(entry);
+    }
+}
+
+// Returns the place of the first difference after one more entry, at this place.
+fn difference_after(agrees: bool, place: usize, difference: Option<usize>) -> Option<usize>
+    ensures { result ≡ difference_after agrees place difference }
+{
+    if agrees || difference.is_some() {
+        difference
+    } else {
+        Some(place)
+    }
+}
+
+// Counts up to a recorded number.
+fn count_to(journal: &mut Journal, number: u64)
+    requires { IsNext journal.old.next number }
+    ensures { journal.new ≡ record journal.old { next = number + 1 } }
+{
+    let count = number - journal.next() + 1;
+    let _ = journal.take_numbers(count);
+}
+
+// Counts up to the number of a result. If it has none, releases the room for this many ends.
+fn count(journal: &mut Journal, answer: &Result<u64, Fault>, ends: usize)
+    requires next { FitsNumber journal.old.next answer.now }
+    requires room { ends ≤ journal.old.room }
+    ensures ok { IfOk answer.now (λ number. journal.new ≡ record journal.old { next = number + 1 }) }
+    ensures err { OnErr answer.now (journal.new
+        ≡ record journal.old { room = journal.old.room - ends }) }
+    ensures rest { journal.new
+        ≡ record journal.old { next = journal.new.next; room = journal.new.room } }
+{
+    match answer {
+        Ok(number) => count_to(journal, *number),
+        Err(_) => journal.give_back(ends),
+    }
+}
+
+// Returns the stream with its end's number in place of the end, and how many ends it has.
+fn numbered(stream: Stdio<ReplayEnd>) -> (Stdio<u64>, usize)
+    ensures stream { result.0 ≡ stream_of (λ end. end.number) stream }
+    ensures ends { result.1 ≡ length (end_of stream) }
+    ensures one { result.1 ≤ 1 }
+{
+    match stream {
+        Stdio::Inherit => (Stdio::Inherit, 0),
+        Stdio::Null => (Stdio::Null, 0),
+        Stdio::End(end) => (Stdio::End(end.number), 1),
+    }
+}
+
+// Returns the streams with their ends' numbers in place of the ends, and how many ends they have.
+fn numbered_streams(io: [Stdio<ReplayEnd>; 3]) -> ([Stdio<u64>; 3], usize)
+    ensures streams { result.0 ≡ map (stream_of (λ end. end.number)) io }
+    ensures ends { result.1 ≡ length (ends_of io) }
+{
+    let [input, output, error] = io;
+    let (input, first) = numbered(input);
+    let (output, second) = numbered(output);
+    let (error, third) = numbered(error);
+    ([input, output, error], first + second + third)
+}
+
+// Takes the room of a spawn's ends but for one entry, and makes that room where no stream is an
+// end. Fails only at an allocation failure, which leaves the journal as it was.
+fn prepare_spawn(journal: &mut Journal, ends: usize) -> Result<(), Fault>
+    requires { min 1 ends ≤ journal.old.room }
+    ensures ok { OnOk result
+        (journal.new ≡ record journal.old { room = (journal.old.room - ends) + 1 }) }
+    ensures err { IfErr result
+        (λ fault. (fault.kind ≡ OutOfMemory) × (journal.new ≡ journal.old) × (ends ≡ 0)) }
+{
+    match ends.checked_sub(1) {
+        None => journal.prepare(0),
+        Some(others) => {
+            let spare = others.min(journal.room() - 1);
+            journal.give_back(spare);
+            Ok(())
+        }
+    }
+}
+
+impl System for Replay {
+    ghost use Rattle.std.specs.Prelude.{◌≡◌, ◌≤◌, ◌<◌, Some, Ok, Err, length, map, min};
+    ghost use Rattle.std.specs.Arc.{arc_value};
+    ghost use Rattle.duct_system.specs.Child.{IsUnasked};
+    ghost use Rattle.duct_system.specs.EntryView.{Environment, Pipe, OpenRead, Create, Duplicate, Parent, Canonicalize, Spawn, Feed, Drain, Reader, Close};
+    ghost use Rattle.duct_system.specs.Job.{unpolled_job};
+    ghost use Rattle.duct_system.specs.Journal.{Asks, GetsEnd, GetsEnds, GivesEnds, IsNew, IsRefused};
+    ghost use Rattle.duct_system.specs.SpecView.{pair_text};
+    ghost use Rattle.duct_system.specs.Streams.{stream_of, ends_of};
+    ghost use Rattle.std.proofs.Common.{lit<};
+    ghost use Rattle.duct_replay.specs.Answers.{Fits, FitsNumber, FitsPipe, FitsChild, answer_of};
+    ghost use Rattle.duct_replay.specs.Left.{IsUnread, left_of};
+    ghost use Rattle.duct_replay.specs.RecordingView.{status_of, output_of};
+    ghost use Rattle.duct_replay.specs.Replays.{Replays, MayReplay, Steps};
+    ghost use Rattle.duct_replay.specs.Same.{bytes_of};
+    ghost use Rattle.duct_replay.specs.Views.{child_view, feed_view, drain_view};
+
+    type End = ReplayEnd;
+
+    type Child = ReplayChild;
+
+    type Feed = ReplayFeed;
+
+    type Drain = ReplayDrain;
+
+    type Reader = ReplayReader;
+
+    ghost journal_view = { λ replay. replay.journal };
+
+    ghost may_read = { IsUnread };
+
+    ghost streams_fit = { lit< tt };
+
+    ghost same_bytes = { λ one other same. same };
+
+    ghost feeds_say_again = { λ refusable. refusable };
+
+    fn environment(&mut self) -> Result<Vec<(String, String)>, Fault>
+        ensures ok { IfOk result (λ pairs.
+            Asks (Environment (Ok (map pair_text pairs.items))) self.old.journal
+            self.new.journal) }
+        ensures err { IfErr result (λ fault.
+            IsRefused (Environment (Err fault)) 0 fault self.old.journal self.new.journal) }
+        ensures replayed { MayReplay Environment Fits self.old
+            (answer_of (λ pairs. map pair_text pairs.items) result) self.new }
+    {
+        let found = found_environment(self.journal.allocator(), self.next())?;
+        self.prepare(0)?;
+        match found {
+            Some(Ok((pairs, kept))) => {
+                self.note(Entry::Environment(Ok(kept)), true);
+                Ok(pairs)
+            }
+            Some(Err(fault)) => {
+                self.note(Entry::Environment(Err(fault)), true);
+                Err(fault)
+            }
+            None => {
+                self.note(Entry::Environment(Err(unrecorded())), false);
+                Err(unrecorded())
+            }
+        }
+    }
+
+    fn pipe(&mut self) -> Result<(ReplayEnd, ReplayEnd), Fault>
+        ensures ok { IfOk result (λ ends.
+            let read = ends.0.number in
+            let write = ends.1.number in
+            GetsEnds (Pipe (Ok (read, write))) read write self.old.journal self.new.journal) }
+        ensures err { IfErr result (λ fault.
+            IsRefused (Pipe (Err fault)) 0 fault self.old.journal self.new.journal) }
+        ensures replayed { MayReplay Pipe (FitsPipe self.old.journal.next) self.old
+            (answer_of (λ ends. (ends.0.number, ends.1.number)) result) self.new }
+    {
+        self.prepare(2)?;
+        let found = found_pipe(self.next(), self.journal.next());
+        let answer = self.settle_pipe(found);
+        self.note(Entry::Pipe(answer), found.is_some());
+        let (reader, writer) = answer?;
+        Ok((ReplayEnd { number: reader }, ReplayEnd { number: writer }))
+    }
+
+    fn open_read(&mut self, path: &str) -> Result<ReplayEnd, Fault>
+        ensures ok { IfOk result (λ end.
+            GetsEnd (OpenRead path.now (Ok end.number)) end.number self.old.journal
+            self.new.journal) }
+        ensures err { IfErr result (λ fault.
+            IsRefused (OpenRead path.now (Err fault)) 0 fault self.old.journal self.new.journal) }
+        ensures replayed { MayReplay (OpenRead path.now) (FitsNumber self.old.journal.next) self.old
+            (answer_of (λ end. end.number) result) self.new }
+    {
+        let kept = text_copy(self.journal.allocator(), path)?;
+        self.prepare(1)?;
+        let found = found_open_read(self.next(), path, self.journal.next());
+        let answer = self.settle(found, 1);
+        self.note(Entry::OpenRead(kept, answer), found.is_some());
+        Ok(ReplayEnd { number: answer? })
+    }
+
+    fn create(&mut self, path: &str) -> Result<ReplayEnd, Fault>
+        ensures ok { IfOk result (λ end.
+            GetsEnd (Create path.now (Ok end.number)) end.number self.old.journal
+            self.new.journal) }
+        ensures err { IfErr result (λ fault.
+            IsRefused (Create path.now (Err fault)) 0 fault self.old.journal self.new.journal) }
+        ensures replayed { MayReplay (Create path.now) (FitsNumber self.old.journal.next) self.old
+            (answer_of (λ end. end.number) result) self.new }
+    {
+        let kept = text_copy(self.journal.allocator(), path)?;
+        self.prepare(1)?;
+        let found = found_create(self.next(), path, self.journal.next());
+        let answer = self.settle(found, 1);
+        self.note(Entry::Create(kept, answer), found.is_some());
+        Ok(ReplayEnd { number: answer? })
+    }
+
+    fn duplicate(&mut self, end: &ReplayEnd) -> Result<ReplayEnd, Fault>
+        ensures ok { IfOk result (λ made.
+            GetsEnd (Duplicate end.now.number (Ok made.number)) made.number self.old.journal
+            self.new.journal) }
+        ensures err { IfErr result (λ fault.
+            IsRefused (Duplicate end.now.number (Err fault)) 0 fault self.old.journal
+            self.new.journal) }
+        ensures replayed { MayReplay (Duplicate end.now.number) (FitsNumber self.old.journal.next)
+            self.old (answer_of (λ made. made.number) result) self.new }
+    {
+        self.prepare(1)?;
+        let found = found_duplicate(self.next(), end.number, self.journal.next());
+        let answer = self.settle(found, 1);
+        self.note(Entry::Duplicate(end.number, answer), found.is_some());
+        Ok(ReplayEnd { number: answer? })
+    }
+
+    fn parent(&mut self, side: Side) -> Result<ReplayEnd, Fault>
+        ensures ok { IfOk result (λ made.
+            GetsEnd (Parent side (Ok made.number)) made.number self.old.journal
+            self.new.journal) }
+        ensures err { IfErr result (λ fault.
+            IsRefused (Parent side (Err fault)) 0 fault self.old.journal self.new.journal) }
+        ensures replayed { MayReplay (Parent side) (FitsNumber self.old.journal.next) self.old
+            (answer_of (λ made. made.number) result) self.new }
+    {
+        self.prepare(1)?;
+        let found = found_parent(self.next(), side, self.journal.next());
+        let answer = self.settle(found, 1);
+        self.note(Entry::Parent(side, answer), found.is_some());
+        Ok(ReplayEnd { number: answer? })
+    }
+
+    fn canonicalize(&mut self, path: &str) -> Result<String, Fault>
+        ensures ok { IfOk result (λ text.
+            Asks (Canonicalize path.now (Ok (string_bytes text))) self.old.journal
+            self.new.journal) }
+        ensures err { IfErr result (λ fault.
+            IsRefused (Canonicalize path.now (Err fault)) 0 fault self.old.journal
+            self.new.journal) }
+        ensures replayed { MayReplay (Canonicalize path.now) Fits self.old
+            (answer_of (λ text. string_bytes text) result) self.new }
+    {
+        let alloc = self.journal.allocator();
+        let asked = text_copy(alloc, path)?;
+        let found = found_canonicalize(alloc, self.next(), path)?;
+        self.prepare(0)?;
+        match found {
+            Some(Ok((text, kept))) => {
+                self.note(Entry::Canonicalize(asked, Ok(kept)), true);
+                Ok(text)
+            }
+            Some(Err(fault)) => {
+                self.note(Entry::Canonicalize(asked, Err(fault)), true);
+                Err(fault)
+            }
+            None => {
+                self.note(Entry::Canonicalize(asked, Err(unrecorded())), false);
+                Err(unrecorded())
+            }
+        }
+    }
+
+    fn spawn(&mut self, spec: CommandSpec, io: [Stdio<ReplayEnd>; 3]) -> Result<ReplayChild, Fault>
+        requires { min 1 (length (ends_of io)) ≤ self.old.journal.room }
+        ensures ok { IfOk result (λ child.
+            let entry = Spawn spec (map (stream_of (λ end. end.number)) io) (Ok child.number) in
+            GivesEnds entry (length (ends_of io)) self.old.journal self.new.journal
+            × IsNew self.old.journal self.new.journal child.number) }
+        ensures unasked { IfOk result (λ child. IsUnasked (child_view child)) }
+        ensures err { IfErr result (λ fault.
+            let entry = Spawn spec (map (stream_of (λ end. end.number)) io) (Err fault) in
+            IsRefused entry (length (ends_of io)) fault self.old.journal self.new.journal) }
+        // Where a recorded child failed with `OutOfMemory`, there may be no memory to compare the
+        // specs.
+        ensures replayed { MayReplay (Spawn spec (map (stream_of (λ end. end.number)) io))
+            (FitsChild self.old.journal.next) self.old (answer_of (λ child. child.number) result)
+            self.new }
+        ensures status { IfOk result
+            (λ child. child.status ≡ status_of child.number self.old.recording) }
+    {
+        let (streams, ends) = numbered_streams(io);
+        self.prepare_spawn(ends)?;
+        match found_spawn(self.next(), &spec, &streams, self.journal.next()) {
+            Ok(found) => {
+                let answer = self.settle(found, 0);
+                self.note(Entry::Spawn(spec, streams, answer), found.is_some());
+                let number = answer?;
+                let status = self.recording.status(number);
+                Ok(ReplayChild::new(self.journal.allocator(), number, status))
+            }
+            Err(fault) => {
+                self.note(Entry::Spawn(spec, streams, Err(fault)), false);
+                Err(fault)
+            }
+        }
+    }
+
+    fn start_feed(&mut self, end: ReplayEnd, bytes: Arc<Vec<u8>>) -> Result<ReplayFeed, Fault>
+        requires { 0 < self.old.journal.room }
+        ensures ok { IfOk result (λ job.
+            let entry = Feed end.number (arc_value bytes).items (Ok tt) in
+            GivesEnds entry 1 self.old.journal self.new.journal) }
+        ensures unasked { IfOk result (λ job. feed_view job ≡ unpolled_job end.number) }
+        ensures err { IfErr result (λ fault.
+            let entry = Feed end.number (arc_value bytes).items (Err fault) in
+            GivesEnds entry 1 self.old.journal self.new.journal) }
+        ensures replayed { Replays (Feed end.number (arc_value bytes).items) Fits self.old
+            (answer_of (λ job. tt) result) self.new }
+    {
+        let found = found_feed(self.next(), end.number, &bytes);
+        let answer = found.unwrap_or(Err(unrecorded()));
+        self.note(Entry::Feed(end.number, bytes, answer), found.is_some());
+        answer?;
+        Ok(ReplayFeed::new(end.number))
+    }
+
+    fn start_drain(&mut self, end: ReplayEnd) -> Result<ReplayDrain, Fault>
+        requires { 0 < self.old.journal.room }
+        ensures ok { IfOk result (λ job.
+            GivesEnds (Drain end.number (Ok tt)) 1 self.old.journal self.new.journal) }
+        ensures unasked { IfOk result (λ job. drain_view job ≡ unpolled_job end.number) }
+        ensures err { IfErr result (λ fault.
+            GivesEnds (Drain end.number (Err fault)) 1 self.old.journal self.new.journal) }
+        ensures replayed { MayReplay (Drain end.number) Fits self.old
+            (answer_of (λ job. tt) result) self.new }
+        ensures read { IfOk result
+            (λ job. bytes_of job.bytes ≡ output_of end.number self.old.recording) }
+    {
+        match found_drain(self.next(), end.number) {
+            Some(Ok(())) => match self.recording.output(end.number) {
+                Some(bytes) => {
+                    self.note(Entry::Drain(end.number, Ok(())), true);
+                    Ok(ReplayDrain::new(end.number, bytes))
+                }
+                None => {
+                    self.note(Entry::Drain(end.number, Err(no_memory())), false);
+                    Err(no_memory())
+                }
+            },
+            Some(Err(fault)) => {
+                self.note(Entry::Drain(end.number, Err(fault)), true);
+                Err(fault)
+            }
+            None => {
+                self.note(Entry::Drain(end.number, Err(unrecorded())), false);
+                Err(unrecorded())
+            }
+        }
+    }
+
+    fn reader(&mut self, end: ReplayEnd) -> ReplayReader
+        requires { 0 < self.old.journal.room }
+        ensures added { GivesEnds (Reader end.number) 1 self.old.journal
+            self.new.journal }
+        ensures told { IsUnread end.number result }
+        ensures steps { Steps self.old self.new }
+        ensures read { IfSome (left_of result)
+            (λ bytes. bytes ≡ output_of end.number self.old.recording) }
+    {
+        let agrees = is_reader(self.next(), end.number);
+        self.note(Entry::Reader(end.number), agrees);
+        ReplayReader::new(end.number, self.recording.output(end.number))
+    }
+
+    fn close(&mut self, end: ReplayEnd)
+        requires { 0 < self.old.journal.room }
+        ensures added { GivesEnds (Close end.number) 1 self.old.journal
+            self.new.journal }
+        ensures steps { Steps self.old self.new }
+    {
+        let agrees = is_close(self.next(), end.number);
+        self.note(Entry::Close(end.number), agrees);
+    }
+
+    fn journal(&self) -> &[Entry] {
+        self.journal.entries()
+    }
+
+    fn clear_journal(&mut self) {
+        self.journal.clear();
+    }
+}
