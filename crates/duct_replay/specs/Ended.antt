@@ -1,5 +1,5 @@
 -- What the children and the workers of a replay return.
-use Rattle.std.specs.Prelude.{ℕ, Bool, true, false, ◌≡◌, Ok, Err, Some, None}
+use Rattle.std.specs.Prelude.{ℕ, Bool, true, false, ◌≡◌, Ok, Some}
 use Rattle.duct_system.specs.Child.{Answer, Obeyed}
 use Rattle.duct_system.specs.declared.system.ExitStatus.{ExitStatus}
 use Rattle.duct_system.specs.declared.system.Said.{Said}
