@@ -65,9 +65,12 @@ fn write_lines<E, H, W: fmt::Write>(
     }
 }
 
-// Writes one request.
+/// Writes one request as a plan's line has it, without its place. Fails where the write fails.
 #[tactic(auto, unfolding(crate::specs::PlanForm::item_form))]
-fn write_item<E, H, W: fmt::Write>(item: &Item<'_, E, H>, f: &mut fmt::Formatter<W>) -> fmt::Result
+pub fn write_item<E, H, W: fmt::Write>(
+    item: &Item<'_, E, H>,
+    f: &mut fmt::Formatter<W>,
+) -> fmt::Result
     ensures { DisplaysOnOk W.write_str_gives f.old result
         (printed (item_form (item_of item.now))) f.new }
 {
