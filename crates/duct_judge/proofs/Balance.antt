@@ -1,11 +1,11 @@
 -- A number that does not balance is found exactly where the ends don't balance.
-use Rattle.std.specs.Prelude.{ℕ, Bool, true, false, cond, ◌==◌, ◌+◌, ◌≤◌, ◌||◌, ◌++◌, not, nat_lt, List, [], ◌∷◌, ◌≡◌, Some, None}
+use Rattle.std.specs.Prelude.{ℕ, Bool, true, false, cond, ◌++◌, List, [], ◌∷◌, ◌≡◌, Some, None}
 use Rattle.std.specs.List.{find}
 use Rattle.std.proofs.Common.{arith, refl, sym, ◌∙◌, inl, inr}
 use Rattle.std.proofs.lemmas.Bool.Decides.{nat_tests}
 use Rattle.std.proofs.lemmas.List.Folds.{find-append}
 use Rattle.duct_system.specs.EntryView.{EntryView}
-use Rattle.duct_system.specs.Ledger.{closed_numbers, count_of, opened_numbers, IsBalanced}
+use Rattle.duct_system.specs.Ledger.{closed_numbers, opened_numbers, IsBalanced}
 use Rattle.duct_start.proofs.Counts.{count-append}
 use Rattle.duct_plain.specs.Balance.{AllBalance, BalancesAt}
 use Rattle.duct_plain.proofs.Balance.{absent_or_balances}

@@ -1,5 +1,5 @@
 -- Which verdict excludes which.
-use Rattle.std.specs.Prelude.{ℕ, ◌+◌, ◌<◌, ◌≤◌, ◌↔◌, List, [], ◌∷◌, ◌≡◌, length, take, Some, None}
+use Rattle.std.specs.Prelude.{ℕ, ◌+◌, ◌≤◌, ◌↔◌, List, [], ◌∷◌, ◌≡◌, length, take, Some, None}
 use Rattle.std.proofs.Common.{arith, refl, sym, below_more}
 use Rattle.std.specs.declared.option.Option.{Option}
 use Rattle.duct_system.specs.EntryView.{EntryView}

@@ -1,5 +1,5 @@
 -- A prefix of the code's entries is one of what contracts see of them.
-use Rattle.std.proofs.Common.{◌≡◌, ◌+◌, map, take, true, sym, subst, arith, rules}
+use Rattle.std.proofs.Common.{◌≡◌, ◌+◌, map, take, true, sym, arith, rules}
 use Rattle.std.proofs.lemmas.List.{length-map, take-map}
 use Rattle.duct_system.specs.EntryView.{entry_view}
 use Rattle.duct_start.specs.Follows.{Follows}
