@@ -1,8 +1,10 @@
-//! Tests of the texts of requests: of those that a system refused, and of those that a start will
-//! make.
+//! Tests of the texts of requests: of those that a system refused, of those that a start will make,
+//! and of journals.
 #![tactic(auto)]
 
 #[cfg(test)]
 mod entries;
+#[cfg(test)]
+mod journals;
 #[cfg(test)]
 mod previewed;
