@@ -1,5 +1,4 @@
 pub mod Closing
-pub mod Copying
 pub mod Guarding
 pub mod Listed
 pub mod Prefixes

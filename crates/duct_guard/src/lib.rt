@@ -1,7 +1,6 @@
 //! A system that passes on to another one only the requests that a policy allows.
 #![tactic(auto)]
 
-mod copy;
 pub mod fixed;
 pub mod guard;
 pub mod policies;

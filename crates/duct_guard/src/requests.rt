@@ -13,9 +13,9 @@ ghost use Rattle.duct_guard.specs.Forwarded.{ForwardsEnd, IsForwarded, refusal};
 ghost use Rattle.duct_guard.specs.Rules.{Rules};
 ghost use Rattle.std.specs.Arc.{arc_value};
 
-use crate::copy::{copies_of, spec_copy};
 use crate::policy::Policy;
 use crate::streams::close_ends;
+use duct_entries::copy::{copies_of, spec_copy};
 use duct_system::spec::CommandSpec;
 use duct_system::system::{Fault, Kind, Stdio, System};
 use std::alloc::Global;

@@ -1,4 +1,2 @@
-pub mod Copying
 pub mod Following
 pub mod Replaying
-pub mod Texts

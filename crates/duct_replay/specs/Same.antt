@@ -1,11 +1,9 @@
--- Bytes with several owners, pairs of texts, and the streams of two specs.
+-- Bytes with several owners.
 use Rattle.std.specs.Prelude.{ℕ, Bool, List, ◌≡◌, ◌⊎◌, if◌then◌else◌}
-use Rattle.std.specs.Borrow.{Bor}
 use Rattle.std.specs.declared.alloc.Global.{Global}
 use Rattle.std.specs.declared.sync.Arc.{Arc}
 use Rattle.std.specs.declared.vec.Vec.{Vec}
 use Rattle.std.specs.Arc.{arc_value}
-use Rattle.duct_system.specs.SpecView.{SpecView}
 use Rattle.duct_system.specs.declared.system.Said.{Said}
 use Rattle.duct_system.specs.declared.system.Said.TheVariants.{Running, Done, Fault}
 
@@ -34,13 +32,3 @@ SaysBytes is_done bytes said = word_of said ≡ (if is_done then Done bytes else
 -- a poll returned these bytes, or Running
 abbrev pub HasRead : List ℕ → Said Shared → Type 0
 HasRead bytes said = (word_of said ≡ Done bytes) ⊎ (word_of said ≡ Running)
-
--- a borrowed spelling with a borrowed value
-abbrev pub pair_seen : Bor (List ℕ) × Bor (List ℕ) → List ℕ × List ℕ
-pair_seen pair = (pair.0.now, pair.1.now)
-
--- the streams of two specs have the same ports
-pub record HaveSamePorts (one other : SpecView) : Type 0 where
-  pub input_is : one.input ≡ other.input
-  pub output_is : one.output ≡ other.output
-  pub error_is : one.error ≡ other.error

@@ -3,10 +3,8 @@
 #![tactic(auto)]
 
 pub mod child;
-pub mod copy;
 mod found;
 pub mod reader;
 pub mod recording;
 pub mod replay;
-mod same;
 pub mod worker;

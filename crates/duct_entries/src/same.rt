@@ -1,14 +1,14 @@
 //! Whether two specs, or the streams of two children, are equal.
 ghost use Rattle.std.specs.Prelude.{◌≡◌, ◌↔◌, map, string_bytes, IfOk, IsTrue};
 ghost use Rattle.std.specs.Option.{option_copied};
-ghost use Rattle.duct_replay.specs.Same.{HaveSamePorts, pair_seen};
+ghost use Rattle.duct_entries.specs.Same.{HaveSamePorts, pair_seen};
 
 use duct_system::spec::{CommandSpec, Port, Stream};
 use duct_system::system::Stdio;
 use std::alloc::AllocError;
 
 /// Returns whether two specs are equal. Fails only at an allocation failure.
-pub(crate) fn same_spec(one: &CommandSpec, other: &CommandSpec) -> Result<bool, AllocError>
+pub fn same_spec(one: &CommandSpec, other: &CommandSpec) -> Result<bool, AllocError>
     ensures { IfOk result (λ same. IsTrue same ↔ (one.now ≡ other.now)) }
 {
     let one_vars = vars(one)?;
@@ -69,7 +69,7 @@ fn same_port(one: Port, other: Port) -> bool
 }
 
 /// Returns whether the streams of two children are equal.
-pub(crate) fn same_streams(one: &[Stdio<u64>; 3], other: &[Stdio<u64>; 3]) -> bool
+pub fn same_streams(one: &[Stdio<u64>; 3], other: &[Stdio<u64>; 3]) -> bool
     ensures { IsTrue result ↔ (one.now ≡ other.now) }
 {
     let [input, output, error] = one;

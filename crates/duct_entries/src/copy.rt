@@ -10,8 +10,8 @@ use std::alloc::{AllocError, Global};
 use std::collections::BTreeMap;
 use std::sync::Arc;
 
-/// Returns copies of these pairs of texts.
-pub(crate) fn copies_of(
+/// Returns copies of these pairs of texts. Fails only at an allocation failure.
+pub fn copies_of(
     alloc: Global,
     pairs: &[(String, String)],
 ) -> Result<Vec<(String, String)>, AllocError>
@@ -25,8 +25,8 @@ pub(crate) fn copies_of(
     Ok(copies)
 }
 
-/// Returns a copy of a spec.
-pub(crate) fn spec_copy(alloc: Global, spec: &CommandSpec) -> Result<CommandSpec, AllocError>
+/// Returns a copy of a spec. Fails only at an allocation failure.
+pub fn spec_copy(alloc: Global, spec: &CommandSpec) -> Result<CommandSpec, AllocError>
     ensures { IfOk result (λ copy. copy ≡ spec.now) }
 {
     let mut copy = bare_spec(alloc, spec)?;
@@ -87,7 +87,7 @@ fn set_variable(spec: &mut CommandSpec, name: &str, value: &str) -> Result<(), A
     }
 }
 
-/// Returns copies of these entries, as a recording takes them. Fails at an allocation failure.
+/// Returns copies of these entries, as a recording takes them. Fails only at an allocation failure.
 ///
 /// Example: `Recording::new(alloc, copies_of_entries(alloc, host.journal())?)?`
 pub fn copies_of_entries(alloc: Global, entries: &[Entry]) -> Result<Vec<Entry>, AllocError>
