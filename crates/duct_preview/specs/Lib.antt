@@ -1,2 +1,3 @@
+pub mod DotForm
 pub mod PlanForm
 pub mod Previewed

@@ -2,6 +2,7 @@
 //! is at hand here: nothing can be requested.
 #![tactic(auto)]
 
+pub mod dot;
 pub mod perform;
 pub mod preview;
 pub mod text;

@@ -1,13 +1,13 @@
 //! What the program `plan` does: it prints what `host` would request.
-ghost use Rattle.std.specs.Prelude.{◌≡◌, ◌≤◌, ℕ, List, map, string_bytes, IfOk};
+ghost use Rattle.std.specs.Prelude.{◌≡◌, ◌≤◌, ℕ, List, map, string_bytes, IfErr, IfOk};
 ghost use Rattle.std.specs.Io.KnownBytes.{Appends};
 ghost use Rattle.duct_program.specs.Parsed.{RefusesAs};
 ghost use Rattle.duct_program.specs.Status.{status_of};
 ghost use Rattle.duct_program.specs.declared.failure.Failure.TheVariants as failures;
 ghost use Rattle.duct_program.specs.declared.usage.Usage.{Usage};
-ghost use Rattle.duct_preview.specs.Previewed.{IsPreview, line_of, usage_line};
+ghost use Rattle.duct_preview.specs.Previewed.{IsPrinted, asked_of, line_of, usage_line};
 
-use crate::preview::preview;
+use crate::preview::{drawing, preview};
 use duct_program::failure::Failure;
 use duct_program::usage::Usage;
 use std::alloc::Global;
@@ -15,23 +15,49 @@ use std::io;
 use std::io::Write;
 
 /// Does the program's work and returns its exit status. What the arguments' start requests is
-/// written to `out`, and the status is 0. An error in the arguments is written to `err` with
-/// `plan: ` before it and a newline after it, and the status is 2; at an allocation failure that is
-/// said so, and the status is 1. The status is also 1 where the write fails; a part of the text may
-/// then be written. It blocks as the writers do.
+/// written to `out`, and the status is 0: as `preview` has it or, where the first argument is
+/// `--dot`, as `drawing` has it for the arguments after that. An error in the arguments is written
+/// to `err` with `plan: ` before it and a newline after it, and the status is 2; at an allocation
+/// failure that is said so, and the status is 1. The status is also 1 where the write fails; a part
+/// of the text may then be written. It blocks as the writers do.
 pub fn perform<O: Write, E: Write>(alloc: Global, args: &[String], out: &mut O, err: &mut E) -> u8
     ensures text { result ≡ 0 → (text : List ℕ)
-        × IsPreview (line_of (map string_bytes args.now)) text
+        × IsPrinted (asked_of (map string_bytes args.now)) text
         × Appends (O.contents out.old) (O.contents out.new) text × (err.new ≡ err.old) }
     ensures usage { result ≡ 2 → (usage : Usage)
-        × RefusesAs usage (line_of (map string_bytes args.now))
+        × RefusesAs usage (line_of (asked_of (map string_bytes args.now)).1)
         × Appends (E.contents err.old) (E.contents err.new) (usage_line usage)
         × (out.new ≡ out.old) }
     ensures status { result ≤ 2 }
 {
-    match preview(alloc, args) {
+    match printed(alloc, args) {
         Ok(text) => print_text(&text, out).unwrap_or(1),
         Err(usage) => print_usage(usage, err).unwrap_or(1),
+    }
+}
+
+// Returns what the program prints for its arguments.
+fn printed(alloc: Global, args: &[String]) -> Result<String, Usage>
+    ensures text { IfOk result
+        (λ text. IsPrinted (asked_of (map string_bytes args.now)) (string_bytes text)) }
+    ensures usage { IfErr result
+        (λ usage. RefusesAs usage (line_of (asked_of (map string_bytes args.now)).1)) }
+{
+    let asked = asked_of(args);
+    if asked.0 {
+        drawing(alloc, asked.1)
+    } else {
+        preview(alloc, asked.1)
+    }
+}
+
+// Returns whether the first argument asks for a drawing, and the arguments of the line.
+fn asked_of(args: &[String]) -> (bool, &[String])
+    ensures { (result.0, map string_bytes result.1.now) ≡ asked_of (map string_bytes args.now) }
+{
+    match args.split_first() {
+        Some((first, words)) if first.as_str() == "--dot" => (true, words),
+        _ => (false, args),
     }
 }
 

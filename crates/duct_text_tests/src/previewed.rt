@@ -1,5 +1,6 @@
 //! What a start will request, before anything runs.
 use duct_plan::plan::plan;
+use duct_preview::dot::PlanDot;
 use duct_preview::perform::perform;
 use duct_preview::text::PlanText;
 use duct_script::system::ScriptEnd;
@@ -93,5 +94,35 @@ fn a_line_with_an_empty_command(rt: HostRuntime) -> Result<(), Fail> {
     let (status, out, err) = printed(rt.alloc(), &["a", "|"])?;
     assert_eq!(rt; String::from_utf8(err)?.as_str(), "plan: empty command\n");
     assert_eq!(rt; (status, out.len()), (2, 0));
+    Ok(())
+}
+
+/// Checks the drawing of the arguments after `--dot`, with quotes and backslashes.
+#[test]
+fn a_line_drawn(rt: HostRuntime) -> Result<(), Fail> {
+    let words = [
+        "--dot", "--stdin", "x", "a", "b \"c\\", "|", "--dot", "2>", "err",
+    ];
+    let (status, out, err) = printed(rt.alloc(), &words)?;
+    let wanted = "digraph plan {\n  rankdir=LR;\n  n1 [shape=point];\n  n2 [shape=point];\n  \
+        n3 [shape=point];\n  n4 [label=\"a\" + \" \" + \"b \\\"c\\\\\", shape=box];\n  n2 -> n4;\n  \
+        n4 -> n3;\n  n4 -> stderr [label=stderr];\n  n5 [label=\"err\", shape=note];\n  \
+        n6 [label=\"--dot\", shape=box];\n  n3 -> n6;\n  n6 -> n1;\n  n6 -> n5 [label=stderr];\n  \
+        n7 [label=\"input worker\"];\n  n7 -> n2;\n  n8 [label=\"reader\"];\n  n1 -> n8;\n}\n";
+    assert_eq!(rt; String::from_utf8(out)?.as_str(), wanted);
+    assert_eq!(rt; (status, err.len()), (0, 0));
+    Ok(())
+}
+
+#[test]
+fn streams_drawn(rt: HostRuntime) -> Result<(), Fail> {
+    let text = "echo stdin_null stdout_file=8 stderr_capture";
+    let command = written(rt.alloc(), None, text)?;
+    let plan = plan(rt.alloc(), &command)?;
+    let found = PlanDot(&plan).to_string(rt.alloc())?;
+    let wanted = "digraph plan {\n  rankdir=LR;\n  n1 [shape=point];\n  n2 [label=\"echo\", \
+        shape=box];\n  nothing -> n2;\n  n2 -> caller;\n  n2 -> n1 [label=stderr];\n  \
+        n3 [label=\"capture worker\"];\n  n1 -> n3;\n}\n";
+    assert_eq!(rt; found.as_str(), wanted);
     Ok(())
 }
