@@ -1,16 +1,17 @@
 -- What the journal below has when a guard notes one more entry, and what follows from it.
-use Rattle.std.specs.Prelude.{ℕ, List, [], ◌∷◌, ◌++◌, Bool, true, false, ◌||◌, length, map, take, Ok, Err, IfOk, IfErr, OnOk, OnErr, Some, None}
+use Rattle.std.specs.Prelude.{ℕ, List, [], ◌∷◌, ◌++◌, Bool, true, false, ◌&&◌, ◌||◌, length, map, take, nat_le, Ok, Err, IfOk, IfErr, OnOk, OnErr, Some, None}
 use Rattle.std.specs.List.{list_all}
 use Rattle.std.specs.declared.option.Option.{Option}
 use Rattle.std.specs.declared.result.Result.{Result}
 use Rattle.std.proofs.Common.{◌≡◌, refl, ap, sym, subst, ◌∙◌, arith, append_assoc, ◌+◌, ◌-◌, ◌≤◌, ◌⊎◌, inl, inr}
+use Rattle.std.proofs.lemmas.Bool.{and_parts}
 use Rattle.std.proofs.lemmas.List.{append-nil, length-take}
 use Rattle.std.proofs.lemmas.List.Folds.{list_all-append}
 use Rattle.std.proofs.Math.Nat.{le_refl}
 use mathlib.Core.Bool.{Bool-set}
 use mathlib.Core.Logic.{∥∥₁_map, ∥∥₁_elim}
-use Rattle.duct_system.specs.EntryView.{EntryView, Environment, Canonicalize, Spawn, Close}
-use Rattle.duct_system.specs.Journal.{JournalView, Adds, AddsNothing, GetsEnd, IsNew, IsRefused}
+use Rattle.duct_system.specs.EntryView.{EntryView, Environment, Pipe, Canonicalize, Spawn, Close}
+use Rattle.duct_system.specs.Journal.{JournalView, Adds, AddsNothing, GetsEnd, GetsEnds, IsNew, IsRefused}
 use Rattle.duct_system.specs.Ledger.{opened_by, closed_by}
 use Rattle.duct_system.specs.SpecView.{SpecView, Vars}
 use Rattle.duct_system.specs.Streams.{ends_of}
@@ -21,34 +22,40 @@ use Rattle.duct_system.specs.declared.system.Stdio.{Stdio}
 use Rattle.duct_guard.specs.Allowed.{is_allowed, is_denial, AreAllowed, AreDenied}
 use Rattle.duct_guard.specs.Answer.{answer_of}
 use Rattle.duct_guard.specs.Closed.{ClosesFirst}
-use Rattle.duct_guard.specs.Forwarded.{refusal, Forwards, Passed, Refused, LostVars, LostPath, ForwardsAll, IsForwarded}
+use Rattle.duct_guard.specs.Forwarded.{allows_spawn, may_ask, refusal, Forwards, Passed, Refused, LostVars, LostPath, ForwardsAll, IsForwarded}
+use Rattle.duct_guard.specs.Held.{held_after, is_within, with_entry}
 use Rattle.duct_guard.specs.Rules.{Rules}
+use Rattle.duct_guard.specs.declared.counts.Counts.{Counts}
 
 module _ (rules : Rules) where
-  append_one : (entries below : List EntryView) (entry : EntryView) (asked : List EntryView)
-      → ForwardsAll rules entries below → Forwards rules entry asked
-      → ForwardsAll rules (entries ++ entry ∷ []) (below ++ asked)
-  append_one [] below entry asked none one =
+  append_one : (held : Counts) (entries below : List EntryView) (entry : EntryView)
+      (asked : List EntryView) → ForwardsAll rules held entries below
+      → Forwards rules (held_after held entries) entry asked
+      → ForwardsAll rules held (entries ++ entry ∷ []) (below ++ asked)
+  append_one held [] below entry asked none one =
       (asked, [], ap (λ l. l ++ asked) none ∙ sym (append-nil asked), one, refl)
-  append_one (e ∷ es) below entry asked all one =
-      (all.0, all.1 ++ asked, ap (λ l. l ++ asked) all.2 ∙ append_assoc all.0 all.1 asked, all.3, append_one es all.1 entry asked all.4 one)
+  append_one held (e ∷ es) below entry asked all one =
+      (all.0, all.1 ++ asked, ap (λ l. l ++ asked) all.2 ∙ append_assoc all.0 all.1 asked, all.3, append_one (with_entry held e) es all.1 entry asked all.4 one)
 
   -- a guard that noted nothing yet, over an empty journal
-  pub nothing_noted : (own below : List EntryView) → own ≡ [] → below ≡ []
-      → ∥ ForwardsAll rules own below ∥₁
-  nothing_noted own below none empty = ∣ subst (λ l. ForwardsAll rules l below) (sym none) empty ∣₁
+  pub nothing_noted : (held : Counts) (own below : List EntryView) → own ≡ [] → below ≡ []
+      → ∥ ForwardsAll rules held own below ∥₁
+  nothing_noted held own below none empty = ∣ subst (λ l. ForwardsAll rules held l below) (sym none) empty ∣₁
 
   -- a guard that noted one more entry
-  pub one_noted : (own more : List EntryView) (entry : EntryView) (old new : JournalView)
-      → ∥ ForwardsAll rules own old.entries ∥₁ → IsForwarded rules entry old new
-      → more ≡ own ++ entry ∷ [] → ∥ ForwardsAll rules more new.entries ∥₁
-  one_noted own more entry old new forwards forwarded is =
-      rw (is, forwarded.entries_are) (∥∥₁_map forwards (λ all. append_one own old.entries entry forwarded.asked all forwarded.forwards))
+  pub one_noted : (earlier held : Counts) (own more : List EntryView) (entry : EntryView)
+      (old new : JournalView) → ∥ ForwardsAll rules earlier own old.entries ∥₁
+      → held ≡ held_after earlier own → IsForwarded rules held entry old new
+      → more ≡ own ++ entry ∷ [] → ∥ ForwardsAll rules earlier more new.entries ∥₁
+  one_noted earlier held own more entry old new forwards counted forwarded is =
+      let sent : Forwards rules (held_after earlier own) entry forwarded.asked = subst (λ h. Forwards rules h entry forwarded.asked) counted forwarded.forwards in
+      rw (is, forwarded.entries_are) (∥∥₁_map forwards (λ all. append_one earlier own old.entries entry forwarded.asked all sent))
 
+module _ (rules : Rules) (held : Counts) where
   -- an allowed request that was passed on
-  pub passed : (entry : EntryView) (old new : JournalView) → is_allowed rules entry ≡ true
+  pub passed : (entry : EntryView) (old new : JournalView) → may_ask rules held entry ≡ true
       → Adds entry (length (opened_by entry)) (length (closed_by entry)) old new
-      → IsForwarded rules entry old new
+      → IsForwarded rules held entry old new
   passed entry old new allowed adds = record {
     asked = entry ∷ [];
     forwards = Passed allowed refl;
@@ -59,8 +66,8 @@ module _ (rules : Rules) where
 
   -- a request that takes no end and was not asked
   pub unasked : (entry : EntryView) (old new : JournalView)
-      → fault_of entry ≡ Some (refusal (is_allowed rules entry)) → opened_by entry ≡ []
-      → AddsNothing old new → IsForwarded rules entry old new
+      → fault_of entry ≡ Some (refusal (may_ask rules held entry)) → opened_by entry ≡ []
+      → AddsNothing old new → IsForwarded rules held entry old new
   unasked entry old new fault opened nothing = record {
     asked = [];
     forwards = Refused 0 fault refl;
@@ -71,8 +78,8 @@ module _ (rules : Rules) where
 
   -- an allowed request that failed below
   pub failed : (entry : EntryView) (fault : Fault) (old new : JournalView)
-      → is_allowed rules entry ≡ true → fault_of entry ≡ Some fault → opened_by entry ≡ []
-      → IsRefused entry (length (closed_by entry)) fault old new → IsForwarded rules entry old new
+      → may_ask rules held entry ≡ true → fault_of entry ≡ Some fault → opened_by entry ≡ []
+      → IsRefused entry (length (closed_by entry)) fault old new → IsForwarded rules held entry old new
   failed entry fault old new allowed is opened (inl adds) =
       passed entry old new allowed (subst (λ l. Adds entry (length l) (length (closed_by entry)) old new) (sym opened) adds)
   failed entry fault old new allowed is opened (inr refused) =
@@ -81,8 +88,8 @@ module _ (rules : Rules) where
 
   -- a request that was refused here, whose ends were closed
   pub closed : (entry : EntryView) (room : ℕ) (old new : JournalView)
-      → fault_of entry ≡ Some (refusal (is_allowed rules entry)) → opened_by entry ≡ []
-      → ClosesFirst room (closed_by entry) old new → IsForwarded rules entry old new
+      → fault_of entry ≡ Some (refusal (may_ask rules held entry)) → opened_by entry ≡ []
+      → ClosesFirst room (closed_by entry) old new → IsForwarded rules held entry old new
   closed entry room old new fault opened closes = record {
     asked = map Close (take room (closed_by entry));
     forwards = Refused room fault refl;
@@ -93,9 +100,9 @@ module _ (rules : Rules) where
 
   -- a request for a worker that was refused here, whose end was closed
   pub one_closed : (entry : EntryView) (n : ℕ) (fault : Fault) (old new : JournalView)
-      → is_allowed rules entry ≡ true → fault_of entry ≡ Some fault → fault ≡ refusal true
+      → may_ask rules held entry ≡ true → fault_of entry ≡ Some fault → fault ≡ refusal true
       → opened_by entry ≡ [] → closed_by entry ≡ n ∷ [] → Adds (Close n) 0 1 old new
-      → IsForwarded rules entry old new
+      → IsForwarded rules held entry old new
   one_closed entry n fault old new allowed noted is opened one adds = record {
     asked = Close n ∷ [];
     forwards = Refused 1 (rw (noted, is, allowed) refl) (rw one refl);
@@ -107,18 +114,37 @@ module _ (rules : Rules) where
   -- the result of a request for an end, which takes none
   pub end_answered : {E : Type 0} (number : E → ℕ) (entry : Result ℕ Fault → EntryView)
       (old new : JournalView) (made : Result E Fault)
-      → ((answer : Result ℕ Fault) → is_allowed rules (entry answer) ≡ true)
+      → ((answer : Result ℕ Fault) → may_ask rules held (entry answer) ≡ true)
       → ((n : ℕ) → opened_by (entry (Ok n)) ≡ n ∷ [])
       → ((fault : Fault) → opened_by (entry (Err fault)) ≡ [])
       → ((answer : Result ℕ Fault) → closed_by (entry answer) ≡ [])
       → ((fault : Fault) → fault_of (entry (Err fault)) ≡ Some fault)
       → IfOk made (λ end. GetsEnd (entry (Ok (number end))) (number end) old new)
       → IfErr made (λ fault. IsRefused (entry (Err fault)) 0 fault old new)
-      → IsForwarded rules (entry (answer_of number made)) old new
+      → IsForwarded rules held (entry (answer_of number made)) old new
   end_answered number entry old new (Ok end) allowed one none closed fault ok err =
       passed (entry (Ok (number end))) old new (allowed (Ok (number end))) (rw (one (number end), closed (Ok (number end))) ok.0)
   end_answered number entry old new (Err f) allowed one none closed fault ok err =
       failed (entry (Err f)) f old new (allowed (Err f)) (fault f) (none f) (rw (closed (Err f)) err)
+
+  -- the result of a request for a pipe
+  pub pipe_passed : {E : Type 0} (number : E → ℕ) (old new : JournalView)
+      (made : Result (E × E) Fault) → nat_le (held.ends + 2) rules.limits.ends ≡ true
+      → IfOk made (λ ends. GetsEnds (Pipe (Ok (number ends.0, number ends.1))) (number ends.0)
+      (number ends.1) old new)
+      → IfOk made (λ ends. IsForwarded rules held (Pipe (Ok (number ends.0, number ends.1))) old new
+      × GetsEnds (Pipe (Ok (number ends.0, number ends.1))) (number ends.0) (number ends.1) old
+      new)
+  pipe_passed number old new (Ok ends) allowed ok = (passed _ old new allowed ok.0, ok)
+  pipe_passed number old new (Err fault) allowed ok = tt
+
+  pub pipe_failed : {T : Type 0} (old new : JournalView) (made : Result T Fault)
+      → nat_le (held.ends + 2) rules.limits.ends ≡ true
+      → IfErr made (λ fault. IsRefused (Pipe (Err fault)) 0 fault old new)
+      → IfErr made (λ fault. IsForwarded rules held (Pipe (Err fault)) old new)
+  pipe_failed old new (Ok made) allowed err = tt
+  pipe_failed old new (Err fault) allowed err =
+      failed (Pipe (Err fault)) fault old new allowed refl refl err
 
   -- the room after a request for an end: the guard's own stays below that of the inner system
   pub end_room : {E : Type 0} (number : E → ℕ) (entry : Result ℕ Fault → EntryView)
@@ -128,7 +154,7 @@ module _ (rules : Rules) where
       → ((answer : Result ℕ Fault) → closed_by (entry answer) ≡ [])
       → own ≤ old.room → ready ≡ own + 1 + 1
       → OnOk made (left ≡ ready - 1) → OnErr made (left ≡ ready - 2)
-      → IsForwarded rules (entry (answer_of number made)) old new → left ≤ new.room
+      → IsForwarded rules held (entry (answer_of number made)) old new → left ≤ new.room
   end_room number entry old new (Ok end) own ready left one none closed within is ok err sent =
       let room : old.room + 1 ≤ new.room + 0 = rw (one (number end), closed (Ok (number end))) at sent.room_is in
       omega arith
@@ -139,12 +165,12 @@ module _ (rules : Rules) where
   -- the result of a request for a worker, which takes an end
   pub worker_answered : {J : Type 0} (entry : Result (Unit {0}) Fault → EntryView) (n : ℕ)
       (old new : JournalView) (made : Result J Fault)
-      → ((answer : Result (Unit {0}) Fault) → is_allowed rules (entry answer) ≡ true)
+      → ((answer : Result (Unit {0}) Fault) → may_ask rules held (entry answer) ≡ true)
       → ((answer : Result (Unit {0}) Fault) → opened_by (entry answer) ≡ [])
       → ((answer : Result (Unit {0}) Fault) → closed_by (entry answer) ≡ n ∷ [])
       → IfOk made (λ job. Adds (entry (Ok tt)) 0 1 old new)
       → IfErr made (λ fault. Adds (entry (Err fault)) 0 1 old new)
-      → IsForwarded rules (entry (answer_of (λ job. tt) made)) old new
+      → IsForwarded rules held (entry (answer_of (λ job. tt) made)) old new
   worker_answered entry n old new (Ok job) allowed none closed ok err =
       passed (entry (Ok tt)) old new (allowed (Ok tt)) (rw (none (Ok tt), closed (Ok tt)) ok)
   worker_answered entry n old new (Err f) allowed none closed ok err =
@@ -153,11 +179,11 @@ module _ (rules : Rules) where
   -- the result of a spawn by a copy of the spec
   pub child_answered : {C : Type 0} (number : C → ℕ) (spec copy : SpecView)
       (io : List (Stdio ℕ)) (count : ℕ) (old new : JournalView) (made : Result C Fault)
-      → rules.spawns spec ≡ true → spec ≡ copy → length (ends_of io) ≡ count
+      → allows_spawn rules held spec ≡ true → spec ≡ copy → length (ends_of io) ≡ count
       → IfOk made (λ child. Adds (Spawn copy io (Ok (number child))) 0 count old new
       × IsNew old new (number child))
       → IfErr made (λ fault. IsRefused (Spawn copy io (Err fault)) count fault old new)
-      → IsForwarded rules (Spawn spec io (answer_of number made)) old new
+      → IsForwarded rules held (Spawn spec io (answer_of number made)) old new
   child_answered number spec copy io count old new (Ok child) allowed same counted ok err =
       passed (Spawn spec io (Ok (number child))) old new allowed (rw (same, counted) ok.0)
   child_answered number spec copy io count old new (Err fault) allowed same counted ok err =
@@ -166,7 +192,7 @@ module _ (rules : Rules) where
   -- the environment, and a canonical path, for whose copy there was no memory
   pub lost_vars : (vars : Vars) (fault : Fault) (old new : JournalView) → fault ≡ refusal true
       → Adds (Environment (Ok vars)) 0 0 old new
-      → IsForwarded rules (Environment (Err fault)) old new
+      → IsForwarded rules held (Environment (Err fault)) old new
   lost_vars vars fault old new is adds = record {
     asked = Environment (Ok vars) ∷ [];
     forwards = LostVars vars (ap (λ f. Environment (Err f)) is) refl;
@@ -178,7 +204,7 @@ module _ (rules : Rules) where
   pub lost_path : (path name : List ℕ) (fault : Fault) (old new : JournalView)
       → rules.canonicalizes path ≡ true → fault ≡ refusal true
       → Adds (Canonicalize path (Ok name)) 0 0 old new
-      → IsForwarded rules (Canonicalize path (Err fault)) old new
+      → IsForwarded rules held (Canonicalize path (Err fault)) old new
   lost_path path name fault old new allowed is adds = record {
     asked = Canonicalize path (Ok name) ∷ [];
     forwards = LostPath path name allowed (ap (λ f. Canonicalize path (Err f)) is) refl;
@@ -189,57 +215,61 @@ module _ (rules : Rules) where
 
   -- a request that is forbidden and takes no end
   pub forbidden : (entry : EntryView) (fault : Fault) (view : JournalView)
-      → is_allowed rules entry ≡ false → fault_of entry ≡ Some fault → fault ≡ refusal false
-      → opened_by entry ≡ [] → IsForwarded rules entry view view
+      → may_ask rules held entry ≡ false → fault_of entry ≡ Some fault → fault ≡ refusal false
+      → opened_by entry ≡ [] → IsForwarded rules held entry view view
   forbidden entry fault view denied noted is opened =
       unasked entry view view (rw (noted, is, denied) refl) opened (record
       { entries_are = refl; added_is = refl; next_grows = le_refl view.next; room_grows = le_refl view.room })
 
+module _ (rules : Rules) where
   closes_allowed : (numbers : List ℕ) → AreAllowed rules (map Close numbers)
   closes_allowed [] = refl
   closes_allowed (n ∷ ns) = closes_allowed ns
 
-  asked_allowed : (entry : EntryView) (asked : List EntryView) → Forwards rules entry asked
+  asked_allowed : (held : Counts) (entry : EntryView) (asked : List EntryView) → Forwards rules held entry asked
       → AreAllowed rules asked
-  asked_allowed entry asked (Passed allowed is) = rw (is, allowed) refl
-  asked_allowed entry asked (Refused count fault is) =
+  asked_allowed held entry asked (Passed allowed is) =
+      rw (is, (and_parts (is_allowed rules entry) (is_within rules.limits held entry) allowed).0) refl
+  asked_allowed held entry asked (Refused count fault is) =
       subst (AreAllowed rules) (sym is) (closes_allowed (take count (closed_by entry)))
-  asked_allowed entry asked (LostVars vars noted is) = rw is refl
-  asked_allowed entry asked (LostPath path name allowed noted is) = rw (is, allowed) refl
+  asked_allowed held entry asked (LostVars vars noted is) = rw is refl
+  asked_allowed held entry asked (LostPath path name allowed noted is) = rw (is, allowed) refl
 
   both_allowed : (one other : List EntryView) → AreAllowed rules one → AreAllowed rules other
       → AreAllowed rules (one ++ other)
   both_allowed one other first second = rw (list_all-append (is_allowed rules) one other, first) second
 
-  all_allowed : (entries below : List EntryView) → ForwardsAll rules entries below
+  all_allowed : (held : Counts) (entries below : List EntryView) → ForwardsAll rules held entries below
       → AreAllowed rules below
-  all_allowed [] below none = rw none refl
-  all_allowed (e ∷ es) below all =
-      rw all.2 (both_allowed all.0 all.1 (asked_allowed e all.0 all.3) (all_allowed es all.1 all.4))
+  all_allowed held [] below none = rw none refl
+  all_allowed held (e ∷ es) below all =
+      rw all.2 (both_allowed all.0 all.1 (asked_allowed held e all.0 all.3) (all_allowed (with_entry held e) es all.1 all.4))
 
-  denial : (allowed : Bool) (fault : Option Fault) → fault ≡ Some (refusal allowed)
+  denial : (allowed fits : Bool) (fault : Option Fault) → fault ≡ Some (refusal (allowed && fits))
       → (allowed || is_denial fault) ≡ true
-  denial true fault is = refl
-  denial false fault is = rw is refl
+  denial true fits fault is = refl
+  denial false fits fault is = rw is refl
 
-  entry_denied : (entry : EntryView) (asked : List EntryView) → Forwards rules entry asked
+  entry_denied : (held : Counts) (entry : EntryView) (asked : List EntryView) → Forwards rules held entry asked
       → (is_allowed rules entry || is_denial (fault_of entry)) ≡ true
-  entry_denied entry asked (Passed allowed is) = rw allowed refl
-  entry_denied entry asked (Refused count fault is) = denial (is_allowed rules entry) (fault_of entry) fault
-  entry_denied entry asked (LostVars vars noted is) = rw noted refl
-  entry_denied entry asked (LostPath path name allowed noted is) = rw (noted, allowed) refl
+  entry_denied held entry asked (Passed allowed is) =
+      rw (and_parts (is_allowed rules entry) (is_within rules.limits held entry) allowed).0 refl
+  entry_denied held entry asked (Refused count fault is) =
+      denial (is_allowed rules entry) (is_within rules.limits held entry) (fault_of entry) fault
+  entry_denied held entry asked (LostVars vars noted is) = rw noted refl
+  entry_denied held entry asked (LostPath path name allowed noted is) = rw (noted, allowed) refl
 
-  all_denied : (entries below : List EntryView) → ForwardsAll rules entries below
+  all_denied : (held : Counts) (entries below : List EntryView) → ForwardsAll rules held entries below
       → AreDenied rules entries
-  all_denied [] below none = refl
-  all_denied (e ∷ es) below all = rw (entry_denied e all.0 all.3) (all_denied es all.1 all.4)
+  all_denied held [] below none = refl
+  all_denied held (e ∷ es) below all = rw (entry_denied held e all.0 all.3) (all_denied (with_entry held e) es all.1 all.4)
 
   -- the journal below has allowed requests alone
-  pub below_allowed : (own below : List EntryView) → ∥ ForwardsAll rules own below ∥₁
+  pub below_allowed : (held : Counts) (own below : List EntryView) → ∥ ForwardsAll rules held own below ∥₁
       → AreAllowed rules below
-  below_allowed own below forwards = ∥∥₁_elim forwards (Bool-set _ _) (all_allowed own below)
+  below_allowed held own below forwards = ∥∥₁_elim forwards (Bool-set _ _) (all_allowed held own below)
 
   -- each forbidden request of the guard was denied
-  pub own_denied : (own below : List EntryView) → ∥ ForwardsAll rules own below ∥₁
+  pub own_denied : (held : Counts) (own below : List EntryView) → ∥ ForwardsAll rules held own below ∥₁
       → AreDenied rules own
-  own_denied own below forwards = ∥∥₁_elim forwards (Bool-set _ _) (all_denied own below)
+  own_denied held own below forwards = ∥∥₁_elim forwards (Bool-set _ _) (all_denied held own below)

@@ -1,11 +1,15 @@
 -- What contracts see of a guard.
 use Rattle.duct_system.specs.Journal.{JournalView}
+use Rattle.duct_guard.specs.declared.counts.Counts.{Counts}
 
--- the system below, the policy, and the guard's own journal, whose count of numbers isn't used
+-- the system below, the policy, and the guard's own journal, whose count of numbers isn't used; what
+-- was held when the journal was cleared last, and what is held now
 pub record GuardView (S P : Type 0) : Type 0 where
   pub inner : S
   pub policy : P
   pub journal : JournalView
+  pub earlier : Counts
+  pub held : Counts
 
 -- its journal as a system: its own one, with the count of numbers of the system below
 abbrev pub guard_journal : {S P : Type 0} → (S → JournalView) → GuardView S P → JournalView

@@ -3,5 +3,6 @@ pub mod Answer
 pub mod Closed
 pub mod Forwarded
 pub mod GuardView
+pub mod Held
 pub mod Policies
 pub mod Rules

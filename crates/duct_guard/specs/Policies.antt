@@ -1,8 +1,13 @@
 -- What the policies allow that come with the guard.
-use Rattle.std.specs.Prelude.{ℕ, Bool, true, false, ◌&&◌, not, List, [], ◌∷◌, bytes_eq}
+use Rattle.std.specs.Prelude.{ℕ, Bool, true, false, ◌&&◌, not, min, List, [], ◌∷◌, bytes_eq}
 use Rattle.std.specs.List.{list_any, starts_with}
 use Rattle.std.specs.Path.{path_components, parent_dir}
 use Rattle.duct_guard.specs.Rules.{Rules}
+use Rattle.duct_guard.specs.declared.counts.Counts.{Counts}
+
+-- the limits of a policy that has none: more than any machine has
+abbrev pub unlimited : Counts
+unlimited = record { ends = 18446744073709551615; children = 18446744073709551615 }
 
 -- everything
 abbrev pub all_allowed : Rules
@@ -11,11 +16,19 @@ all_allowed = record {
   reads = λ path. true;
   creates = λ path. true;
   canonicalizes = λ path. true;
+  limits = unlimited;
 }
 
 -- all but to create files
 abbrev pub read_only : Rules
 read_only = record all_allowed { creates = λ path. false }
+
+-- what keeps within two limits
+abbrev pub least : Counts → Counts → Counts
+least one other = record {
+  ends = min one.ends other.ends;
+  children = min one.children other.children;
+}
 
 -- what both allow
 abbrev pub both_rules : Rules → Rules → Rules
@@ -24,7 +37,12 @@ both_rules one other = record {
   reads = λ path. one.reads path && other.reads path;
   creates = λ path. one.creates path && other.creates path;
   canonicalizes = λ path. one.canonicalizes path && other.canonicalizes path;
+  limits = least one.limits other.limits;
 }
+
+-- everything within these limits
+abbrev pub limit_rules : Counts → Rules
+limit_rules limits = record all_allowed { limits = limits }
 
 -- whether a text is one of these
 abbrev pub is_listed : List (List ℕ) → List ℕ → Bool

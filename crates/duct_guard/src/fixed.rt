@@ -3,6 +3,7 @@ ghost use Rattle.std.specs.Prelude.{◌≡◌};
 ghost use Rattle.duct_guard.specs.Rules.{Rules};
 ghost use Rattle.duct_guard.specs.Policies.{all_allowed};
 
+use crate::counts::Counts;
 use crate::policy::Policy;
 use duct_system::spec::CommandSpec;
 use std::marker::{Brand, PhantomData};
@@ -57,5 +58,9 @@ impl<P: Policy, K: FixedRules> Policy for Fixed<P, K> {
 
     fn allows_canonicalize(&self, path: &str) -> bool {
         self.policy.allows_canonicalize(path)
+    }
+
+    fn limits(&self) -> Counts {
+        self.policy.limits()
     }
 }

@@ -5,13 +5,15 @@ ghost use Rattle.duct_system.specs.declared.system.Kind.TheVariants.{OutOfMemory
 ghost use Rattle.duct_guard.specs.Allowed.{AreAllowed, AreDenied};
 ghost use Rattle.duct_guard.specs.Answer.{answer_of};
 ghost use Rattle.duct_guard.specs.Closed.{ClosesFirst};
-ghost use Rattle.duct_guard.specs.Forwarded.{ForwardsAll};
+ghost use Rattle.duct_guard.specs.Forwarded.{ForwardsAll, allows_spawn};
 ghost use Rattle.duct_guard.specs.GuardView.{GuardView};
+ghost use Rattle.duct_guard.specs.Held.{AlwaysFits, Fits, held_after, nothing_held};
 
+use crate::counts::Counts;
 use crate::policy::Policy;
 use crate::requests::{
-    canonicalize_twice, create_allowed, environment_twice, no_memory, open_read_allowed,
-    spawn_allowed, start_shared_feed,
+    canonicalize_twice, create_allowed, duplicate_allowed, environment_twice, no_memory,
+    open_read_allowed, parent_allowed, pipe_allowed, spawn_allowed, start_shared_feed,
 };
 use crate::streams::{numbered_streams, prepare_spawn};
 use duct_system::journal::Journal;
@@ -34,9 +36,13 @@ pub struct Guarded<S: System, P: Policy> {
     inner: S,
     policy: P,
     journal: Journal,
+    earlier: Counts,
+    held: Counts,
     ghost within: { journal.room ≤ (S.journal_view inner).room },
-    ghost forwards: { ∥ ForwardsAll (P.rules policy) journal.entries
+    ghost forwards: { ∥ ForwardsAll (P.rules policy) earlier journal.entries
         (S.journal_view inner).entries ∥₁ },
+    ghost counted: { held ≡ held_after earlier journal.entries },
+    ghost fits: { Fits (P.rules policy).limits earlier },
 }
 
 impl<S: System, P: Policy> Model for Guarded<S, P> {
@@ -44,7 +50,13 @@ impl<S: System, P: Policy> Model for Guarded<S, P> {
 
     ghost Value = { GuardView S P };
 
-    ghost view = { λ g. record { inner = g.inner; policy = g.policy; journal = g.journal } };
+    ghost view = { λ g. record {
+      inner = g.inner;
+      policy = g.policy;
+      journal = g.journal;
+      earlier = g.earlier;
+      held = g.held;
+    } };
 }
 
 impl<S: System, P: Policy> Guarded<S, P> {
@@ -56,11 +68,15 @@ impl<S: System, P: Policy> Guarded<S, P> {
         ensures policy { result.policy ≡ policy }
         ensures journal { result.journal
             ≡ record { entries = []; added = 0; next = 1; room = 0 } }
+        ensures earlier { result.earlier ≡ nothing_held }
+        ensures held { result.held ≡ nothing_held }
     {
         Guarded {
             inner,
             policy,
             journal: Journal::new(alloc),
+            earlier: Counts::nothing(),
+            held: Counts::nothing(),
         }
     }
 
@@ -70,8 +86,8 @@ impl<S: System, P: Policy> Guarded<S, P> {
         ensures same { result.now ≡ self.now.inner }
         ensures allowed { AreAllowed (P.rules self.now.policy)
             (S.journal_view result.now).entries }
-        ensures forwards { ∥ ForwardsAll (P.rules self.now.policy) self.now.journal.entries
-            (S.journal_view result.now).entries ∥₁ }
+        ensures forwards { ∥ ForwardsAll (P.rules self.now.policy) self.now.earlier
+            self.now.journal.entries (S.journal_view result.now).entries ∥₁ }
     {
         &self.inner
     }
@@ -84,12 +100,25 @@ impl<S: System, P: Policy> Guarded<S, P> {
     }
 
     /// Returns the entries of the guard's own journal, oldest first. Each that the policy doesn't
-    /// allow failed with `PermissionDenied`.
+    /// allow failed with `PermissionDenied`. Neither before nor after any of them more is held than
+    /// the policy's limits.
     pub fn asked(&self) -> &[Entry]
         ensures same { map entry_view result.now ≡ self.now.journal.entries }
         ensures denied { AreDenied (P.rules self.now.policy) (map entry_view result.now) }
+        ensures fits { AlwaysFits (P.rules self.now.policy).limits self.now.earlier
+            (map entry_view result.now) }
     {
         self.journal.entries()
+    }
+
+    /// Returns how many ends are open and how many children were started, by all requests of the
+    /// guard. It is never more than the policy's limits.
+    pub fn held(&self) -> Counts
+        ensures same { result ≡ self.now.held }
+        ensures counted { result ≡ held_after self.now.earlier self.now.journal.entries }
+        ensures fits { Fits (P.rules self.now.policy).limits result }
+    {
+        self.held
     }
 
     /// Returns the system below, whose journal has only requests that the policy allows, and the
@@ -98,13 +127,15 @@ impl<S: System, P: Policy> Guarded<S, P> {
         ensures inner { result.0 ≡ self.inner }
         ensures policy { result.1 ≡ self.policy }
         ensures allowed { AreAllowed (P.rules result.1) (S.journal_view result.0).entries }
-        ensures forwards { ∥ ForwardsAll (P.rules result.1) self.journal.entries
+        ensures forwards { ∥ ForwardsAll (P.rules result.1) self.earlier self.journal.entries
             (S.journal_view result.0).entries ∥₁ }
     {
         let Guarded {
             inner,
             policy,
             journal: _,
+            earlier: _,
+            held: _,
         } = self;
         (inner, policy)
     }
@@ -130,16 +161,22 @@ fn done<T>(made: &Result<T, Fault>) -> Result<(), Fault>
     }
 }
 
-// Adds the entry of a request for an end. If it failed, the room for the end is released.
-fn note_end<T>(journal: &mut Journal, entry: Entry, made: &Result<T, Fault>)
-    requires { 1 < journal.old.room }
+// Adds the entry of a request for an end, and counts the end. If it failed, the room for the end is
+// released.
+fn note_end<T>(journal: &mut Journal, held: &mut Counts, entry: Entry, made: &Result<T, Fault>)
+    requires room { 1 < journal.old.room }
+    requires count { OnOk made.now (held.old.ends + 1 ≤ 18446744073709551615) }
     ensures entries { journal.new.entries ≡ journal.old.entries ++ entry_view entry ∷ [] }
     ensures added { journal.new.added ≡ journal.old.added + 1 }
     ensures ok { OnOk made.now (journal.new.room ≡ journal.old.room - 1) }
     ensures err { OnErr made.now (journal.new.room ≡ journal.old.room - 2) }
+    ensures one { OnOk made.now (held.new.ends ≡ held.old.ends + 1) }
+    ensures none { OnErr made.now (held.new.ends ≡ held.old.ends) }
+    ensures children { held.new.children ≡ held.old.children }
 {
-    if made.is_err() {
-        journal.give_back(1);
+    match made {
+        Ok(_) => held.ends += 1,
+        Err(_) => journal.give_back(1),
     }
     journal.add(entry);
 }
@@ -208,8 +245,9 @@ impl<S: System, P: Policy> System for Guarded<S, P> {
 
     fn pipe(&mut self) -> Result<(S::End, S::End), Fault> {
         self.journal.prepare(2)?;
-        match self.inner.pipe() {
+        match pipe_allowed(&self.policy, self.held, &mut self.inner) {
             Ok((reader, writer)) => {
+                self.held.ends += 2;
                 let entry = Entry::Pipe(Ok((reader.number(), writer.number())));
                 self.journal.add(entry);
                 Ok((reader, writer))
@@ -224,33 +262,33 @@ impl<S: System, P: Policy> System for Guarded<S, P> {
 
     fn open_read(&mut self, path: &str) -> Result<S::End, Fault> {
         let kept = prepare_named(&mut self.journal, path, 1)?;
-        let made = open_read_allowed(&self.policy, &mut self.inner, path);
+        let made = open_read_allowed(&self.policy, self.held, &mut self.inner, path);
         let entry = Entry::OpenRead(kept, number_of(&made));
-        note_end(&mut self.journal, entry, &made);
+        note_end(&mut self.journal, &mut self.held, entry, &made);
         made
     }
 
     fn create(&mut self, path: &str) -> Result<S::End, Fault> {
         let kept = prepare_named(&mut self.journal, path, 1)?;
-        let made = create_allowed(&self.policy, &mut self.inner, path);
+        let made = create_allowed(&self.policy, self.held, &mut self.inner, path);
         let entry = Entry::Create(kept, number_of(&made));
-        note_end(&mut self.journal, entry, &made);
+        note_end(&mut self.journal, &mut self.held, entry, &made);
         made
     }
 
     fn duplicate(&mut self, end: &S::End) -> Result<S::End, Fault> {
         self.journal.prepare(1)?;
-        let made = self.inner.duplicate(end);
+        let made = duplicate_allowed(&self.policy, self.held, &mut self.inner, end);
         let entry = Entry::Duplicate(end.number(), number_of(&made));
-        note_end(&mut self.journal, entry, &made);
+        note_end(&mut self.journal, &mut self.held, entry, &made);
         made
     }
 
     fn parent(&mut self, side: Side) -> Result<S::End, Fault> {
         self.journal.prepare(1)?;
-        let made = self.inner.parent(side);
+        let made = parent_allowed(&self.policy, self.held, &mut self.inner, side);
         let entry = Entry::Parent(side, number_of(&made));
-        note_end(&mut self.journal, entry, &made);
+        note_end(&mut self.journal, &mut self.held, entry, &made);
         made
     }
 
@@ -284,7 +322,7 @@ impl<S: System, P: Policy> System for Guarded<S, P> {
             let new = guard_journal S.journal_view self.new in
             IsRefused entry (length (ends_of io)) fault old new) }
         // Without ends, nothing is asked: there may be no memory for the entry.
-        ensures closes { (P.rules self.old.policy).spawns spec ≡ false →
+        ensures closes { allows_spawn (P.rules self.old.policy) self.old.held spec ≡ false →
             ClosesFirst self.old.journal.room (map S.End.number_of (ends_of io))
             (S.journal_view self.old.inner) (S.journal_view self.new.inner) }
     {
@@ -292,7 +330,9 @@ impl<S: System, P: Policy> System for Guarded<S, P> {
         let room = self.journal.room();
         prepare_spawn(&mut self.journal, ends)?;
         let alloc = self.journal.allocator();
-        let started = spawn_allowed(alloc, &self.policy, &mut self.inner, &spec, io, room);
+        let held = self.held;
+        let started = spawn_allowed(alloc, &self.policy, held, &mut self.inner, &spec, io, room);
+        self.held.count_spawn(ends, &started);
         self.journal
             .add(Entry::Spawn(spec, streams, number_of(&started)));
         started
@@ -300,6 +340,7 @@ impl<S: System, P: Policy> System for Guarded<S, P> {
 
     fn start_feed(&mut self, end: S::End, bytes: Arc<Vec<u8>>) -> Result<S::Feed, Fault> {
         let number = end.number();
+        self.held.spend(1);
         let started = start_shared_feed(&mut self.inner, end, &bytes);
         self.journal.add(Entry::Feed(number, bytes, done(&started)));
         started
@@ -307,17 +348,20 @@ impl<S: System, P: Policy> System for Guarded<S, P> {
 
     fn start_drain(&mut self, end: S::End) -> Result<S::Drain, Fault> {
         let number = end.number();
+        self.held.spend(1);
         let started = self.inner.start_drain(end);
         self.journal.add(Entry::Drain(number, done(&started)));
         started
     }
 
     fn reader(&mut self, end: S::End) -> S::Reader {
+        self.held.spend(1);
         self.journal.add(Entry::Reader(end.number()));
         self.inner.reader(end)
     }
 
     fn close(&mut self, end: S::End) {
+        self.held.spend(1);
         self.journal.add(Entry::Close(end.number()));
         self.inner.close(end);
     }
@@ -329,5 +373,6 @@ impl<S: System, P: Policy> System for Guarded<S, P> {
     fn clear_journal(&mut self) {
         self.inner.clear_journal();
         self.journal.clear();
+        self.earlier = self.held;
     }
 }

@@ -3,6 +3,7 @@ ghost use Rattle.std.specs.Prelude.{◌≡◌, map, string_bytes};
 ghost use Rattle.std.specs.List.{list_any};
 ghost use Rattle.duct_guard.specs.Policies.{climbs, is_below, is_listed, lies_within};
 
+use crate::counts::Counts;
 use crate::policy::Policy;
 use duct_system::spec::CommandSpec;
 use std::marker::Model;
@@ -57,6 +58,10 @@ impl Policy for Programs {
 
     fn allows_canonicalize(&self, _path: &str) -> bool {
         true
+    }
+
+    fn limits(&self) -> Counts {
+        Counts::unlimited()
     }
 }
 
@@ -119,6 +124,10 @@ impl Policy for Folders {
 
     fn allows_canonicalize(&self, _path: &str) -> bool {
         true
+    }
+
+    fn limits(&self) -> Counts {
+        Counts::unlimited()
     }
 }
 
@@ -185,9 +194,44 @@ impl Policy for ReadOnly {
     fn allows_canonicalize(&self, _path: &str) -> bool {
         true
     }
+
+    fn limits(&self) -> Counts {
+        Counts::unlimited()
+    }
 }
 
-/// Allows what both of two policies allow.
+/// Allows everything within these limits: no more ends are open at once, and no more children are
+/// ever started.
+#[derive(Drop)]
+pub struct Limits(pub Counts);
+
+impl Policy for Limits {
+    ghost use Rattle.duct_guard.specs.Policies.{limit_rules};
+
+    ghost rules = { λ limits. limit_rules limits.0 };
+
+    fn allows_spawn(&self, _spec: &CommandSpec) -> bool {
+        true
+    }
+
+    fn allows_read(&self, _path: &str) -> bool {
+        true
+    }
+
+    fn allows_create(&self, _path: &str) -> bool {
+        true
+    }
+
+    fn allows_canonicalize(&self, _path: &str) -> bool {
+        true
+    }
+
+    fn limits(&self) -> Counts {
+        self.0
+    }
+}
+
+/// Allows what both of two policies allow, within the limits of both.
 #[derive(Drop)]
 pub struct Both<P, Q> {
     pub first: P,
@@ -213,5 +257,13 @@ impl<P: Policy, Q: Policy> Policy for Both<P, Q> {
 
     fn allows_canonicalize(&self, path: &str) -> bool {
         self.first.allows_canonicalize(path) && self.second.allows_canonicalize(path)
+    }
+
+    fn limits(&self) -> Counts {
+        let (one, other) = (self.first.limits(), self.second.limits());
+        Counts {
+            ends: one.ends.min(other.ends),
+            children: one.children.min(other.children),
+        }
     }
 }

@@ -2,10 +2,11 @@
 ghost use Rattle.std.specs.Prelude.{◌≡◌};
 ghost use Rattle.duct_guard.specs.Rules.{Rules};
 
+use crate::counts::Counts;
 use duct_system::spec::CommandSpec;
 
-/// Which requests a guard passes on. What it allows depends on the policy and on the request alone,
-/// and not on earlier requests. No method may block.
+/// Which requests a guard passes on. What it allows depends on the policy and on the request alone
+/// but for its limits, which the guard itself compares with what it holds. No method may block.
 pub trait Policy {
     /// What it allows.
     ghost rules: { Self → Rules };
@@ -26,4 +27,9 @@ pub trait Policy {
     /// Returns whether the canonical path of this path may be requested.
     fn allows_canonicalize(&self, path: &str) -> bool
         ensures { result ≡ (rules self.now).canonicalizes path.now };
+
+    /// Returns the greatest numbers of ends that are open at once and of children that are ever
+    /// started.
+    fn limits(&self) -> Counts
+        ensures { result ≡ (rules self.now).limits };
 }

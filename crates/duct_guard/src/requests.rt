@@ -1,23 +1,27 @@
 //! Requests to the system below, where a guard does more than to pass them on: it looks at its
 //! policy, or copies what the request takes or returns.
-ghost use Rattle.std.specs.Prelude.{◌≡◌, ◌<◌, ◌≤◌, false, true, min, length, map, string_bytes, IfOk, IfErr, OnOk, Ok, Err};
+ghost use Rattle.std.specs.Prelude.{◌≡◌, ℕ, ◌<◌, ◌≤◌, ◌+◌, false, true, min, nat_le, length, map, string_bytes, IfOk, IfErr, OnOk, Ok, Err};
 ghost use Rattle.duct_system.specs.Child.{IsUnasked};
-ghost use Rattle.duct_system.specs.EntryView.{Environment, OpenRead, Create, Canonicalize, Spawn, Feed};
+ghost use Rattle.duct_system.specs.EntryView.{Environment, Pipe, OpenRead, Create, Duplicate, Parent, Canonicalize, Spawn, Feed};
 ghost use Rattle.duct_system.specs.Job.{unpolled_job};
-ghost use Rattle.duct_system.specs.Journal.{IsNew};
+ghost use Rattle.duct_system.specs.Journal.{GetsEnds, IsNew, IsRefused};
 ghost use Rattle.duct_system.specs.SpecView.{pair_text};
 ghost use Rattle.duct_system.specs.Streams.{stream_of, ends_of};
 ghost use Rattle.duct_guard.specs.Answer.{answer_of};
 ghost use Rattle.duct_guard.specs.Closed.{ClosesFirst};
-ghost use Rattle.duct_guard.specs.Forwarded.{ForwardsEnd, IsForwarded, refusal};
+ghost use Rattle.duct_guard.specs.Forwarded.{ForwardsEnd, IsForwarded, allows_spawn, may_ask, refusal};
 ghost use Rattle.duct_guard.specs.Rules.{Rules};
+ghost use Rattle.duct_guard.specs.declared.counts.Counts.{Counts};
 ghost use Rattle.std.specs.Arc.{arc_value};
+ghost use Rattle.std.specs.declared.result.Result.{Result};
+ghost use Rattle.duct_system.specs.declared.system.Fault.{Fault};
 
+use crate::counts::Counts;
 use crate::policy::Policy;
 use crate::streams::close_ends;
 use duct_entries::copy::{copies_of, spec_copy};
 use duct_system::spec::CommandSpec;
-use duct_system::system::{Fault, Kind, Stdio, System};
+use duct_system::system::{Fault, Kind, Side, Stdio, System};
 use std::alloc::Global;
 use std::sync::Arc;
 
@@ -43,11 +47,11 @@ pub(crate) fn environment_twice<S: System>(
 ) -> Result<(Vec<(String, String)>, Vec<(String, String)>), Fault>
     ensures same { IfOk result
         (λ both. map pair_text both.1.items ≡ map pair_text both.0.items) }
-    ensures ok { IfOk result (λ both. (rules : Rules) →
-        IsForwarded rules (Environment (Ok (map pair_text both.0.items))) (S.journal_view sys.old)
-        (S.journal_view sys.new)) }
-    ensures err { IfErr result (λ fault. (rules : Rules) →
-        IsForwarded rules (Environment (Err fault)) (S.journal_view sys.old)
+    ensures ok { IfOk result (λ both. (rules : Rules) (held : Counts) →
+        IsForwarded rules held (Environment (Ok (map pair_text both.0.items)))
+        (S.journal_view sys.old) (S.journal_view sys.new)) }
+    ensures err { IfErr result (λ fault. (rules : Rules) (held : Counts) →
+        IsForwarded rules held (Environment (Err fault)) (S.journal_view sys.old)
         (S.journal_view sys.new)) }
 {
     let pairs = sys.environment()?;
@@ -57,37 +61,152 @@ pub(crate) fn environment_twice<S: System>(
     }
 }
 
-/// Opens a file for reading, if the policy allows it.
+// Returns whether the policy allows this many more ends to be open.
+fn allows_ends<P: Policy>(policy: &P, held: Counts, more: usize) -> bool
+    ensures within { result ≡ nat_le (held.ends + more) (P.rules policy.now).limits.ends }
+    ensures counts { result ≡ true → held.ends + more ≤ 18446744073709551615 }
+{
+    let limit = policy.limits().ends;
+    match held.ends.checked_add(more) {
+        Some(ends) => ends <= limit,
+        None => false,
+    }
+}
+
+// Returns whether the policy allows one more child to be started.
+fn allows_child<P: Policy>(policy: &P, held: Counts) -> bool
+    ensures within { result ≡ nat_le (held.children + 1) (P.rules policy.now).limits.children }
+    ensures counts { result ≡ true → held.children + 1 ≤ 18446744073709551615 }
+{
+    held.children < policy.limits().children
+}
+
+// Returns whether this file may be opened for reading.
+fn may_read<P: Policy>(policy: &P, held: Counts, path: &str) -> bool
+    ensures allowed { (answer : Result ℕ Fault) →
+        result ≡ may_ask (P.rules policy.now) held (OpenRead path.now answer) }
+    ensures counts { result ≡ true → held.ends + 1 ≤ 18446744073709551615 }
+{
+    policy.allows_read(path) && allows_ends(policy, held, 1)
+}
+
+// Returns whether this file may be opened for writing.
+fn may_create<P: Policy>(policy: &P, held: Counts, path: &str) -> bool
+    ensures allowed { (answer : Result ℕ Fault) →
+        result ≡ may_ask (P.rules policy.now) held (Create path.now answer) }
+    ensures counts { result ≡ true → held.ends + 1 ≤ 18446744073709551615 }
+{
+    policy.allows_create(path) && allows_ends(policy, held, 1)
+}
+
+// Returns whether a child may be started by this spec.
+fn may_spawn<P: Policy>(policy: &P, held: Counts, spec: &CommandSpec) -> bool
+    ensures allowed { result ≡ allows_spawn (P.rules policy.now) held spec.now }
+    ensures counts { result ≡ true → held.children + 1 ≤ 18446744073709551615 }
+{
+    policy.allows_spawn(spec) && allows_child(policy, held)
+}
+
+/// Opens a pipe, if the policy allows two more ends.
+pub(crate) fn pipe_allowed<S: System, P: Policy>(
+    policy: &P,
+    held: Counts,
+    sys: &mut S,
+) -> Result<(S::End, S::End), Fault>
+    ensures ok { IfOk result (λ ends.
+        let read = S.End.number_of ends.0 in
+        let write = S.End.number_of ends.1 in
+        IsForwarded (P.rules policy.now) held (Pipe (Ok (read, write))) (S.journal_view sys.old)
+        (S.journal_view sys.new)
+        × GetsEnds (Pipe (Ok (read, write))) read write (S.journal_view sys.old)
+        (S.journal_view sys.new)) }
+    ensures err { IfErr result (λ fault. IsForwarded (P.rules policy.now) held (Pipe (Err fault))
+        (S.journal_view sys.old) (S.journal_view sys.new)) }
+    ensures counts { OnOk result (held.ends + 2 ≤ 18446744073709551615) }
+{
+    if allows_ends(policy, held, 2) {
+        sys.pipe()
+    } else {
+        Err(forbidden())
+    }
+}
+
+/// Opens a file for reading, if the policy allows it and one more end.
 pub(crate) fn open_read_allowed<S: System, P: Policy>(
     policy: &P,
+    held: Counts,
     sys: &mut S,
     path: &str,
 ) -> Result<S::End, Fault>
-    ensures forwards { ForwardsEnd (P.rules policy.now) S.End.number_of (OpenRead path.now) result
+    ensures forwards { ForwardsEnd (P.rules policy.now) held S.End.number_of (OpenRead path.now) result
         (S.journal_view sys.old) (S.journal_view sys.new) }
     ensures fresh { IfOk result (λ end.
         IsNew (S.journal_view sys.old) (S.journal_view sys.new) (S.End.number_of end)) }
+    ensures counts { OnOk result (held.ends + 1 ≤ 18446744073709551615) }
 {
-    if policy.allows_read(path) {
+    if may_read(policy, held, path) {
         sys.open_read(path)
     } else {
         Err(forbidden())
     }
 }
 
-/// Opens a file for writing, if the policy allows it.
+/// Opens a file for writing, if the policy allows it and one more end.
 pub(crate) fn create_allowed<S: System, P: Policy>(
     policy: &P,
+    held: Counts,
     sys: &mut S,
     path: &str,
 ) -> Result<S::End, Fault>
-    ensures forwards { ForwardsEnd (P.rules policy.now) S.End.number_of (Create path.now) result
+    ensures forwards { ForwardsEnd (P.rules policy.now) held S.End.number_of (Create path.now) result
         (S.journal_view sys.old) (S.journal_view sys.new) }
     ensures fresh { IfOk result (λ end.
         IsNew (S.journal_view sys.old) (S.journal_view sys.new) (S.End.number_of end)) }
+    ensures counts { OnOk result (held.ends + 1 ≤ 18446744073709551615) }
 {
-    if policy.allows_create(path) {
+    if may_create(policy, held, path) {
         sys.create(path)
+    } else {
+        Err(forbidden())
+    }
+}
+
+/// Returns one more end of what an end reads or writes, if the policy allows one more.
+pub(crate) fn duplicate_allowed<S: System, P: Policy>(
+    policy: &P,
+    held: Counts,
+    sys: &mut S,
+    end: &S::End,
+) -> Result<S::End, Fault>
+    ensures forwards { ForwardsEnd (P.rules policy.now) held S.End.number_of
+        (Duplicate (S.End.number_of end.now)) result (S.journal_view sys.old)
+        (S.journal_view sys.new) }
+    ensures fresh { IfOk result (λ end.
+        IsNew (S.journal_view sys.old) (S.journal_view sys.new) (S.End.number_of end)) }
+    ensures counts { OnOk result (held.ends + 1 ≤ 18446744073709551615) }
+{
+    if allows_ends(policy, held, 1) {
+        sys.duplicate(end)
+    } else {
+        Err(forbidden())
+    }
+}
+
+/// Returns one more end of the parent's own stream, if the policy allows one more.
+pub(crate) fn parent_allowed<S: System, P: Policy>(
+    policy: &P,
+    held: Counts,
+    sys: &mut S,
+    side: Side,
+) -> Result<S::End, Fault>
+    ensures forwards { ForwardsEnd (P.rules policy.now) held S.End.number_of (Parent side) result
+        (S.journal_view sys.old) (S.journal_view sys.new) }
+    ensures fresh { IfOk result (λ end.
+        IsNew (S.journal_view sys.old) (S.journal_view sys.new) (S.End.number_of end)) }
+    ensures counts { OnOk result (held.ends + 1 ≤ 18446744073709551615) }
+{
+    if allows_ends(policy, held, 1) {
+        sys.parent(side)
     } else {
         Err(forbidden())
     }
@@ -102,11 +221,11 @@ pub(crate) fn canonicalize_twice<S: System, P: Policy>(
     path: &str,
 ) -> Result<(String, String), Fault>
     ensures same { IfOk result (λ both. string_bytes both.1 ≡ string_bytes both.0) }
-    ensures ok { IfOk result (λ both.
-        IsForwarded (P.rules policy.now) (Canonicalize path.now (Ok (string_bytes both.0)))
+    ensures ok { IfOk result (λ both. (held : Counts) →
+        IsForwarded (P.rules policy.now) held (Canonicalize path.now (Ok (string_bytes both.0)))
         (S.journal_view sys.old) (S.journal_view sys.new)) }
-    ensures err { IfErr result (λ fault.
-        IsForwarded (P.rules policy.now) (Canonicalize path.now (Err fault))
+    ensures err { IfErr result (λ fault. (held : Counts) →
+        IsForwarded (P.rules policy.now) held (Canonicalize path.now (Err fault))
         (S.journal_view sys.old) (S.journal_view sys.new)) }
 {
     if !policy.allows_canonicalize(path) {
@@ -119,11 +238,12 @@ pub(crate) fn canonicalize_twice<S: System, P: Policy>(
     }
 }
 
-/// Starts a child by a copy of the spec, if the policy allows it. Where it is not asked for, the
-/// ends are closed, as far as there is this much room.
+/// Starts a child by a copy of the spec, if the policy allows it and one more child. Where it is
+/// not asked for, the ends are closed, as far as there is this much room.
 pub(crate) fn spawn_allowed<S: System, P: Policy>(
     alloc: Global,
     policy: &P,
+    held: Counts,
     sys: &mut S,
     spec: &CommandSpec,
     io: [Stdio<S::End>; 3],
@@ -133,15 +253,17 @@ pub(crate) fn spawn_allowed<S: System, P: Policy>(
     requires one { min 1 (length (ends_of io)) ≤ room }
     ensures forwards { let entry = Spawn spec.now (map (stream_of S.End.number_of) io)
         (answer_of S.Child.number_of result) in
-        IsForwarded (P.rules policy.now) entry (S.journal_view sys.old) (S.journal_view sys.new) }
+        IsForwarded (P.rules policy.now) held entry (S.journal_view sys.old)
+        (S.journal_view sys.new) }
     ensures fresh { IfOk result (λ child.
         IsNew (S.journal_view sys.old) (S.journal_view sys.new) (S.Child.number_of child)) }
     ensures unasked { IfOk result (λ child. IsUnasked (S.Child.child_view child)) }
-    ensures closes { (P.rules policy.now).spawns spec.now ≡ false →
+    ensures counts { OnOk result (held.children + 1 ≤ 18446744073709551615) }
+    ensures closes { allows_spawn (P.rules policy.now) held spec.now ≡ false →
         ClosesFirst room (map S.End.number_of (ends_of io)) (S.journal_view sys.old)
         (S.journal_view sys.new) }
 {
-    match allowed_copy(alloc, policy, spec) {
+    match allowed_copy(alloc, policy, held, spec) {
         Ok(copy) => sys.spawn(copy, io),
         Err(fault) => {
             close_ends(sys, io, room);
@@ -151,17 +273,20 @@ pub(crate) fn spawn_allowed<S: System, P: Policy>(
 }
 
 // Returns a copy of a spec that the policy allows. Fails with `PermissionDenied` if it doesn't
-// allow it, and with `OutOfMemory` at an allocation failure.
+// allow it or no more children, and with `OutOfMemory` at an allocation failure.
 fn allowed_copy<P: Policy>(
     alloc: Global,
     policy: &P,
+    held: Counts,
     spec: &CommandSpec,
 ) -> Result<CommandSpec, Fault>
     ensures same { IfOk result (λ copy. copy ≡ spec.now) }
-    ensures allowed { OnOk result ((P.rules policy.now).spawns spec.now ≡ true) }
-    ensures err { IfErr result (λ fault. fault ≡ refusal ((P.rules policy.now).spawns spec.now)) }
+    ensures allowed { OnOk result (allows_spawn (P.rules policy.now) held spec.now ≡ true) }
+    ensures counts { OnOk result (held.children + 1 ≤ 18446744073709551615) }
+    ensures err { IfErr result
+        (λ fault. fault ≡ refusal (allows_spawn (P.rules policy.now) held spec.now)) }
 {
-    if !policy.allows_spawn(spec) {
+    if !may_spawn(policy, held, spec) {
         return Err(forbidden());
     }
     match spec_copy(alloc, spec) {
@@ -178,10 +303,10 @@ pub(crate) fn start_shared_feed<S: System>(
     bytes: &Arc<Vec<u8>>,
 ) -> Result<S::Feed, Fault>
     requires { 0 < (S.journal_view sys.old).room }
-    ensures forwards { (rules : Rules) →
+    ensures forwards { (rules : Rules) (held : Counts) →
         let entry = Feed (S.End.number_of end) (arc_value bytes.now).items
         (answer_of (λ job. tt) result) in
-        IsForwarded rules entry (S.journal_view sys.old) (S.journal_view sys.new) }
+        IsForwarded rules held entry (S.journal_view sys.old) (S.journal_view sys.new) }
     ensures unasked { IfOk result
         (λ job. S.Feed.job_view job ≡ unpolled_job (S.End.number_of end)) }
 {

@@ -1,5 +1,6 @@
 -- What a build step may do.
 use Rattle.std.specs.Prelude.{ℕ, Bool, false, true, ◌||◌, List, [], ◌∷◌, bytes_eq, codes}
+use Rattle.duct_guard.specs.Policies.{unlimited}
 use Rattle.duct_guard.specs.Rules.{Rules}
 
 -- whether the first of some words is echo or cat
@@ -14,4 +15,5 @@ tool_rules = record {
   reads = λ path. false;
   creates = λ path. false;
   canonicalizes = λ path. true;
+  limits = unlimited;
 }

@@ -1,16 +1,19 @@
-//! A build step that may start `echo` and `cat` alone, and one whose programs are listed while it
-//! runs, over the real machine. The program prints what each command comes to, and whether a
-//! forbidden one has made its file.
+//! A build step that may start `echo` and `cat` alone, one whose programs are listed while it runs,
+//! and one that may start so many children, over the real machine. The program prints what each
+//! command comes to, and whether a forbidden one has made its file.
 #![tactic(auto)]
 
 ghost use Rattle.std.specs.Prelude.{◌≡◌, []};
 
+mod limited;
 mod listed;
 mod step;
 
+use crate::limited::read_limited;
 use crate::listed::read_listed;
 use crate::step::read_step;
 use duct::{Error, Expression, System, cmd};
+use duct_guard::counts::Counts;
 use duct_host::host::Host;
 use std::alloc::Global;
 use std::fs::File;
@@ -53,6 +56,22 @@ fn printed_by_list<S: System + Drop>(
     printed
 }
 
+// Returns what two commands print as a step that may start this many children.
+fn printed_within<S: System + Drop>(
+    rt: &impl Wait,
+    alloc: Global,
+    system: S,
+    children: usize,
+) -> Result<String, Error>
+    requires { (S.journal_view system).entries ≡ [] }
+{
+    let cat: Expression<S::End> = cmd!(in alloc; "cat")?;
+    let command: Expression<S::End> = cmd!(in alloc; "echo", "piped")?.pipe(&cat)?;
+    let limits = Counts { ends: 8, children };
+    let (_system, _held, printed) = read_limited(rt, alloc, system, limits, &command);
+    printed
+}
+
 fn main(rt: HostRuntime) -> io::Result<()> {
     let alloc = rt.alloc();
     for (program, argument) in [("echo", "compiled"), ("cat", "/dev/null"), ("touch", MADE)] {
@@ -65,6 +84,12 @@ fn main(rt: HostRuntime) -> io::Result<()> {
         match printed_by_list(&rt, alloc, Host::new(&rt, alloc), names) {
             Ok(text) => println!(rt; "cat by {names}: {text}")?,
             Err(error) => println!(rt; "cat by {names}: {error}")?,
+        }
+    }
+    for children in [1, 2] {
+        match printed_within(&rt, alloc, Host::new(&rt, alloc), children) {
+            Ok(text) => println!(rt; "echo and cat within {children}: {text}")?,
+            Err(error) => println!(rt; "echo and cat within {children}: {error}")?,
         }
     }
     match File::open(&rt, MADE) {

@@ -4,6 +4,7 @@ ghost use Rattle.duct_guard.specs.Allowed.{AreAllowed};
 ghost use Rattle.duct_guard_example.specs.Tools.{tool_rules};
 
 use duct::{CommandSpec, Error, Expression, Pool, System};
+use duct_guard::counts::Counts;
 use duct_guard::guard::Guarded;
 use duct_guard::policy::Policy;
 use std::alloc::Global;
@@ -35,6 +36,10 @@ impl Policy for Tools {
 
     fn allows_canonicalize(&self, _path: &str) -> bool {
         true
+    }
+
+    fn limits(&self) -> Counts {
+        Counts::unlimited()
     }
 }
 

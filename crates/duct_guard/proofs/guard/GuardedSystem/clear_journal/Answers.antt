@@ -1,6 +1,7 @@
-use Rattle.std.proofs.Common.{ap, arith}
+use Rattle.std.proofs.Common.{ap, arith, refl}
 use Rattle.duct_system.specs.Journal.{JournalView}
 use Rattle.duct_guard.proofs.Guarding.{nothing_noted}
+use Rattle.duct_guard.proofs.Limiting.{now_fits}
 use Rattle.duct_guard.proofs.guard.GuardedSystem.clear_journal.Goals as goal
 
 pub invariant_of-self-inside : goal.invariant_of-self-inside
@@ -8,5 +9,11 @@ invariant_of-self-inside g c =
     let room = ap (λ (j : JournalView). j.room) c.clear.ensures in
     let none = ap (λ (j : JournalView). j.entries) c.clear.ensures in (
       omega (arith, room, c.clear_journal.ensures.room_grows, c.self.inside.within),
-      (nothing_noted _ _ _ none c.clear_journal.ensures.entries_are, tt),
+      (
+        nothing_noted _ _ _ _ none c.clear_journal.ensures.entries_are,
+        (
+          rw none refl,
+          (now_fits _ _ _ _ _ c.self.inside.fits c.self.inside.forwards c.self.inside.counted, tt),
+        ),
+      ),
     )

@@ -3,7 +3,8 @@ use Rattle.std.specs.declared.result.Result.{Result}
 use Rattle.duct_system.specs.EntryView.{Create}
 use Rattle.duct_system.specs.Journal.{JournalView}
 use Rattle.duct_system.specs.declared.system.Fault.{Fault}
-use Rattle.duct_guard.proofs.Guarding.{end_room, one_noted}
+use Rattle.duct_guard.proofs.Guarding.{end_room}
+use Rattle.duct_guard.proofs.Limiting.{end_held, one_more}
 use Rattle.duct_guard.proofs.guard.GuardedSystem.create.Goals as goal
 
 pub invariant_of-self-inside-2 : goal.invariant_of-self-inside-2
@@ -14,6 +15,6 @@ invariant_of-self-inside-2 g c =
     let sent = c.create_allowed-made.ensures.forwards in
     let ready = ap (λ (j : JournalView). j.room) c.in_ok-kept.ensures.ok.1 in
     let same = ap (λ (j : JournalView). j.entries) c.in_ok-kept.ensures.ok.1 in (
-      end_room rules number entry _ _ c.create_allowed-made.result _ _ _ (λ n. refl) (λ fault. refl) (λ answer. refl) c.self.inside.within ready c.note_end.ensures.ok c.note_end.ensures.err sent,
-      (one_noted rules _ _ _ _ _ c.self.inside.forwards sent (cc (same, c.note_end.ensures.entries, c.in_ok-kept.ensures.ok.0)), tt),
+      end_room rules c.self.inside.held number entry _ _ c.create_allowed-made.result _ _ _ (λ n. refl) (λ fault. refl) (λ answer. refl) c.self.inside.within ready c.note_end.ensures.ok c.note_end.ensures.err sent,
+      one_more _ _ _ _ _ _ _ _ _ c.self.inside.forwards c.self.inside.counted c.self.inside.fits sent (cc (same, c.note_end.ensures.entries, c.in_ok-kept.ensures.ok.0)) (end_held number entry _ _ c.create_allowed-made.result (λ n. refl) (λ fault. refl) (λ answer. refl) (λ answer. refl) c.note_end.ensures.one c.note_end.ensures.none c.note_end.ensures.children),
     )

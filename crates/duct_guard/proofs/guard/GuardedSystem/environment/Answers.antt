@@ -1,37 +1,37 @@
 use Rattle.std.proofs.Common.{rules, ap, arith}
 use Rattle.std.proofs.lemmas.Grind.{common_steps}
 use Rattle.duct_system.specs.Journal.{JournalView}
-use Rattle.duct_guard.proofs.Guarding.{one_noted}
+use Rattle.duct_guard.proofs.Counting.{one_held}
 use Rattle.duct_guard.proofs.guard.GuardedSystem.environment.Goals as goal
 
 pub invariant_of-self-inside-in-Ok : goal.invariant_of-self-inside-in-Ok
 invariant_of-self-inside-in-Ok g c =
-    let sent = c.in-Ok.ensures.ok (g.P.Policy.rules c.self.inside.policy) in
+    let sent = c.in-Ok.ensures.ok (g.P.Policy.rules c.self.inside.policy) c.self.inside.held in
     let ready = ap (λ (j : JournalView). j.room) c.in_ok-prepare.ensures.ok in
     let same = ap (λ (j : JournalView). j.entries) c.in_ok-prepare.ensures.ok in
     let room = ap (λ (j : JournalView). j.room) c.add.ensures in
     let noted = ap (λ (j : JournalView). j.entries) c.add.ensures in (
       omega (arith, ready, room, sent.room_is, c.self.inside.within),
-      (one_noted _ _ _ _ _ _ c.self.inside.forwards sent (cc (same, noted, c.in-Ok.ensures.same)), tt),
+      one_held _ _ _ _ _ _ _ _ _ c.self.inside.forwards c.self.inside.counted c.self.inside.fits sent (cc (same, noted, c.in-Ok.ensures.same)) (omega arith) (omega arith),
     )
 
 pub invariant_of-self-inside-in-Err : goal.invariant_of-self-inside-in-Err
 invariant_of-self-inside-in-Err g c =
-    let sent = c.in-Err.ensures.err (g.P.Policy.rules c.self.inside.policy) in
+    let sent = c.in-Err.ensures.err (g.P.Policy.rules c.self.inside.policy) c.self.inside.held in
     let ready = ap (λ (j : JournalView). j.room) c.in_ok-prepare.ensures.ok in
     let same = ap (λ (j : JournalView). j.entries) c.in_ok-prepare.ensures.ok in
     let room = ap (λ (j : JournalView). j.room) c.add-in-Err.ensures in
     let noted = ap (λ (j : JournalView). j.entries) c.add-in-Err.ensures in (
       omega (arith, ready, room, sent.room_is, c.self.inside.within),
-      (one_noted _ _ _ _ _ _ c.self.inside.forwards sent (cc (same, noted)), tt),
+      one_held _ _ _ _ _ _ _ _ _ c.self.inside.forwards c.self.inside.counted c.self.inside.fits sent (cc (same, noted)) (omega arith) (omega arith),
     )
 
 pub returns-in-Ok-clause-ok : goal.returns-in-Ok-clause-ok
 returns-in-Ok-clause-ok g c =
-    let grows = (c.in-Ok.ensures.ok (g.P.Policy.rules c.self.inside.policy)).next_grows in
+    let grows = (c.in-Ok.ensures.ok (g.P.Policy.rules c.self.inside.policy) c.self.inside.held).next_grows in
     search (rules, common_steps)
 
 pub returns-in-Err-clause-err : goal.returns-in-Err-clause-err
 returns-in-Err-clause-err g c =
-    let grows = (c.in-Err.ensures.err (g.P.Policy.rules c.self.inside.policy)).next_grows in
+    let grows = (c.in-Err.ensures.err (g.P.Policy.rules c.self.inside.policy) c.self.inside.held).next_grows in
     search (rules, common_steps)

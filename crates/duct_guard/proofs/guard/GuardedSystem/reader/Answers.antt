@@ -1,6 +1,7 @@
 use Rattle.std.proofs.Common.{refl, ap, arith}
 use Rattle.duct_system.specs.Journal.{JournalView}
-use Rattle.duct_guard.proofs.Guarding.{one_noted, passed}
+use Rattle.duct_guard.proofs.Counting.{one_held}
+use Rattle.duct_guard.proofs.Guarding.{passed}
 use Rattle.duct_guard.proofs.guard.GuardedSystem.reader.Goals as goal
 
 pub invariant_of-self-inside : goal.invariant_of-self-inside
@@ -8,5 +9,5 @@ invariant_of-self-inside g c =
     let room = ap (λ (j : JournalView). j.room) c.add.ensures in
     let noted = ap (λ (j : JournalView). j.entries) c.add.ensures in (
       omega (arith, room, c.reader.ensures.added.room_is, c.self.inside.within),
-      (one_noted _ _ _ _ _ _ c.self.inside.forwards (passed _ _ _ _ refl c.reader.ensures.added) (cc noted), tt),
+      one_held _ _ _ _ _ _ _ _ _ c.self.inside.forwards c.self.inside.counted c.self.inside.fits (passed _ _ _ _ _ refl c.reader.ensures.added) (cc noted) (omega (arith, c.spend.ensures.ends)) (omega (arith, c.spend.ensures.children)),
     )

@@ -1,24 +1,24 @@
 use Rattle.std.proofs.Common.{rules, ap, arith}
 use Rattle.std.proofs.lemmas.Grind.{common_steps}
 use Rattle.duct_system.specs.Journal.{JournalView}
-use Rattle.duct_guard.proofs.Guarding.{one_noted}
+use Rattle.duct_guard.proofs.Counting.{one_held}
 use Rattle.duct_guard.proofs.guard.GuardedSystem.start_feed.Goals as goal
 
 pub invariant_of-self-inside : goal.invariant_of-self-inside
 invariant_of-self-inside g c =
-    let sent = c.start_shared_feed-started.ensures.forwards (g.P.Policy.rules c.self.inside.policy) in
+    let sent = c.start_shared_feed-started.ensures.forwards (g.P.Policy.rules c.self.inside.policy) c.self.inside.held in
     let room = ap (λ (j : JournalView). j.room) c.add.ensures in
     let noted = ap (λ (j : JournalView). j.entries) c.add.ensures in (
       omega (arith, room, sent.room_is, c.self.inside.within),
-      (one_noted _ _ _ _ _ _ c.self.inside.forwards sent (cc noted), tt),
+      one_held _ _ _ _ _ _ _ _ _ c.self.inside.forwards c.self.inside.counted c.self.inside.fits sent (cc noted) (omega (arith, c.spend.ensures.ends)) (omega (arith, c.spend.ensures.children)),
     )
 
 pub returns-clause-ok : goal.returns-clause-ok
 returns-clause-ok g c =
-    let grows = (c.start_shared_feed-started.ensures.forwards (g.P.Policy.rules c.self.inside.policy)).next_grows in
+    let grows = (c.start_shared_feed-started.ensures.forwards (g.P.Policy.rules c.self.inside.policy) c.self.inside.held).next_grows in
     search (rules, common_steps)
 
 pub returns-clause-err : goal.returns-clause-err
 returns-clause-err g c =
-    let grows = (c.start_shared_feed-started.ensures.forwards (g.P.Policy.rules c.self.inside.policy)).next_grows in
+    let grows = (c.start_shared_feed-started.ensures.forwards (g.P.Policy.rules c.self.inside.policy) c.self.inside.held).next_grows in
     search (rules, common_steps)
