@@ -1,9 +1,9 @@
 -- Ends that are closed as far as there is room, stream by stream.
-use Rattle.std.specs.Prelude.{ℕ, zero, suc, List, [], ◌∷◌, ◌++◌, map, take, length, flat_map}
-use Rattle.std.proofs.Common.{◌≡◌, refl, ap, sym, subst, ◌∙◌, arith, append_assoc, ◌+◌, ◌-◌, ◌≤◌, get_or}
+use Rattle.std.specs.Prelude.{ℕ, zero, suc, List, [], ◌∷◌, ◌++◌, map, take, length}
+use Rattle.std.proofs.Common.{◌≡◌, refl, ap, sym, subst, ◌∙◌, arith, append_assoc, ◌+◌, ◌-◌, get_or}
 use Rattle.std.proofs.lemmas.List.{append-nil, map-append, length-append, length-map}
 use native.Mathlib.Nat.{sub-zero}
-use Rattle.duct_system.specs.EntryView.{EntryView, Close}
+use Rattle.duct_system.specs.EntryView.{Close}
 use Rattle.duct_system.specs.Journal.{JournalView}
 use Rattle.duct_system.specs.Streams.{stream_of, end_of, ends_of}
 use Rattle.duct_system.specs.declared.system.Stdio.{Stdio}

@@ -4,8 +4,8 @@ use Rattle.duct_system.specs.SpecView.{SpecView}
 use Rattle.duct_guard.specs.declared.counts.Counts.{Counts}
 
 -- the specs by which a child may be started; the paths that may be opened for reading; those that
--- may be opened for writing; those whose canonical path may be requested; and the greatest numbers of ends that are open at
--- once and of children that are ever started
+-- may be opened for writing; those whose canonical path may be requested; and the greatest numbers
+-- of ends that are open at once and of children that are ever started
 pub record Rules : Type 0 where
   pub spawns : SpecView → Bool
   pub reads : List ℕ → Bool

@@ -138,8 +138,8 @@ pub(crate) fn open_read_allowed<S: System, P: Policy>(
     sys: &mut S,
     path: &str,
 ) -> Result<S::End, Fault>
-    ensures forwards { ForwardsEnd (P.rules policy.now) held S.End.number_of (OpenRead path.now) result
-        (S.journal_view sys.old) (S.journal_view sys.new) }
+    ensures forwards { ForwardsEnd (P.rules policy.now) held S.End.number_of (OpenRead path.now)
+        result (S.journal_view sys.old) (S.journal_view sys.new) }
     ensures fresh { IfOk result (λ end.
         IsNew (S.journal_view sys.old) (S.journal_view sys.new) (S.End.number_of end)) }
     ensures counts { OnOk result (held.ends + 1 ≤ 18446744073709551615) }
@@ -158,8 +158,8 @@ pub(crate) fn create_allowed<S: System, P: Policy>(
     sys: &mut S,
     path: &str,
 ) -> Result<S::End, Fault>
-    ensures forwards { ForwardsEnd (P.rules policy.now) held S.End.number_of (Create path.now) result
-        (S.journal_view sys.old) (S.journal_view sys.new) }
+    ensures forwards { ForwardsEnd (P.rules policy.now) held S.End.number_of (Create path.now)
+        result (S.journal_view sys.old) (S.journal_view sys.new) }
     ensures fresh { IfOk result (λ end.
         IsNew (S.journal_view sys.old) (S.journal_view sys.new) (S.End.number_of end)) }
     ensures counts { OnOk result (held.ends + 1 ≤ 18446744073709551615) }

@@ -1,5 +1,5 @@
 use Rattle.std.specs.Path.{path_bytes, path_components}
-use Rattle.std.proofs.Common.{ap, ◌∙◌, sym}
+use Rattle.std.proofs.Common.{ap, ◌∙◌}
 use Rattle.std.specs.List.{starts_with}
 use Rattle.std.specs.Prelude.{bytes_eq}
 use Rattle.duct_guard.proofs.Prefixes.{prefix_test}
