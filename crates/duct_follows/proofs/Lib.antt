@@ -6,6 +6,5 @@ pub mod SameStop
 pub mod ScriptHooks
 pub mod Specs
 pub mod Stopped
-pub mod Texts
 pub mod Variables
 pub mod Wiring

@@ -1,6 +1,5 @@
 pub mod Cause
 pub mod Given
-pub mod Same
 pub mod ScriptHooks
 pub mod Sources
 pub mod Wiring

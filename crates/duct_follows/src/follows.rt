@@ -15,13 +15,13 @@ ghost use Rattle.duct_plan.specs.EntryViews.{entry_views};
 ghost use Rattle.duct_plan.specs.PlanView.{item_of, plan_view};
 
 use crate::chain::wired;
-use crate::same::same_spec;
 use crate::sources::{CallerEnds, are_given};
 use crate::stops::{is_clean, stops_at_fault};
 use crate::untold::Untold;
 use duct_base::error::Error;
 use duct_base::spec::{CommandSpec, Hook};
 use duct_base::system::{Entry, Kind, Numbered, Stdio};
+use duct_entries::same::same_spec;
 use duct_plain::checker::{Source, origin, trace};
 use duct_plan::asked::{Wired, asked_at};
 use duct_plan::found::Surroundings;

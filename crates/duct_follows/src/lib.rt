@@ -4,7 +4,6 @@
 pub mod causes;
 pub mod chain;
 pub mod follows;
-pub mod same;
 pub mod sources;
 pub mod stops;
 pub mod untold;
