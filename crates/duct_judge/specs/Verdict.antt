@@ -70,8 +70,8 @@ IsVerdict allows number_of plan entries (verdicts.Ends due) =
 IsVerdict allows number_of plan entries (verdicts.Unbalanced number) =
     LeavesUnbalanced allows number_of plan entries number
 
--- the verdict on entries that follow a plan, by what may come next, and by the first end that was not
--- got once and spent once
+-- the verdict on entries that follow a plan, by what may come next, and by the first end that was
+-- not got once and spent once
 abbrev pub verdict_by : Due → Option ℕ → Verdict
 verdict_by (Request due) unbalanced = verdicts.Ends due
 verdict_by Closes (Some number) = verdicts.Unbalanced number

@@ -22,9 +22,9 @@ use std::io::Write;
 /// Does the program's work and returns its exit status. If the entries are what `host` must request
 /// for the arguments, `yes` is written to `out`, and the status is 0; otherwise what they lack, and
 /// the status is 1. An error in the arguments is written to `err` with `judge: ` before it, and the
-/// status is 2; at an allocation failure that is said so, and the status is 3. Each is one line. The
-/// status is also 3 where the write fails; a part of the line may then be written. It blocks as the
-/// writers do.
+/// status is 2; at an allocation failure that is said so, and the status is 3. Each is one line.
+/// The status is also 3 where the write fails; a part of the line may then be written. It blocks as
+/// the writers do.
 pub fn perform<O: Write, E: Write>(
     alloc: Global,
     args: &[String],

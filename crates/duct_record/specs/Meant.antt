@@ -40,7 +40,8 @@ unfoldable pub list_meant : Data → Result (List Data) Refusal
 list_meant json = needed (option_map list_of (as_array json))
 
 -- each of these, in their order
-abbrev pub all_meant : {A : Type 0} → (Data → Result A Refusal) → List Data → Result (List A) Refusal
+abbrev pub all_meant : {A : Type 0} → (Data → Result A Refusal) → List Data
+    → Result (List A) Refusal
 all_meant one [] = Ok []
 all_meant one (json ∷ more) =
     one json >>= λ value. all_meant one more >>= λ values. Ok (value ∷ values)

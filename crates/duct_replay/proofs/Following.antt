@@ -1,4 +1,4 @@
--- How a journal follows a recording after one more entry, and after it was cleared.
+-- How a journal retraces a recording after one more entry, and after it was cleared.
 use Rattle.std.specs.Prelude.{ℕ, Bool, true, false, List, [], ◌∷◌, ◌++◌, ◌+◌, ◌<◌, ◌≤◌, length, take, slice_get, suc, Some, None, Ok, Err, IfErr, OnOk, OnErr}
 use Rattle.std.specs.declared.option.Option.{Option}
 use Rattle.std.specs.declared.result.Result.{Result}
@@ -12,7 +12,7 @@ use Rattle.duct_system.specs.Journal.{JournalView}
 use Rattle.duct_system.specs.declared.system.Fault.{Fault}
 use Rattle.duct_system.specs.declared.system.Kind.TheVariants.{OutOfMemory}
 use Rattle.duct_replay.specs.Answers.{IsToldRight}
-use Rattle.duct_replay.specs.Follows.{Agrees, DiffersAt, Follows}
+use Rattle.duct_replay.specs.Retraces.{Agrees, DiffersAt, Retraces}
 use Rattle.duct_replay.specs.Replays.{difference_after, entry_at}
 
 -- one more entry makes a list longer by one
@@ -82,9 +82,9 @@ one_more_agrees recorded asked entry (Some place) true is told = differs_still r
 one_more_agrees recorded asked entry (Some place) false is told = differs_still recorded asked entry place is
 
 follows_more : (recorded entries : List EntryView) (added : ℕ) (difference : Option ℕ)
-    (agrees : Bool) (entry : EntryView) → Follows recorded entries added difference
+    (agrees : Bool) (entry : EntryView) → Retraces recorded entries added difference
     → IsToldRight agrees entry (entry_at recorded added difference)
-    → Follows recorded (entries ++ entry ∷ []) (added + 1) (difference_after agrees added difference)
+    → Retraces recorded (entries ++ entry ∷ []) (added + 1) (difference_after agrees added difference)
 follows_more recorded entries added difference agrees entry (cleared, count, is) told =
     let asked = cleared ++ entries in
     let reached : length asked ≡ added = length-append cleared entries ∙ count in
@@ -101,17 +101,17 @@ follows_more recorded entries added difference agrees entry (cleared, count, is)
 -- a journal that noted one more entry
 pub one_followed : (recorded entries more : List EntryView) (added count : ℕ)
     (difference after : Option ℕ) (agrees : Bool) (entry : EntryView)
-    → ∥ Follows recorded entries added difference ∥₁
+    → ∥ Retraces recorded entries added difference ∥₁
     → IsToldRight agrees entry (entry_at recorded added difference)
     → more ≡ entries ++ entry ∷ [] → count ≡ added + 1
     → after ≡ difference_after agrees added difference
-    → ∥ Follows recorded more count after ∥₁
-one_followed recorded entries more added count difference after agrees entry follows told is counted differs =
+    → ∥ Retraces recorded more count after ∥₁
+one_followed recorded entries more added count difference after agrees entry retraces told is counted differs =
     rw (is, counted, differs)
-    (∥∥₁_map follows (λ f. follows_more recorded entries added difference agrees entry f told))
+    (∥∥₁_map retraces (λ f. follows_more recorded entries added difference agrees entry f told))
 
 follows_cleared : (recorded entries : List EntryView) (added : ℕ) (difference : Option ℕ)
-    → Follows recorded entries added difference → Follows recorded [] added difference
+    → Retraces recorded entries added difference → Retraces recorded [] added difference
 follows_cleared recorded entries added difference (cleared, count, is) = (
   cleared ++ entries,
   omega (arith, length-append cleared entries, count),
@@ -120,17 +120,17 @@ follows_cleared recorded entries added difference (cleared, count, is) = (
 
 -- a journal that was cleared
 pub none_followed : (recorded entries none : List EntryView) (added count : ℕ)
-    (difference : Option ℕ) → ∥ Follows recorded entries added difference ∥₁
-    → none ≡ [] → count ≡ added → ∥ Follows recorded none count difference ∥₁
-none_followed recorded entries none added count difference follows is counted =
-    rw (is, counted) (∥∥₁_map follows (follows_cleared recorded entries added difference))
+    (difference : Option ℕ) → ∥ Retraces recorded entries added difference ∥₁
+    → none ≡ [] → count ≡ added → ∥ Retraces recorded none count difference ∥₁
+none_followed recorded entries none added count difference retraces is counted =
+    rw (is, counted) (∥∥₁_map retraces (follows_cleared recorded entries added difference))
 
 -- a journal with the same entries
 pub same_followed : (recorded entries same : List EntryView) (added count : ℕ)
-    (difference : Option ℕ) → ∥ Follows recorded entries added difference ∥₁
-    → same ≡ entries → count ≡ added → ∥ Follows recorded same count difference ∥₁
-same_followed recorded entries same added count difference follows is counted =
-    rw (is, counted) follows
+    (difference : Option ℕ) → ∥ Retraces recorded entries added difference ∥₁
+    → same ≡ entries → count ≡ added → ∥ Retraces recorded same count difference ∥₁
+same_followed recorded entries same added count difference retraces is counted =
+    rw (is, counted) retraces
 
 -- a journal that a request for room has changed in its room alone
 pub prepared : {T : Type 0} (result : Result T Fault) (old new : JournalView) (room : ℕ)

@@ -7,7 +7,8 @@ use Rattle.duct_system.specs.declared.system.ExitStatus.{ExitStatus}
 use Rattle.duct_system.specs.declared.system.ExitStatus.TheVariants.{Code}
 use Rattle.duct_replay.specs.Same.{Shared, bytes_of}
 
--- the entries; the exit statuses of children, and the bytes that ends were read to, by their numbers
+-- the entries; the exit statuses of children, and the bytes that ends were read to, by their
+-- numbers
 pub record RecordingView : Type 0 where
   pub entries : List EntryView
   pub endings : List (ℕ × ExitStatus)

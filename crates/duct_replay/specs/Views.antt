@@ -21,7 +21,11 @@ child_view child = record {
 
 -- a worker that writes
 abbrev pub feed_view : ReplayFeed → JobView (Unit {0})
-feed_view feed = record { number = feed.number; polls = feed.polls; kept = if feed.is_done then said.Done tt else said.Running }
+feed_view feed = record {
+  number = feed.number;
+  polls = feed.polls;
+  kept = if feed.is_done then said.Done tt else said.Running;
+}
 
 -- a worker that reads
 abbrev pub drain_view : ReplayDrain → JobView Shared

@@ -177,8 +177,8 @@ pub(crate) fn found_canonicalize(
     next: Option<&Entry>,
     path: &str,
 ) -> Result<Option<Result<(String, String), Fault>>, Fault>
-    ensures found { IfOk result (λ found. FindsTwice (Canonicalize path.now) (λ text. string_bytes text)
-        (next_view next.entry) found) }
+    ensures found { IfOk result (λ found. FindsTwice (Canonicalize path.now)
+        (λ text. string_bytes text) (next_view next.entry) found) }
     ensures err { IfErr result (λ fault. fault ≡ no_memory) }
 {
     let Some(Entry::Canonicalize(other, answer)) = next else {

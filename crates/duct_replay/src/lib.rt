@@ -1,5 +1,5 @@
-//! A system that answers from a recorded journal: what happened on the machine is run again, with no
-//! process at all, up to the first request that differs.
+//! A system that answers from a recorded journal: what happened on the machine is run again, with
+//! no process at all, up to the first request that differs.
 #![tactic(auto)]
 
 pub mod child;

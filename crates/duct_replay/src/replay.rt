@@ -6,7 +6,7 @@ ghost use Rattle.duct_system.specs.Journal.{IsNew};
 ghost use Rattle.duct_system.specs.Streams.{stream_of, end_of, ends_of};
 ghost use Rattle.duct_system.specs.declared.system.Kind.TheVariants.{OutOfMemory};
 ghost use Rattle.duct_replay.specs.Answers.{FitsNumber, FitsPipe, IsNext, IsToldRight, answer_of, next_view, no_memory, unrecorded};
-ghost use Rattle.duct_replay.specs.Follows.{Follows};
+ghost use Rattle.duct_replay.specs.Retraces.{Retraces};
 ghost use Rattle.duct_replay.specs.Replays.{difference_after, next_of, noted};
 
 use crate::child::ReplayChild;
@@ -39,19 +39,19 @@ impl Numbered for ReplayEnd {
     }
 }
 
-/// A system that starts no process and opens no file: it answers each request as the recording does,
-/// while its requests are the recorded ones. At the first that isn't, it keeps the place in the
-/// recording, and from then on each request that can fail fails with `Other`.
+/// A system that starts no process and opens no file: it answers each request as the recording
+/// does, while its requests are the recorded ones. At the first that isn't, it keeps the place in
+/// the recording, and from then on each request that can fail fails with `Other`.
 ///
 /// A recorded number of an end or a child that can't be given, since it was given before, makes its
-/// request differ too. At an allocation failure a request fails with `OutOfMemory`; where it adds an
-/// entry nevertheless, that entry differs.
+/// request differ too. At an allocation failure a request fails with `OutOfMemory`; where it adds
+/// an entry nevertheless, that entry differs.
 #[derive(Drop)]
 pub struct Replay {
     recording: Recording,
     difference: Option<usize>,
     journal: Journal,
-    ghost follows: { ∥ Follows recording.entries journal.entries journal.added difference ∥₁ },
+    ghost retraces: { ∥ Retraces recording.entries journal.entries journal.added difference ∥₁ },
 }
 
 impl Model for Replay {
@@ -89,11 +89,11 @@ impl Replay {
         &self.recording
     }
 
-    /// Returns the place of the first entry that differs, counted from 0, or `None` while each entry
-    /// was the recorded one. Entries that were cleared count too.
+    /// Returns the place of the first entry that differs, counted from 0, or `None` while each
+    /// entry was the recorded one. Entries that were cleared count too.
     pub fn difference(&self) -> Option<usize>
         ensures place { result ≡ self.now.difference }
-        ensures follows { ∥ Follows self.now.recording.entries self.now.journal.entries
+        ensures retraces { ∥ Retraces self.now.recording.entries self.now.journal.entries
             self.now.journal.added result ∥₁ }
     {
         self.difference
@@ -132,8 +132,9 @@ impl Replay {
         prepare_spawn(&mut self.journal, ends)
     }
 
-    // Returns the result of a request for an end or a child: what was found, and if nothing was, the
-    // fault `Other`. Counts up to its number; if it has none, releases the room for this many ends.
+    // Returns the result of a request for an end or a child: what was found, and if nothing was,
+    // the fault `Other`. Counts up to its number; if it has none, releases the room for this many
+    // ends.
     fn settle(&mut self, found: Option<Result<u64, Fault>>, ends: usize) -> Result<u64, Fault>
         requires found { IfSome found (FitsNumber self.old.journal.next) }
         requires room { ends ≤ self.old.journal.room }
@@ -215,7 +216,8 @@ fn count_to(journal: &mut Journal, number: u64)
 fn count(journal: &mut Journal, answer: &Result<u64, Fault>, ends: usize)
     requires next { FitsNumber journal.old.next answer.now }
     requires room { ends ≤ journal.old.room }
-    ensures ok { IfOk answer.now (λ number. journal.new ≡ record journal.old { next = number + 1 }) }
+    ensures ok { IfOk answer.now
+        (λ number. journal.new ≡ record journal.old { next = number + 1 }) }
     ensures err { OnErr answer.now (journal.new
         ≡ record journal.old { room = journal.old.room - ends }) }
     ensures rest { journal.new

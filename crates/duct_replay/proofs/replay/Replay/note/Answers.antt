@@ -12,4 +12,4 @@ invariant_of-self-inside c =
     let entries = ap (λ (j : JournalView). j.entries) c.add.ensures in
     let added = ap (λ (j : JournalView). j.added) c.add.ensures in
     let after = c.difference_after-self-inside.ensures ∙ ap (λ (place : ℕ). difference_after c.args.agrees place c.self.inside.difference) c.added-place.ensures in
-    (one_followed _ _ _ _ _ _ _ c.args.agrees (entry_view c.args.entry) c.self.inside.follows told entries added after, tt)
+    (one_followed _ _ _ _ _ _ _ c.args.agrees (entry_view c.args.entry) c.self.inside.retraces told entries added after, tt)

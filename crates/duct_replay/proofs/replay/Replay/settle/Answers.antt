@@ -7,4 +7,4 @@ pub invariant_of-self-inside : goal.invariant_of-self-inside
 invariant_of-self-inside c =
     let entries = ap (λ (j : JournalView). j.entries) c.count.ensures.rest in
     let added = ap (λ (j : JournalView). j.added) c.count.ensures.rest in
-    (same_followed _ _ _ _ _ _ c.self.inside.follows entries added, tt)
+    (same_followed _ _ _ _ _ _ c.self.inside.retraces entries added, tt)

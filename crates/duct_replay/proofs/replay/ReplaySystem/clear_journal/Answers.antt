@@ -7,4 +7,4 @@ pub invariant_of-self-inside : goal.invariant_of-self-inside
 invariant_of-self-inside c =
     let none = ap (λ (j : JournalView). j.entries) c.clear.ensures in
     let added = ap (λ (j : JournalView). j.added) c.clear.ensures in
-    (none_followed _ _ _ _ _ _ c.self.inside.follows none added, tt)
+    (none_followed _ _ _ _ _ _ c.self.inside.retraces none added, tt)

@@ -14,10 +14,10 @@ abbrev pub Agrees : List EntryView → List EntryView → Option ℕ → Type 0
 Agrees recorded asked None = asked ≡ take (length asked) recorded
 Agrees recorded asked (Some place) = DiffersAt place recorded asked
 
--- the same of all entries that were ever added to a journal: those that were cleared, and then those
--- that it has
-abbrev pub Follows : List EntryView → List EntryView → ℕ → Option ℕ → Type 0
-Follows recorded entries added difference =
+-- the same of all entries that were ever added to a journal: those that were cleared, and then
+-- those that it has
+abbrev pub Retraces : List EntryView → List EntryView → ℕ → Option ℕ → Type 0
+Retraces recorded entries added difference =
     (cleared : List EntryView)
     × (length cleared + length entries ≡ added)
     × Agrees recorded (cleared ++ entries) difference
