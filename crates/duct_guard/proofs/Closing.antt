@@ -1,11 +1,13 @@
 -- Ends that are closed as far as there is room, stream by stream.
-use Rattle.std.specs.Prelude.{ℕ, zero, suc, List, [], ◌∷◌, ◌++◌, map, take, length}
+use Rattle.std.specs.Prelude.{ℕ, zero, suc, List, [], ◌∷◌, ◌++◌, map, take, length, Ok, Err, IfErr}
+use Rattle.std.specs.declared.result.Result.{Result}
 use Rattle.std.proofs.Common.{◌≡◌, refl, ap, sym, subst, ◌∙◌, arith, append_assoc, ◌+◌, ◌-◌, get_or}
 use Rattle.std.proofs.lemmas.List.{append-nil, map-append, length-append, length-map}
 use native.Mathlib.Nat.{sub-zero}
 use Rattle.duct_system.specs.EntryView.{Close}
 use Rattle.duct_system.specs.Journal.{JournalView}
 use Rattle.duct_system.specs.Streams.{stream_of, end_of, ends_of}
+use Rattle.duct_system.specs.declared.system.Fault.{Fault}
 use Rattle.duct_system.specs.declared.system.Stdio.{Stdio}
 use Rattle.duct_system.specs.declared.system.Stdio.TheVariants.{Inherit, Null, End}
 use Rattle.duct_guard.specs.Closed.{ClosesFirst}
@@ -83,3 +85,24 @@ three_close f room io a b c left less one two three four is-left is-less first s
     let rest : ClosesFirst (room - length (map f (end_of a))) (map f (end_of b) ++ map f (end_of c)) two four =
     subst (λ n. ClosesFirst n (map f (end_of b) ++ map f (end_of c)) two four) of-left later in
     rw (is, ends) (then_closes room (map f (end_of a)) (map f (end_of b) ++ map f (end_of c)) one two four first rest)
+
+-- no end was to be closed
+pub nothing_closed : (room : ℕ) (numbers : List ℕ) (old new : JournalView) → new ≡ old
+    → length numbers ≡ 0 → ClosesFirst room numbers old new
+nothing_closed zero [] old new same none = rw same (record {
+  entries_are = sym (append-nil old.entries);
+  next_grows = omega arith;
+  room_is = omega arith;
+})
+nothing_closed (suc n) [] old new same none = rw same (record {
+  entries_are = sym (append-nil old.entries);
+  next_grows = omega arith;
+  room_is = omega arith;
+})
+nothing_closed room (x ∷ xs) old new same none = absurd (omega (arith, none))
+
+-- a fact of any fault holds of the one that is returned
+pub on_err : {T : Type 0} (result : Result T Fault) {P : Fault → Type 0} → ((fault : Fault) → P fault)
+    → IfErr result P
+on_err (Ok it) holds = tt
+on_err (Err fault) holds = holds fault

@@ -1,9 +1,8 @@
 -- What the journal below has when a guard notes one more entry, and what follows from it.
 use Rattle.std.specs.Prelude.{ℕ, List, [], ◌∷◌, ◌++◌, Bool, true, false, ◌&&◌, ◌||◌, length, map, take, nat_le, Ok, Err, IfOk, IfErr, OnOk, OnErr, Some}
-use Rattle.std.specs.List.{list_all}
 use Rattle.std.specs.declared.option.Option.{Option}
 use Rattle.std.specs.declared.result.Result.{Result}
-use Rattle.std.proofs.Common.{◌≡◌, refl, ap, sym, subst, ◌∙◌, arith, append_assoc, ◌+◌, ◌-◌, ◌≤◌, inl, inr}
+use Rattle.std.proofs.Common.{◌≡◌, refl, ap, sym, subst, ◌∙◌, arith, append_assoc, ◌+◌, ◌-◌, ◌≤◌, ◌⊎◌, inl, inr}
 use Rattle.std.proofs.lemmas.Bool.{and_parts}
 use Rattle.std.proofs.lemmas.List.{append-nil, length-take}
 use Rattle.std.proofs.lemmas.List.Folds.{list_all-append}
@@ -22,7 +21,7 @@ use Rattle.duct_system.specs.declared.system.Stdio.{Stdio}
 use Rattle.duct_guard.specs.Allowed.{is_allowed, is_denial, AreAllowed, AreDenied}
 use Rattle.duct_guard.specs.Answer.{answer_of}
 use Rattle.duct_guard.specs.Closed.{ClosesFirst}
-use Rattle.duct_guard.specs.Forwarded.{allows_spawn, may_ask, refusal, Forwards, Passed, Refused, LostVars, LostPath, ForwardsAll, IsForwarded}
+use Rattle.duct_guard.specs.Forwarded.{allows_spawn, may_ask, refusal, Forwards, Passed, Refused, Crowded, LostVars, LostPath, ForwardsAll, IsForwarded}
 use Rattle.duct_guard.specs.Held.{held_after, is_within, with_entry}
 use Rattle.duct_guard.specs.Rules.{Rules}
 use Rattle.duct_guard.specs.declared.counts.Counts.{Counts}
@@ -189,6 +188,23 @@ module _ (rules : Rules) (held : Counts) where
   child_answered number spec copy io count old new (Err fault) allowed same counted ok err =
       failed (Spawn spec io (Err fault)) fault old new allowed refl refl (rw (same, counted) err)
 
+  -- a spawn that was refused here, also for as many children that run, whose ends were closed
+  pub child_refused : (spec : SpecView) (io : List (Stdio ℕ)) (room running : ℕ) (fault : Fault)
+      (old new : JournalView)
+      → (fault ≡ refusal (allows_spawn rules held spec))
+      ⊎ ((fault ≡ refusal false) × (rules.at_once ≤ running)) → running ≤ held.children
+      → ClosesFirst room (ends_of io) old new
+      → IsForwarded rules held (Spawn spec io (Err fault)) old new
+  child_refused spec io room running fault old new (inl is) few closes =
+      closed (Spawn spec io (Err fault)) room old new (ap (λ fault. Some fault) is) refl closes
+  child_refused spec io room running fault old new (inr full) few closes = record {
+    asked = map Close (take room (ends_of io));
+    forwards = Crowded room spec io (ap (λ fault. Spawn spec io (Err fault)) full.0) (let most = full.1 in omega (arith, most, few)) refl;
+    entries_are = closes.entries_are;
+    next_grows = closes.next_grows;
+    room_is = let kept = closes.room_is in let left = length-take room (ends_of io) in omega (arith, kept, left);
+  }
+
   -- the environment, and a canonical path, for whose copy there was no memory
   pub lost_vars : (vars : Vars) (fault : Fault) (old new : JournalView) → fault ≡ refusal true
       → Adds (Environment (Ok vars)) 0 0 old new
@@ -232,6 +248,8 @@ module _ (rules : Rules) where
       rw (is, (and_parts (is_allowed rules entry) (is_within rules.limits held entry) allowed).0) refl
   asked_allowed held entry asked (Refused count fault is) =
       subst (AreAllowed rules) (sym is) (closes_allowed (take count (closed_by entry)))
+  asked_allowed held entry asked (Crowded count spec io noted full is) =
+      subst (AreAllowed rules) (sym is) (closes_allowed (take count (closed_by entry)))
   asked_allowed held entry asked (LostVars vars noted is) = rw is refl
   asked_allowed held entry asked (LostPath path name allowed noted is) = rw (is, allowed) refl
 
@@ -250,12 +268,18 @@ module _ (rules : Rules) where
   denial true fits fault is = refl
   denial false fits fault is = rw is refl
 
+  denied_anyway : (allowed : Bool) → (allowed || true) ≡ true
+  denied_anyway true = refl
+  denied_anyway false = refl
+
   entry_denied : (held : Counts) (entry : EntryView) (asked : List EntryView) → Forwards rules held entry asked
       → (is_allowed rules entry || is_denial (fault_of entry)) ≡ true
   entry_denied held entry asked (Passed allowed is) =
       rw (and_parts (is_allowed rules entry) (is_within rules.limits held entry) allowed).0 refl
   entry_denied held entry asked (Refused count fault is) =
       denial (is_allowed rules entry) (is_within rules.limits held entry) (fault_of entry) fault
+  entry_denied held entry asked (Crowded count spec io noted full is) =
+      rw noted (denied_anyway (rules.spawns spec))
   entry_denied held entry asked (LostVars vars noted is) = rw noted refl
   entry_denied held entry asked (LostPath path name allowed noted is) = rw (noted, allowed) refl
 

@@ -1,11 +1,12 @@
 -- What a guard holds never exceeds its policy's limits.
-use Rattle.std.specs.Prelude.{ℕ, Bool, List, [], ◌∷◌, ◌++◌, ◌&&◌, true, length, Ok, Err, OnOk, OnErr, Some}
+use Rattle.std.specs.Prelude.{ℕ, Bool, List, [], ◌∷◌, ◌++◌, ◌&&◌, true, false, length, Ok, Err, IfOk, OnOk, OnErr, Some}
 use Rattle.std.specs.declared.result.Result.{Result}
 use Rattle.std.proofs.Common.{◌≡◌, refl, ap, sym, subst, ◌∙◌, arith, ◌+◌, ◌-◌}
 use Rattle.std.proofs.lemmas.Bool.{and_parts, leb-true}
 use Rattle.std.proofs.Math.Bool.{and-true}
 use Rattle.std.proofs.Math.Bridge.{le_prop}
 use mathlib.Core.Logic.{∥∥₁_elim}
+use Rattle.duct_system.specs.Child.{Answer}
 use Rattle.duct_system.specs.EntryView.{EntryView, Environment, Pipe, OpenRead, Create, Duplicate, Parent, Canonicalize, Spawn, Feed, Drain, Reader, Close}
 use Rattle.duct_system.specs.Journal.{JournalView}
 use Rattle.duct_system.specs.Ledger.{opened_by, closed_by}
@@ -16,10 +17,12 @@ use Rattle.duct_system.specs.declared.system.Fault.{Fault}
 use Rattle.duct_system.specs.declared.system.Stdio.{Stdio}
 use Rattle.duct_guard.specs.Allowed.{is_allowed}
 use Rattle.duct_guard.specs.Answer.{answer_of}
-use Rattle.duct_guard.specs.Forwarded.{no_memory, Forwards, Passed, Refused, LostVars, LostPath, ForwardsAll, IsForwarded}
-use Rattle.duct_guard.specs.Held.{started_by, with_entry, held_after, is_within, Fits, AlwaysFits}
+use Rattle.duct_guard.specs.Crew.{IsCrew, Joins, Leaves}
+use Rattle.duct_guard.specs.Forwarded.{no_memory, refusal, Forwards, Passed, Refused, Crowded, LostVars, LostPath, ForwardsAll, IsForwarded}
+use Rattle.duct_guard.specs.Held.{child_of, started_by, with_entry, held_after, is_within, Fits, AlwaysFits}
 use Rattle.duct_guard.specs.Rules.{Rules}
 use Rattle.duct_guard.specs.declared.counts.Counts.{Counts}
+use Rattle.duct_guard.proofs.Crews.{crew_same, crew_left, crew_joined}
 use Rattle.duct_guard.proofs.Guarding.{one_noted}
 
 counts_are : (one other : Counts) → one.ends ≡ other.ends → one.children ≡ other.children
@@ -169,6 +172,8 @@ module _ (rules : Rules) where
       asked_fits rules.limits held entry (and_parts (is_allowed rules entry) (is_within rules.limits held entry) allowed).1 fits
   entry_fits held entry asked (Refused count fault is) fits =
       failed_fits rules.limits held entry _ fault fits
+  entry_fits held entry asked (Crowded count spec io noted full is) fits =
+      subst (λ e. Fits rules.limits (with_entry held e)) (sym noted) (quiet rules.limits held (Spawn spec io (Err (refusal false))) refl refl fits)
   entry_fits held entry asked (LostVars vars noted is) fits =
       subst (λ e. Fits rules.limits (with_entry held e)) (sym noted) (quiet rules.limits held (Environment (Err no_memory)) refl refl fits)
   entry_fits held entry asked (LostPath path name allowed noted is) fits =
@@ -203,12 +208,37 @@ pub as_allowed : {allowed said : Bool} → allowed ≡ said → (allowed && true
 as_allowed {allowed} is = and-true allowed ∙ is
 
 -- a guard that noted and counted one more entry: what it keeps of itself but for the room
-pub one_more : (rules : Rules) (earlier held new : Counts) (own more : List EntryView)
-    (entry : EntryView) (old next : JournalView) → ∥ ForwardsAll rules earlier own old.entries ∥₁
+pub one_more : {may_answer : ℕ → Answer → Type 0} {running : List ℕ} (rules : Rules)
+    (earlier held new : Counts) (own more : List EntryView) (entry : EntryView)
+    (old next : JournalView) → ∥ ForwardsAll rules earlier own old.entries ∥₁
     → held ≡ held_after earlier own → Fits rules.limits earlier
-    → IsForwarded rules held entry old next → more ≡ own ++ entry ∷ []
+    → ∥ IsCrew may_answer rules.at_once earlier.children own running ∥₁
+    → IsForwarded rules held entry old next → child_of entry ≡ [] → more ≡ own ++ entry ∷ []
     → new ≡ with_entry held entry
     → ∥ ForwardsAll rules earlier more next.entries ∥₁
-    × ((new ≡ held_after earlier more) × (Fits rules.limits earlier × Unit {0}))
-one_more rules earlier held new own more entry old next forwards counted fits sent is adds =
-    (one_noted rules earlier held own more entry old next forwards counted sent is, (one_counted earlier held new own more entry counted is adds, (fits, tt)))
+    × ((new ≡ held_after earlier more) × (Fits rules.limits earlier
+    × (∥ IsCrew may_answer rules.at_once earlier.children more running ∥₁ × Unit {0})))
+one_more {may_answer} {running} rules earlier held new own more entry old next forwards counted fits knows sent none is adds =
+    (one_noted rules earlier held own more entry old next forwards counted sent is, (one_counted earlier held new own more entry counted is adds, (fits, (crew_same may_answer rules.at_once earlier.children own more entry running knows none is, tt))))
+
+-- and one that started a child, or was to
+pub one_spawned : {may_answer : ℕ → Answer → Type 0} {running now : List ℕ} (rules : Rules)
+    (earlier held new : Counts) (own more : List EntryView) {C : Type 0} (number : C → ℕ)
+    (spec : SpecView) (io : List (Stdio ℕ)) (made : Result C Fault) (old next : JournalView)
+    → ∥ ForwardsAll rules earlier own old.entries ∥₁
+    → held ≡ held_after earlier own → Fits rules.limits earlier
+    → ∥ IsCrew may_answer rules.at_once earlier.children own running ∥₁
+    → IfOk made (λ child. ∥ Joins may_answer rules.at_once running (number child) now ∥₁)
+    → OnErr made (∥ Leaves may_answer running now ∥₁)
+    → IsForwarded rules held (Spawn spec io (answer_of number made)) old next
+    → more ≡ own ++ Spawn spec io (answer_of number made) ∷ []
+    → new ≡ with_entry held (Spawn spec io (answer_of number made))
+    → ∥ ForwardsAll rules earlier more next.entries ∥₁
+    × ((new ≡ held_after earlier more) × (Fits rules.limits earlier
+    × (∥ IsCrew may_answer rules.at_once earlier.children more now ∥₁ × Unit {0})))
+one_spawned {may_answer} {running} {now} rules earlier held new own more number spec io (Ok child) old next forwards counted fits knows ok err sent is adds =
+    let entry = Spawn spec io (Ok (number child)) in
+    (one_noted rules earlier held own more entry old next forwards counted sent is, (one_counted earlier held new own more entry counted is adds, (fits, (crew_joined may_answer rules.at_once earlier.children own more entry running now (number child) knows ok refl is, tt))))
+one_spawned {may_answer} {running} {now} rules earlier held new own more number spec io (Err fault) old next forwards counted fits knows ok err sent is adds =
+    let entry = Spawn spec io (Err fault) in
+    (one_noted rules earlier held own more entry old next forwards counted sent is, (one_counted earlier held new own more entry counted is adds, (fits, (crew_same may_answer rules.at_once earlier.children own more entry now (crew_left may_answer rules.at_once earlier.children own running now knows err) refl is, tt))))

@@ -1,13 +1,14 @@
 -- What a guard asked of the system below, by the guard's own journal.
-use Rattle.std.specs.Prelude.{ℕ, Bool, true, ◌&&◌, ◌≡◌, ◌≤◌, ◌+◌, if◌then◌else◌, List, [], ◌∷◌, ◌++◌, length, map, nat_le, take, Ok, Err, Some}
+use Rattle.std.specs.Prelude.{ℕ, Bool, true, false, ◌&&◌, ◌≡◌, ◌≤◌, ◌+◌, if◌then◌else◌, List, [], ◌∷◌, ◌++◌, length, map, nat_le, take, Ok, Err, Some}
 use Rattle.std.specs.declared.result.Result.{Result}
-use Rattle.duct_system.specs.EntryView.{EntryView, Environment, Canonicalize, Close}
+use Rattle.duct_system.specs.EntryView.{EntryView, Environment, Canonicalize, Spawn, Close}
 use Rattle.duct_system.specs.Journal.{JournalView}
 use Rattle.duct_system.specs.Ledger.{opened_by, closed_by}
 use Rattle.duct_system.specs.SpecView.{SpecView, Vars}
 use Rattle.duct_system.specs.Trace.{fault_of}
 use Rattle.duct_system.specs.declared.system.Fault.{Fault}
 use Rattle.duct_system.specs.declared.system.Kind.TheVariants.{OutOfMemory, PermissionDenied}
+use Rattle.duct_system.specs.declared.system.Stdio.{Stdio}
 use Rattle.duct_guard.specs.Allowed.{is_allowed}
 use Rattle.duct_guard.specs.Answer.{answer_of}
 use Rattle.duct_guard.specs.Held.{is_within, with_entry}
@@ -34,11 +35,15 @@ refusal allowed = record { kind = if allowed then OutOfMemory else PermissionDen
 -- the same request, which is allowed and had the same result;
 -- or, of a request that the guard refused, or for which there was no memory below, nothing but to
 -- close ends that it took, from the first;
+-- or the same of a spawn that was refused while as many children may run as are allowed at once;
 -- or the environment or an allowed path, where there was no memory for a copy of the result
 pub data Forwards (rules : Rules) (held : Counts) (entry : EntryView) (below : List EntryView)
     : Type 0 where
   Passed : may_ask rules held entry ≡ true → below ≡ entry ∷ [] → Forwards rules held entry below
   Refused : (count : ℕ) → fault_of entry ≡ Some (refusal (may_ask rules held entry))
+      → below ≡ map Close (take count (closed_by entry)) → Forwards rules held entry below
+  Crowded : (count : ℕ) (spec : SpecView) (io : List (Stdio ℕ))
+      → entry ≡ Spawn spec io (Err (refusal false)) → rules.at_once ≤ held.children
       → below ≡ map Close (take count (closed_by entry)) → Forwards rules held entry below
   LostVars : (vars : Vars) → entry ≡ Environment (Err no_memory)
       → below ≡ Environment (Ok vars) ∷ [] → Forwards rules held entry below
@@ -56,7 +61,8 @@ ForwardsAll rules held (entry ∷ entries) below =
     × ForwardsAll rules (with_entry held entry) entries rest
 
 -- the journal below before and after a request of the guard with this entry, which held this: what
--- the guard forwards was added, and the room changed by no more than the ends that were got and taken
+-- the guard forwards was added, and the room changed by no more than the ends that were got and
+-- taken
 pub record IsForwarded (rules : Rules) (held : Counts) (entry : EntryView) (old new : JournalView)
     : Type 0 where
   pub asked : List EntryView

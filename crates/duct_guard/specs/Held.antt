@@ -8,21 +8,25 @@ use Rattle.duct_guard.specs.declared.counts.Counts.{Counts}
 abbrev pub nothing_held : Counts
 nothing_held = record { ends = 0; children = 0 }
 
--- how many children the request of an entry started
+-- the child that the request of an entry started
+abbrev pub child_of : EntryView → List ℕ
+child_of (Environment answer) = []
+child_of (Pipe answer) = []
+child_of (OpenRead path answer) = []
+child_of (Create path answer) = []
+child_of (Duplicate lent answer) = []
+child_of (Parent side answer) = []
+child_of (Canonicalize path answer) = []
+child_of (Spawn spec io (Ok number)) = number ∷ []
+child_of (Spawn spec io (Err fault)) = []
+child_of (Feed number bytes answer) = []
+child_of (Drain number answer) = []
+child_of (Reader number) = []
+child_of (Close number) = []
+
+-- how many children it started
 abbrev pub started_by : EntryView → ℕ
-started_by (Environment answer) = 0
-started_by (Pipe answer) = 0
-started_by (OpenRead path answer) = 0
-started_by (Create path answer) = 0
-started_by (Duplicate lent answer) = 0
-started_by (Parent side answer) = 0
-started_by (Canonicalize path answer) = 0
-started_by (Spawn spec io (Ok number)) = 1
-started_by (Spawn spec io (Err fault)) = 0
-started_by (Feed number bytes answer) = 0
-started_by (Drain number answer) = 0
-started_by (Reader number) = 0
-started_by (Close number) = 0
+started_by entry = length (child_of entry)
 
 -- what is held after one more entry: ends that its request returned are open, and those that it
 -- took are not any more; a child counts also after it has ended

@@ -1,6 +1,7 @@
 pub mod Allowed
 pub mod Answer
 pub mod Closed
+pub mod Crew
 pub mod Forwarded
 pub mod GuardView
 pub mod Held

@@ -5,9 +5,13 @@ use Rattle.std.specs.Path.{path_components, parent_dir}
 use Rattle.duct_guard.specs.Rules.{Rules}
 use Rattle.duct_guard.specs.declared.counts.Counts.{Counts}
 
--- the limits of a policy that has none: more than any machine has
+-- a limit that is none: more than any machine has
+abbrev pub no_limit : ℕ
+no_limit = 18446744073709551615
+
+-- the limits of a policy that has none
 abbrev pub unlimited : Counts
-unlimited = record { ends = 18446744073709551615; children = 18446744073709551615 }
+unlimited = record { ends = no_limit; children = no_limit }
 
 -- everything
 abbrev pub all_allowed : Rules
@@ -17,6 +21,7 @@ all_allowed = record {
   creates = λ path. true;
   canonicalizes = λ path. true;
   limits = unlimited;
+  at_once = no_limit;
 }
 
 -- all but to create files
@@ -38,11 +43,16 @@ both_rules one other = record {
   creates = λ path. one.creates path && other.creates path;
   canonicalizes = λ path. one.canonicalizes path && other.canonicalizes path;
   limits = least one.limits other.limits;
+  at_once = min one.at_once other.at_once;
 }
 
 -- everything within these limits
 abbrev pub limit_rules : Counts → Rules
 limit_rules limits = record all_allowed { limits = limits }
+
+-- everything while no more than this many children run
+abbrev pub at_once_rules : ℕ → Rules
+at_once_rules children = record all_allowed { at_once = children }
 
 -- whether a text is one of these
 abbrev pub is_listed : List (List ℕ) → List ℕ → Bool

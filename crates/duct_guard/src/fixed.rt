@@ -63,4 +63,8 @@ impl<P: Policy, K: FixedRules> Policy for Fixed<P, K> {
     fn limits(&self) -> Counts {
         self.policy.limits()
     }
+
+    fn at_once(&self) -> usize {
+        self.policy.at_once()
+    }
 }

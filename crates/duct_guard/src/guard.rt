@@ -1,15 +1,18 @@
 //! A guarded system.
-ghost use Rattle.std.specs.Prelude.{◌≡◌, ◌≤◌, ◌<◌, ◌+◌, ◌-◌, [], ◌∷◌, ◌++◌, false, map, string_bytes, IfOk, IfErr, OnOk, OnErr};
+ghost use Rattle.std.specs.Prelude.{◌≡◌, ◌≤◌, ◌<◌, ◌+◌, ◌-◌, [], ◌∷◌, ◌++◌, false, length, map, string_bytes, IfOk, IfErr, OnOk, OnErr};
 ghost use Rattle.duct_system.specs.EntryView.{entry_view};
 ghost use Rattle.duct_system.specs.declared.system.Kind.TheVariants.{OutOfMemory};
 ghost use Rattle.duct_guard.specs.Allowed.{AreAllowed, AreDenied};
 ghost use Rattle.duct_guard.specs.Answer.{answer_of};
-ghost use Rattle.duct_guard.specs.Closed.{ClosesFirst};
+ghost use Rattle.duct_guard.specs.Closed.{ClosesFirst, SpendsEnds};
+ghost use Rattle.duct_guard.specs.Crew.{IsCrew};
 ghost use Rattle.duct_guard.specs.Forwarded.{ForwardsAll, allows_spawn};
 ghost use Rattle.duct_guard.specs.GuardView.{GuardView};
 ghost use Rattle.duct_guard.specs.Held.{AlwaysFits, Fits, held_after, nothing_held};
 
+use crate::child::GuardedChild;
 use crate::counts::Counts;
+use crate::crew::{Member, forget_ended};
 use crate::policy::Policy;
 use crate::requests::{
     canonicalize_twice, create_allowed, duplicate_allowed, environment_twice, no_memory,
@@ -38,14 +41,18 @@ pub struct Guarded<S: System, P: Policy> {
     journal: Journal,
     earlier: Counts,
     held: Counts,
+    crew: Vec<Member<S::Child>>,
     ghost within: { journal.room ≤ (S.journal_view inner).room },
     ghost forwards: { ∥ ForwardsAll (P.rules policy) earlier journal.entries
         (S.journal_view inner).entries ∥₁ },
     ghost counted: { held ≡ held_after earlier journal.entries },
     ghost fits: { Fits (P.rules policy).limits earlier },
+    ghost knows: { ∥ IsCrew S.Child.may_answer (P.rules policy).at_once earlier.children
+        journal.entries (map (λ m. m.number) crew.items) ∥₁ },
 }
 
 impl<S: System, P: Policy> Model for Guarded<S, P> {
+    ghost use Rattle.std.specs.Prelude.{map};
     ghost use Rattle.duct_guard.specs.GuardView.{GuardView};
 
     ghost Value = { GuardView S P };
@@ -56,6 +63,7 @@ impl<S: System, P: Policy> Model for Guarded<S, P> {
       journal = g.journal;
       earlier = g.earlier;
       held = g.held;
+      running = map (λ m. m.number) g.crew.items;
     } };
 }
 
@@ -70,6 +78,7 @@ impl<S: System, P: Policy> Guarded<S, P> {
             ≡ record { entries = []; added = 0; next = 1; room = 0 } }
         ensures earlier { result.earlier ≡ nothing_held }
         ensures held { result.held ≡ nothing_held }
+        ensures running { result.running ≡ [] }
     {
         Guarded {
             inner,
@@ -77,6 +86,7 @@ impl<S: System, P: Policy> Guarded<S, P> {
             journal: Journal::new(alloc),
             earlier: Counts::nothing(),
             held: Counts::nothing(),
+            crew: Vec::new(alloc),
         }
     }
 
@@ -121,6 +131,19 @@ impl<S: System, P: Policy> Guarded<S, P> {
         self.held
     }
 
+    /// Returns how many children run, as far as the guard knows: it started them, and no poll of
+    /// theirs has returned an exit status. It is never more than the policy allows at once.
+    pub fn running(&mut self) -> usize
+        ensures same { self.new ≡ record self.old { running = self.new.running } }
+        ensures count { result ≡ length self.new.running }
+        ensures few { result ≤ (P.rules self.new.policy).at_once }
+        ensures knows { ∥ IsCrew S.Child.may_answer (P.rules self.new.policy).at_once
+            self.new.earlier.children self.new.journal.entries self.new.running ∥₁ }
+    {
+        forget_ended(&mut self.crew);
+        self.crew.len()
+    }
+
     /// Returns the system below, whose journal has only requests that the policy allows, and the
     /// policy. The guard's journal is dropped.
     pub fn into_parts(self) -> (S, P)
@@ -136,6 +159,7 @@ impl<S: System, P: Policy> Guarded<S, P> {
             journal: _,
             earlier: _,
             held: _,
+            crew: _,
         } = self;
         (inner, policy)
     }
@@ -211,7 +235,7 @@ impl<S: System, P: Policy> System for Guarded<S, P> {
 
     type End = S::End;
 
-    type Child = S::Child;
+    type Child = GuardedChild<S::Child>;
 
     type Feed = S::Feed;
 
@@ -307,15 +331,19 @@ impl<S: System, P: Policy> System for Guarded<S, P> {
         }
     }
 
-    fn spawn(&mut self, spec: CommandSpec, io: [Stdio<S::End>; 3]) -> Result<S::Child, Fault>
+    fn spawn(
+        &mut self,
+        spec: CommandSpec,
+        io: [Stdio<S::End>; 3],
+    ) -> Result<GuardedChild<S::Child>, Fault>
         requires { min 1 (length (ends_of io)) ≤ self.old.journal.room }
         ensures ok { IfOk result (λ child.
-            let number = S.Child.number_of child in
+            let number = S.Child.number_of child.inner in
             let entry = Spawn spec (map (stream_of S.End.number_of) io) (Ok number) in
             let old = guard_journal S.journal_view self.old in
             let new = guard_journal S.journal_view self.new in
             GivesEnds entry (length (ends_of io)) old new × IsNew old new number) }
-        ensures unasked { IfOk result (λ child. IsUnasked (S.Child.child_view child)) }
+        ensures unasked { IfOk result (λ child. IsUnasked (S.Child.child_view child.inner)) }
         ensures err { IfErr result (λ fault.
             let entry = Spawn spec (map (stream_of S.End.number_of) io) (Err fault) in
             let old = guard_journal S.journal_view self.old in
@@ -325,13 +353,25 @@ impl<S: System, P: Policy> System for Guarded<S, P> {
         ensures closes { allows_spawn (P.rules self.old.policy) self.old.held spec ≡ false →
             ClosesFirst self.old.journal.room (map S.End.number_of (ends_of io))
             (S.journal_view self.old.inner) (S.journal_view self.new.inner) }
+        ensures spends { IfErr result (λ fault.
+            SpendsEnds self.old.journal.room spec (map (stream_of S.End.number_of) io) fault
+            (S.journal_view self.old.inner) (S.journal_view self.new.inner)) }
     {
         let (streams, ends) = numbered_streams(&io);
         let room = self.journal.room();
         prepare_spawn(&mut self.journal, ends)?;
         let alloc = self.journal.allocator();
         let held = self.held;
-        let started = spawn_allowed(alloc, &self.policy, held, &mut self.inner, &spec, io, room);
+        let started = spawn_allowed(
+            alloc,
+            &self.policy,
+            held,
+            &mut self.crew,
+            &mut self.inner,
+            &spec,
+            io,
+            room,
+        );
         self.held.count_spawn(ends, &started);
         self.journal
             .add(Entry::Spawn(spec, streams, number_of(&started)));

@@ -63,6 +63,10 @@ impl Policy for Programs {
     fn limits(&self) -> Counts {
         Counts::unlimited()
     }
+
+    fn at_once(&self) -> usize {
+        usize::MAX
+    }
 }
 
 // Returns whether a text is one of these.
@@ -128,6 +132,10 @@ impl Policy for Folders {
 
     fn limits(&self) -> Counts {
         Counts::unlimited()
+    }
+
+    fn at_once(&self) -> usize {
+        usize::MAX
     }
 }
 
@@ -198,6 +206,10 @@ impl Policy for ReadOnly {
     fn limits(&self) -> Counts {
         Counts::unlimited()
     }
+
+    fn at_once(&self) -> usize {
+        usize::MAX
+    }
 }
 
 /// Allows everything within these limits: no more ends are open at once, and no more children are
@@ -227,6 +239,45 @@ impl Policy for Limits {
     }
 
     fn limits(&self) -> Counts {
+        self.0
+    }
+
+    fn at_once(&self) -> usize {
+        usize::MAX
+    }
+}
+
+/// Allows everything, but no more than this many children that run at once. A child runs until one
+/// of its polls has returned an exit status.
+#[derive(Drop)]
+pub struct AtOnce(pub usize);
+
+impl Policy for AtOnce {
+    ghost use Rattle.duct_guard.specs.Policies.{at_once_rules};
+
+    ghost rules = { λ children. at_once_rules children.0 };
+
+    fn allows_spawn(&self, _spec: &CommandSpec) -> bool {
+        true
+    }
+
+    fn allows_read(&self, _path: &str) -> bool {
+        true
+    }
+
+    fn allows_create(&self, _path: &str) -> bool {
+        true
+    }
+
+    fn allows_canonicalize(&self, _path: &str) -> bool {
+        true
+    }
+
+    fn limits(&self) -> Counts {
+        Counts::unlimited()
+    }
+
+    fn at_once(&self) -> usize {
         self.0
     }
 }
@@ -265,5 +316,9 @@ impl<P: Policy, Q: Policy> Policy for Both<P, Q> {
             ends: one.ends.min(other.ends),
             children: one.children.min(other.children),
         }
+    }
+
+    fn at_once(&self) -> usize {
+        self.first.at_once().min(self.second.at_once())
     }
 }

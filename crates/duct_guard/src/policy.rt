@@ -32,4 +32,8 @@ pub trait Policy {
     /// started.
     fn limits(&self) -> Counts
         ensures { result ≡ (rules self.now).limits };
+
+    /// Returns the greatest number of children that run at once.
+    fn at_once(&self) -> usize
+        ensures { result ≡ (rules self.now).at_once };
 }

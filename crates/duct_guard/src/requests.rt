@@ -1,6 +1,6 @@
 //! Requests to the system below, where a guard does more than to pass them on: it looks at its
 //! policy, or copies what the request takes or returns.
-ghost use Rattle.std.specs.Prelude.{◌≡◌, ℕ, ◌<◌, ◌≤◌, ◌+◌, false, true, min, nat_le, length, map, string_bytes, IfOk, IfErr, OnOk, Ok, Err};
+ghost use Rattle.std.specs.Prelude.{◌≡◌, ℕ, ◌<◌, ◌≤◌, ◌+◌, false, true, ◌⊎◌, min, nat_le, length, map, string_bytes, vec_len, vec_capacity, IfOk, IfErr, OnOk, OnErr, Ok, Err};
 ghost use Rattle.duct_system.specs.Child.{IsUnasked};
 ghost use Rattle.duct_system.specs.EntryView.{Environment, Pipe, OpenRead, Create, Duplicate, Parent, Canonicalize, Spawn, Feed};
 ghost use Rattle.duct_system.specs.Job.{unpolled_job};
@@ -8,7 +8,8 @@ ghost use Rattle.duct_system.specs.Journal.{GetsEnds, IsNew, IsRefused};
 ghost use Rattle.duct_system.specs.SpecView.{pair_text};
 ghost use Rattle.duct_system.specs.Streams.{stream_of, ends_of};
 ghost use Rattle.duct_guard.specs.Answer.{answer_of};
-ghost use Rattle.duct_guard.specs.Closed.{ClosesFirst};
+ghost use Rattle.duct_guard.specs.Closed.{ClosesFirst, SpendsEnds};
+ghost use Rattle.duct_guard.specs.Crew.{Joins, Leaves};
 ghost use Rattle.duct_guard.specs.Forwarded.{ForwardsEnd, IsForwarded, allows_spawn, may_ask, refusal};
 ghost use Rattle.duct_guard.specs.Rules.{Rules};
 ghost use Rattle.duct_guard.specs.declared.counts.Counts.{Counts};
@@ -16,12 +17,14 @@ ghost use Rattle.std.specs.Arc.{arc_value};
 ghost use Rattle.std.specs.declared.result.Result.{Result};
 ghost use Rattle.duct_system.specs.declared.system.Fault.{Fault};
 
+use crate::child::GuardedChild;
 use crate::counts::Counts;
+use crate::crew::{Member, Notes, forget_ended, join, prepare};
 use crate::policy::Policy;
 use crate::streams::close_ends;
 use duct_entries::copy::{copies_of, spec_copy};
 use duct_system::spec::CommandSpec;
-use duct_system::system::{Fault, Kind, Side, Stdio, System};
+use duct_system::system::{Child, Fault, Kind, Side, Stdio, System};
 use std::alloc::Global;
 use std::sync::Arc;
 
@@ -238,33 +241,48 @@ pub(crate) fn canonicalize_twice<S: System, P: Policy>(
     }
 }
 
-/// Starts a child by a copy of the spec, if the policy allows it and one more child. Where it is
-/// not asked for, the ends are closed, as far as there is this much room.
+/// Starts a child by a copy of the spec, if the policy allows it, one more child and one more that
+/// runs. Where it is not asked for, the ends are closed, as far as there is this much room. Forgets
+/// the children that have ended.
 pub(crate) fn spawn_allowed<S: System, P: Policy>(
     alloc: Global,
     policy: &P,
     held: Counts,
+    crew: &mut Vec<Member<S::Child>>,
     sys: &mut S,
     spec: &CommandSpec,
     io: [Stdio<S::End>; 3],
     room: usize,
-) -> Result<S::Child, Fault>
+) -> Result<GuardedChild<S::Child>, Fault>
     requires fits { room ≤ (S.journal_view sys.old).room }
     requires one { min 1 (length (ends_of io)) ≤ room }
+    requires started { vec_len crew.old ≤ held.children }
     ensures forwards { let entry = Spawn spec.now (map (stream_of S.End.number_of) io)
-        (answer_of S.Child.number_of result) in
+        (answer_of (λ child. S.Child.number_of child.inner) result) in
         IsForwarded (P.rules policy.now) held entry (S.journal_view sys.old)
         (S.journal_view sys.new) }
     ensures fresh { IfOk result (λ child.
-        IsNew (S.journal_view sys.old) (S.journal_view sys.new) (S.Child.number_of child)) }
-    ensures unasked { IfOk result (λ child. IsUnasked (S.Child.child_view child)) }
+        IsNew (S.journal_view sys.old) (S.journal_view sys.new) (S.Child.number_of child.inner)) }
+    ensures unasked { IfOk result (λ child. IsUnasked (S.Child.child_view child.inner)) }
     ensures counts { OnOk result (held.children + 1 ≤ 18446744073709551615) }
     ensures closes { allows_spawn (P.rules policy.now) held spec.now ≡ false →
         ClosesFirst room (map S.End.number_of (ends_of io)) (S.journal_view sys.old)
         (S.journal_view sys.new) }
+    ensures spends { IfErr result (λ fault.
+        SpendsEnds room spec.now (map (stream_of S.End.number_of) io) fault
+        (S.journal_view sys.old) (S.journal_view sys.new)) }
+    ensures joins { IfOk result (λ child. ∥ Joins S.Child.may_answer (P.rules policy.now).at_once
+        (map (λ m. m.number) crew.old.items) (S.Child.number_of child.inner)
+        (map (λ m. m.number) crew.new.items) ∥₁) }
+    ensures stays { OnErr result (∥ Leaves S.Child.may_answer
+        (map (λ m. m.number) crew.old.items) (map (λ m. m.number) crew.new.items) ∥₁) }
 {
-    match allowed_copy(alloc, policy, held, spec) {
-        Ok(copy) => sys.spawn(copy, io),
+    forget_ended(crew);
+    match prepared(alloc, policy, held, crew, spec) {
+        Ok((copy, notes)) => match sys.spawn(copy, io) {
+            Ok(child) => Ok(join(crew, child, notes)),
+            Err(fault) => Err(fault),
+        },
         Err(fault) => {
             close_ends(sys, io, room);
             Err(fault)
@@ -272,25 +290,32 @@ pub(crate) fn spawn_allowed<S: System, P: Policy>(
     }
 }
 
-// Returns a copy of a spec that the policy allows. Fails with `PermissionDenied` if it doesn't
-// allow it or no more children, and with `OutOfMemory` at an allocation failure.
-fn allowed_copy<P: Policy>(
+// Returns a copy of a spec that the policy allows, and the owners of a note for its child. Fails
+// with `PermissionDenied` if it doesn't allow it or no more children, and with `OutOfMemory` at an
+// allocation failure.
+fn prepared<P: Policy, C: Child>(
     alloc: Global,
     policy: &P,
     held: Counts,
+    crew: &mut Vec<Member<C>>,
     spec: &CommandSpec,
-) -> Result<CommandSpec, Fault>
-    ensures same { IfOk result (λ copy. copy ≡ spec.now) }
+) -> Result<(CommandSpec, Notes<C>), Fault>
+    ensures same { crew.new.items ≡ crew.old.items }
+    ensures copy { IfOk result (λ made. made.0 ≡ spec.now) }
     ensures allowed { OnOk result (allows_spawn (P.rules policy.now) held spec.now ≡ true) }
+    ensures few { OnOk result (vec_len crew.new < (P.rules policy.now).at_once) }
+    ensures room { OnOk result (vec_len crew.new < vec_capacity crew.new) }
     ensures counts { OnOk result (held.children + 1 ≤ 18446744073709551615) }
-    ensures err { IfErr result
-        (λ fault. fault ≡ refusal (allows_spawn (P.rules policy.now) held spec.now)) }
+    ensures err { IfErr result (λ fault.
+        (fault ≡ refusal (allows_spawn (P.rules policy.now) held spec.now))
+        ⊎ ((fault ≡ refusal false) × ((P.rules policy.now).at_once ≤ vec_len crew.new))) }
 {
-    if !may_spawn(policy, held, spec) {
+    if !may_spawn(policy, held, spec) || crew.len() >= policy.at_once() {
         return Err(forbidden());
     }
+    let notes = prepare(alloc, crew)?;
     match spec_copy(alloc, spec) {
-        Ok(copy) => Ok(copy),
+        Ok(copy) => Ok((copy, notes)),
         Err(_) => Err(no_memory()),
     }
 }

@@ -1,6 +1,6 @@
 -- What a build step may do.
 use Rattle.std.specs.Prelude.{ℕ, Bool, false, true, ◌||◌, List, [], ◌∷◌, bytes_eq, codes}
-use Rattle.duct_guard.specs.Policies.{unlimited}
+use Rattle.duct_guard.specs.Policies.{no_limit, unlimited}
 use Rattle.duct_guard.specs.Rules.{Rules}
 
 -- whether the first of some words is echo or cat
@@ -16,4 +16,5 @@ tool_rules = record {
   creates = λ path. false;
   canonicalizes = λ path. true;
   limits = unlimited;
+  at_once = no_limit;
 }

@@ -1,14 +1,17 @@
 //! A build step that may start `echo` and `cat` alone, one whose programs are listed while it runs,
-//! and one that may start so many children, over the real machine. The program prints what each
-//! command comes to, and whether a forbidden one has made its file.
+//! one that may start so many children, and two of which so many may run at once, over the real
+//! machine. The program prints what each command comes to, and whether a forbidden one has made its
+//! file.
 #![tactic(auto)]
 
 ghost use Rattle.std.specs.Prelude.{◌≡◌, []};
 
+mod at_once;
 mod limited;
 mod listed;
 mod step;
 
+use crate::at_once::read_in_turn;
 use crate::limited::read_limited;
 use crate::listed::read_listed;
 use crate::step::read_step;
@@ -72,6 +75,24 @@ fn printed_within<S: System + Drop>(
     printed
 }
 
+// Returns what a step prints that may let one child run, after another step whose child has ended.
+fn printed_in_turn<S: System + Drop>(
+    rt: &impl Wait,
+    alloc: Global,
+    system: S,
+    is_piped: bool,
+) -> Result<String, Error>
+    requires { (S.journal_view system).entries ≡ [] }
+{
+    let echo: Expression<S::End> = cmd!(in alloc; "echo", "in turn")?;
+    let second = match is_piped {
+        true => echo.pipe(&cmd!(in alloc; "cat")?)?,
+        false => echo.clone()?,
+    };
+    let (_system, _running, printed) = read_in_turn(rt, alloc, system, 1, &echo, &second);
+    printed
+}
+
 fn main(rt: HostRuntime) -> io::Result<()> {
     let alloc = rt.alloc();
     for (program, argument) in [("echo", "compiled"), ("cat", "/dev/null"), ("touch", MADE)] {
@@ -90,6 +111,12 @@ fn main(rt: HostRuntime) -> io::Result<()> {
         match printed_within(&rt, alloc, Host::new(&rt, alloc), children) {
             Ok(text) => println!(rt; "echo and cat within {children}: {text}")?,
             Err(error) => println!(rt; "echo and cat within {children}: {error}")?,
+        }
+    }
+    for is_piped in [false, true] {
+        match printed_in_turn(&rt, alloc, Host::new(&rt, alloc), is_piped) {
+            Ok(text) => println!(rt; "one at once, piped {is_piped}: {text}")?,
+            Err(error) => println!(rt; "one at once, piped {is_piped}: {error}")?,
         }
     }
     match File::open(&rt, MADE) {

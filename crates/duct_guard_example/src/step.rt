@@ -41,6 +41,10 @@ impl Policy for Tools {
     fn limits(&self) -> Counts {
         Counts::unlimited()
     }
+
+    fn at_once(&self) -> usize {
+        usize::MAX
+    }
 }
 
 /// Reads what a step prints. The system is asked to start `echo` and `cat` alone, whatever the

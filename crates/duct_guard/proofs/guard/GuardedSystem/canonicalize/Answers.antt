@@ -1,4 +1,4 @@
-use Rattle.std.proofs.Common.{ap, arith, rules}
+use Rattle.std.proofs.Common.{refl, ap, arith, rules}
 use Rattle.std.proofs.lemmas.Grind.{common_steps}
 use Rattle.duct_system.specs.Journal.{JournalView}
 use Rattle.duct_guard.proofs.Counting.{one_held}
@@ -12,7 +12,7 @@ invariant_of-self-inside-in-Ok g c =
     let room = ap (λ (j : JournalView). j.room) c.add.ensures in
     let noted = ap (λ (j : JournalView). j.entries) c.add.ensures in (
       omega (arith, ready, room, sent.room_is, c.self.inside.within),
-      one_held _ _ _ _ _ _ _ _ _ c.self.inside.forwards c.self.inside.counted c.self.inside.fits sent (cc (same, noted, c.in-Ok.ensures.same, c.in_ok-asked.ensures.ok.0)) (omega arith) (omega arith),
+      one_held _ _ _ _ _ _ _ _ _ c.self.inside.forwards c.self.inside.counted c.self.inside.fits c.self.inside.knows sent refl (cc (same, noted, c.in-Ok.ensures.same, c.in_ok-asked.ensures.ok.0)) (omega arith) (omega arith),
     )
 
 pub invariant_of-self-inside-in-Err : goal.invariant_of-self-inside-in-Err
@@ -23,7 +23,7 @@ invariant_of-self-inside-in-Err g c =
     let room = ap (λ (j : JournalView). j.room) c.add-in-Err.ensures in
     let noted = ap (λ (j : JournalView). j.entries) c.add-in-Err.ensures in (
       omega (arith, ready, room, sent.room_is, c.self.inside.within),
-      one_held _ _ _ _ _ _ _ _ _ c.self.inside.forwards c.self.inside.counted c.self.inside.fits sent (cc (same, noted, c.in_ok-asked.ensures.ok.0)) (omega arith) (omega arith),
+      one_held _ _ _ _ _ _ _ _ _ c.self.inside.forwards c.self.inside.counted c.self.inside.fits c.self.inside.knows sent refl (cc (same, noted, c.in_ok-asked.ensures.ok.0)) (omega arith) (omega arith),
     )
 
 pub returns-in-Ok-clause-ok : goal.returns-in-Ok-clause-ok

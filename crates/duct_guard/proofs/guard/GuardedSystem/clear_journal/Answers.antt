@@ -1,5 +1,6 @@
 use Rattle.std.proofs.Common.{ap, arith, refl}
 use Rattle.duct_system.specs.Journal.{JournalView}
+use Rattle.duct_guard.proofs.Crews.{crew_cleared}
 use Rattle.duct_guard.proofs.Guarding.{nothing_noted}
 use Rattle.duct_guard.proofs.Limiting.{now_fits}
 use Rattle.duct_guard.proofs.guard.GuardedSystem.clear_journal.Goals as goal
@@ -13,7 +14,10 @@ invariant_of-self-inside g c =
         nothing_noted _ _ _ _ none c.clear_journal.ensures.entries_are,
         (
           rw none refl,
-          (now_fits _ _ _ _ _ c.self.inside.fits c.self.inside.forwards c.self.inside.counted, tt),
+          (
+            now_fits _ _ _ _ _ c.self.inside.fits c.self.inside.forwards c.self.inside.counted,
+            (crew_cleared _ _ _ _ _ _ _ c.self.inside.knows c.self.inside.counted none, tt),
+          ),
         ),
       ),
     )

@@ -1,4 +1,4 @@
-use Rattle.std.proofs.Common.{ap, arith}
+use Rattle.std.proofs.Common.{refl, ap, arith}
 use Rattle.duct_system.specs.Journal.{JournalView}
 use Rattle.duct_guard.proofs.Counting.{one_held}
 use Rattle.duct_guard.proofs.guard.GuardedSystem.pipe.Goals as goal
@@ -11,7 +11,7 @@ invariant_of-self-inside-in-Ok g c =
     let room = ap (λ (j : JournalView). j.room) c.add.ensures in
     let noted = ap (λ (j : JournalView). j.entries) c.add.ensures in (
       omega (arith, ready, room, sent.room_is, c.self.inside.within),
-      one_held _ _ _ _ _ _ _ _ _ c.self.inside.forwards c.self.inside.counted c.self.inside.fits sent (cc (same, noted)) (omega arith) (omega arith),
+      one_held _ _ _ _ _ _ _ _ _ c.self.inside.forwards c.self.inside.counted c.self.inside.fits c.self.inside.knows sent refl (cc (same, noted)) (omega arith) (omega arith),
     )
 
 pub invariant_of-self-inside-in-Err : goal.invariant_of-self-inside-in-Err
@@ -24,5 +24,5 @@ invariant_of-self-inside-in-Err g c =
     let room = ap (λ (j : JournalView). j.room) c.add-in-Err.ensures in
     let noted = ap (λ (j : JournalView). j.entries) c.add-in-Err.ensures in (
       omega (arith, ready, back, room, sent.room_is, c.self.inside.within),
-      one_held _ _ _ _ _ _ _ _ _ c.self.inside.forwards c.self.inside.counted c.self.inside.fits sent (cc (same, kept, noted)) (omega arith) (omega arith),
+      one_held _ _ _ _ _ _ _ _ _ c.self.inside.forwards c.self.inside.counted c.self.inside.fits c.self.inside.knows sent refl (cc (same, kept, noted)) (omega arith) (omega arith),
     )

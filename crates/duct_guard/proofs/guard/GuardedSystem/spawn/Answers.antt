@@ -1,12 +1,17 @@
-use Rattle.std.proofs.Common.{ap, arith, map}
+use Rattle.std.proofs.Common.{refl, sym, ◌∙◌, inr, rules, ap, arith, map, vec_len, ◌≤◌}
+use Rattle.std.proofs.lemmas.Grind.{common_steps}
 use Rattle.duct_system.specs.Journal.{JournalView}
-use Rattle.duct_system.specs.Streams.{stream_of}
-use Rattle.duct_guard.proofs.Closing.{streams_count}
-use Rattle.duct_guard.proofs.Limiting.{child_held, one_more}
+use Rattle.duct_system.specs.Streams.{stream_of, ends_of}
+use Rattle.duct_guard.specs.declared.child.GuardedChild.{GuardedChild}
+use Rattle.duct_guard.specs.GuardView.{GuardView}
+use Rattle.duct_guard.proofs.Closing.{nothing_closed, on_err, streams_count}
+use Rattle.duct_guard.proofs.Crews.{crew_started}
+use Rattle.duct_guard.proofs.Limiting.{child_held, one_spawned}
 use Rattle.duct_guard.proofs.guard.GuardedSystem.spawn.Goals as goal
 
 pub invariant_of-self-inside-2 : goal.invariant_of-self-inside-2
 invariant_of-self-inside-2 g c =
+    let number = λ (child : GuardedChild g.row.S-Child.Denot g.S.Child.Child g.S.Child.Numbered). g.S.Child.Numbered.number_of child.inner in
     let sent = c.spawn_allowed-started.ensures.forwards in
     let below = rw (streams_count g.S.End.Numbered.number_of c.args.io) at sent.room_is in
     let ready = ap (λ (j : JournalView). j.room) c.in_ok-prepare_spawn.ensures.ok in
@@ -14,5 +19,18 @@ invariant_of-self-inside-2 g c =
     let room = ap (λ (j : JournalView). j.room) c.add.ensures in
     let noted = ap (λ (j : JournalView). j.entries) c.add.ensures in (
       omega (arith, ready, room, below, c.numbered_streams-ends.ensures.ends, c.self.inside.within),
-      one_more _ _ _ _ _ _ _ _ _ c.self.inside.forwards c.self.inside.counted c.self.inside.fits sent (cc (same, noted, c.numbered_streams-ends.ensures.streams)) (child_held g.S.Child.Numbered.number_of c.args.spec (map (stream_of g.S.End.Numbered.number_of) c.args.io) _ _ _ c.spawn_allowed-started.result (streams_count g.S.End.Numbered.number_of c.args.io) (omega (arith, c.count_spawn.ensures.ends, c.numbered_streams-ends.ensures.ends)) c.count_spawn.ensures.one c.count_spawn.ensures.none),
+      one_spawned _ _ _ _ _ _ number c.args.spec (map (stream_of g.S.End.Numbered.number_of) c.args.io) c.spawn_allowed-started.result _ _ c.self.inside.forwards c.self.inside.counted c.self.inside.fits c.self.inside.knows c.spawn_allowed-started.ensures.joins c.spawn_allowed-started.ensures.stays sent (cc (same, noted, c.numbered_streams-ends.ensures.streams)) (child_held number c.args.spec (map (stream_of g.S.End.Numbered.number_of) c.args.io) _ _ _ c.spawn_allowed-started.result (streams_count g.S.End.Numbered.number_of c.args.io) (omega (arith, c.count_spawn.ensures.ends, c.numbered_streams-ends.ensures.ends)) c.count_spawn.ensures.one c.count_spawn.ensures.none),
     )
+
+pub spawn_allowed-started-requires : goal.spawn_allowed-started-requires
+spawn_allowed-started-requires g c =
+    let crew = crew_started g.S.Child.Child.may_answer _ _ (λ m. m.number) c.self.inside.earlier c.self.inside.held c.self.inside.journal.entries c.self.inside.crew.items c.self.inside.knows refl c.self.inside.counted in
+    let long = c.self.inside.crew.ok in
+    let few : vec_len c.self.inside.crew ≤ c.self.inside.held.children = omega (arith, crew, long) in
+    search (rules, common_steps)
+
+pub returns-in_err-prepare_spawn-clause-spends : goal.returns-in_err-prepare_spawn-clause-spends
+returns-in_err-prepare_spawn-clause-spends g c =
+    let num = g.S.End.Numbered.number_of in
+    let none = c.in_err-prepare_spawn.ensures.err.2 in
+    on_err c.from_residual.result (λ fault. inr (nothing_closed _ (ends_of (map (stream_of num) c.args.io)) _ _ (ap (λ (v : GuardView g.row.S.Denot g.row.P.Denot). g.S.System.journal_view v.inner) c.self.view_is) (streams_count num c.args.io ∙ sym c.numbered_streams-ends.ensures.ends ∙ none)))

@@ -1,4 +1,4 @@
-use Rattle.std.proofs.Common.{rules, ap, arith}
+use Rattle.std.proofs.Common.{refl, rules, ap, arith}
 use Rattle.std.proofs.lemmas.Grind.{common_steps}
 use Rattle.duct_system.specs.Journal.{JournalView}
 use Rattle.duct_guard.proofs.Counting.{one_held}
@@ -10,7 +10,7 @@ invariant_of-self-inside g c =
     let room = ap (λ (j : JournalView). j.room) c.add.ensures in
     let noted = ap (λ (j : JournalView). j.entries) c.add.ensures in (
       omega (arith, room, sent.room_is, c.self.inside.within),
-      one_held _ _ _ _ _ _ _ _ _ c.self.inside.forwards c.self.inside.counted c.self.inside.fits sent (cc noted) (omega (arith, c.spend.ensures.ends)) (omega (arith, c.spend.ensures.children)),
+      one_held _ _ _ _ _ _ _ _ _ c.self.inside.forwards c.self.inside.counted c.self.inside.fits c.self.inside.knows sent refl (cc noted) (omega (arith, c.spend.ensures.ends)) (omega (arith, c.spend.ensures.children)),
     )
 
 pub returns-clause-ok : goal.returns-clause-ok
