@@ -62,7 +62,7 @@ abbrev child_row : Lifetime → Lft → RattleType
 child_row ℓ κ = Child.the_row (runtime_row ℓ κ) SystemProcess.the_row ChildStdin.the_row ChildStdout.the_row ChildStderr.the_row
 
 -- a child may be sent
-child_send : (ℓ : Lifetime) (κ : Lft) → IsSend (child_row ℓ κ)
+pub child_send : (ℓ : Lifetime) (κ : Lft) → IsSend (child_row ℓ κ)
 child_send ℓ κ =
     let child = Child.the_type (ShrRef ℓ κ LibcRuntime.the_row) SystemProcess.the_row ChildStdin.the_row ChildStdout.the_row ChildStderr.the_row in
     recorded_send _ _ _ child.to_one (struct_send (shape child) (search (sendable, crosses) depth 40, (search (sendable, crosses) depth 40, (search sendable, (search sendable, (search sendable, (search (sendable, crosses) depth 40, (seen_send, (search (sendable, crosses) depth 40, (search (sendable, crosses) depth 40, (search (sendable, crosses) depth 40, tt)))))))))))
@@ -100,26 +100,36 @@ drain_send = worker_send bytes_row bytes_shared.ghosts (search (once_lock.the_se
 reader_send : IsSend Reader.the_row
 reader_send = search (sendable, crosses) depth 40
 
--- what a program owes, as its goals name it, whatever the ghost members: the host's runtime is a
--- reference with this lifetime
-module _ (δ : Ty) (k : Kept) (ℓ : Lifetime) (κ : Lft)
-    (s : System.Ghosts (Host.the_row (runtime_row ℓ κ)).Denot (End.the_row).Denot (child_row ℓ κ).Denot feed_row.Denot drain_row.Denot (Reader.the_row).Denot)
+-- what a program owes, as its goals name it, whatever the ghost members, over each system that has
+-- the ends, the workers and the readers of the host
+module _ (δ : Ty) (k : Kept) (S C : RattleType)
+    (s : System.Ghosts S.Denot (End.the_row).Denot C.Denot feed_row.Denot drain_row.Denot (Reader.the_row).Denot)
     (e : Numbered.Ghosts (End.the_row).Denot)
-    (c : the_child.Ghosts (child_row ℓ κ).Denot) (cn : Numbered.Ghosts (child_row ℓ κ).Denot)
+    (c : the_child.Ghosts C.Denot) (cn : Numbered.Ghosts C.Denot)
     (f : Job.Ghosts feed_row.Denot (Field.unit-field).Value) (fn : Numbered.Ghosts feed_row.Denot)
     (d : Job.Ghosts drain_row.Denot bytes_row.Denot) (dn : Numbered.Ghosts drain_row.Denot)
     (r : Read.Ghosts (Reader.the_row).Denot) where
-  -- a handle may be shared
-  pub main_handle_sync : IsSync (param 0 (arg δ k (Handle.the_row (Host.the_row (runtime_row ℓ κ)) End.the_row (child_row ℓ κ) feed_row drain_row Reader.the_row s e c cn f fn d dn r)))
-  main_handle_sync = param_sync 0 _ (arg_sync δ k _ (handle_sync (Host.the_row (runtime_row ℓ κ)) End.the_row (child_row ℓ κ) feed_row drain_row Reader.the_row s e c cn f fn d dn r
-      (child_send ℓ κ) feed_send drain_send))
+  -- a handle may be shared if a child may be sent
+  pub arg_handle_sync : IsSend C → IsSync (param 0 (arg δ k (Handle.the_row S End.the_row C feed_row drain_row Reader.the_row s e c cn f fn d dn r)))
+  arg_handle_sync child = param_sync 0 _ (arg_sync δ k _ (handle_sync S End.the_row C feed_row drain_row Reader.the_row s e c cn f fn d dn r
+      child feed_send drain_send))
 
-  -- a reader handle, which keeps a reference to the runtime too, may be shared
-  pub main_reader_handle_sync : (ℓ' : Lifetime) (κ' : Lft) → IsSync (param 0 (arg δ k (ReaderHandle.the_row (Host.the_row (runtime_row ℓ κ)) (runtime_row ℓ' κ') End.the_row (child_row ℓ κ) feed_row drain_row Reader.the_row s e c cn f fn d dn r)))
-  main_reader_handle_sync ℓ' κ' = param_sync 0 _ (arg_sync δ k _ (reader_handle_sync (Host.the_row (runtime_row ℓ κ)) (runtime_row ℓ' κ') End.the_row (child_row ℓ κ) feed_row drain_row Reader.the_row s e c cn f fn d dn r
-      (runtime_sync ℓ' κ') (child_send ℓ κ) feed_send drain_send reader_send))
+  -- a reader handle, which keeps a reference to the runtime too, may be shared if a child may be sent
+  pub arg_reader_handle_sync : (ℓ : Lifetime) (κ : Lft) → IsSend C → IsSync (param 0 (arg δ k (ReaderHandle.the_row S (runtime_row ℓ κ) End.the_row C feed_row drain_row Reader.the_row s e c cn f fn d dn r)))
+  arg_reader_handle_sync ℓ κ child = param_sync 0 _ (arg_sync δ k _ (reader_handle_sync S (runtime_row ℓ κ) End.the_row C feed_row drain_row Reader.the_row s e c cn f fn d dn r
+      (runtime_sync ℓ κ) child feed_send drain_send reader_send))
 
-  -- what runs may be sent
-  pub main_running_send : IsSend (param 0 (arg δ k (Running.the_row (Host.the_row (runtime_row ℓ κ)) End.the_row (child_row ℓ κ) feed_row drain_row Reader.the_row s e c cn f fn d dn r)))
-  main_running_send = param_send 0 _ (arg_send δ k _ (running_send (Host.the_row (runtime_row ℓ κ)) End.the_row (child_row ℓ κ) feed_row drain_row Reader.the_row s e c cn f fn d dn r
-      (child_send ℓ κ) feed_send drain_send))
+  -- what runs may be sent if a child may
+  pub arg_running_send : IsSend C → IsSend (param 0 (arg δ k (Running.the_row S End.the_row C feed_row drain_row Reader.the_row s e c cn f fn d dn r)))
+  arg_running_send child = param_send 0 _ (arg_send δ k _ (running_send S End.the_row C feed_row drain_row Reader.the_row s e c cn f fn d dn r
+      child feed_send drain_send))
+
+-- over a host whose runtime is a reference, a handle may be shared; over a guarded host too, where
+-- `search` has `guarded_child_send` beside it
+pub ruleset main_handle_sync = (arg_handle_sync, child_send)
+
+-- a reader handle may be shared
+pub ruleset main_reader_handle_sync = (arg_reader_handle_sync, child_send)
+
+-- what runs may be sent
+pub ruleset main_running_send = (arg_running_send, child_send)
