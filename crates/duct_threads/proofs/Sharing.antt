@@ -124,8 +124,8 @@ module _ (δ : Ty) (k : Kept) (S C : RattleType)
   arg_running_send child = param_send 0 _ (arg_send δ k _ (running_send S End.the_row C feed_row drain_row Reader.the_row s e c cn f fn d dn r
       child feed_send drain_send))
 
--- over a host whose runtime is a reference, a handle may be shared; over a guarded host too, where
--- `search` has `guarded_child_send` beside it
+-- over a host whose runtime is a reference, a handle may be shared; over another system with its
+-- ends, workers and readers too, where `search` has a lemma that the children may be sent beside it
 pub ruleset main_handle_sync = (arg_handle_sync, child_send)
 
 -- a reader handle may be shared
