@@ -1,5 +1,5 @@
 -- What a start promises: of the journal, of what it makes, and of the pool.
-use Rattle.std.specs.Prelude.{ℕ, Bool, List, ◌⊎◌, false, is_some, Ok, Err}
+use Rattle.std.specs.Prelude.{ℕ, Bool, List, ◌⊎◌, false, is_some, map}
 use Rattle.std.specs.declared.alloc.Global.{Global}
 use Rattle.std.specs.declared.option.Option.{Option}
 use Rattle.std.specs.declared.string.String.{String}
@@ -10,7 +10,7 @@ use Rattle.duct_system.specs.declared.error.Error.{Error}
 use Rattle.duct_system.specs.declared.system.Output.{Output}
 use Rattle.duct_status.specs.ReplyView.{answered}
 use Rattle.duct_start.specs.Chain.{Allows, Refuses}
-use Rattle.duct_start.specs.Left.{LeavesStarted}
+use Rattle.duct_start.specs.Left.{LeavesStarted, TakesIn, pool_view}
 use Rattle.duct_start.specs.Plan.{Plan, plan_of, plan_of_reader}
 use Rattle.duct_start.specs.RunContract.{MadeReader}
 use Rattle.duct_start.specs.Running.{IsRunning, RunningView}
@@ -19,11 +19,12 @@ use Rattle.duct_start.specs.TreeView.{TreeView, around, stdout_capture}
 use Rattle.duct_run.specs.Requested.{PoolLeaves}
 use Rattle.duct_run.specs.SystemViews.{SystemViews}
 use Rattle.duct_running.specs.Stored.{Bytes}
+use Rattle.duct_handle.specs.Finished.{StoresError, StoresReply}
 use Rattle.duct_handle.specs.HandleView.{HandleView}
 use Rattle.duct_handle.specs.Started.{AreIds, IsHandle}
 use Rattle.duct.specs.TreeView.{tree_view}
 use Rattle.duct.specs.declared.expression.Expression.{Expression}
-use Rattle.duct.specs.RunResults.{LeavesGiven, ReadReturns, WaitFails, WaitReturns}
+use Rattle.duct.specs.RunResults.{RanTree, ReadStopsBy, ReadsBy}
 
 -- a start that ends with the workers of the capture pipes, or with the reader of stdout's
 pub data StartKind : Type 0 where
@@ -93,37 +94,53 @@ module _ {S E C F D V W : Type 0} (views : SystemViews S E C F D V W) where
         (plan_for kind (tree_view root)) (views.journal sys) (views.journal after) error
     pub given : LeavesStarted views.may_answer views.child (added_between sys after) before left
 
-  -- a start that was waited for and failed with an error, at the start or after it: the pool was
-  -- given the children that were started, none of them with an order
-  pub record RunFailed {H : Type 0} (allows : Allows H) (refuses : Refuses H)
-      (kind : StartKind) (root : Expression E H) (sys after : S) (before left : PoolView C)
-      (returned : Error → MadeBy E H) (error : Error) : Type 0 where
-    pub cause : LaunchRefused allows refuses kind root sys after before left error
-        ⊎ (StartSucceeds allows views.number_of (tree_view root) (plan_for kind (tree_view root))
-        (views.journal sys) (views.journal after)
-        × returned error kind (tree_view root) (added_between sys after))
-    pub given : LeavesGiven views.may_answer views.child (added_between sys after) before left
+  -- these are the children and workers of such a start of a tree, by the entries that it added; no
+  -- child has an order
+  abbrev pub Ran : {H : Type 0} → RunningView C F D → MadeBy E H
+  Ran waited kind tree added =
+      RanTree views tree (drains_output kind tree) (drains_error kind tree) added waited
+
+  -- a start that succeeded and was waited for, in vain: this holds of its children and workers, and
+  -- the pool was given its children
+  pub record WaitFailed {H : Type 0} (allows : Allows H) (kind : StartKind)
+      (root : Expression E H) (sys after : S) (before left : PoolView C)
+      (returned : RunningView C F D → MadeBy E H) : Type 0 where
+    pub asked : StartSucceeds allows views.number_of (tree_view root)
+        (plan_for kind (tree_view root)) (views.journal sys) (views.journal after)
+    pub waited : RunningView C F D
+    pub ran : Ran waited kind (tree_view root) (added_between sys after)
+    pub returns : returned waited kind (tree_view root) (added_between sys after)
+    pub given : TakesIn views.may_answer (map views.child waited.children)
+        (pool_view views.child before) (pool_view views.child left)
+
+  -- a start that was waited for and failed with an error, at the start or after it
+  abbrev pub RunFailed : {H : Type 0} → Allows H → Refuses H → StartKind → Expression E H → S → S
+      → PoolView C → PoolView C → (Error → RunningView C F D → MadeBy E H) → Error → Type 0
+  RunFailed allows refuses kind root sys after before left returned error =
+      LaunchRefused allows refuses kind root sys after before left error
+      ⊎ WaitFailed allows kind root sys after before left (returned error)
 
 module _ {S E C F D : Type 0} (views : SystemViews S E C F D (Unit {0}) Bytes) where
-  -- the wait for what was started returns this output
+  -- this output is the outcome of what the children and workers of the start store
   abbrev pub Returns : {H : Type 0} → Output → MadeBy E H
-  Returns output kind tree added = WaitReturns views.may_answer views.feed_says
-      views.drain_says tree (drains_output kind tree) (drains_error kind tree) added
+  Returns output kind tree added =
+      (waited : RunningView C F D) × Ran views waited kind tree added
+      × StoresReply views waited
       (answered output.status output.stdout.items output.stderr.items)
 
-  -- the wait for what was started fails with this error
-  abbrev pub Fails : {H : Type 0} → Error → MadeBy E H
-  Fails error kind tree added = WaitFails views.may_answer views.feed_says
-      views.drain_says tree (drains_output kind tree) (drains_error kind tree) added error
+  -- so is this error, or an allocation failed
+  abbrev pub Fails : {H : Type 0} → Error → RunningView C F D → MadeBy E H
+  Fails error waited kind tree added = StoresError views waited error
 
   -- the text is that of what was started
   abbrev pub Reads : {H R : Type 0} → (ℕ → R → Type 0) → (R → Option (List ℕ)) → String Global
       → MadeBy E H
-  Reads may remaining text kind tree added = ReadReturns views.may_answer views.feed_says
-      views.drain_says tree may remaining (drains_error kind tree) added (Ok text)
+  Reads may remaining text kind tree added =
+      (waited : RunningView C F D) × Ran views waited kind tree added
+      × ReadsBy views may remaining added text waited
 
   -- the reading of what was started fails with this error
   abbrev pub ReadFails : {H R : Type 0} → (ℕ → R → Type 0) → (R → Option (List ℕ)) → Error
-      → MadeBy E H
-  ReadFails may remaining error kind tree added = ReadReturns views.may_answer views.feed_says
-      views.drain_says tree may remaining (drains_error kind tree) added (Err error)
+      → RunningView C F D → MadeBy E H
+  ReadFails may remaining error waited kind tree added =
+      ReadStopsBy views may remaining added error waited

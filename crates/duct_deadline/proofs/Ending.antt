@@ -12,7 +12,6 @@ use Rattle.duct_system.specs.Started.{drains_in}
 use Rattle.duct_system.specs.declared.system.Said.TheVariants as said
 use Rattle.duct_system.specs.declared.error.Error.{Error}
 use Rattle.duct_system.specs.declared.system.Output.{Output}
-use Rattle.duct_status.specs.ReplyView.{answered}
 use Rattle.duct_status.specs.ShapeView.{ShapeView, shape_view}
 use Rattle.duct_start.specs.Running.{RunningView}
 use Rattle.duct_start.specs.ShapeOfTree.{shape_of_tree}
@@ -20,16 +19,16 @@ use Rattle.duct_start.specs.TreeView.{TreeView}
 use Rattle.duct_start.proofs.Leaving.{takes_in}
 use Rattle.duct_run.specs.Requested.{PoolGets, PoolLeaves}
 use Rattle.duct_run.specs.SystemViews.{SystemViews}
-use Rattle.duct_running.specs.Answered.{EndsAs, IsConcluded, IsEnding}
+use Rattle.duct_running.specs.Answered.{EndsAs, IsEnding}
 use Rattle.duct_running.specs.NumbersView.{NumbersView, numbers_of}
-use Rattle.duct_running.specs.Polled.{Polled}
-use Rattle.duct_running.specs.Stays.{PoolGetsWaited, StaysSame}
+use Rattle.duct_running.specs.Polled.{Polled, ReturnsOutcome}
+use Rattle.duct_running.specs.Stays.{StaysSame}
 use Rattle.duct_running.specs.Stored.{Bytes}
+use Rattle.duct_handle.proofs.Beginning.{are_numbers}
+use Rattle.duct_handle.specs.Finished.{RanUntil}
 use Rattle.duct_handle.specs.Started.{AreNumbers}
 use Rattle.duct_handle.specs.Waited.{at_end}
-use Rattle.duct.specs.Launched.{Fails, Returns, Runs, StartKind, drains_error, drains_output}
-use Rattle.duct.specs.RunResults.{LeavesGiven}
-use Rattle.duct.proofs.Finished.{given_after, started_numbers}
+use Rattle.duct.specs.Launched.{Runs, StartKind, drains_error, drains_output}
 use Rattle.duct_deadline.specs.Moment.{HasNotEnded, MayRun}
 use Rattle.duct_deadline.specs.Stopped.{AreStopped}
 use Rattle.duct_deadline.specs.Until.{IsLate, LeavesStopped}
@@ -54,15 +53,20 @@ ended_same views before after shape same ended =
     subst (λ (s : ShapeView). IsEnding views.may_answer views.feed_says views.drain_says s (numbers_of views before) (at_end how)) shape
     (subst (λ (n : NumbersView). IsEnding views.may_answer views.feed_says views.drain_says (shape_view after.shape) n (at_end how)) same ends))
 
--- an error with which something ended is still its error while it stays the same
-pub still_failed : {S E C F D : Type 0} (views : SystemViews S E C F D (Unit {0}) Bytes)
-    (before after : RunningView C F D) → StaysSame views before after
-    → (ended : Result (Arc Output Global) Error) → EndsAs views before (at_end ended)
-    → IfErr ended (λ e. EndsAs views after (Err e))
-still_failed views before after stays (Ok output) ends = tt
-still_failed views before after stays (Err e) ends =
-    subst (λ (s : ShapeView). IsEnding views.may_answer views.feed_says views.drain_says s (numbers_of views after) (Err e)) (sym stays.shape_is)
-    (subst (λ (n : NumbersView). IsEnding views.may_answer views.feed_says views.drain_says (shape_view before.shape) n (Err e)) (sym stays.numbers_are) ends)
+-- the error of what ended with one
+pub failed_with : {S E C F D : Type 0} (views : SystemViews S E C F D (Unit {0}) Bytes)
+    (running : RunningView C F D) (ended : Result (Arc Output Global) Error)
+    → ReturnsOutcome views running (at_end ended)
+    → IfErr ended (λ e. ReturnsOutcome views running (Err e))
+failed_with views running (Ok output) outcome = tt
+failed_with views running (Err e) outcome = outcome
+
+-- what stayed the same for longer
+pub ran_on : {S E C F D : Type 0} (views : SystemViews S E C F D (Unit {0}) Bytes)
+    (before after : RunningView C F D) (holds : RunningView C F D → Type 0)
+    → StaysSame views before after → RanUntil views after holds → RanUntil views before holds
+ran_on views before after holds stays ran =
+    (ran.0, stays_on views.child views.feed views.drain before after ran.0 stays ran.1, ran.2)
 
 -- what may run later might run before, while it stayed the same
 pub still_running : {S E C F D : Type 0} (views : SystemViews S E C F D (Unit {0}) Bytes)
@@ -76,7 +80,7 @@ module _ {S E C F D H : Type 0} (views : SystemViews S E C F D (Unit {0}) Bytes)
     (tree : TreeView E H) (added : List EntryView) (running : RunningView C F D)
     (runs : Runs views running kind tree added) where
   numbers : AreNumbers (drains_output kind tree) (drains_error kind tree) added (numbers_of views running)
-  numbers = started_numbers views.child views.feed views.drain tree (drains_output kind tree) (drains_error kind tree) added running runs
+  numbers = are_numbers views.child views.feed views.drain tree (drains_output kind tree) (drains_error kind tree) added running (numbers_of views running) runs refl
 
   -- what was waited for ended with this
   module _ (waited : RunningView C F D) (stays : StaysSame views running waited) where
@@ -88,27 +92,6 @@ module _ {S E C F D H : Type 0} (views : SystemViews S E C F D (Unit {0}) Bytes)
     ending polled ends =
         subst (λ (s : ShapeView). IsEnding views.may_answer views.feed_says views.drain_says s (numbers_of views running) polled) shape_waited
         (subst (λ (n : NumbersView). IsEnding views.may_answer views.feed_says views.drain_says (shape_view waited.shape) n polled) stays.numbers_are ends)
-
-    pub returns : (output : Output)
-        → IsConcluded views (shape_view waited.shape) (numbers_of views waited) (answered output.status output.stdout.items output.stderr.items)
-        → Returns views output kind tree added
-    returns output concluded = (
-      numbers_of views running,
-      numbers,
-      subst (λ (s : ShapeView). IsConcluded views s (numbers_of views running) (answered output.status output.stdout.items output.stderr.items)) shape_waited
-          (subst (λ (n : NumbersView). IsConcluded views (shape_view waited.shape) n (answered output.status output.stdout.items output.stderr.items)) stays.numbers_are concluded),
-    )
-
-    pub fails : (e : Error) → EndsAs views waited (Err e) → Fails views e kind tree added
-    fails e ends = (numbers_of views running, numbers, ending (Err e) ends)
-
-    -- the pool was swept, and then it was given what was waited for
-    pub gives : (before mid after : PoolView C) → PoolLeaves views before mid
-        → PoolGetsWaited views waited mid after
-        → LeavesGiven views.may_answer views.child added before after
-    gives before mid after swept gets =
-        given_after views.child views.feed views.drain tree (drains_output kind tree) (drains_error kind tree) added running runs
-        views.may_answer gets.0 before mid after swept (stays_on views.child views.feed views.drain running waited gets.0 stays gets.1) gets.2
 
     -- it was late, and was then stopped
     pub is_late : (late : Late) (stopped : RunningView C F D) → HasNotEnded views running

@@ -1,12 +1,11 @@
 //! An expression that runs until a moment.
-ghost use Rattle.std.specs.Prelude.{◌≡◌, ◌+◌, min, IfErr, IfNone, IfOk, OnErr, OnOk, Err};
+ghost use Rattle.std.specs.Prelude.{◌≡◌, ◌+◌, min, IfErr, IfNone, IfOk, OnOk, Err};
 ghost use Rattle.std.specs.Duration.{as_nanos, max_nanos};
 ghost use Rattle.duct_status.specs.ReplyView.{answered};
-ghost use Rattle.duct_status.specs.ShapeView.{shape_view};
-ghost use Rattle.duct_running.specs.Answered.{EndsAs, IsConcluded};
-ghost use Rattle.duct_running.specs.NumbersView.{numbers_of};
+ghost use Rattle.duct_running.specs.Allowed.{StoresAllowed};
 ghost use Rattle.duct_running.specs.Ordered.{IsUnordered};
-ghost use Rattle.duct_running.specs.Stays.{PoolGetsWaited};
+ghost use Rattle.duct_running.specs.Polled.{ReturnsOutcome};
+ghost use Rattle.duct_handle.specs.Finished.{RanUntil, RanUntilGiven, StoresError, StoresReply};
 ghost use Rattle.duct.specs.Launched.{Fails, Launched, Returns, RunFailed, draining};
 ghost use Rattle.duct_deadline.specs.Moment.{HasReached};
 ghost use Rattle.duct_deadline.specs.Until.{IfDone, IfLate, LaunchStopped, Stops};
@@ -36,13 +35,14 @@ fn closed<S: System>(
     pool: &mut Pool<S::Child>,
 ) -> Result<Output, Error>
     requires unordered { IsUnordered ⟦<S as Viewed>⟧.views running }
-    requires ended { IfErr ended (λ e. EndsAs ⟦<S as Viewed>⟧.views running (Err e)) }
-    ensures output { IfOk result (λ output. IsConcluded ⟦<S as Viewed>⟧.views
-        (shape_view running.shape) (numbers_of ⟦<S as Viewed>⟧.views running)
-        (answered output.status output.stdout.items output.stderr.items)) }
-    ensures err { IfErr result (λ e. EndsAs ⟦<S as Viewed>⟧.views running (Err e)) }
+    requires ended { IfErr ended (λ e. ReturnsOutcome ⟦<S as Viewed>⟧.views running (Err e)) }
+    requires allowed { ∥ StoresAllowed ⟦<S as Viewed>⟧.views running ∥₁ }
+    ensures output { IfOk result (λ output. RanUntil ⟦<S as Viewed>⟧.views running
+        (λ waited. StoresReply ⟦<S as Viewed>⟧.views waited
+        (answered output.status output.stdout.items output.stderr.items))) }
     ensures kept { OnOk result (pool.new ≡ pool.old) }
-    ensures given { OnErr result (PoolGetsWaited ⟦<S as Viewed>⟧.views running pool.old pool.new) }
+    ensures failed { IfErr result (λ e. RanUntilGiven ⟦<S as Viewed>⟧.views running
+        (λ waited. StoresError ⟦<S as Viewed>⟧.views waited e) pool.old pool.new) }
 {
     match ended {
         Ok(output) => {

@@ -1,9 +1,10 @@
 //! The wait for what runs until a moment.
 ghost use Rattle.std.specs.Prelude.{◌≡◌, IfSome, IfNone, Ok, None};
 ghost use Rattle.std.specs.Duration.{as_nanos};
-ghost use Rattle.duct_running.specs.Allowed.{OneRuns};
+ghost use Rattle.duct_running.specs.Allowed.{OneRuns, StoresAllowed};
 ghost use Rattle.duct_running.specs.Answered.{EndsAs};
 ghost use Rattle.duct_running.specs.NumbersView.{numbers_of};
+ghost use Rattle.duct_running.specs.Polled.{ReturnsOutcome};
 ghost use Rattle.duct_running.specs.Stays.{StaysSame};
 ghost use Rattle.duct_handle.specs.Waited.{at_end};
 ghost use Rattle.duct_deadline.specs.Moment.{HasReached, HasNotEnded};
@@ -24,6 +25,8 @@ pub(crate) const PAUSE: u64 = 1_000;
 fn polled<S: System>(running: &mut Running<S>) -> Result<Option<Arc<Output>>, Error>
     ensures stays { StaysSame ⟦<S as Viewed>⟧.views running.old running.new }
     ensures kept { ChildrenKeep ⟦<S as Viewed>⟧.views running.old running.new }
+    ensures outcome { ReturnsOutcome ⟦<S as Viewed>⟧.views running.new result }
+    ensures allowed { ∥ StoresAllowed ⟦<S as Viewed>⟧.views running.new ∥₁ }
     ensures ending { EndsAs ⟦<S as Viewed>⟧.views running.new result }
     ensures runs { result ≡ Ok None
         → OneRuns ⟦<S as Viewed>⟧.views (numbers_of ⟦<S as Viewed>⟧.views running.new) }
@@ -44,6 +47,9 @@ pub(crate) fn watch<S: System, C: Clock>(
 ) -> Option<Result<Arc<Output>, Error>>
     ensures stays { StaysSame ⟦<S as Viewed>⟧.views running.old running.new }
     ensures kept { ChildrenKeep ⟦<S as Viewed>⟧.views running.old running.new }
+    ensures outcome { IfSome result
+        (λ ended. ReturnsOutcome ⟦<S as Viewed>⟧.views running.new (at_end ended)) }
+    ensures allowed { ∥ StoresAllowed ⟦<S as Viewed>⟧.views running.new ∥₁ }
     ensures ended { IfSome result
         (λ ended. EndsAs ⟦<S as Viewed>⟧.views running.old (at_end ended)) }
     ensures late { IfNone result (HasReached (C.may_show clock.now) (as_nanos moment)) }

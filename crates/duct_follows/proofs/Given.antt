@@ -21,7 +21,7 @@ use Rattle.duct_follows.proofs.Specs.{same_asked_at, same_wired}
 use Rattle.duct_follows.proofs.Wiring.{streams_in, three_streams, wired-streams}
 use Rattle.duct_plan.specs.AskedOf.{IsAskedThere, IsAnswered}
 use Rattle.duct_plan.specs.declared.asked.Wired as answer
-use Rattle.duct_plain.specs.Source.{origin_of}
+use Rattle.duct_plan.specs.Source.{origin_of}
 use Rattle.duct_script.specs.declared.hook.ScriptHook.{ScriptHook}
 
 -- if a result has some spec and streams, it has those of `wired_of`

@@ -1,3 +1,4 @@
+pub mod Balance
 pub mod Chains
 pub mod Closes
 pub mod Given
@@ -7,4 +8,5 @@ pub mod ScriptHooks
 pub mod Specs
 pub mod Stopped
 pub mod Variables
+pub mod Verdicts
 pub mod Wiring

@@ -6,8 +6,8 @@ use Rattle.duct_system.specs.SpecView.{SpecView}
 use Rattle.duct_system.specs.Streams.{stream_of}
 use Rattle.duct_system.specs.declared.system.Stdio.{Stdio}
 use Rattle.duct_start.specs.Chain.{SpecWithOrigins}
-use Rattle.duct_plain.specs.declared.checker.Source.{Source}
-use Rattle.duct_plain.specs.Source.{origin_of}
+use Rattle.duct_plan.specs.declared.checker.Source.{Source}
+use Rattle.duct_plan.specs.Source.{origin_of}
 use Rattle.duct_follows.specs.Wiring.{wired_with}
 
 -- the three streams in the order stdin, stdout, stderr

@@ -1,5 +1,10 @@
 pub mod Cause
 pub mod Given
+pub mod Judgement
+pub mod Printed
 pub mod ScriptHooks
 pub mod Sources
+pub mod Unbalanced
+pub mod Verdict
+pub mod VerdictForm
 pub mod Wiring

@@ -10,8 +10,8 @@ use Rattle.duct_system.specs.declared.system.Stdio.TheVariants.{Inherit}
 use Rattle.duct_start.specs.Chain.{SpecWithOrigins}
 use Rattle.duct_plan.specs.Found.{hook_of}
 use Rattle.duct_plan.specs.declared.asked.Wired as answer
-use Rattle.duct_plain.specs.Source.{origin_of}
-use Rattle.duct_plain.specs.declared.checker.Source.{Source}
+use Rattle.duct_plan.specs.Source.{origin_of}
+use Rattle.duct_plan.specs.declared.checker.Source.{Source}
 
 -- where a stream comes from; a stream that is not in the list is the parent's own
 abbrev pub from : Option (Stdio Source) → Stdio Origin

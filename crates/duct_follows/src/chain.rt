@@ -5,13 +5,13 @@ ghost use Rattle.duct_system.specs.Streams.{stream_of};
 ghost use Rattle.duct_start.specs.Chain.{HookChanges, HooksChange, HookStops, HooksStop, hooks_by_origin, missing_place, missing_at, after_hook, stream_after_hook, with_resolved_port};
 ghost use Rattle.duct_follows.specs.Wiring.{wired_with, wired_of, hooks_of, lent_ends};
 ghost use Rattle.duct_plan.specs.AskedOf.{IsAnswered};
-ghost use Rattle.duct_plain.specs.Source.{origin_of};
+ghost use Rattle.duct_plan.specs.Source.{origin_of};
 
 use duct_base::error::Error;
 use duct_base::spec::{CommandSpec, Hook, Port, Stream, give};
 use duct_base::system::{Numbered, Stdio};
-use duct_plain::checker::Source;
 use duct_plan::asked::Wired;
+use duct_plan::checker::Source;
 
 /// Runs the hooks of a command on what the tree gives it, the outermost first. Returns its spec
 /// after them, and where its streams then come from. Each hook's places are looked up among its

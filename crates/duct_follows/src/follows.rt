@@ -21,13 +21,13 @@ use crate::untold::Untold;
 use duct_base::error::Error;
 use duct_base::spec::{CommandSpec, Hook};
 use duct_base::system::{Entry, Kind, Numbered, Stdio};
-use duct_entries::same::same_spec;
-use duct_plain::checker::{Source, origin, trace};
 use duct_plan::asked::{Wired, asked_at};
+use duct_plan::checker::{Source, origin, trace};
 use duct_plan::found::Surroundings;
 use duct_plan::items::{Item, Plan};
 use duct_plan::trace::{first_end, second_end};
 use duct_script::hook::ScriptHook;
+use duct_system::same::same_spec;
 use std::alloc::{AllocError, Global};
 
 /// Returns whether the added entries follow a prefix of the plan: each entry of their trace matches

@@ -4,6 +4,12 @@
 pub mod causes;
 pub mod chain;
 pub mod follows;
+pub mod judge;
+pub mod judgement;
+pub mod perform;
 pub mod sources;
 pub mod stops;
+pub mod text;
+mod unbalanced;
 pub mod untold;
+pub mod verdict;

@@ -5,10 +5,10 @@ ghost use Rattle.duct_system.specs.Origin.{origin};
 ghost use Rattle.duct_system.specs.Streams.{stream_of};
 ghost use Rattle.duct_start.specs.Sources.{IsDuplicate};
 ghost use Rattle.duct_follows.specs.Sources.{IsFrom, IsGiven, duplicated_as, gives};
-ghost use Rattle.duct_plain.specs.Source.{origin_of};
+ghost use Rattle.duct_plan.specs.Source.{origin_of};
 
 use duct_base::system::{Entry, Stdio};
-use duct_plain::checker::{Source, origin};
+use duct_plan::checker::{Source, origin};
 
 /// How the streams that go to an end of the caller are told from others.
 #[derive(Clone, Copy)]

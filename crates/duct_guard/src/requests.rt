@@ -22,7 +22,7 @@ use crate::counts::Counts;
 use crate::crew::{Member, Notes, forget_ended, join, prepare};
 use crate::policy::Policy;
 use crate::streams::close_ends;
-use duct_entries::copy::{copies_of, spec_copy};
+use duct_system::copy::{copies_of, spec_copy};
 use duct_system::spec::CommandSpec;
 use duct_system::system::{Child, Fault, Kind, Side, Stdio, System};
 use std::alloc::Global;

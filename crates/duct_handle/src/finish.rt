@@ -1,11 +1,11 @@
 //! The wait for a start that no thread shares: as a handle waits, but without a lock.
-ghost use Rattle.std.specs.Prelude.{◌≡◌, IfErr, IfOk, OnErr, OnOk, Err};
+ghost use Rattle.std.specs.Prelude.{◌≡◌, IfErr, IfOk, OnOk};
 ghost use Rattle.duct_status.specs.ReplyView.{answered};
-ghost use Rattle.duct_status.specs.ShapeView.{shape_view};
-ghost use Rattle.duct_running.specs.Answered.{EndsAs, IsConcluded};
-ghost use Rattle.duct_running.specs.NumbersView.{numbers_of};
+ghost use Rattle.duct_running.specs.Allowed.{StoresAllowed};
 ghost use Rattle.duct_running.specs.Ordered.{IsUnordered};
-ghost use Rattle.duct_running.specs.Stays.{PoolGetsWaited, StaysSame};
+ghost use Rattle.duct_running.specs.Polled.{ReturnsOutcome};
+ghost use Rattle.duct_running.specs.Stays.{StaysSame};
+ghost use Rattle.duct_handle.specs.Finished.{RanUntil, RanUntilGiven, StoresError, StoresReply};
 ghost use Rattle.duct_handle.specs.Waited.{at_end};
 
 use crate::output::output_or_give_up;
@@ -25,7 +25,8 @@ use std::sync::{Arc, Wait};
 pub fn wait_for<S: System>(rt: &impl Wait, running: &mut Running<S>) -> Result<Arc<Output>, Error>
     requires { IsUnordered ⟦<S as Viewed>⟧.views running.old }
     ensures stays { StaysSame ⟦<S as Viewed>⟧.views running.old running.new }
-    ensures ending { EndsAs ⟦<S as Viewed>⟧.views running.old (at_end result) }
+    ensures outcome { ReturnsOutcome ⟦<S as Viewed>⟧.views running.new (at_end result) }
+    ensures allowed { ∥ StoresAllowed ⟦<S as Viewed>⟧.views running.new ∥₁ }
 {
     let mut pause = Pause::new();
     for _ in rt.forever() {
@@ -51,12 +52,12 @@ pub fn finish<S: System>(
     pool: &mut Pool<S::Child>,
 ) -> Result<Output, Error>
     requires { IsUnordered ⟦<S as Viewed>⟧.views running }
-    ensures output { IfOk result (λ output. IsConcluded ⟦<S as Viewed>⟧.views
-        (shape_view running.shape) (numbers_of ⟦<S as Viewed>⟧.views running)
-        (answered output.status output.stdout.items output.stderr.items)) }
-    ensures err { IfErr result (λ e. EndsAs ⟦<S as Viewed>⟧.views running (Err e)) }
+    ensures output { IfOk result (λ output. RanUntil ⟦<S as Viewed>⟧.views running
+        (λ waited. StoresReply ⟦<S as Viewed>⟧.views waited
+        (answered output.status output.stdout.items output.stderr.items))) }
     ensures kept { OnOk result (pool.new ≡ pool.old) }
-    ensures given { OnErr result (PoolGetsWaited ⟦<S as Viewed>⟧.views running pool.old pool.new) }
+    ensures failed { IfErr result (λ e. RanUntilGiven ⟦<S as Viewed>⟧.views running
+        (λ waited. StoresError ⟦<S as Viewed>⟧.views waited e) pool.old pool.new) }
 {
     let waited = wait_for(rt, &mut running);
     output_or_give_up(alloc, running, waited, pool)

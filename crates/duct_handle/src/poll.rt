@@ -4,9 +4,10 @@ ghost use Rattle.std.specs.Arc.{arc_value};
 ghost use Rattle.duct_status.specs.ShapeView.{shape_view};
 ghost use Rattle.duct_running.specs.Answered.{EndsAs, IsAnswer, IsConcluded};
 ghost use Rattle.duct_running.specs.NumbersView.{numbers_of, numbers_view};
+ghost use Rattle.duct_running.specs.Polled.{ReturnsOutcome};
 ghost use Rattle.duct_running.specs.PolledOnce.{PolledOnce};
 ghost use Rattle.duct_running.specs.Stays.{StaysSame};
-ghost use Rattle.duct_running.specs.Allowed.{OneRuns};
+ghost use Rattle.duct_running.specs.Allowed.{OneRuns, StoresAllowed};
 ghost use Rattle.duct_handle.specs.AnswerView.{answer_view};
 ghost use Rattle.duct_handle.specs.Waited.{IsNoEnding};
 
@@ -36,6 +37,8 @@ pub(crate) fn mismatch_error() -> Error
 pub(crate) fn polled<S: System>(running: &mut Running<S>) -> Result<Option<Arc<Output>>, Error>
     ensures polls { PolledOnce ⟦<S as Viewed>⟧.views running.old running.new }
     ensures stays { StaysSame ⟦<S as Viewed>⟧.views running.old running.new }
+    ensures outcome { ReturnsOutcome ⟦<S as Viewed>⟧.views running.new result }
+    ensures allowed { ∥ StoresAllowed ⟦<S as Viewed>⟧.views running.new ∥₁ }
     ensures ending { EndsAs ⟦<S as Viewed>⟧.views running.new result }
     ensures runs { result ≡ Ok None
         → OneRuns ⟦<S as Viewed>⟧.views (numbers_of ⟦<S as Viewed>⟧.views running.new) }

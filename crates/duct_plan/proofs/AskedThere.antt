@@ -10,7 +10,7 @@ use Rattle.duct_start.specs.Follows.{pairs_in, program_at}
 use Rattle.duct_start.specs.Surroundings.{Surroundings}
 use Rattle.duct_plan.specs.AskedOf.{IsAskedThere}
 use Rattle.duct_plan.specs.declared.asked.Wired.{Wired}
-use Rattle.duct_plain.specs.Source.{origin_of}
+use Rattle.duct_plan.specs.Source.{origin_of}
 
 pub asked_there : {E H : Type 0} (entries : List EntryView) (number_of : E → ℕ) (place : ℕ)
     (found : Surroundings E H) (words : List (List ℕ)) (pairs : Vars) (program : List ℕ) (answer : Wired) →

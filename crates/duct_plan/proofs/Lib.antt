@@ -1,3 +1,4 @@
 pub mod AskedThere
+pub mod Balance
 pub mod Changed
 pub mod Counted

@@ -11,7 +11,7 @@ use Rattle.duct_plan.specs.Commands.{IsCommandAt}
 use Rattle.duct_plan.specs.declared.asked.AskedError.{AskedError}
 use Rattle.duct_plan.specs.declared.asked.AskedError.TheVariants.{TraceTooShort, Memory}
 use Rattle.duct_plan.specs.declared.asked.Wired as answer
-use Rattle.duct_plain.specs.Source.{origin_of}
+use Rattle.duct_plan.specs.Source.{origin_of}
 
 -- the result has this spec and these streams
 pub record IsAnswered (wired : SpecWithOrigins) (asked : answer.Wired) : Type 0 where

@@ -1,8 +1,13 @@
 pub mod AskedOf
+pub mod Balance
 pub mod Commands
+pub mod DotForm
 pub mod EntryViews
 pub mod Found
+pub mod PathView
+pub mod PlanForm
 pub mod PlanView
+pub mod Previewed
+pub mod Source
 pub mod Step
 pub mod Variables
-pub mod PathView

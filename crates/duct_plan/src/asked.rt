@@ -10,6 +10,7 @@ ghost use Rattle.duct_plan.specs.Found.{found_of};
 ghost use Rattle.duct_plan.specs.EntryViews.{entry_views};
 ghost use Rattle.duct_plan.specs.PlanView.{plan_view};
 
+use crate::checker::Source;
 use crate::found::Surroundings;
 use crate::items::{Item, Plan};
 use crate::plan::{is_canonical, program_of};
@@ -18,7 +19,6 @@ use crate::trace::{pairs_in, text_at};
 use crate::variables::variables;
 use duct::{CommandSpec, Entry, Numbered, Stdio, Stream};
 use duct_base::spec::spec_of;
-use duct_plain::checker::Source;
 use std::alloc::{AllocError, Global};
 
 /// Why the spec and the streams that the tree gives a command can't be computed.

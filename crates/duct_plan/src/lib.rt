@@ -4,12 +4,17 @@
 #![tactic(auto)]
 
 pub mod asked;
+pub mod checker;
+pub mod dot;
 pub mod found;
 pub mod items;
 mod lookup;
 mod path;
+pub mod perform;
 pub mod plan;
+pub mod preview;
 mod step;
 mod streams;
+pub mod text;
 pub mod trace;
 mod variables;

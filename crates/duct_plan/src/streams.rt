@@ -4,12 +4,12 @@ ghost use Rattle.duct_system.specs.Streams.{stream_of};
 ghost use Rattle.duct_start.specs.Asked.{port_to, stream_to, streams_to};
 ghost use Rattle.duct_plan.specs.Found.{target_of, found_of};
 ghost use Rattle.duct_plan.specs.EntryViews.{entry_views};
-ghost use Rattle.duct_plain.specs.Source.{origin_of};
+ghost use Rattle.duct_plan.specs.Source.{origin_of};
 
+use crate::checker::Source;
 use crate::found::{Surroundings, Target};
 use crate::trace::{first_end, second_end};
 use duct::{Entry, Numbered, Port, Side, Stdio, Stream};
-use duct_plain::checker::Source;
 
 /// Returns the port of a stream that goes to this target. A stream that goes to the same stream of
 /// the parent is inherited; only stdin goes to the parent's stdin.

@@ -7,6 +7,7 @@ use Rattle.std.specs.declared.string.String.{String}
 use Rattle.duct_system.specs.declared.error.Error.{Error}
 use Rattle.duct_start.specs.Chain.{Allows, Refuses}
 use Rattle.duct_start.specs.Plan.{plan_of_reader}
+use Rattle.duct_start.specs.Running.{RunningView}
 use Rattle.duct_start.specs.Start.{StartRefused, StartSucceeds}
 use Rattle.duct_start.specs.TreeView.{TreeView}
 use Rattle.duct_run.specs.SystemViews.{SystemViews}
@@ -51,4 +52,5 @@ module _ {S E C F D : Type 0} (views : SystemViews S E C F D (Unit {0}) Bytes) {
       views.number_of tree (plan_of_reader tree) (views.journal sys) (views.journal after) error
       ⊎ (StartSucceeds allows views.number_of tree (plan_of_reader tree) (views.journal sys)
       (views.journal after)
-      × ReadFails views may remaining error reading tree (added_between views sys after)))
+      × ((waited : RunningView C F D)
+      × ReadFails views may remaining error waited reading tree (added_between views sys after))))

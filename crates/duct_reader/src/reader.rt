@@ -9,13 +9,15 @@ ghost use Rattle.duct_running.specs.Answered.{IsAnswer};
 ghost use Rattle.duct_running.specs.Allowed.{OneRuns};
 ghost use Rattle.duct_handle.specs.Obeyed.{IsObeyed};
 ghost use Rattle.duct_reader.specs.Reads.{ClosesAs, KnowsOutput, ReadsAs};
+ghost use Rattle.duct_reader.specs.ReadsText.{IsReadFault};
 
 use duct_base::error::Error;
 use duct_base::pool::Pool;
 use duct_base::system::{Fault, Output, System};
 use duct_handle::handle::{Handle, Seen};
 use duct_run::views::Viewed;
-use duct_worker::transfer::read_retried;
+use duct_worker::watched::Watched;
+use std::io::Read;
 use std::marker::Model;
 use std::sync::{Arc, Mutex, Wait};
 
@@ -86,6 +88,19 @@ impl<S: System, R> ReaderHandle<S, R> {
     }
 }
 
+// One read. A fault is that of what stopped the reader.
+fn read_watched<R: Read>(reader: &mut Watched<'_, R>, buf: &mut [u8]) -> Result<usize, Error>
+    requires { reader.old.stopped ≡ None }
+    ensures bound { IfOk result (λ read. read ≤ length buf.new) }
+    ensures room { length buf.new ≡ length buf.old }
+    ensures err { IfErr result (IsReadFault reader.new.stopped) }
+{
+    match reader.read(buf) {
+        Ok(read) => Ok(read),
+        Err(error) => Err(Error::System(Fault::from(error))),
+    }
+}
+
 impl<S: System, R: Wait> ReaderHandle<S, R> {
     /// Polls once and returns the output, or `None` while the expression runs; it fails as
     /// `Handle::try_wait` does. It doesn't read and doesn't wait for a read. The output's `stdout`
@@ -152,10 +167,7 @@ impl<S: System, R: Wait> ReaderHandle<S, R> {
             return Ok(0);
         }
         let mut pipe = self.pipe.lock(&self.rt);
-        match read_retried(&mut *pipe, buf) {
-            Ok(read) => Ok(read),
-            Err(error) => Err(Error::System(Fault::from(error))),
-        }
+        read_watched(&mut Watched::new(&mut *pipe), buf)
     }
 }
 

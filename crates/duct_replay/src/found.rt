@@ -7,8 +7,8 @@ ghost use Rattle.duct_system.specs.SpecView.{pair_text};
 ghost use Rattle.duct_system.specs.declared.system.Kind.TheVariants.{OutOfMemory};
 ghost use Rattle.duct_replay.specs.Answers.{Finds, Fits, FitsNumber, FitsPipe, IsNext, FindsTwice, IsLost, IsToldRight, next_view, no_memory, unrecorded};
 
-use duct_entries::copy::copies_of;
-use duct_entries::same::{same_spec, same_streams};
+use duct_system::copy::copies_of;
+use duct_system::same::{same_spec, same_streams};
 use duct_system::spec::CommandSpec;
 use duct_system::system::{Entry, Fault, Kind, Side, Stdio};
 use std::alloc::Global;

@@ -1,4 +1,6 @@
+pub mod Copying
 pub mod Entries
 pub mod NameOrder
+pub mod Texts
 pub mod Threads
 pub mod Variables

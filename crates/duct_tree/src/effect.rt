@@ -108,6 +108,7 @@ impl<E, H> Clone for Effect<'_, E, H> {
 impl<E, H> Copy for Effect<'_, E, H> {}
 
 /// Returns what a modifier does: the row of its kind.
+#[rattlefmt::skip]
 pub fn effect_of<E, H>(modifier: &Modifier<E, H>) -> Effect<'_, E, H>
     ensures { effect_view result ≡ row (modifier_view modifier.now) }
 {
@@ -120,97 +121,26 @@ pub fn effect_of<E, H>(modifier: &Modifier<E, H>) -> Effect<'_, E, H>
         mark: Mark::Plain,
     };
     match modifier {
-        Modifier::StdinBytes(bytes) => Effect {
-            opening: Opening::Input(bytes),
-            input: InputRoute::Opened,
-            mark: Mark::Input,
-            ..idle
-        },
-        Modifier::StdinPath(path) => Effect {
-            opening: Opening::Read(path.as_str()),
-            input: InputRoute::Opened,
-            ..idle
-        },
-        Modifier::StdinFile(end) => Effect {
-            input: InputRoute::Lent(end),
-            ..idle
-        },
-        Modifier::StdinNull => Effect {
-            input: InputRoute::Nothing,
-            ..idle
-        },
-        Modifier::StdoutPath(path) => Effect {
-            opening: Opening::Create(path.as_str()),
-            output: OutputRoute::Opened,
-            ..idle
-        },
-        Modifier::StdoutFile(end) => Effect {
-            output: OutputRoute::Lent(end),
-            ..idle
-        },
-        Modifier::StdoutNull => Effect {
-            output: OutputRoute::Nothing,
-            ..idle
-        },
-        Modifier::StdoutCapture => Effect {
-            opening: Opening::Capture(Side::Out),
-            output: OutputRoute::Opened,
-            ..idle
-        },
-        Modifier::StdoutToStderr => Effect {
-            output: OutputRoute::Outside(Side::Err),
-            ..idle
-        },
-        Modifier::StderrPath(path) => Effect {
-            opening: Opening::Create(path.as_str()),
-            error: OutputRoute::Opened,
-            ..idle
-        },
-        Modifier::StderrFile(end) => Effect {
-            error: OutputRoute::Lent(end),
-            ..idle
-        },
-        Modifier::StderrNull => Effect {
-            error: OutputRoute::Nothing,
-            ..idle
-        },
-        Modifier::StderrCapture => Effect {
-            opening: Opening::Capture(Side::Err),
-            error: OutputRoute::Opened,
-            ..idle
-        },
-        Modifier::StderrToStdout => Effect {
-            error: OutputRoute::Outside(Side::Out),
-            ..idle
-        },
-        Modifier::StdoutStderrSwap => Effect {
-            output: OutputRoute::Outside(Side::Err),
-            error: OutputRoute::Outside(Side::Out),
-            ..idle
-        },
-        Modifier::Dir(path) => Effect {
-            setting: Some(Setting::Dir(path.as_str())),
-            ..idle
-        },
-        Modifier::Env(name, value) => Effect {
-            setting: Some(Setting::Env(name, value.as_str())),
-            ..idle
-        },
-        Modifier::EnvRemove(name) => Effect {
-            setting: Some(Setting::EnvRemove(name)),
-            ..idle
-        },
-        Modifier::FullEnv(vars) => Effect {
-            setting: Some(Setting::FullEnv(vars)),
-            ..idle
-        },
-        Modifier::Unchecked => Effect {
-            mark: Mark::Unchecked,
-            ..idle
-        },
-        Modifier::BeforeSpawn(hook, ends) => Effect {
-            setting: Some(Setting::BeforeSpawn(hook, ends.as_slice())),
-            ..idle
-        },
+        Modifier::StdinBytes(bytes) => Effect { opening: Opening::Input(bytes), input: InputRoute::Opened, mark: Mark::Input, ..idle },
+        Modifier::StdinPath(path) => Effect { opening: Opening::Read(path.as_str()), input: InputRoute::Opened, ..idle },
+        Modifier::StdinFile(end) => Effect { input: InputRoute::Lent(end), ..idle },
+        Modifier::StdinNull => Effect { input: InputRoute::Nothing, ..idle },
+        Modifier::StdoutPath(path) => Effect { opening: Opening::Create(path.as_str()), output: OutputRoute::Opened, ..idle },
+        Modifier::StdoutFile(end) => Effect { output: OutputRoute::Lent(end), ..idle },
+        Modifier::StdoutNull => Effect { output: OutputRoute::Nothing, ..idle },
+        Modifier::StdoutCapture => Effect { opening: Opening::Capture(Side::Out), output: OutputRoute::Opened, ..idle },
+        Modifier::StdoutToStderr => Effect { output: OutputRoute::Outside(Side::Err), ..idle },
+        Modifier::StderrPath(path) => Effect { opening: Opening::Create(path.as_str()), error: OutputRoute::Opened, ..idle },
+        Modifier::StderrFile(end) => Effect { error: OutputRoute::Lent(end), ..idle },
+        Modifier::StderrNull => Effect { error: OutputRoute::Nothing, ..idle },
+        Modifier::StderrCapture => Effect { opening: Opening::Capture(Side::Err), error: OutputRoute::Opened, ..idle },
+        Modifier::StderrToStdout => Effect { error: OutputRoute::Outside(Side::Out), ..idle },
+        Modifier::StdoutStderrSwap => Effect { output: OutputRoute::Outside(Side::Err), error: OutputRoute::Outside(Side::Out), ..idle },
+        Modifier::Dir(path) => Effect { setting: Some(Setting::Dir(path.as_str())), ..idle },
+        Modifier::Env(name, value) => Effect { setting: Some(Setting::Env(name, value.as_str())), ..idle },
+        Modifier::EnvRemove(name) => Effect { setting: Some(Setting::EnvRemove(name)), ..idle },
+        Modifier::FullEnv(vars) => Effect { setting: Some(Setting::FullEnv(vars)), ..idle },
+        Modifier::Unchecked => Effect { mark: Mark::Unchecked, ..idle },
+        Modifier::BeforeSpawn(hook, ends) => Effect { setting: Some(Setting::BeforeSpawn(hook, ends.as_slice())), ..idle },
     }
 }

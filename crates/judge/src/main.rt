@@ -3,7 +3,7 @@
 //! it is named `-`.
 #![tactic(auto)]
 
-use duct_judge::perform::perform;
+use duct_follows::perform::perform;
 use duct_record::error::Refusal;
 use duct_record::journal::read_journal;
 use std::alloc::Global;

@@ -2,7 +2,7 @@
 //! requests nothing itself.
 #![tactic(auto)]
 
-use duct_preview::perform::perform;
+use duct_plan::perform::perform;
 use std::io::{ErrorKind, Write};
 use std::process::ExitCode;
 use std::{env, io};

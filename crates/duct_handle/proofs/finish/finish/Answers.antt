@@ -1,13 +1,18 @@
-use Rattle.std.proofs.Common.{rules}
-use Rattle.duct_handle.proofs.Finishing.{on_err_with}
+use Rattle.duct_run.proofs.Seeing.{views_of}
+use Rattle.duct_handle.proofs.Finishing.{finished, stopped}
 use Rattle.duct_handle.proofs.finish.finish.Goals as goal
 
-pub returns-clause-given : goal.returns-clause-given
-returns-clause-given g c =
-    on_err_with c.output_or_give_up.result (λ takes. (c.wait_for-waited.new.running, c.wait_for-waited.ensures.stays, takes)) c.output_or_give_up.ensures.given
-
 pub returns-clause-output : goal.returns-clause-output
-returns-clause-output g c = search rules
+returns-clause-output g c =
+    let views = views_of g.S.System g.S.End.Numbered g.S.Child.Child g.S.Feed.Job g.S.Drain.Job in
+    let waited = c.wait_for-waited.ensures in
+    finished views c.args.running c.wait_for-waited.new.running waited.stays waited.allowed c.wait_for-waited.result
+    c.output_or_give_up.result waited.outcome c.output_or_give_up.ensures.ok
 
-pub returns-clause-err : goal.returns-clause-err
-returns-clause-err g c = search rules
+pub returns-clause-failed : goal.returns-clause-failed
+returns-clause-failed g c =
+    let views = views_of g.S.System g.S.End.Numbered g.S.Child.Child g.S.Feed.Job g.S.Drain.Job in
+    let waited = c.wait_for-waited.ensures in
+    stopped views c.args.running c.wait_for-waited.new.running waited.stays waited.allowed c.wait_for-waited.result
+    c.output_or_give_up.result c.args.pool.now c.output_or_give_up.new.pool waited.outcome
+    c.output_or_give_up.ensures.err c.output_or_give_up.ensures.given

@@ -1,6 +1,0 @@
-use Rattle.std.proofs.Common.{string_bytes}
-use Rattle.duct_entries.proofs.Texts.{texts_decide}
-use Rattle.duct_entries.proofs.same.same_texts.Goals as goal
-
-pub returns : goal.returns
-returns c = texts_decide string_bytes c.args.one.now c.args.other.now c.eq.result c.eq.ensures

@@ -1,4 +1,0 @@
-pub mod Balance
-pub mod ByNumber
-pub mod Numbers
-pub mod TreeOrders

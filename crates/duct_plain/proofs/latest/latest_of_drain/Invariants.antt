@@ -1,7 +1,0 @@
-use Rattle.std.proofs.Common.{◌≡◌, drop, map}
-use Rattle.duct_status.specs.Latest.{latest_of_drain}
-use Rattle.duct_status.specs.EventView.{event_view}
-use Rattle.duct_plain.proofs.latest.latest_of_drain.Given as goal
-
-abbrev pub invariant-loop-event : goal.invariant-loop-event
-invariant-loop-event l = latest_of_drain l.side (map event_view l.events) ≡ latest_of_drain l.side (map event_view (drop l.event-index l.events))

@@ -1,0 +1,292 @@
+//! The text of a plan: a line for each request, with its place.
+ghost use Rattle.std.specs.Prelude.{◌≡◌, ◌≤◌, ◌+◌, length, map, string_bytes};
+ghost use Rattle.std.specs.Fmt.{DisplaysOnOk};
+ghost use Rattle.std.specs.Option.{option_copied};
+ghost use Rattle.duct_system.specs.SpecView.{var_view};
+ghost use Rattle.duct_tree.specs.Text.{printed};
+ghost use Rattle.duct_report.specs.EntryForm.{folder_form};
+ghost use Rattle.duct_plan.specs.Found.{change_of, found_of, target_of};
+ghost use Rattle.duct_plan.specs.PlanView.{item_of, plan_view};
+ghost use Rattle.duct_plan.specs.PlanForm.{arguments_form, change_form, changes_form, command_form, hooks_form, item_form, lines_form, parents_text, plan_form, program_form, settings_form, spawn_form, stream_form, streams_form, target_form, variables_form};
+
+use crate::found::{Surroundings, Target, VariableChange};
+use crate::items::{Item, Plan};
+use crate::plan::{is_canonical, program_of};
+use duct::Stream;
+use duct_base::names::EnvNameString;
+use std::collections::btree_map::Iter;
+use std::fmt;
+
+/// A plan as text: a line for each request, with its place, as in `3 open of "f"` or
+/// `4 spawn of "sort" "-u", stdin file 3, stdout pipe 1, stderr inherited`. A pipe, a file or a
+/// worker's pipe stands there by the place of the request that opens it. A program whose canonical
+/// path is requested first stands there as `?`. Changes of variables stand behind the folder, the
+/// nearest first. The text is promised where all texts of the plan are printable ASCII.
+#[derive(Drop)]
+pub struct PlanText<'a, 't, E, H>(pub &'a Plan<'t, E, H>);
+
+impl<E, H> fmt::Display for PlanText<'_, '_, E, H> {
+    ghost use Rattle.duct_plan.specs.PlanView.{plan_view};
+    ghost use Rattle.duct_plan.specs.PlanForm.{plan_text};
+
+    ghost output = { λ text. plan_text (plan_view text.0.now) };
+
+    fn fmt<W: fmt::Write>(&self, f: &mut fmt::Formatter<W>) -> fmt::Result {
+        write_plan(self.0, f)
+    }
+}
+
+// Writes the lines of a plan.
+fn write_plan<E, H, W: fmt::Write>(plan: &Plan<'_, E, H>, f: &mut fmt::Formatter<W>) -> fmt::Result
+    ensures { DisplaysOnOk W.write_str_gives f.old result
+        (printed (plan_form (plan_view plan.now))) f.new }
+{
+    write_lines(plan.items.as_slice(), 0, f)
+}
+
+// Writes a line for each request, the first of which has this place.
+fn write_lines<E, H, W: fmt::Write>(
+    items: &[Item<'_, E, H>],
+    place: usize,
+    f: &mut fmt::Formatter<W>,
+) -> fmt::Result
+    requires { place + length items.now ≤ 9223372036854775807 }
+    ensures { DisplaysOnOk W.write_str_gives f.old result
+        (printed (lines_form place (map item_of items.now))) f.new }
+{
+    match items.split_first() {
+        None => Ok(()),
+        Some((item, rest)) => {
+            write!(f, "{place} ")?;
+            write_item(item, f)?;
+            f.write_str("\n")?;
+            write_lines(rest, place + 1, f)
+        }
+    }
+}
+
+/// Writes one request as a plan's line has it, without its place. Fails where the write fails.
+#[tactic(auto, unfolding(crate::specs::PlanForm::item_form))]
+pub fn write_item<E, H, W: fmt::Write>(
+    item: &Item<'_, E, H>,
+    f: &mut fmt::Formatter<W>,
+) -> fmt::Result
+    ensures { DisplaysOnOk W.write_str_gives f.old result
+        (printed (item_form (item_of item.now))) f.new }
+{
+    match item {
+        Item::Environment => f.write_str("environment"),
+        Item::Pipe => f.write_str("pipe"),
+        Item::OpenRead(path) => write!(f, "open of {path:?}"),
+        Item::Create(path) => write!(f, "create of {path:?}"),
+        Item::Canonicalize(program) => write!(f, "canonical path of {program:?}"),
+        Item::Spawn(found, words) => write_spawn(found, words, f),
+        Item::Feed(place, _) => write!(f, "input worker of pipe {place}"),
+        Item::Drain(place) => write!(f, "capture worker of pipe {place}"),
+        Item::Reader(place) => write!(f, "reader of pipe {place}"),
+    }
+}
+
+// Writes the spawn of a command.
+#[tactic(auto, unfolding(crate::specs::PlanForm::spawn_form))]
+fn write_spawn<E, H, W: fmt::Write>(
+    found: &Surroundings<'_, E, H>,
+    words: &[String],
+    f: &mut fmt::Formatter<W>,
+) -> fmt::Result
+    ensures { DisplaysOnOk W.write_str_gives f.old result
+        (printed (spawn_form (found_of found.now) (map string_bytes words.now))) f.new }
+{
+    f.write_str("spawn of ")?;
+    write_command(found, words, f)?;
+    write_settings(found, f)?;
+    write_streams(found, f)?;
+    write_hooks(found.hooks.as_slice(), f)
+}
+
+// Writes a program and its arguments.
+#[tactic(auto, unfolding(crate::specs::PlanForm::command_form))]
+fn write_command<E, H, W: fmt::Write>(
+    found: &Surroundings<'_, E, H>,
+    words: &[String],
+    f: &mut fmt::Formatter<W>,
+) -> fmt::Result
+    ensures { DisplaysOnOk W.write_str_gives f.old result
+        (printed (command_form (found_of found.now) (map string_bytes words.now))) f.new }
+{
+    write_program(found, words, f)?;
+    write_arguments(words.get(1..).unwrap_or(&[]), f)
+}
+
+// Writes the folder and the changes of the variables of a command.
+#[tactic(auto, unfolding(crate::specs::PlanForm::settings_form))]
+fn write_settings<E, H, W: fmt::Write>(
+    found: &Surroundings<'_, E, H>,
+    f: &mut fmt::Formatter<W>,
+) -> fmt::Result
+    ensures { DisplaysOnOk W.write_str_gives f.old result
+        (printed (settings_form (found_of found.now))) f.new }
+{
+    write_folder(found.folder, f)?;
+    write_changes(found.changes.as_slice(), f)
+}
+
+// Writes a program, or a question mark where its canonical path is requested first.
+#[tactic(auto, unfolding(crate::specs::PlanForm::program_form))]
+fn write_program<E, H, W: fmt::Write>(
+    found: &Surroundings<'_, E, H>,
+    words: &[String],
+    f: &mut fmt::Formatter<W>,
+) -> fmt::Result
+    ensures { DisplaysOnOk W.write_str_gives f.old result
+        (printed (program_form (found_of found.now) (map string_bytes words.now))) f.new }
+{
+    if is_canonical(found, words) {
+        return f.write_str("?");
+    }
+    let program = program_of(words);
+    write!(f, "{program:?}")
+}
+
+// Writes arguments, with a space before each.
+fn write_arguments<W: fmt::Write>(arguments: &[String], f: &mut fmt::Formatter<W>) -> fmt::Result
+    ensures { DisplaysOnOk W.write_str_gives f.old result
+        (printed (arguments_form (map string_bytes arguments.now))) f.new }
+{
+    match arguments.split_first() {
+        None => Ok(()),
+        Some((argument, others)) => {
+            write!(f, " {argument:?}")?;
+            write_arguments(others, f)
+        }
+    }
+}
+
+// Writes a folder, if there is one.
+fn write_folder<W: fmt::Write>(folder: Option<&str>, f: &mut fmt::Formatter<W>) -> fmt::Result
+    ensures { DisplaysOnOk W.write_str_gives f.old result
+        (printed (folder_form (option_copied folder.entry))) f.new }
+{
+    match folder {
+        Some(folder) => write!(f, " in {folder:?}"),
+        None => Ok(()),
+    }
+}
+
+// Writes changes of the variables, the nearest first.
+fn write_changes<W: fmt::Write>(
+    changes: &[VariableChange<'_>],
+    f: &mut fmt::Formatter<W>,
+) -> fmt::Result
+    ensures { DisplaysOnOk W.write_str_gives f.old result
+        (printed (changes_form (map change_of changes.now))) f.new }
+{
+    match changes.split_first() {
+        None => Ok(()),
+        Some((change, further)) => {
+            write_change(*change, f)?;
+            write_changes(further, f)
+        }
+    }
+}
+
+// Writes a change of the variables.
+fn write_change<W: fmt::Write>(change: VariableChange<'_>, f: &mut fmt::Formatter<W>) -> fmt::Result
+    ensures { DisplaysOnOk W.write_str_gives f.old result
+        (printed (change_form (change_of change.entry))) f.new }
+{
+    match change {
+        VariableChange::Sets(name, value) => write!(f, " with {name:?}={value:?}"),
+        VariableChange::Removes(name) => write!(f, " without {name:?}"),
+        VariableChange::Replaces(vars) => {
+            f.write_str(" with only")?;
+            write_variables(vars.iter(), f)
+        }
+    }
+}
+
+// Writes the remaining variables, with a space before each.
+fn write_variables<W: fmt::Write>(
+    mut rest: Iter<'_, EnvNameString, String>,
+    f: &mut fmt::Formatter<W>,
+) -> fmt::Result
+    ensures { DisplaysOnOk W.write_str_gives f.old result
+        (printed (variables_form (map var_view rest.entry))) f.new }
+{
+    match rest.next() {
+        None => Ok(()),
+        Some((name, value)) => {
+            write!(f, " {name:?}={value:?}")?;
+            write_variables(rest, f)
+        }
+    }
+}
+
+// Writes where the streams of a command go.
+#[tactic(auto, unfolding(crate::specs::PlanForm::streams_form))]
+fn write_streams<E, H, W: fmt::Write>(
+    found: &Surroundings<'_, E, H>,
+    f: &mut fmt::Formatter<W>,
+) -> fmt::Result
+    ensures { DisplaysOnOk W.write_str_gives f.old result
+        (printed (streams_form (found_of found.now))) f.new }
+{
+    write_stream(", stdin ", Stream::In, found.input, f)?;
+    write_stream(", stdout ", Stream::Out, found.output, f)?;
+    write_stream(", stderr ", Stream::Err, found.error, f)
+}
+
+// Writes a stream, by its name, and where it goes.
+#[tactic(auto, unfolding(crate::specs::PlanForm::stream_form))]
+fn write_stream<E, W: fmt::Write>(
+    name: &str,
+    stream: Stream,
+    target: Target<'_, E>,
+    f: &mut fmt::Formatter<W>,
+) -> fmt::Result
+    ensures { DisplaysOnOk W.write_str_gives f.old result
+        (printed (stream_form name.now stream (target_of target.entry))) f.new }
+{
+    f.write_str(name)?;
+    write_target(stream, target, f)
+}
+
+// Writes where a stream goes.
+fn write_target<E, W: fmt::Write>(
+    stream: Stream,
+    target: Target<'_, E>,
+    f: &mut fmt::Formatter<W>,
+) -> fmt::Result
+    ensures { DisplaysOnOk W.write_str_gives f.old result
+        (printed (target_form stream (target_of target.entry))) f.new }
+{
+    match target {
+        Target::Parents(parents) => f.write_str(parents_text(stream, parents)),
+        Target::Nothing => f.write_str("nothing"),
+        Target::ReaderAt(place) | Target::WriterAt(place) => write!(f, "pipe {place}"),
+        Target::FileAt(place) => write!(f, "file {place}"),
+        Target::Lends(_) => f.write_str("an end of the caller"),
+    }
+}
+
+// Returns where a stream goes that goes to this stream of the parent.
+fn parents_text(stream: Stream, parents: Stream) -> &'static str
+    ensures { result.now ≡ parents_text stream parents }
+{
+    match (stream, parents) {
+        (_, Stream::In) | (Stream::Out, Stream::Out) | (Stream::Err, Stream::Err) => "inherited",
+        (Stream::In | Stream::Err, Stream::Out) => "the parent's stdout",
+        (Stream::In | Stream::Out, Stream::Err) => "the parent's stderr",
+    }
+}
+
+// Writes how many hooks may change the command, if any.
+fn write_hooks<A, W: fmt::Write>(hooks: &[A], f: &mut fmt::Formatter<W>) -> fmt::Result
+    ensures { DisplaysOnOk W.write_str_gives f.old result (printed (hooks_form hooks.now)) f.new }
+{
+    let count = hooks.len();
+    if count == 0 {
+        return Ok(());
+    }
+    write!(f, ", hooks {count}")
+}

@@ -1,3 +1,0 @@
-pub mod DotForm
-pub mod PlanForm
-pub mod Previewed

@@ -1,9 +1,0 @@
-use Rattle.duct_small_callers.proofs.Results.{wait_failing, wait_message, wait_status}
-use Rattle.duct_small_callers.proofs.wait.Goals as goal
-
-pub returns : goal.returns
-returns g c = record {
-  status = wait_status _ _ _ c.wait.ensures;
-  failing = wait_failing _ _ _ c.wait.ensures;
-  message = wait_message _ _ _ c.wait.ensures;
-}

@@ -1,2 +1,0 @@
-pub mod ChildView
-pub mod Told

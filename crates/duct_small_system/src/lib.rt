@@ -1,8 +1,0 @@
-//! A system of one's own, in a few lines over `Journal`. It starts no process: each command prints
-//! the same line, runs for one poll, and exits with its own number. It is proved to keep the
-//! contracts of the interface to the operating system.
-#![tactic(auto)]
-
-pub mod child;
-pub mod system;
-pub mod worker;

@@ -1,0 +1,11 @@
+//! The examples of README and of docs/COOKBOOK.md, programs as any user writes them, over any
+//! system, and tests of them over the scripted system and over the real machine.
+mod commands;
+mod files;
+mod first_steps;
+mod handles;
+mod limits;
+mod over_a_script;
+mod over_the_machine;
+mod readers;
+mod script;

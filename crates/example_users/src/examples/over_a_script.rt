@@ -1,0 +1,143 @@
+//! Tests of the examples over the scripted system, which runs no program.
+use super::handles::started_at_last;
+use super::limits::{build, supervise};
+use super::script::{run_script, started};
+use duct::{Clock, Error, ExitStatus, Expression, Fault, Kind, Pool, System, cmd};
+use duct_attempts::run_attempts;
+use duct_host::clock::HostClock;
+use duct_script::calls::{Call, CallLog};
+use duct_script::child::PollAnswer;
+use duct_script::clock::ScriptClock;
+use duct_script::requests::Sort;
+use duct_script::system::Script;
+use std::alloc::{AllocError, Global};
+use std::sync::{Arc, Wait};
+use std::test::Fail;
+use std::time::Duration;
+
+/// A child that still runs, one that succeeded, and one that failed.
+const RUNS: PollAnswer = PollAnswer::Running;
+
+const SUCCEEDS: PollAnswer = PollAnswer::Ended(ExitStatus::Code(0));
+
+const FAILS: PollAnswer = PollAnswer::Ended(ExitStatus::Code(1));
+
+/// A scripted system whose children return these results, one child each.
+fn scripted(alloc: Global, polls: &[PollAnswer]) -> Result<Script, AllocError> {
+    let mut system = Script::new(alloc)?;
+    for poll in polls {
+        system.polls(&[*poll])?;
+    }
+    Ok(system)
+}
+
+/// Checks that a script stops at its first command that fails. No program runs: the test sets what
+/// the child returns to polls.
+#[test]
+fn a_script_stops_at_a_failure(rt: HostRuntime) -> Result<(), Fail> {
+    let mut system = Script::new(rt.alloc())?;
+    let mut pool = Pool::new(rt.alloc());
+    system.polls(&[PollAnswer::Running, PollAnswer::Ended(ExitStatus::Code(2))])?;
+    let script = "make all\nmake install";
+    let told = run_script(&rt, rt.alloc(), &mut system, &mut pool, script);
+    assert!(rt; matches!(told, Err(Error::Checked(_))));
+    assert_eq!(rt; started(rt.alloc(), &system)?.as_str(), "make all \n"); // from the journal
+    Ok(())
+}
+
+/// Runs a step of two commands whose limit has passed at its first poll. Returns what it comes to,
+/// and how many children are given to the pool.
+fn step_text<S: System>(rt: &impl Wait, alloc: Global, system: &mut S) -> Result<String, Error> {
+    let mut pool = Pool::new(alloc);
+    let step = cmd!(in alloc; "make")?.pipe(&cmd!(in alloc; "tee", "log")?)?;
+    let moments = [Duration::from_secs(1), Duration::from_secs(9)];
+    let clock = ScriptClock::new(Vec::from_slice(alloc, &moments)?);
+    let built = build(rt, system, &mut pool, &clock, &step, Duration::from_secs(5));
+    let given = pool.given();
+    match built.map(|output| if output.is_some() {
+        "output"
+    } else {
+        "nothing"
+    }) {
+        Ok(text) => Ok(format!(in alloc; "{text}, {given} given")?),
+        Err(error) => Ok(format!(in alloc; "{error}, {given} given")?),
+    }
+}
+
+/// Returns the same of a step whose commands return these results to polls, and how many of them
+/// were killed.
+fn killed_text(rt: &impl Wait, alloc: Global, polls: &[PollAnswer]) -> Result<String, Error> {
+    let mut system = scripted(alloc, polls)?;
+    let calls = Arc::new(alloc, CallLog::new(alloc, 100)?)?;
+    system.note_in(Arc::try_clone(&calls)?);
+    let text = step_text(rt, alloc, &mut system)?;
+    let ordered = |place: &usize| matches!(calls.get(*place), Some(Call::Order(_)));
+    let killed = (0..100).filter(ordered).count();
+    Ok(format!(in alloc; "{text}, {killed} killed")?)
+}
+
+/// Checks that no command of a started step runs on after it, whatever the step returns.
+#[test]
+fn steps_with_a_time_limit(rt: HostRuntime) -> Result<(), Fail> {
+    let fault = PollAnswer::Fault(Fault::new(Kind::Other));
+    let failed = "command [\"make\"] exited with code 1, 2 given, 0 killed";
+    for (polls, wanted) in [
+        ([SUCCEEDS, SUCCEEDS], "output, 0 given, 0 killed"),
+        ([RUNS, RUNS], "nothing, 2 given, 2 killed"),
+        ([SUCCEEDS, RUNS], "nothing, 2 given, 1 killed"),
+        ([FAILS, SUCCEEDS], failed),
+        ([SUCCEEDS, fault], "system: Other, 2 given, 1 killed"),
+        ([fault, RUNS], "system: Other, 2 given, 2 killed"),
+        ([RUNS, fault], "system: Other, 2 given, 2 killed"),
+    ] {
+        let found = killed_text(&rt, rt.alloc(), &polls)?;
+        assert_eq!(rt; found.as_str(), wanted);
+    }
+    Ok(())
+}
+
+/// Supervises a service that may run this long. Returns how many times it was restarted, and how
+/// many children were given to the pool.
+pub fn service_text<S: System>(
+    rt: &impl Wait,
+    alloc: Global,
+    system: &mut S,
+    clock: &impl Clock,
+    limit: Duration,
+) -> Result<String, Error> {
+    let mut pool = Pool::new(alloc);
+    let service: Expression<S::End> = cmd!(in alloc; "sleep", "20")?;
+    let restarted = supervise(rt, clock, system, &mut pool, &service, limit)?;
+    Ok(format!(in alloc; "{restarted:?}, {} given", pool.given())?)
+}
+
+#[test]
+fn a_service_succeeds_at_last(rt: HostRuntime) -> Result<(), Fail> {
+    let clock = HostClock::new(&rt)?;
+    let mut system = scripted(rt.alloc(), &[FAILS, FAILS, SUCCEEDS])?;
+    let limit = Duration::from_secs(60);
+    let text = service_text(&rt, rt.alloc(), &mut system, &clock, limit)?;
+    assert_eq!(rt; text.as_str(), "Some(2), 2 given");
+    Ok(())
+}
+
+/// Starts a command at last, and runs one at last that fails at first. Returns whether both
+/// succeeded.
+fn at_last<S: System>(rt: &impl Wait, alloc: Global, system: &mut S) -> Result<bool, Error> {
+    let mut pool = Pool::new(alloc);
+    let command: Expression<S::End> = cmd!(in alloc; "server")?;
+    let started = started_at_last(rt, system, &mut pool, &command)?.status;
+    let failed = |error: &Error| matches!(error, Error::Checked(_));
+    let ran = run_attempts(3, failed, rt, &command, system, &mut pool)?.status;
+    Ok(started.success() && ran.success())
+}
+
+#[test]
+fn attempts_succeed_at_last(rt: HostRuntime) -> Result<(), Fail> {
+    let mut system = scripted(rt.alloc(), &[SUCCEEDS, FAILS, SUCCEEDS])?;
+    let busy = Fault::new(Kind::Other);
+    system.refuse_sort(Sort::Spawn, 1, busy)?;
+    system.refuse_sort(Sort::Spawn, 2, busy)?;
+    assert!(rt; at_last(&rt, rt.alloc(), &mut system)?);
+    Ok(())
+}

@@ -1,0 +1,415 @@
+//! Requests of a system, one by one. Each is a key with a text, and its result is said: values one
+//! after another, and the kinds of faults.
+//!
+//! - `environment` says how many variables there are. `pipe`, `open_read: f`, `create: f`,
+//!   `duplicate: 3` and `parent: out` say the numbers of the ends, and `canonicalize: ./x` the path.
+//!   `close: 1` says nothing, and `clear` clears the journal.
+//! - `lend: 1` is a duplicate of an adopted end, and `drop: 1` drops one.
+//! - `feed: 2` starts a worker that writes `xyz`, and `drain: 1` one that reads. Both wait for the
+//!   worker and say its result.
+//! - `read: 1` reads an end to EOF and says the text. `read: 1 4 2` reads it into buffers of these
+//!   lengths, of eight bytes at most, and says what each read returns.
+//! - `spawn: null 2 inherit (/bin/echo,a b)` has the words of a command in parentheses. Without
+//!   them, the command has no words. `folder: /in` and `variables: A=1,B=2` apply to the commands
+//!   that follow.
+//! - `poll`, `kill` and `signal: 15` are calls on the last child. `ending` waits until it has ended,
+//!   and says its status.
+//!
+//! These lines are compared: `says` with what was said after the last such line, and `journal` with
+//! the journal.
+ghost use Rattle.std.specs.Prelude.{◌≡◌, ◌+◌, ◌<◌, ◌≤◌, [], ◌∷◌, length, vec_len, IfOk, OnOk, OnErr};
+ghost use Rattle.duct_system.specs.Streams.{ends_of};
+
+use duct_base::spec::{CommandSpec, Port, spec_of};
+use duct_base::system::{Child, ExitStatus, Fault, Kind, Numbered, Stdio, System};
+use rows_calls::texts::push_bytes;
+use rows_table::entries::journal_text;
+use rows_table::stop::TableError;
+use rows_table::waits::heard;
+use rows_table::words::{fault, first_word, side};
+use std::alloc::Global;
+use std::collections::BTreeMap;
+use std::fmt::{Debug, Write};
+use std::io::Read;
+use std::mem::replace;
+use std::rt::Clock;
+use std::sync::Arc;
+use std::thread;
+use std::time::Duration;
+
+/// A system with its ends that aren't spent, the adopted ends, the last child, and what was said.
+/// The journal has room for an entry of each end.
+#[derive(Drop)]
+pub struct Requests<S: System> {
+    pub system: S,
+    pub ends: Vec<S::End>,
+    pub adopted: Vec<S::End>,
+    pub child: Option<S::Child>,
+    pub said: String,
+    alloc: Global,
+    folder: String,
+    variables: String,
+    ghost roomy: { vec_len ends ≤ (S.journal_view system).room },
+}
+
+impl<S: System + Drop> Requests<S> {
+    /// Returns the requests of this system, with no ends yet.
+    pub fn new(alloc: Global, system: S) -> Requests<S> {
+        Requests {
+            system,
+            ends: Vec::new(alloc),
+            adopted: Vec::new(alloc),
+            child: None,
+            said: String::new(alloc),
+            alloc,
+            folder: String::new(alloc),
+            variables: String::new(alloc),
+        }
+    }
+
+    /// Reads a line. Returns the text that is compared, or `None` for a request. Blocks while a
+    /// worker runs or a read waits. Fails as `ask` and `says` do.
+    pub fn line(
+        &mut self,
+        rt: &impl Clock,
+        key: &str,
+        text: &str,
+    ) -> Result<Option<String>, TableError> {
+        match key {
+            "says" => Ok(Some(self.says(text)?)),
+            "journal" => Ok(Some(journal_text(self.alloc, self.system.journal())?)),
+            _ => {
+                self.ask(rt, key, text)?;
+                Ok(None)
+            }
+        }
+    }
+
+    /// Returns what was said. Fails with an allocation failure if a request met one, the text is
+    /// not the wanted one, and it has no more other faults.
+    fn says(&mut self, wanted: &str) -> Result<String, TableError> {
+        let said = replace(&mut self.said, String::new(self.alloc));
+        let is_wanted = said.trim() == wanted || !said.contains(REFUSED);
+        if is_wanted || faults(said.as_str()) > faults(wanted) {
+            return Ok(said);
+        }
+        Err(TableError::from(Fault::new(Kind::OutOfMemory)))
+    }
+
+    /// Makes the request of this key. After an allocation failure, a request of an end or a child
+    /// that isn't there is skipped. Fails if there is no such key, end or child, if the text is
+    /// malformed, or on an allocation failure of its own.
+    pub fn ask(&mut self, rt: &impl Clock, key: &str, text: &str) -> Result<(), TableError> {
+        match self.request(rt, key, text) {
+            Err(TableError::Text(MISSING)) if self.said.contains(REFUSED) => Ok(()),
+            done => done,
+        }
+    }
+
+    fn request(&mut self, rt: &impl Clock, key: &str, text: &str) -> Result<(), TableError> {
+        match key {
+            "environment" => {
+                let count = self.system.environment().map(|pairs| pairs.len());
+                tell(&mut self.said, &count)
+            }
+            "canonicalize" => tell(&mut self.said, &self.system.canonicalize(text)),
+            "pipe" => self.pipe(),
+            "open_read" | "create" | "parent" | "duplicate" | "lend" => self.open(key, text),
+            "spawn" => self.spawn(text),
+            "feed" => self.feed(rt, text),
+            "drain" => self.drain(rt, text),
+            "read" => self.read(text),
+            "close" => {
+                let end = taken(&mut self.ends, text)?;
+                self.system.close(end);
+                Ok(())
+            }
+            "drop" => Ok(drop(taken(&mut self.adopted, text)?)),
+            "clear" => Ok(self.system.clear_journal()),
+            "folder" => set(&mut self.folder, text),
+            "variables" => set(&mut self.variables, text),
+            "poll" | "kill" | "signal" | "ending" => self.order(rt, key, text),
+            _ => Err(TableError::Text("no such key")),
+        }
+    }
+
+    fn pipe(&mut self) -> Result<(), TableError> {
+        self.ends.reserve(2)?;
+        match self.system.pipe() {
+            Ok((read, write)) => {
+                let numbers = (read.number(), write.number());
+                self.ends.push_reserved(read);
+                self.ends.push_reserved(write);
+                say(&mut self.said, &numbers)
+            }
+            Err(fault) => say(&mut self.said, &fault.kind),
+        }
+    }
+
+    /// Requests one end, and keeps it.
+    fn open(&mut self, key: &str, text: &str) -> Result<(), TableError> {
+        self.ends.reserve(1)?;
+        let made = match key {
+            "open_read" => self.system.open_read(text),
+            "create" => self.system.create(text),
+            "parent" => self.system.parent(side(text)?),
+            "duplicate" => {
+                let place = place(self.ends.as_slice(), text)?;
+                self.system.duplicate(&self.ends[place])
+            }
+            _ => {
+                let place = place(self.adopted.as_slice(), text)?;
+                self.system.duplicate(&self.adopted[place])
+            }
+        };
+        match made {
+            Ok(end) => {
+                let number = end.number();
+                self.ends.push_reserved(end);
+                say(&mut self.said, &number)
+            }
+            Err(fault) => say(&mut self.said, &fault.kind),
+        }
+    }
+
+    /// Keeps an end that no request returned, or says the kind of the fault. Fails on an allocation
+    /// failure.
+    pub fn adopt(&mut self, adopted: Result<S::End, Fault>) -> Result<(), TableError> {
+        match adopted {
+            Ok(end) => {
+                let number = end.number();
+                self.adopted.push(end)?;
+                say(&mut self.said, &number)
+            }
+            Err(fault) => say(&mut self.said, &fault.kind),
+        }
+    }
+
+    fn feed(&mut self, rt: &impl Clock, number: &str) -> Result<(), TableError> {
+        let bytes = Arc::new(self.alloc, Vec::from_slice(self.alloc, b"xyz")?)?;
+        let end = taken(&mut self.ends, number)?;
+        match self.system.start_feed(end, bytes) {
+            Ok(mut worker) => tell(&mut self.said, &heard(rt, &mut worker)?),
+            Err(fault) => say(&mut self.said, &fault.kind),
+        }
+    }
+
+    fn drain(&mut self, rt: &impl Clock, number: &str) -> Result<(), TableError> {
+        let end = taken(&mut self.ends, number)?;
+        let heard = match self.system.start_drain(end) {
+            Ok(mut worker) => heard(rt, &mut worker)?,
+            Err(fault) => Err(fault),
+        };
+        match heard {
+            Ok(bytes) => say_bytes(&mut self.said, bytes.as_slice()),
+            Err(fault) => say(&mut self.said, &fault.kind),
+        }
+    }
+
+    fn read(&mut self, text: &str) -> Result<(), TableError> {
+        let (number, lengths) = first_word(text);
+        let end = taken(&mut self.ends, number)?;
+        let mut reader = self.system.reader(end);
+        if lengths.is_empty() {
+            return read_all(self.alloc, reader, &mut self.said);
+        }
+        for length in lengths.split(' ') {
+            read_once(&mut reader, length.parse()?, &mut self.said)?;
+        }
+        Ok(())
+    }
+
+    /// Reads the last child's text from an end to EOF, and says whether it is the child's id.
+    pub fn read_id(&mut self, number: &str) -> Result<(), TableError> {
+        let mut text = String::new(self.alloc);
+        let end = taken(&mut self.ends, number)?;
+        self.system.reader(end).read_to_string(&mut text)?;
+        let found = text.trim().parse().ok();
+        let id = self.child.as_ref().map(|child| child.id());
+        say(&mut self.said, &(id.is_some() && found == id))
+    }
+
+    fn spawn(&mut self, text: &str) -> Result<(), TableError> {
+        let (io, words) = parted(text);
+        let spec = self.spec(words)?;
+        let io = streams(&mut self.ends, io)?;
+        match self.system.spawn(spec, io) {
+            Ok(child) => {
+                let number = child.number();
+                self.child = Some(child);
+                say(&mut self.said, &number)
+            }
+            Err(fault) => say(&mut self.said, &fault.kind),
+        }
+    }
+
+    /// The spec of a command with these words, if it has any. Its streams are inherited.
+    fn spec(&self, words: Option<&str>) -> Result<CommandSpec, TableError> {
+        let alloc = self.alloc;
+        let mut texts = Vec::new(alloc);
+        if let Some(words) = words {
+            for word in words.split(',') {
+                texts.push(String::from_str(alloc, word)?)?;
+            }
+        }
+        let inherit = Port::Inherit;
+        let mut spec = spec_of(texts, None, BTreeMap::new(alloc), inherit, inherit, inherit);
+        if !self.folder.is_empty() {
+            spec.current_dir(self.folder.as_str())?;
+        }
+        for variable in self.variables.split(',') {
+            if let Some((name, value)) = variable.split_once('=') {
+                spec.env(name, value)?;
+            }
+        }
+        Ok(spec)
+    }
+
+    /// Makes a call on the last child, whose number and id have to stay the same.
+    fn order(&mut self, rt: &impl Clock, key: &str, text: &str) -> Result<(), TableError> {
+        let Some(child) = &mut self.child else {
+            return Err(TableError::Text(MISSING));
+        };
+        let said = &mut self.said;
+        let names = (child.number(), child.id());
+        match key {
+            "poll" => tell(said, &child.poll()),
+            "kill" => tell(said, &child.kill()),
+            "signal" => tell(said, &child.signal(text.parse()?)),
+            _ => say(said, &ending(rt, child)?),
+        }?;
+        if (child.number(), child.id()) == names {
+            Ok(())
+        } else {
+            Err(TableError::Text("the child has other names"))
+        }
+    }
+}
+
+/// The kind of an allocation failure, as it is said.
+const REFUSED: &str = "OutOfMemory";
+
+/// Why a request of an end or a child that isn't there fails.
+const MISSING: &str = "there is no such end or child";
+
+/// How many faults a text has that are no allocation failures.
+fn faults(text: &str) -> usize {
+    let words = text.split(';').map(|word| word.trim());
+    words
+        .filter(|word| *word != REFUSED && fault(word).is_ok())
+        .count()
+}
+
+/// Says a value. Fails on an allocation failure.
+fn say<T: Debug>(said: &mut String, value: &T) -> Result<(), TableError> {
+    Ok(write!(said, "{value:?}; ")?)
+}
+
+/// Says a result: the value, or the kind of the fault. Fails on an allocation failure.
+fn tell<T: Debug>(said: &mut String, returned: &Result<T, Fault>) -> Result<(), TableError> {
+    match returned {
+        Ok(value) => say(said, value),
+        Err(fault) => say(said, &fault.kind),
+    }
+}
+
+/// Says bytes as a text. Fails on an allocation failure.
+fn say_bytes(said: &mut String, bytes: &[u8]) -> Result<(), TableError> {
+    push_bytes(said, bytes)?;
+    Ok(said.push_str("; ")?)
+}
+
+fn read_all<R: Read + Drop>(
+    alloc: Global,
+    mut reader: R,
+    said: &mut String,
+) -> Result<(), TableError> {
+    let mut bytes = Vec::new(alloc);
+    match reader.read_to_end(&mut bytes) {
+        Ok(_) => say_bytes(said, bytes.as_slice()),
+        Err(error) => say(said, &Fault::from(error).kind),
+    }
+}
+
+fn read_once<R: Read>(reader: &mut R, length: usize, said: &mut String) -> Result<(), TableError> {
+    let mut buf = [0u8; 8];
+    match reader.read(&mut buf[..length.min(8)]) {
+        Ok(count) => say_bytes(said, &buf[..count.min(8)]),
+        Err(error) => say(said, &error.kind()),
+    }
+}
+
+/// The streams of a spawn, and the words of its command, if it has any.
+fn parted(text: &str) -> (&str, Option<&str>) {
+    match text.split_once(" (") {
+        Some((io, words)) => (io, words.strip_suffix(')')),
+        None => (text, None),
+    }
+}
+
+fn set(text: &mut String, value: &str) -> Result<(), TableError> {
+    text.clear();
+    Ok(text.push_str(value)?)
+}
+
+/// Polls a child until it has ended, and returns its exit status. Blocks the thread: it polls at
+/// most 3000 times, and sleeps 10 milliseconds between two polls. Fails at the first poll that
+/// returns a fault, or if the child is still running in the end.
+fn ending<C: Child>(rt: &impl Clock, child: &mut C) -> Result<ExitStatus, TableError> {
+    for _ in 0..3000 {
+        if let Some(ending) = child.poll()? {
+            return Ok(ending);
+        }
+        thread::sleep(rt, Duration::from_millis(10));
+    }
+    Err(TableError::Text("the child goes on"))
+}
+
+/// Returns the place of the end with this number in a list. Fails if the number is malformed or
+/// there is no such end.
+fn place<E: Numbered>(ends: &[E], number: &str) -> Result<usize, TableError>
+    ensures { IfOk result (λ place. place < length ends.now) }
+{
+    let number = number.parse::<u64>()?;
+    match ends.iter().position(|end| end.number() == number) {
+        Some(place) if place < ends.len() => Ok(place),
+        _ => Err(TableError::Text(MISSING)),
+    }
+}
+
+/// Removes the end with this number from a list and returns it. Fails, with the list unchanged, if
+/// the number is malformed or there is no such end.
+pub fn taken<E: Numbered>(ends: &mut Vec<E>, number: &str) -> Result<E, TableError>
+    ensures taken { OnOk result (vec_len ends.old ≡ vec_len ends.new + 1) }
+    ensures left { OnErr result (vec_len ends.old ≡ vec_len ends.new) }
+{
+    let place = place(ends.as_slice(), number)?;
+    Ok(ends.remove(place))
+}
+
+/// Reads a stream: `inherit`, `null`, or an end by its number, which is removed from a list.
+fn stream<E: Numbered>(ends: &mut Vec<E>, word: Option<&str>) -> Result<Stdio<E>, TableError>
+    ensures taken { IfOk result (λ made.
+        vec_len ends.old ≡ vec_len ends.new + length (ends_of (made ∷ []))) }
+    ensures left { OnErr result (vec_len ends.old ≡ vec_len ends.new) }
+{
+    match word {
+        Some("inherit") => Ok(Stdio::Inherit),
+        Some("null") => Ok(Stdio::Null),
+        Some(number) => Ok(Stdio::End(taken(ends, number)?)),
+        None => Err(TableError::Text("a stream is missing")),
+    }
+}
+
+/// Reads three streams, whose ends are removed from a list.
+fn streams<E: Numbered>(ends: &mut Vec<E>, io: &str) -> Result<[Stdio<E>; 3], TableError>
+    ensures taken { IfOk result
+        (λ made. vec_len ends.old ≡ vec_len ends.new + length (ends_of made)) }
+    ensures left { vec_len ends.new ≤ vec_len ends.old }
+{
+    let mut words = io.split(' ');
+    let input = stream(ends, words.next())?;
+    let output = stream(ends, words.next())?;
+    let error = stream(ends, words.next())?;
+    Ok([input, output, error])
+}

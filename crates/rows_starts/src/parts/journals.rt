@@ -1,0 +1,89 @@
+//! What the checker finds in a journal, and writes to a spec.
+use crate::parts::Parts;
+use duct::{CommandSpec, Entry, Error, Hook, Stream};
+use duct_base::spec::give;
+use duct_plan::checker::{closed_numbers, is_balanced, open_count, opened_numbers, origin, trace};
+use duct_script::text::Words;
+use rows_table::entries::spec_text;
+use rows_table::hooks::hook;
+use rows_table::journals::journal;
+use rows_table::stop::TableError;
+use rows_table::streams::push_source;
+use rows_table::words::pieces;
+use std::alloc::Global;
+
+/// Returns what the checker finds in the journal of a row: its numbers, its trace, or where the end
+/// with this number comes from.
+pub fn checked(row: &Parts, call: &str, end: &str) -> Result<String, TableError> {
+    let alloc = row.alloc;
+    let entries = journal(alloc, row.text("journal"))?;
+    let entries = entries.as_slice();
+    let mut text = String::new(alloc);
+    match call {
+        "says" => write!(
+            text,
+            "got {:?} spent {:?} balanced {} held {} trace {}",
+            opened_numbers(alloc, entries)?,
+            closed_numbers(alloc, entries)?,
+            is_balanced(alloc, entries)?,
+            open_count(alloc, entries)?,
+            trace(alloc, entries)?.len(),
+        )?,
+        "trace" => {
+            for entry in trace(alloc, entries)? {
+                write!(text, "{} | ", Words(entry))?;
+            }
+        }
+        _ => push_source(&mut text, origin(entries, end.parse()?))?,
+    }
+    Ok(text)
+}
+
+/// Returns the spec of a row after its writes, or its variables of these names, or the error of a
+/// hook that refuses it.
+pub fn written(row: &Parts, names: &str) -> Result<String, TableError> {
+    let alloc = row.alloc;
+    let mut entries = journal(alloc, row.text("journal"))?;
+    let Some(Entry::Spawn(spec, _, _)) = entries.last_mut() else {
+        return Err(TableError::Text("no spec"));
+    };
+    match write_all(alloc, spec, row.text("writes")) {
+        Err(stop @ TableError::Error(Error::Hook(_))) if !stop.is_memory() => {
+            return Ok(format!(in alloc; "{stop}")?);
+        }
+        wrote => wrote?,
+    }
+    if names.is_empty() {
+        return Ok(spec_text(alloc, spec)?);
+    }
+    let mut text = String::new(alloc);
+    for name in names.split(' ') {
+        if let Some(value) = spec.var(name) {
+            write!(text, "{name}={value} ")?;
+        }
+    }
+    Ok(text)
+}
+
+/// Makes writes. If one fails that has one part only, the spec has to be as before it.
+fn write_all(alloc: Global, spec: &mut CommandSpec, writes: &str) -> Result<(), TableError> {
+    for step in writes.split_whitespace() {
+        let before = spec_text(alloc, spec)?;
+        let wrote = write(alloc, spec, step);
+        let is_whole = wrote.is_ok() || step.contains('+');
+        if !is_whole && spec_text(alloc, spec)?.as_str() != before.as_str() {
+            return Err(TableError::Text("a write that failed changed the spec"));
+        }
+        wrote?;
+    }
+    Ok(())
+}
+
+fn write(alloc: Global, spec: &mut CommandSpec, step: &str) -> Result<(), TableError> {
+    match step.split_once('=') {
+        Some(("args", values)) => spec.args(pieces(alloc, values)?.as_slice())?,
+        _ if step == "give_stdin" => give(spec, Stream::In),
+        _ => hook(alloc, None, step)?.change(spec).map_err(Error::Hook)?,
+    }
+    Ok(())
+}

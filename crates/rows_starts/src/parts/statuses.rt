@@ -1,0 +1,125 @@
+//! A core that is told events.
+use crate::parts::Parts;
+use duct_base::status::{Core, Drains, Event, Reply, Shape, Word};
+use duct_script::child::PollAnswer;
+use rows_table::scenes::poll_answer;
+use rows_table::stop::TableError;
+use rows_table::words::{first_word, pieces, side};
+use rows_table::workers::{drain_word, feed_word};
+use std::alloc::{AllocError, Global};
+use std::sync::Arc;
+
+/// Returns the replies to the events of a row. Each is followed by that in one run, if it differs.
+pub fn replies(row: &Parts) -> Result<String, TableError> {
+    let alloc = row.alloc;
+    let events = events(row)?;
+    let (shape, drains) = (shape(row)?, drains(row));
+    let others = Core::run(alloc, shape.try_clone(alloc)?, drains, events.as_slice())?;
+    let mut core = Core::new(alloc, shape, drains)?;
+    let mut text = String::new(alloc);
+    for (event, other) in events.into_iter().zip(others) {
+        let reply = core.step(event);
+        push_reply(&mut text, &reply)?;
+        if reply != other {
+            text.push_str(", but in one run ")?;
+            push_reply(&mut text, &other)?;
+        }
+        text.push_str("; ")?;
+    }
+    Ok(text)
+}
+
+/// Returns the commands that are due after the events of a row.
+pub fn due(row: &Parts) -> Result<String, TableError> {
+    let mut core = Core::new(row.alloc, shape(row)?, drains(row))?;
+    for event in events(row)? {
+        let _ = core.step(event);
+    }
+    let mut text = String::new(row.alloc);
+    for command in 0..8_usize {
+        if core.is_due(command) {
+            write!(text, "{command} ")?;
+        }
+    }
+    Ok(text)
+}
+
+fn drains(row: &Parts) -> Drains {
+    let captured = row.text("captured");
+    Drains {
+        out: !captured.is_empty(),
+        err: captured == "both",
+    }
+}
+
+fn shape(row: &Parts) -> Result<Shape, TableError> {
+    let alloc = row.alloc;
+    let mut shapes = Vec::new(alloc);
+    for word in row.text("shape").split_whitespace() {
+        let shape = match word {
+            "input" => Shape::Input(last(alloc, &mut shapes)?),
+            "unchecked" => Shape::Unchecked(last(alloc, &mut shapes)?),
+            "pipe" => {
+                let right = last(alloc, &mut shapes)?;
+                Shape::Pipe(last(alloc, &mut shapes)?, right)
+            }
+            words => command(alloc, words)?,
+        };
+        shapes.push(shape)?;
+    }
+    Ok(shapes.pop().ok_or("no shape")?)
+}
+
+/// Removes and returns the last shape.
+fn last(alloc: Global, shapes: &mut Vec<Shape>) -> Result<Box<Shape>, TableError> {
+    Ok(Box::new(alloc, shapes.pop().ok_or("no shape")?)?)
+}
+
+fn command(alloc: Global, words: &str) -> Result<Shape, AllocError> {
+    let mut texts = Vec::new(alloc);
+    for word in pieces(alloc, words)? {
+        texts.push(String::from_str(alloc, word)?)?;
+    }
+    Ok(Shape::Command(Arc::new(alloc, texts)?))
+}
+
+fn events(row: &Parts) -> Result<Vec<Event>, TableError> {
+    let mut events = Vec::new(row.alloc);
+    for text in row.text("events").split_terminator(';') {
+        events.push(event(row.alloc, text.trim())?)?;
+    }
+    Ok(events)
+}
+
+fn event(alloc: Global, text: &str) -> Result<Event, TableError> {
+    let (source, word) = first_word(text);
+    match source {
+        "conclude" => Ok(Event::Conclude),
+        "out" | "err" => Ok(Event::Drain(side(source)?, drain_word(alloc, word)?)),
+        "input" => {
+            let (at, word) = first_word(word);
+            Ok(Event::Input(at.parse()?, feed_word(word)?))
+        }
+        at => {
+            let word = match poll_answer(word)? {
+                PollAnswer::Running => Word::Running,
+                PollAnswer::Ended(status) => Word::Ended(status),
+                PollAnswer::Fault(fault) => Word::Fault(fault),
+            };
+            Ok(Event::Command(at.parse()?, word))
+        }
+    }
+}
+
+fn push_reply(text: &mut String, reply: &Reply) -> Result<(), AllocError> {
+    match reply {
+        Reply::Noted | Reply::Unknown | Reply::Pending => write!(text, "{reply:?}"),
+        Reply::Memory => text.push_str("out of memory"),
+        Reply::Fault(fault) => write!(text, "Fault {:?}", fault.kind),
+        Reply::Failed(message) => write!(text, "Failed {message}"),
+        Reply::Answer(output) => {
+            let (stdout, stderr) = (output.stdout.as_slice(), output.stderr.as_slice());
+            write!(text, "Answer {:?} {stdout:?} {stderr:?}", output.status)
+        }
+    }
+}

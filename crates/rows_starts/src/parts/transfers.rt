@@ -1,0 +1,129 @@
+//! Feeds and drains over a stream that follows the words of a script, one word for each call. A
+//! number is the most bytes that the call takes or gives, and the name of an error kind makes the
+//! call fail with that kind. After the last word, a call takes or gives as many bytes as it can.
+use crate::parts::Parts;
+use duct_base::system::{Fault, Kind};
+use duct_worker::transfer::{drain, feed};
+use rows_table::stop::TableError;
+use rows_table::words::first_word;
+use std::alloc::{AllocError, Global};
+use std::io;
+use std::io::{ErrorKind, Read, Write};
+
+/// Returns the result of a feed or of a drain, and the bytes that it moved.
+pub fn moved(row: &Parts, is_fed: bool, script: &str) -> Result<String, TableError> {
+    let all = all(row.alloc, row.text("bytes").parse().unwrap_or(3))?;
+    let script = repeated(row.alloc, script)?;
+    let room = row.text("room").parse().unwrap_or(0);
+    let mut stream = Stream {
+        script: script.as_str(),
+        taken: Vec::with_capacity(row.alloc, room)?,
+        left: all.as_slice(),
+        least: usize::MAX,
+    };
+    let answer = if is_fed {
+        feed(&mut stream, all.as_slice())
+    } else {
+        drain(row.alloc, &mut stream).map(|bytes| stream.taken = bytes)
+    };
+    if stream.least < 64 * 1024 || !all.starts_with(stream.taken.as_slice()) {
+        return Err(TableError::Text("a read has less room than 64 KiB, or other bytes were moved"));
+    }
+    if answer == Err(Fault::new(Kind::OutOfMemory)) && !script.contains("OutOfMemory") {
+        if is_fed && room > 0 {
+            return Err(TableError::Text("a feed wants memory"));
+        }
+        answer?;
+    }
+    Ok(came_to(row.alloc, answer, stream.taken.as_slice())?)
+}
+
+/// So many bytes, which begin with `abc`.
+fn all(alloc: Global, count: usize) -> Result<Vec<u8>, AllocError> {
+    let mut bytes = Vec::with_capacity(alloc, count)?;
+    for place in 0..count {
+        bytes.push((97 + place % 151) as u8)?;
+    }
+    Ok(bytes)
+}
+
+/// A script, so many times if its last words are `times 9`.
+fn repeated(alloc: Global, script: &str) -> Result<String, TableError> {
+    let (words, times) = script.rsplit_once(" times ").unwrap_or((script, "1"));
+    Ok(format!(in alloc; "{words} ")?.repeat(alloc, times.parse()?)?)
+}
+
+/// A result and the moved bytes, or their number if there are many, as a text.
+fn came_to(alloc: Global, answer: Result<(), Fault>, moved: &[u8]) -> Result<String, AllocError> {
+    let mut text = String::new(alloc);
+    match answer {
+        Ok(()) => text.push_str("Ok ")?,
+        Err(fault) => write!(text, "{:?} ", fault.kind)?,
+    }
+    match str::from_utf8(moved) {
+        Ok(few) if few.len() <= 10 => text.push_str(few)?,
+        _ => write!(text, "{} bytes", moved.len())?,
+    }
+    Ok(text)
+}
+
+/// A writer, and a reader.
+#[derive(Drop)]
+struct Stream<'a> {
+    /// The words of the calls that follow.
+    script: &'a str,
+    /// The bytes that were written.
+    taken: Vec<u8>,
+    /// The bytes that are not read yet.
+    left: &'a [u8],
+    /// The length of the smallest buffer of a read so far.
+    least: usize,
+}
+
+impl Stream<'_> {
+    /// Returns the most bytes that the next call moves, or its error.
+    fn next(&mut self) -> io::Result<usize> {
+        let (word, rest) = first_word(self.script);
+        self.script = rest;
+        if let Ok(count) = word.parse::<usize>() {
+            return Ok(count);
+        }
+        Err(io::Error::from(match word {
+            "" => return Ok(usize::MAX),
+            "NotFound" => ErrorKind::NotFound,
+            "PermissionDenied" => ErrorKind::PermissionDenied,
+            "BrokenPipe" => ErrorKind::BrokenPipe,
+            "WriteZero" => ErrorKind::WriteZero,
+            "InvalidInput" => ErrorKind::InvalidInput,
+            "Unsupported" => ErrorKind::Unsupported,
+            "OutOfMemory" => ErrorKind::OutOfMemory,
+            "Interrupted" => ErrorKind::Interrupted,
+            "TimedOut" => ErrorKind::TimedOut,
+            "WouldBlock" => ErrorKind::WouldBlock,
+            "ConnectionReset" => ErrorKind::ConnectionReset,
+            "NotConnected" => ErrorKind::NotConnected,
+            "UnexpectedEof" => ErrorKind::UnexpectedEof,
+            _ => ErrorKind::Other,
+        }))
+    }
+}
+
+impl Write for Stream<'_> {
+    fn write(&mut self, buf: &[u8]) -> io::Result<usize> {
+        let count = self.next()?.min(buf.len());
+        self.taken.extend_from_slice(&buf[..count])?;
+        Ok(count)
+    }
+
+    fn flush(&mut self) -> io::Result<()> {
+        Ok(())
+    }
+}
+
+impl Read for Stream<'_> {
+    fn read(&mut self, buf: &mut [u8]) -> io::Result<usize> {
+        self.least = self.least.min(buf.len());
+        let count = self.next()?.min(buf.len());
+        self.left.read(&mut buf[..count])
+    }
+}

@@ -1,0 +1,62 @@
+//! The real machine as tables see it: its runtime, and the file descriptors and children of this
+//! process.
+use duct_host::parents::Parents;
+use std::fs::File;
+use std::process::Processes;
+use std::rt::{Clock, Env, Files};
+use std::thread::Threads;
+use std::{env, fs, io};
+
+/// A runtime with everything that a host and its tables use.
+pub trait Real: Processes
+    + Files<File = File>
+    + Env
+    + Parents
+    + Threads
+    + Clock
+    + AllocGlobal
+    + Clone
+    + Drop {}
+
+impl<R> Real for R
+where
+    R: Processes
+        + Files<File = File>
+        + Env
+        + Parents
+        + Threads
+        + Clock
+        + AllocGlobal
+        + Clone
+        + Drop,
+{}
+
+/// Returns how many file descriptors this process has open. Fails if `/proc/self/fd` can't be read.
+pub fn open_descriptors<R: Files + Alloc + Clone>(rt: &R) -> io::Result<usize> {
+    let mut count = 0usize;
+    for entry in fs::read_dir(rt, "/proc/self/fd")? {
+        entry?;
+        count = count.saturating_add(1);
+    }
+    Ok(count)
+}
+
+/// Returns the ids of the children of this thread in the order of their starts, including those
+/// that have ended and are not reaped yet. Fails if `/proc/thread-self/children` can't be read.
+pub fn children_text<R: Files + AllocGlobal>(rt: &R) -> io::Result<String> {
+    fs::read_to_string(rt, "/proc/thread-self/children")
+}
+
+/// Returns the text of a file of rows, in which `{place}` is replaced by the beginning of the path
+/// of a file of this process, `{id}` by the id of this process, and `{nul}` by a NUL. Fails if the
+/// folder for temporary files or the id can't be determined, or on an allocation failure.
+pub fn filled<R: Files + Env + AllocGlobal>(rt: &R, text: &str) -> io::Result<String> {
+    let alloc = rt.alloc();
+    let folder = env::temp_dir(rt)?.into_string();
+    let process = fs::canonicalize(rt, "/proc/self")?.into_string();
+    let (_, id) = process.as_str().rsplit_once('/').unwrap_or(("", ""));
+    let place = format!(in alloc; "{folder}/duct_host-{id}-")?;
+    let text = text.replace(alloc, "{place}", place.as_str())?;
+    let text = text.replace(alloc, "{id}", id)?;
+    Ok(text.replace(alloc, "{nul}", "\0")?)
+}

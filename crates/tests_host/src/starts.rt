@@ -1,0 +1,207 @@
+//! Tests of starts on the real machine: of two handles of one host, of threads that share a pool,
+//! and of threads with a host each.
+use crate::threads::Ticking;
+use duct::{Clock, Error, Expression, Handle, Output, Pool, System, cmd};
+use duct_deadline::late::Until;
+use duct_deadline::read::read_until;
+use duct_host::child::Child;
+use duct_host::end::End;
+use duct_host::host::Host;
+use rows_table::left::count_left;
+use rows_table::real::Real;
+use std::alloc::Global;
+use std::rt::Clock as Ticks;
+use std::sync::{Mutex, Wait};
+use std::test::Fail;
+use std::thread;
+use std::thread::Threads;
+use std::time::Duration;
+
+/// Sweeps a pool until it is empty, at most 30,000 times. Returns whether it is empty.
+fn emptied<C: duct::Child>(rt: &impl Ticks, pool: &mut Pool<C>) -> bool {
+    for _ in 0..30_000 {
+        pool.sweep();
+        if pool.len() == 0 {
+            return true;
+        }
+        thread::sleep(rt, Duration::from_millis(1));
+    }
+    false
+}
+
+/// A shell that runs this script, and whose output is captured.
+fn shell<E: Drop>(alloc: Global, script: &str) -> Result<Expression<E>, Error> {
+    cmd!(in alloc; "sh", "-c", script)?.stdout_capture()
+}
+
+/// Whether two commands run at once, and `into_output` returns the output of each.
+fn both_run<S: System>(
+    rt: &impl Wait,
+    one: Handle<S>,
+    other: Handle<S>,
+    pool: &mut Pool<S::Child>,
+) -> bool {
+    let run = matches!((one.try_wait(rt), other.try_wait(rt)), (Ok(None), Ok(None)));
+    let second = prints(other.into_output(rt, pool), b"two\n");
+    let first = prints(one.into_output(rt, pool), b"one\n");
+    run && first && second
+}
+
+fn prints(answer: Result<Output, Error>, text: &[u8]) -> bool {
+    match answer {
+        Ok(output) => output.stdout.as_slice() == text,
+        Err(_) => false,
+    }
+}
+
+/// Starts two commands over one system. Returns whether they run at once, and end as they should.
+fn two_started<S: System>(
+    rt: &impl Wait,
+    alloc: Global,
+    sys: &mut S,
+    pool: &mut Pool<S::Child>,
+) -> Result<bool, Error> {
+    let first: Expression<S::End> = shell(alloc, "sleep 1; echo one")?;
+    let second: Expression<S::End> = shell(alloc, "sleep 1; echo two")?;
+    let one = first.start(sys, pool)?;
+    match second.start(sys, pool) {
+        Ok(other) => Ok(both_run(rt, one, other, pool)),
+        Err(error) => {
+            one.give_up(pool);
+            Err(error)
+        }
+    }
+}
+
+/// Checks that two handles of one host run at once, and that both can be waited for, in any order.
+#[test]
+fn two_handles_of_one_host(rt: HostRuntime) -> Result<(), Fail> {
+    let before = count_left(&rt)?;
+    let mut host = Host::new(&rt, rt.alloc());
+    let mut pool = Pool::new(rt.alloc());
+    let well = two_started(&rt, rt.alloc(), &mut host, &mut pool)?;
+    assert_eq!(rt; (well, pool.len(), count_left(&rt)?), (true, 0, before));
+    Ok(())
+}
+
+/// How many times each thread starts commands.
+const STARTS: u32 = 20;
+
+/// What threads share to start commands.
+trait Starts<R> {
+    /// Starts commands and gives up their handles. Returns how many starts succeeded.
+    fn starts(&self, rt: &R, alloc: Global) -> u32;
+}
+
+impl<R: Real + Wait> Starts<R> for Mutex<Pool<Child<R>>> {
+    fn starts(&self, rt: &R, alloc: Global) -> u32 {
+        let mut well = 0_u32;
+        for _ in 0..STARTS {
+            if start_one(rt, alloc, self).is_ok() {
+                well = well.saturating_add(1);
+            }
+        }
+        well
+    }
+}
+
+/// Starts a command on a host of its own, and gives up its handle.
+fn start_one<R: Real + Wait>(
+    rt: &R,
+    alloc: Global,
+    pool: &Mutex<Pool<Child<R>>>,
+) -> Result<(), Error> {
+    let mut host = Host::new(rt.clone()?, alloc);
+    let tree: Expression<End> = cmd!(in alloc; "sleep", "0.01")?;
+    let handle = tree.start(&mut host, &mut *pool.lock(rt))?;
+    handle.give_up(&mut *pool.lock(rt));
+    Ok(())
+}
+
+/// Returns how many starts succeeded in each of two threads.
+fn both_start<P: Starts<R> + Sync, R: Threads + Sync>(
+    rt: &R,
+    alloc: Global,
+    pool: &P,
+) -> (u32, u32) {
+    thread::join(rt, || pool.starts(rt, alloc), || pool.starts(rt, alloc))
+}
+
+/// Checks that two threads can share a pool: it is given each of their children, all are reaped,
+/// and no descriptor and no child is left.
+#[test]
+fn two_threads_share_a_pool(rt: HostRuntime) -> Result<(), Fail> {
+    let before = count_left(&rt)?;
+    let pool: Mutex<Pool<Child<&HostRuntime>>> = Mutex::new(Pool::new(rt.alloc()));
+    let well = both_start(&&rt, rt.alloc(), &pool);
+    let mut pool = pool.into_inner();
+    let empty = emptied(&rt, &mut pool);
+    let counts = (pool.given(), pool.reaped(), pool.lost());
+    let told = (well, empty, counts, count_left(&rt)?);
+    assert_eq!(rt; told, ((STARTS, STARTS), true, (40, 40, 0), before));
+    Ok(())
+}
+
+/// Starts a command that sleeps for 8 seconds, gives up its handle, and then reads what a pipe of
+/// two commands makes of an input. Both of them end at EOF alone. Returns whether they did within 5
+/// seconds.
+fn is_echoed<S: System, R: Ticks + Wait>(
+    rt: &R,
+    alloc: Global,
+    sys: &mut S,
+    pool: &mut Pool<S::Child>,
+) -> Result<bool, Error> {
+    let sleeper: Expression<S::End> = cmd!(in alloc; "sleep", "8")?;
+    sleeper.start(sys, pool)?.give_up(pool);
+    let cat: Expression<S::End> = cmd!(in alloc; "cat")?;
+    let input = Vec::from_slice(alloc, b"hi")?;
+    let tree = cat.stdin_bytes(input)?.pipe(&cmd!(in alloc; "cat")?)?;
+    let clock = Ticking { rt };
+    let moment = clock.now().saturating_add(Duration::from_secs(5));
+    match read_until(&tree, alloc, rt, &clock, moment, Duration::ZERO, sys, pool)? {
+        Until::Done(text) => Ok(text.as_str() == "hi"),
+        Until::Late(_) => Ok(false),
+    }
+}
+
+/// Does this many times with a host and a pool of its own. Returns how many times it went well, or
+/// 0 if a child is left in the pool.
+fn echoes<R: Real + Wait>(rt: &R, alloc: Global) -> Result<u32, Error> {
+    let mut host = Host::new(rt.clone()?, alloc);
+    let mut pool = Pool::new(alloc);
+    let mut well = 0_u32;
+    for _ in 0..STARTS {
+        // No start follows one that went wrong, which costs five seconds.
+        if !is_echoed(rt, alloc, &mut host, &mut pool)? {
+            break;
+        }
+        well = well.saturating_add(1);
+    }
+    if emptied(rt, &mut pool) {
+        Ok(well)
+    } else {
+        Ok(0)
+    }
+}
+
+/// Threads that share nothing to start commands: each has a host and a pool of its own.
+struct Apart;
+
+impl<R: Real + Wait> Starts<R> for Apart {
+    fn starts(&self, rt: &R, alloc: Global) -> u32 {
+        match echoes(rt, alloc) {
+            Ok(well) => well,
+            Err(_error) => 0,
+        }
+    }
+}
+
+/// Checks that no child inherits the end of a pipe that another thread opens meanwhile. A command
+/// that sleeps would else hold a pipe open, and the commands that read it would not end.
+#[test]
+fn two_threads_have_a_host_each(rt: HostRuntime) -> Result<(), Fail> {
+    let before = count_left(&rt)?;
+    let well = both_start(&&rt, rt.alloc(), &Apart);
+    assert_eq!(rt; (well, count_left(&rt)?), ((STARTS, STARTS), before));
+    Ok(())
+}

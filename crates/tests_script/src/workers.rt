@@ -1,0 +1,114 @@
+//! Tests of workers on their threads: they run beside their caller, and each later poll returns the
+//! same result.
+use duct_base::system::{Fault, Job, Kind, Numbered, Said, System};
+use duct_script::gate::Gate;
+use duct_script::gated::Gated;
+use duct_script::reader::ScriptReader;
+use duct_script::system::Script;
+use duct_worker::spawn::{spawn_drain, spawn_feed};
+use duct_worker::worker::Worker;
+use rows_table::waits::{heard, until};
+use rows_table::workers::set_reader;
+use std::alloc::Global;
+use std::io::{self, Write};
+use std::rt::Clock;
+use std::sync::Arc;
+use std::test::Fail;
+use std::thread::Threads;
+
+/// A reader of the scripted system that returns these pieces.
+fn reader(alloc: Global, pieces: &str) -> Result<ScriptReader, Fail> {
+    let mut sys = Script::new(alloc)?;
+    set_reader(alloc, &mut sys, pieces)?;
+    let end = sys.open_read("f")?;
+    Ok(sys.reader(end))
+}
+
+/// Starts a feed of three bytes to this writer.
+fn fed<W: Write + Send + Drop + 'static>(
+    rt: &impl Threads,
+    alloc: Global,
+    writer: W,
+) -> Result<Worker<()>, Fail> {
+    let bytes = Arc::new(alloc, Vec::from_slice(alloc, b"abc")?)?;
+    Ok(spawn_feed(rt, alloc, writer, bytes)?)
+}
+
+/// Starts a feed and a drain that wait at a gate.
+fn workers_at_a_gate(
+    rt: &impl Threads,
+    alloc: Global,
+    gate: &Gate,
+) -> Result<(Worker<()>, Worker<Arc<Vec<u8>>>), Fail> {
+    let inner = reader(alloc, "xy, z")?;
+    let drain = spawn_drain(
+        rt,
+        alloc,
+        Gated {
+            gate: gate.share()?,
+            inner,
+        },
+    )?;
+    let inner: Vec<u8> = Vec::new(alloc);
+    let feed = fed(
+        rt,
+        alloc,
+        Gated {
+            gate: gate.share()?,
+            inner,
+        },
+    )?;
+    Ok((feed, drain))
+}
+
+/// Checks that the caller and each worker go on while a worker is blocked in a write and another in
+/// a read. Once the gate is open, both finish, and each later poll returns the same.
+#[test]
+fn workers_run_beside_their_caller(rt: HostRuntime) -> Result<(), Fail> {
+    let gate = Gate::new(rt.alloc())?;
+    gate.shut();
+    let (mut feed, mut drain) = workers_at_a_gate(&rt, rt.alloc(), &gate)?;
+    assert!(rt; until(|| gate.standing() == 2));
+    assert!(rt; matches!((feed.poll(), drain.poll()), (Said::Running, Said::Running)));
+    gate.open();
+    assert_eq!(rt;
+        (heard(&rt, &mut feed)?, feed.poll()),
+        (Ok(()), Said::Done(()))
+    );
+    for _ in 0..2 {
+        assert_eq!(rt; heard(&rt, &mut drain)??.as_slice(), b"xyz".as_slice());
+    }
+    assert_eq!(rt; feed.number(), 0);
+    Ok(())
+}
+
+/// A writer whose writes fail.
+#[derive(Drop)]
+struct Broken;
+
+impl Write for Broken {
+    fn write(&mut self, _buf: &[u8]) -> io::Result<usize> {
+        Err(io::Error::from(io::ErrorKind::PermissionDenied))
+    }
+
+    fn flush(&mut self) -> io::Result<()> {
+        Ok(())
+    }
+}
+
+/// Waits for a worker twice. Returns whether it fails with this kind of fault both times.
+fn fails_twice<J: Job>(rt: &impl Clock, worker: &mut J, kind: Kind) -> Result<bool, Fail> {
+    let first = heard(rt, worker)?.err();
+    let again = heard(rt, worker)?.err();
+    Ok(first == Some(Fault::new(kind)) && again == Some(Fault::new(kind)))
+}
+
+/// Checks that each later poll returns the fault again.
+#[test]
+fn faults_are_kept(rt: HostRuntime) -> Result<(), Fail> {
+    let mut feed = fed(&rt, rt.alloc(), Broken)?;
+    assert!(rt; fails_twice(&rt, &mut feed, Kind::PermissionDenied)?);
+    let mut drain = spawn_drain(&rt, rt.alloc(), reader(rt.alloc(), "x, NotFound")?)?;
+    assert!(rt; fails_twice(&rt, &mut drain, Kind::NotFound)?);
+    Ok(())
+}

@@ -1,0 +1,219 @@
+//! The program `tests_trial` reads an expression from each line of standard input, runs them on the
+//! real machine one after the other, all in one process, and prints the result of each. The last
+//! line says what they left: how many more file descriptors and children there are than before the
+//! first. `bin/test-program` runs it at the machine's limits, and `bin/soak` with random lines.
+//!
+//! A line has the arguments of the program `host`, separated by blanks, and its expression is run
+//! by `read`. The line `= 4` runs tree 4 of `trees`. After `+ ` a line has an expression as
+//! `rows_table::expressions` describes it, where `stdin_file=4` is the file named `4`.
+//!
+//! With the arguments `--journals FOLDER` the journal of each line is written to a file in that
+//! folder, which has the number of the line as its name: `0` for the first.
+#![tactic(auto)]
+
+mod trees;
+
+use crate::trees::{TREES_WITH_ENDS, Wires, tree};
+use duct::{Error, Expression, Fault, Hook, Pool, System};
+use duct_host::child::Child;
+use duct_host::end::End;
+use duct_host::host::Host;
+use duct_program::line::line;
+use duct_record::journal::journal_text;
+use duct_record::write::Variables;
+use rows_table::expressions::{Lender, Tree, written_with};
+use rows_table::left::{Left, count_left};
+use rows_table::stop::TableError;
+use std::alloc::{AllocError, Global};
+use std::fs::File;
+use std::io::Read;
+use std::rt::{Clock, Files};
+use std::sync::Wait;
+use std::time::Duration;
+use std::{env, fs, io, thread};
+
+/// How many times the program checks at most whether all that was started has ended, once a
+/// millisecond.
+const LOOKS: u32 = 2000;
+
+/// Reads the expression of a line of arguments. Returns its text or its error as text.
+fn line_text<S: System>(
+    rt: &impl Wait,
+    alloc: Global,
+    sys: &mut S,
+    pool: &mut Pool<S::Child>,
+    text: &str,
+) -> Result<String, AllocError> {
+    let mut words = Vec::new(alloc);
+    for word in text.split_whitespace() {
+        words.push(String::from_str(alloc, word)?)?;
+    }
+    let expression: Expression<S::End> = match line(alloc, words.as_slice()) {
+        Ok(expression) => expression,
+        Err(usage) => return format!(in alloc; "{usage}"),
+    };
+    match expression.read(rt, sys, pool) {
+        Ok(text) => format!(in alloc; "{text:?}"),
+        Err(error) => format!(in alloc; "{error}"),
+    }
+}
+
+/// Runs a tree. Returns its output or its error as text.
+fn run_text<S: System, H: Hook>(
+    rt: &impl Wait,
+    alloc: Global,
+    sys: &mut S,
+    pool: &mut Pool<S::Child>,
+    tree: &Expression<S::End, H>,
+) -> Result<String, AllocError> {
+    match tree.run(rt, sys, pool) {
+        Ok(output) => {
+            let (status, out, err) = (output.status, output.stdout, output.stderr);
+            format!(in alloc; "{status:?} {out:?} {err:?}")
+        }
+        Err(error) => format!(in alloc; "{error}"),
+    }
+}
+
+/// Opens `/dev/null` twice, and returns both ends.
+fn two_ends<R: Files<File = File>>(
+    rt: &R,
+    host: &mut Host<&R>,
+    alloc: Global,
+) -> Result<Vec<End>, Error> {
+    let mut ends = Vec::new(alloc);
+    for _ in 0..2 {
+        let file = File::open(rt, "/dev/null").map_err(Fault::from)?;
+        ends.push(host.adopt_file(file)?)?;
+    }
+    Ok(ends)
+}
+
+/// The tree of a number, with its ends.
+fn tree_of<R: Files<File = File>>(
+    rt: &R,
+    host: &mut Host<&R>,
+    alloc: Global,
+    number: u32,
+) -> Result<Expression<End, Wires>, Error> {
+    let ends = if TREES_WITH_ENDS.contains(&number) {
+        two_ends(rt, host, alloc)?
+    } else {
+        Vec::new(alloc)
+    };
+    tree(alloc, number, ends)
+}
+
+/// Lends one end, once, under the number 4.
+#[derive(Drop)]
+struct EndFour {
+    end: Option<End>,
+}
+
+impl Lender for EndFour {
+    type End = End;
+
+    fn lend(&mut self, number: u64) -> Result<End, TableError> {
+        match (number, self.end.take()) {
+            (4, Some(end)) => Ok(end),
+            _ => Err(TableError::from("no such end")),
+        }
+    }
+}
+
+/// The file named `4` as an end, open for reading, if it is there.
+fn file_four<R: Files<File = File>>(rt: &R, host: &mut Host<&R>) -> Result<Option<End>, Fault> {
+    match File::open(rt, "4") {
+        Ok(file) => Ok(Some(host.adopt_file(file)?)),
+        Err(_) => Ok(None),
+    }
+}
+
+/// The expression of a text.
+fn written<R: Files<File = File>>(
+    rt: &R,
+    host: &mut Host<&R>,
+    alloc: Global,
+    text: &str,
+) -> Result<Tree<End>, TableError> {
+    let mut lender = EndFour {
+        end: file_four(rt, host)?,
+    };
+    written_with(alloc, &mut lender, None, text)
+}
+
+/// Waits until what is left is what there was before, for at most `LOOKS` checks. Returns how much
+/// more is left.
+fn rest<R: Files + AllocGlobal + Clone + Wait + Clock, C: duct::Child>(
+    rt: &R,
+    pool: &mut Pool<C>,
+    before: Left,
+) -> io::Result<Left> {
+    let mut after = count_left(rt)?;
+    for _ in 0..LOOKS {
+        pool.sweep();
+        after = count_left(rt)?;
+        if after == before {
+            break;
+        }
+        thread::sleep(rt, Duration::from_millis(1));
+    }
+    Ok(Left {
+        descriptors: after.descriptors.saturating_sub(before.descriptors),
+        children: after.children.saturating_sub(before.children),
+    })
+}
+
+/// The folder for the journals, if one is named.
+fn journals<R: std::rt::Env + AllocGlobal>(rt: &R) -> io::Result<Option<String>> {
+    let mut arguments = env::args(rt)?.skip(1);
+    match arguments.next() {
+        Some(option) if option.as_str() == "--journals" => Ok(arguments.next()),
+        Some(_) | None => Ok(None),
+    }
+}
+
+/// Writes the journal of the line with this number to its file in this folder, if there is one.
+fn keep_journal<R: Files + AllocGlobal, S: System>(
+    rt: &R,
+    sys: &S,
+    folder: &Option<String>,
+    number: usize,
+) -> io::Result<()> {
+    let Some(folder) = folder else {
+        return Ok(());
+    };
+    let path = format!(in rt.alloc(); "{folder}/{number}")?;
+    let text = journal_text(rt.alloc(), sys.journal(), Variables::Shown)?;
+    fs::write(rt, path.as_str(), text.as_bytes())
+}
+
+fn main(rt: HostRuntime) -> io::Result<()> {
+    let alloc = rt.alloc();
+    let folder = journals(&rt)?;
+    let mut input = String::new(alloc);
+    rt.stdin().read_to_string(&mut input)?;
+    let before = count_left(&rt)?;
+    let mut host = Host::new(&rt, alloc);
+    let mut pool: Pool<Child<&HostRuntime>> = Pool::new(alloc);
+    for (number, text) in input.lines().enumerate() {
+        let told = if let Some(number) = text.strip_prefix("= ") {
+            match tree_of(&rt, &mut host, alloc, number.parse().unwrap_or(0)) {
+                Ok(tree) => run_text(&rt, alloc, &mut host, &mut pool, &tree)?,
+                Err(error) => format!(in alloc; "{error}")?,
+            }
+        } else if let Some(steps) = text.strip_prefix("+ ") {
+            match written(&rt, &mut host, alloc, steps) {
+                Ok(tree) => run_text(&rt, alloc, &mut host, &mut pool, &tree)?,
+                Err(stop) => format!(in alloc; "{stop}")?,
+            }
+        } else {
+            line_text(&rt, alloc, &mut host, &mut pool, text)?
+        };
+        println!(rt; "{told}")?;
+        keep_journal(&rt, &host, &folder, number)?;
+        host.clear_journal();
+    }
+    let left = rest(&rt, &mut pool, before)?;
+    println!(rt; "left {} {}", left.descriptors, left.children)
+}
