@@ -1,15 +1,15 @@
 -- How what a start left ended, by the numbers of its journal.
-use Rattle.std.specs.Prelude.{ℕ, List, ◌∷◌, ◌++◌, IfErr, IfSome, Ok, Err, Some, None, map}
+use Rattle.std.specs.Prelude.{ℕ, List, ◌∷◌, ◌++◌, IfErr, IfNone, IfSome, Ok, Err, Some, None, map}
 use Rattle.std.specs.Option.{option_map, option_to_list}
 use Rattle.std.specs.declared.alloc.Global.{Global}
 use Rattle.std.specs.declared.option.Option.{Option}
 use Rattle.std.specs.declared.result.Result.{Result}
 use Rattle.std.specs.declared.sync.Arc.{Arc}
+use Rattle.std.specs.declared.time.Duration.{Duration}
 use Rattle.std.proofs.Common.{◌≡◌, ◌∙◌, ap, refl, subst, sym}
 use Rattle.duct_base.specs.Pool.{PoolView}
 use Rattle.duct_system.specs.EntryView.{EntryView}
 use Rattle.duct_system.specs.Started.{drains_in}
-use Rattle.duct_system.specs.declared.system.Said.TheVariants as said
 use Rattle.duct_system.specs.declared.error.Error.{Error}
 use Rattle.duct_system.specs.declared.system.Output.{Output}
 use Rattle.duct_status.specs.ShapeView.{ShapeView, shape_view}
@@ -30,8 +30,9 @@ use Rattle.duct_handle.specs.Started.{AreNumbers}
 use Rattle.duct_handle.specs.Waited.{at_end}
 use Rattle.duct.specs.Launched.{Runs, StartKind, drains_error, drains_output}
 use Rattle.duct_deadline.specs.Moment.{HasNotEnded, MayRun}
+use Rattle.duct_deadline.specs.ReadUntil.{ReadsFirst}
 use Rattle.duct_deadline.specs.Stopped.{AreStopped}
-use Rattle.duct_deadline.specs.Until.{IsLate, LeavesStopped}
+use Rattle.duct_deadline.specs.Until.{EndedAs, IsLate, LeavesStopped}
 use Rattle.duct_deadline.specs.declared.late.Late.{Late}
 use Rattle.duct_deadline.proofs.Keeping.{stays_on}
 
@@ -41,17 +42,28 @@ pub if_some_with : {T : Type 0} (o : Option T) {P Q : T → Type 0}
 if_some_with (Some value) step holds = step value holds
 if_some_with None step holds = tt
 
+-- so is what holds where nothing is there
+pub if_none_with : {T : Type 0} (o : Option T) {P Q : Type 0} → (P → Q) → IfNone o P → IfNone o Q
+if_none_with (Some value) step holds = tt
+if_none_with None step holds = step holds
+
 -- what ended as this did with the same shape and the same numbers
+pub ends_same : {S E C F D : Type 0} (views : SystemViews S E C F D (Unit {0}) Bytes)
+    (before after : RunningView C F D) → shape_view after.shape ≡ shape_view before.shape
+    → numbers_of views after ≡ numbers_of views before
+    → (polled : Polled) → EndsAs views after polled → EndsAs views before polled
+ends_same views before after shape same polled ends =
+    subst (λ (s : ShapeView). IsEnding views.may_answer views.feed_says views.drain_says s (numbers_of views before) polled) shape
+    (subst (λ (n : NumbersView). IsEnding views.may_answer views.feed_says views.drain_says (shape_view after.shape) n polled) same ends)
+
 pub ended_same : {S E C F D : Type 0} (views : SystemViews S E C F D (Unit {0}) Bytes)
     (before after : RunningView C F D) → shape_view after.shape ≡ shape_view before.shape
     → numbers_of views after ≡ numbers_of views before
     → (ended : Option (Result (Arc Output Global) Error))
-    → IfSome ended (λ how. EndsAs views after (at_end how))
-    → IfSome ended (λ how. EndsAs views before (at_end how))
+    → IfSome ended (λ how. EndedAs views after (at_end how))
+    → IfSome ended (λ how. EndedAs views before (at_end how))
 ended_same views before after shape same ended =
-    if_some_with ended (λ how ends.
-    subst (λ (s : ShapeView). IsEnding views.may_answer views.feed_says views.drain_says s (numbers_of views before) (at_end how)) shape
-    (subst (λ (n : NumbersView). IsEnding views.may_answer views.feed_says views.drain_says (shape_view after.shape) n (at_end how)) same ends))
+    if_some_with ended (λ how ends. (ends_same views before after shape same (at_end how) ends.0, ends.1))
 
 -- the error of what ended with one
 pub failed_with : {S E C F D : Type 0} (views : SystemViews S E C F D (Unit {0}) Bytes)
@@ -95,14 +107,14 @@ module _ {S E C F D H : Type 0} (views : SystemViews S E C F D (Unit {0}) Bytes)
 
     -- it was late, and was then stopped
     pub is_late : (late : Late) (stopped : RunningView C F D) → HasNotEnded views running
-        → IfSome late.ended (λ ended. EndsAs views waited (at_end ended))
+        → IfSome late.ended (λ ended. EndedAs views waited (at_end ended))
         → numbers_of views stopped ≡ numbers_of views waited
         → IsLate views late kind tree added (numbers_of views stopped)
     is_late late stopped unended ended same =
         subst (λ (n : NumbersView). IsLate views late kind tree added n) (sym (same ∙ stays.numbers_are)) (record {
           are_numbers = numbers;
           may_run = subst (λ (s : ShapeView). MayRun views s (numbers_of views running)) runs.shape_is unended;
-          ended = if_some_with late.ended (λ how ends. ending (at_end how) ends) ended;
+          ended = if_some_with late.ended (λ how ends. (ending (at_end how) ends.0, ends.1)) ended;
         })
 
 -- the pool was swept, and then it was given what was stopped
@@ -132,10 +144,10 @@ pub first_drain : {S E C F D H : Type 0} (views : SystemViews S E C F D (Unit {0
     (kind : StartKind) (tree : TreeView E H) (added : List EntryView) (late : Late)
     (running : RunningView C F D) → IsLate views late kind tree added (numbers_of views running)
     → (workers : List D) → workers ≡ option_to_list running.output ++ option_to_list running.error
-    → (read : Option Bytes)
-    → IfSome read (λ bytes. (number : ℕ) × (others : List ℕ) × (map (λ d. (views.drain d).number) workers ≡ number ∷ others) × views.drain_says number (said.Done bytes))
-    → IfSome read (λ bytes. (number : ℕ) × (others : List ℕ) × (drains_in added ≡ number ∷ others) × views.drain_says number (said.Done bytes))
-first_drain views kind tree added late running is workers held read first =
+    → (shows : Duration → Type 0) (nanos : ℕ) (read : Option Bytes)
+    → ReadsFirst views.drain_says shows nanos (map (λ d. (views.drain d).number) workers) read
+    → ReadsFirst views.drain_says shows nanos (drains_in added) read
+first_drain views kind tree added late running is workers held shows nanos read first =
     let same : drains_in added ≡ map (λ d. (views.drain d).number) workers =
     sym is.are_numbers.drains_are ∙ listed views.drain (λ d. d.number) running.output running.error ∙ ap (map (λ d. (views.drain d).number)) (sym held) in
-    if_some_with read (λ bytes one. (one.0, one.1, same ∙ one.2, one.3)) first
+    subst (λ (numbers : List ℕ). ReadsFirst views.drain_says shows nanos numbers read) (sym same) first

@@ -1,5 +1,5 @@
 -- When a clock has reached a moment, and when something may still run then.
-use Rattle.std.specs.Prelude.{ℕ, ◌≤◌, ◌⊎◌, Err}
+use Rattle.std.specs.Prelude.{ℕ, ◌<◌, ◌≤◌, ◌⊎◌, Err}
 use Rattle.std.specs.Duration.{as_nanos}
 use Rattle.std.specs.declared.time.Duration.{Duration}
 use Rattle.duct_system.specs.declared.error.Error.TheVariants as error
@@ -15,6 +15,10 @@ use Rattle.duct_running.specs.Stored.{Bytes}
 -- the clock may show this many nanoseconds or more
 abbrev pub HasReached : (Duration → Type 0) → ℕ → Type 0
 HasReached shows nanos = (moment : Duration) × shows moment × (nanos ≤ as_nanos moment)
+
+-- the clock may show less than this many nanoseconds
+abbrev pub HasShownLess : (Duration → Type 0) → ℕ → Type 0
+HasShownLess shows nanos = (moment : Duration) × shows moment × (as_nanos moment < nanos)
 
 module _ {S E C F D : Type 0} (views : SystemViews S E C F D (Unit {0}) Bytes) where
   -- one of these numbers may say that it runs, or a fault was concluded from what they may return

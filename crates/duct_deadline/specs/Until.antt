@@ -1,12 +1,18 @@
 -- What an expression that runs until a moment returns, and what it leaves.
-use Rattle.std.specs.Prelude.{ℕ, Bool, List, ◌≡◌, IfSome, map}
+use Rattle.std.specs.Prelude.{ℕ, Bool, List, ◌≡◌, ◌⊎◌, IfSome, map, Err}
+use Rattle.std.specs.declared.alloc.Global.{Global}
 use Rattle.std.specs.declared.result.Result.{Result}
+use Rattle.std.specs.declared.sync.Arc.{Arc}
+use Rattle.std.specs.declared.time.Duration.{Duration}
 use Rattle.duct_base.specs.Pool.{PoolView}
 use Rattle.duct_system.specs.Child.{Answer, ChildView, Obeyed}
 use Rattle.duct_system.specs.EntryView.{EntryView}
 use Rattle.duct_system.specs.Started.{children_in}
 use Rattle.duct_system.specs.declared.error.Error.{Error}
+use Rattle.duct_system.specs.declared.error.Error.TheVariants as error
 use Rattle.duct_system.specs.declared.system.Order.{Order}
+use Rattle.duct_system.specs.declared.system.Output.{Output}
+use Rattle.duct_status.specs.ShapeView.{ShapeView, shape_view}
 use Rattle.duct_start.specs.Chain.{Allows}
 use Rattle.duct_start.specs.Left.{TakesIn, pool_view}
 use Rattle.duct_start.specs.Plan.{plan_of}
@@ -17,13 +23,15 @@ use Rattle.duct_start.specs.TreeView.{TreeView}
 use Rattle.duct_run.specs.SystemViews.{SystemViews}
 use Rattle.duct_running.specs.Answered.{IsEnding}
 use Rattle.duct_running.specs.NumbersView.{NumbersView, numbers_of}
+use Rattle.duct_running.specs.Polled.{Polled, ReturnsOutcome}
+use Rattle.duct_running.specs.PolledOnce.{PolledOnce}
 use Rattle.duct_running.specs.Stored.{Bytes}
 use Rattle.duct_handle.specs.Started.{AreNumbers}
 use Rattle.duct_handle.specs.Waited.{at_end}
-use Rattle.duct.specs.Launched.{MadeBy, StartKind, added_between, draining, drains_error, drains_output}
+use Rattle.duct.specs.Launched.{MadeBy, Returns, Runs, StartKind, added_between, draining, drains_error, drains_output}
 use Rattle.duct.specs.TreeView.{tree_view}
 use Rattle.duct.specs.declared.expression.Expression.{Expression}
-use Rattle.duct_deadline.specs.Moment.{MayRun}
+use Rattle.duct_deadline.specs.Moment.{HasShownLess, MayRun}
 use Rattle.duct_deadline.specs.Stopped.{AreStopped}
 use Rattle.duct_deadline.specs.declared.late.Late.{Late}
 use Rattle.duct_deadline.specs.declared.late.Until.{Until}
@@ -50,14 +58,37 @@ LeavesStopped may obey view killed added before after =
     × TakesIn may given (pool_view view before) (pool_view view after)
 
 module _ {S E C F D : Type 0} (views : SystemViews S E C F D (Unit {0}) Bytes) where
+  -- this was concluded from what they may return, and no allocation failed
+  abbrev pub HasEnded : ShapeView → NumbersView → Polled → Type 0
+  HasEnded shape numbers polled =
+      IsEnding views.may_answer views.feed_says views.drain_says shape numbers polled
+      × (polled ≡ Err error.Memory → ⊥)
+
+  -- the same of a running expression
+  abbrev pub EndedAs : RunningView C F D → Polled → Type 0
+  EndedAs running polled = HasEnded (shape_view running.shape) (numbers_of views running) polled
+
+  -- what was launched had ended when it was polled for the first time
+  abbrev pub EndedAtOnce : {H : Type 0} → MadeBy E H
+  EndedAtOnce kind tree added =
+      (launched : RunningView C F D) × Runs views launched kind tree added
+      × (polled : RunningView C F D) × PolledOnce views launched polled
+      × (ended : Result (Arc Output Global) Error) × ReturnsOutcome views polled (at_end ended)
+
+  -- this output is the outcome of what the children and workers of the start store; and the clock
+  -- showed less than the moment, or they had ended at the first poll
+  abbrev pub ReturnsInTime : {H : Type 0} → (Duration → Type 0) → ℕ → Output → MadeBy E H
+  ReturnsInTime shows nanos output kind tree added =
+      Returns views output kind tree added
+      × (HasShownLess shows nanos ⊎ EndedAtOnce kind tree added)
+
   -- these are the numbers of the children and workers of the entries; one of them might still run
   -- when the moment was seen; and how it ended was concluded from what they may return
   pub record IsLate {H : Type 0} (late : Late) (kind : StartKind) (tree : TreeView E H)
       (added : List EntryView) (numbers : NumbersView) : Type 0 where
     pub are_numbers : AreNumbers (drains_output kind tree) (drains_error kind tree) added numbers
     pub may_run : MayRun views (shape_of_tree tree) numbers
-    pub ended : IfSome late.ended (λ ended. IsEnding views.may_answer views.feed_says
-        views.drain_says (shape_of_tree tree) numbers (at_end ended))
+    pub ended : IfSome late.ended (λ ended. HasEnded (shape_of_tree tree) numbers (at_end ended))
 
   -- this runs what was late, and each of its children was sent signal 15 and then killed
   abbrev pub Stops : {H : Type 0} → Late → RunningView C F D → MadeBy E H

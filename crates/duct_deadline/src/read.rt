@@ -1,14 +1,15 @@
 //! The text of an expression that runs until a moment.
-ghost use Rattle.std.specs.Prelude.{ℕ, List, ◌≡◌, ◌∷◌, ◌+◌, map, min, IfErr, IfNone, IfOk, IfSome};
+ghost use Rattle.std.specs.Prelude.{◌+◌, ◌⊎◌, map, min, IfErr, IfNone, IfOk, IfSome};
 ghost use Rattle.std.specs.Duration.{as_nanos, max_nanos};
-ghost use Rattle.duct_system.specs.declared.system.Said.TheVariants.{Done};
+ghost use Rattle.duct_system.specs.declared.system.Fault.{Fault};
+ghost use Rattle.duct_system.specs.declared.system.Said.TheVariants as said;
 ghost use Rattle.duct_deadline.specs.Moment.{HasReached};
-ghost use Rattle.duct_deadline.specs.ReadUntil.{PrintsText, ReadFailed, ReadStopped};
+ghost use Rattle.duct_deadline.specs.ReadUntil.{PrintsText, ReadFailed, ReadStopped, ReadsFirst, last_read};
 ghost use Rattle.duct_deadline.specs.Until.{IfDone, IfLate};
 
 use crate::late::{LateRead, Until};
 use crate::run::launch_until;
-use crate::watch::PAUSE;
+use crate::watch::{PAUSE, is_over};
 use duct::Expression;
 use duct_base::error::Error;
 use duct_base::pool::Pool;
@@ -33,7 +34,9 @@ fn bytes_until<D: Job<Result = Arc<Vec<u8>>>, C: Clock>(
     moment: Duration,
     mut worker: D,
 ) -> Option<Arc<Vec<u8>>>
-    ensures { IfSome result (λ bytes. D.may_say (D.job_view worker).number (Done bytes)) }
+    ensures read { IfSome result (λ bytes. D.may_say (D.job_view worker).number (said.Done bytes)) }
+    ensures late { IfNone result (HasReached (C.may_show clock.now) (as_nanos moment)
+        ⊎ ((fault : Fault) × D.may_say (D.job_view worker).number (said.Fault fault))) }
 {
     let parker = Parker::new();
     for _ in rt.forever() {
@@ -42,7 +45,7 @@ fn bytes_until<D: Job<Result = Arc<Vec<u8>>>, C: Clock>(
             Said::Fault(_) => return None,
             Said::Running => (),
         }
-        if moment <= clock.now() {
+        if is_over(clock, moment) {
             return None;
         }
         parker.park_timeout(rt, Duration::from_micros(PAUSE));
@@ -57,9 +60,8 @@ fn first_bytes_until<D: Job<Result = Arc<Vec<u8>>>, C: Clock>(
     moment: Duration,
     workers: Vec<D>,
 ) -> Option<Arc<Vec<u8>>>
-    ensures { IfSome result (λ bytes. (number : ℕ) × (others : List ℕ)
-        × (map (λ d. (D.job_view d).number) workers.items ≡ number ∷ others)
-        × D.may_say number (Done bytes)) }
+    ensures { ReadsFirst D.may_say (C.may_show clock.now) (as_nanos moment)
+        (map (λ d. (D.job_view d).number) workers.items) result }
 {
     match workers.into_iter().next() {
         Some(worker) => bytes_until(rt, clock, moment, worker),
@@ -93,15 +95,18 @@ pub fn read_until<E: Drop, H: Hook, S: System<End = E>, C: Clock>(
     pool: &mut Pool<S::Child>,
 ) -> Result<Until<String, LateRead>, Error>
     ensures text { IfOk result (λ until. IfDone until (PrintsText ⟦<S as Viewed>⟧.views H.allows
-        expression.now sys.old sys.new pool.old pool.new)) }
+        (C.may_show clock.now) (as_nanos moment) expression.now sys.old sys.new pool.old
+        pool.new)) }
     ensures stopped { IfOk result (λ until. IfLate until (ReadStopped ⟦<S as Viewed>⟧.views
-        H.allows expression.now sys.old sys.new pool.old pool.new)) }
+        H.allows (C.may_show clock.now) (last_read (as_nanos moment) (as_nanos grace))
+        expression.now sys.old sys.new pool.old pool.new)) }
     ensures late { IfOk result (λ until. IfLate until
         (λ late. HasReached (C.may_show clock.now) (as_nanos moment))) }
     ensures grace { IfOk result (λ until. IfLate until (λ late. IfNone late.late.ended
         (HasReached (C.may_show clock.now) (min (as_nanos moment + as_nanos grace) max_nanos)))) }
-    ensures failed { IfErr result (ReadFailed ⟦<S as Viewed>⟧.views H.allows H.refuses
-        expression.now sys.old sys.new pool.old pool.new) }
+    ensures failed { IfErr result (ReadFailed ⟦<S as Viewed>⟧.views H.allows
+        (C.may_show clock.now) (as_nanos moment) H.refuses expression.now sys.old sys.new pool.old
+        pool.new) }
 {
     let captured = expression.stdout_capture()?;
     match launch_until(&captured, alloc, rt, clock, moment, grace, sys, pool)? {

@@ -6,9 +6,9 @@ ghost use Rattle.duct_running.specs.Allowed.{StoresAllowed};
 ghost use Rattle.duct_running.specs.Ordered.{IsUnordered};
 ghost use Rattle.duct_running.specs.Polled.{ReturnsOutcome};
 ghost use Rattle.duct_handle.specs.Finished.{RanUntil, RanUntilGiven, StoresError, StoresReply};
-ghost use Rattle.duct.specs.Launched.{Fails, Launched, Returns, RunFailed, draining};
+ghost use Rattle.duct.specs.Launched.{Fails, Launched, RunFailed, draining};
 ghost use Rattle.duct_deadline.specs.Moment.{HasReached};
-ghost use Rattle.duct_deadline.specs.Until.{IfDone, IfLate, LaunchStopped, Stops};
+ghost use Rattle.duct_deadline.specs.Until.{IfDone, IfLate, LaunchStopped, ReturnsInTime, Stops};
 
 use crate::late::{Late, Until};
 use crate::stop::stop;
@@ -71,7 +71,7 @@ pub(crate) fn launch_until<E: Drop, H: Hook, S: System<End = E>, C: Clock>(
 ) -> Result<Until<Output, (Late, Running<S>)>, Error>
     ensures done { IfOk result (λ until. IfDone until (λ output. Launched ⟦<S as Viewed>⟧.views
         H.allows draining expression.now sys.old sys.new pool.old pool.new
-        (Returns ⟦<S as Viewed>⟧.views output))) }
+        (ReturnsInTime ⟦<S as Viewed>⟧.views (C.may_show clock.now) (as_nanos moment) output))) }
     ensures stopped { IfOk result (λ until. IfLate until (λ stopped. Launched
         ⟦<S as Viewed>⟧.views H.allows draining expression.now sys.old sys.new pool.old pool.new
         (Stops ⟦<S as Viewed>⟧.views stopped.0 stopped.1))) }
@@ -89,8 +89,7 @@ pub(crate) fn launch_until<E: Drop, H: Hook, S: System<End = E>, C: Clock>(
             Err(error) => Err(error),
         },
         None => {
-            let last = moment.saturating_add(grace);
-            let late = stop(rt, clock, last, &mut running);
+            let late = stop(rt, clock, moment, grace, &mut running);
             Ok(Until::Late((late, running)))
         }
     }
@@ -105,7 +104,8 @@ pub(crate) fn launch_until<E: Drop, H: Hook, S: System<End = E>, C: Clock>(
 /// to right. Nothing waits for what was killed: the children are given to the pool, where a sweep
 /// reaps them. That it was stopped is no error but `Until::Late`, with how it ended and what the
 /// kill returned. A command is sent neither once it is known to have ended; and a command whose
-/// order finds no memory to be noted gets the other one alone, or none.
+/// order finds no memory to be noted gets the other one alone, or none. An allocation failure of a
+/// poll in the grace doesn't end the grace.
 ///
 /// The call blocks until then, and returns late by the pause between two polls, a millisecond, and
 /// by as long as the signal takes: over a `Host` that waits for a shell for each command. What the
@@ -128,7 +128,7 @@ pub fn run_until<E: Drop, H: Hook, S: System<End = E>, C: Clock>(
 ) -> Result<Until<Output, Late>, Error>
     ensures done { IfOk result (λ until. IfDone until (λ output. Launched ⟦<S as Viewed>⟧.views
         H.allows draining expression.now sys.old sys.new pool.old pool.new
-        (Returns ⟦<S as Viewed>⟧.views output))) }
+        (ReturnsInTime ⟦<S as Viewed>⟧.views (C.may_show clock.now) (as_nanos moment) output))) }
     ensures stopped { IfOk result (λ until. IfLate until (LaunchStopped ⟦<S as Viewed>⟧.views
         H.allows expression.now sys.old sys.new pool.old pool.new)) }
     ensures late { IfOk result (λ until. IfLate until

@@ -1,10 +1,13 @@
+use Rattle.std.specs.Prelude.{ℕ, ◌≡◌, map}
 use Rattle.std.proofs.Common.{inl, inr, refl, subst}
 use Rattle.std.proofs.lemmas.Result.{err_from_is_err_and}
+use Rattle.std.specs.Duration.{as_nanos}
 use Rattle.duct_run.specs.Requested.{PoolGets}
 use Rattle.duct_run.proofs.Seeing.{views_of}
 use Rattle.duct_running.specs.NumbersView.{numbers_of}
 use Rattle.duct.specs.Launched.{added_between, draining}
 use Rattle.duct.specs.TreeView.{tree_view}
+use Rattle.duct_deadline.specs.ReadUntil.{ReadsFirst, last_read}
 use Rattle.duct_deadline.proofs.Ending.{first_drain, gives_stopped}
 use Rattle.duct_deadline.proofs.read.read_until.Goals as goal
 
@@ -49,6 +52,8 @@ returns-clause-stopped g c =
     let l = rw c.in-Late.is at c.in_ok-output.ensures.stopped in
     let tree = tree_view captured in
     let added = added_between views c.args.sys.now c.launch_until.new.sys in
+    let at_last : as_nanos c.saturating_add-last.result ≡ last_read (as_nanos c.args.moment) (as_nanos c.args.grace) =
+    rw (c.saturating_add-last.ensures, c.saturating_add.ensures, c.from_secs.ensures) refl in
     let gets : PoolGets views c.in-Late.running.children c.launch_until.new.pool c.give_all.new.pool =
     subst (λ children. PoolGets views children c.launch_until.new.pool c.give_all.new.pool) c.into_parts-children.ensures.children c.give_all.ensures in
     record {
@@ -61,7 +66,9 @@ returns-clause-stopped g c =
             c.args.pool.now c.launch_until.new.pool c.give_all.new.pool l.swept gets;
       };
       read = first_drain views draining tree added c.in-Late.late c.in-Late.running l.makes.0 _ c.into_parts-children.ensures.drains
-          c.first_bytes_until-read.result c.first_bytes_until-read.ensures;
+          (g.C.Clock.may_show c.args.clock.now) (last_read (as_nanos c.args.moment) (as_nanos c.args.grace)) c.first_bytes_until-read.result
+          (subst (λ (nanos : ℕ). ReadsFirst views.drain_says (g.C.Clock.may_show c.args.clock.now) nanos
+          (map (λ d. (views.drain d).number) c.into_parts-children.result.2.items) c.first_bytes_until-read.result) at_last c.first_bytes_until-read.ensures);
     }
 
 pub returns-clause-late : goal.returns-clause-late

@@ -1,5 +1,5 @@
-use Rattle.std.specs.Prelude.{ℕ, IfNone, is_some}
-use Rattle.std.proofs.Common.{inl, inr, subst}
+use Rattle.std.specs.Prelude.{is_some}
+use Rattle.std.proofs.Common.{inl, inr}
 use Rattle.std.proofs.lemmas.Result.{err_from_is_err_and}
 use Rattle.duct_run.proofs.Seeing.{views_of}
 use Rattle.duct_running.proofs.Launched.{launched_unordered}
@@ -8,7 +8,6 @@ use Rattle.duct_handle.specs.Finished.{StoresError}
 use Rattle.duct.specs.Launched.{Fails, added_between, draining}
 use Rattle.duct.specs.TreeView.{tree_view}
 use Rattle.duct.proofs.Finished.{ran_tree, wait_failed}
-use Rattle.duct_deadline.specs.Moment.{HasReached}
 use Rattle.duct_deadline.proofs.Ending.{failed_with, is_late, ran_on}
 use Rattle.duct_deadline.proofs.Keeping.{still_unordered}
 use Rattle.duct_deadline.proofs.run.launch_until.Goals as goal
@@ -30,8 +29,8 @@ closed-requires-clause-ended g c =
     let views = views_of g.S.System g.E.Numbered g.S.Child.Child g.S.Feed.Job g.S.Drain.Job in
     failed_with views c.watch.new.running c.in-Some.ended c.in-Some.ensures.outcome
 
-pub stop-late-requires : goal.stop-late-requires
-stop-late-requires g c =
+pub stop-late-requires-clause-unordered : goal.stop-late-requires-clause-unordered
+stop-late-requires-clause-unordered g c =
     let views = views_of g.S.System g.E.Numbered g.S.Child.Child g.S.Feed.Job g.S.Drain.Job in
     still_unordered g.S.Child.Child.child_view c.in_ok-running.running.children c.watch.new.running.children
     c.watch.ensures.stays.orders_are (launched_unordered views c.in_ok-running.ensures.launched.makes)
@@ -45,7 +44,13 @@ returns-in-Ok-clause-done g c =
     let ran = ran_on views c.in_ok-running.running c.watch.new.running _ c.watch.ensures.stays c.in-Ok.ensures.output in
     record {
       asked = l.asked;
-      makes = (ran.0, ran_tree views tree (is_some (plan_of tree).pipes.out) (is_some (plan_of tree).pipes.err) added c.in_ok-running.running l.makes ran.0 ran.1, ran.2);
+      makes = (
+        (ran.0, ran_tree views tree (is_some (plan_of tree).pipes.out) (is_some (plan_of tree).pipes.err) added c.in_ok-running.running l.makes ran.0 ran.1, ran.2),
+        elim c.in-Some.ensures.in_time [
+          | inl less ↦ inl less
+          | inr once ↦ inr (c.in_ok-running.running, l.makes, c.watch.new.running, once, c.in-Some.ended, c.in-Some.ensures.outcome)
+        ],
+      );
       swept = rw c.in-Ok.ensures.kept l.swept;
     }
 
@@ -74,8 +79,3 @@ returns-in-None-clause-stopped g c =
       );
       swept = l.swept;
     }
-
-pub returns-in-None-clause-grace : goal.returns-in-None-clause-grace
-returns-in-None-clause-grace g c =
-    subst (λ (nanos : ℕ). IfNone c.stop-late.result.ended (HasReached (g.C.Clock.may_show c.args.clock.now) nanos))
-    c.saturating_add-last.ensures c.stop-late.ensures.late
