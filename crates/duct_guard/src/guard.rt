@@ -229,7 +229,7 @@ impl<S: System, P: Policy> System for Guarded<S, P> {
     ghost use Rattle.std.specs.Prelude.{length, min, Ok, Err};
     ghost use Rattle.duct_system.specs.Child.{IsUnasked};
     ghost use Rattle.duct_system.specs.EntryView.{Spawn};
-    ghost use Rattle.duct_system.specs.Journal.{GivesEnds, IsNew, IsRefused};
+    ghost use Rattle.duct_system.specs.Journal.{GivesEnds, IsCleared, IsNew, IsRefused};
     ghost use Rattle.duct_system.specs.Streams.{stream_of, ends_of};
     ghost use Rattle.duct_guard.specs.GuardView.{guard_journal};
 
@@ -410,7 +410,16 @@ impl<S: System, P: Policy> System for Guarded<S, P> {
         self.journal.entries()
     }
 
-    fn clear_journal(&mut self) {
+    // Both journals are cleared. What is held, and which children run, stays.
+    fn clear_journal(&mut self)
+        ensures cleared { IsCleared (guard_journal S.journal_view self.old)
+            (guard_journal S.journal_view self.new) }
+        ensures below { IsCleared (S.journal_view self.old.inner) (S.journal_view self.new.inner) }
+        ensures policy { self.new.policy ≡ self.old.policy }
+        ensures earlier { self.new.earlier ≡ self.old.held }
+        ensures held { self.new.held ≡ self.old.held }
+        ensures running { self.new.running ≡ self.old.running }
+    {
         self.inner.clear_journal();
         self.journal.clear();
         self.earlier = self.held;

@@ -279,7 +279,7 @@ impl System for Replay {
     ghost use Rattle.duct_system.specs.Child.{IsUnasked};
     ghost use Rattle.duct_system.specs.EntryView.{Environment, Pipe, OpenRead, Create, Duplicate, Parent, Canonicalize, Spawn, Feed, Drain, Reader, Close};
     ghost use Rattle.duct_system.specs.Job.{unpolled_job};
-    ghost use Rattle.duct_system.specs.Journal.{Asks, GetsEnd, GetsEnds, GivesEnds, IsNew, IsRefused};
+    ghost use Rattle.duct_system.specs.Journal.{Asks, GetsEnd, GetsEnds, GivesEnds, IsCleared, IsNew, IsRefused};
     ghost use Rattle.duct_system.specs.SpecView.{pair_text};
     ghost use Rattle.duct_system.specs.Streams.{stream_of, ends_of};
     ghost use Rattle.std.proofs.Common.{lit<};
@@ -568,7 +568,12 @@ impl System for Replay {
         self.journal.entries()
     }
 
-    fn clear_journal(&mut self) {
+    // Only the entries are cleared: what has differed is still known.
+    fn clear_journal(&mut self)
+        ensures cleared { IsCleared self.old.journal self.new.journal }
+        ensures difference { self.new.difference ≡ self.old.difference }
+        ensures recording { self.new.recording ≡ self.old.recording }
+    {
         self.journal.clear();
     }
 }

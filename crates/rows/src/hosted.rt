@@ -12,6 +12,7 @@
 //!
 //! `host_tables` says what the rare table has besides.
 use crate::requests::Requests;
+use duct_base::system::System;
 use duct_host::host::Host;
 use rows_table::odd::Script;
 use rows_table::real::{Real, open_descriptors};
@@ -25,7 +26,10 @@ use std::os::unix::fs::PermissionsExt;
 /// A host with its requests, how many file descriptors are open without them, and the results that
 /// the runtime returns, if they are scripted.
 #[derive(Drop)]
-pub struct Hosted<R: Real> {
+pub struct Hosted<R: Real>
+where
+    Host<R>: System,
+{
     rt: R,
     script: Option<Script>,
     requests: Requests<Host<R>>,

@@ -232,8 +232,7 @@ impl<S: System + Drop> Requests<S> {
     fn spawn(&mut self, text: &str) -> Result<(), TableError> {
         let (io, words) = parted(text);
         let spec = self.spec(words)?;
-        let io = streams(&mut self.ends, io)?;
-        match self.system.spawn(spec, io) {
+        match self.spawn_with(spec, io)? {
             Ok(child) => {
                 let number = child.number();
                 self.child = Some(child);
@@ -241,6 +240,16 @@ impl<S: System + Drop> Requests<S> {
             }
             Err(fault) => say(&mut self.said, &fault.kind),
         }
+    }
+
+    /// Spawns a command with these streams.
+    fn spawn_with(
+        &mut self,
+        spec: CommandSpec,
+        io: &str,
+    ) -> Result<Result<S::Child, Fault>, TableError> {
+        let io = streams(&mut self.ends, io)?;
+        Ok(self.system.spawn(spec, io))
     }
 
     /// The spec of a command with these words, if it has any. Its streams are inherited.
