@@ -232,7 +232,8 @@ impl<S: System + Drop> Requests<S> {
     fn spawn(&mut self, text: &str) -> Result<(), TableError> {
         let (io, words) = parted(text);
         let spec = self.spec(words)?;
-        match self.spawn_with(spec, io)? {
+        let (input, output, error) = streams(&mut self.ends, io)?;
+        match self.system.spawn(spec, [input, output, error]) {
             Ok(child) => {
                 let number = child.number();
                 self.child = Some(child);
@@ -240,16 +241,6 @@ impl<S: System + Drop> Requests<S> {
             }
             Err(fault) => say(&mut self.said, &fault.kind),
         }
-    }
-
-    /// Spawns a command with these streams.
-    fn spawn_with(
-        &mut self,
-        spec: CommandSpec,
-        io: &str,
-    ) -> Result<Result<S::Child, Fault>, TableError> {
-        let io = streams(&mut self.ends, io)?;
-        Ok(self.system.spawn(spec, io))
     }
 
     /// The spec of a command with these words, if it has any. Its streams are inherited.
@@ -410,15 +401,18 @@ fn stream<E: Numbered>(ends: &mut Vec<E>, word: Option<&str>) -> Result<Stdio<E>
     }
 }
 
+/// Stdin, stdout and stderr.
+type Streams<E> = (Stdio<E>, Stdio<E>, Stdio<E>);
+
 /// Reads three streams, whose ends are removed from a list.
-fn streams<E: Numbered>(ends: &mut Vec<E>, io: &str) -> Result<[Stdio<E>; 3], TableError>
-    ensures taken { IfOk result
-        (λ made. vec_len ends.old ≡ vec_len ends.new + length (ends_of made)) }
+fn streams<E: Numbered>(ends: &mut Vec<E>, io: &str) -> Result<Streams<E>, TableError>
+    ensures taken { IfOk result (λ made. vec_len ends.old
+        ≡ vec_len ends.new + length (ends_of (made.0 ∷ made.1 ∷ made.2 ∷ []))) }
     ensures left { vec_len ends.new ≤ vec_len ends.old }
 {
     let mut words = io.split(' ');
     let input = stream(ends, words.next())?;
     let output = stream(ends, words.next())?;
     let error = stream(ends, words.next())?;
-    Ok([input, output, error])
+    Ok((input, output, error))
 }
