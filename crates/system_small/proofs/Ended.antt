@@ -21,7 +21,7 @@ use Rattle.system_small.specs.Told.{MayAnswer, exit_of}
 abbrev pub AllDone : List (Said (Unit {0})) → Type 0
 AllDone words = (first_fault words ≡ None) × (some_runs words ≡ false)
 
-done_parts : (xs ys : List (Said (Unit {0}))) → AllDone (xs ++ ys) → AllDone xs × AllDone ys
+pub done_parts : (xs ys : List (Said (Unit {0}))) → AllDone (xs ++ ys) → AllDone xs × AllDone ys
 done_parts [] ys done = ((refl, refl), done)
 done_parts (said.Running ∷ xs) ys done = absurd (let h = done.1 in cc)
 done_parts (said.Fault fault ∷ xs) ys done = absurd (let h = done.0 in cc)
@@ -111,3 +111,20 @@ pub first_exit : (children : List ChildView) (status : ExitStatus)
 first_exit [] status told found = absurd (cc)
 first_exit (child ∷ more) status told found =
     (child.number, exits child status (told 0 child (omega arith)) (some_same (stored_word child.ending child.last) (word.Ended status) found))
+
+-- the endings of two children
+pub two_exits : (children : List ChildView) (one other : ℕ) (s0 s1 : ExitStatus)
+    → All (ChildAnswersAllowed MayAnswer) children
+    → map (λ child. child.number) children ≡ one ∷ other ∷ []
+    → slice_get (words_of children) 0 ≡ Some (word.Ended s0)
+    → slice_get (words_of children) 1 ≡ Some (word.Ended s1)
+    → (s0 ≡ exit_of one) × (s1 ≡ exit_of other)
+two_exits [] one other s0 s1 told is first second = absurd (cc)
+two_exits (c ∷ []) one other s0 s1 told is first second = absurd (cc)
+two_exits (c ∷ d ∷ []) one other s0 s1 told is first second =
+    let same : c.number ≡ one = cc in
+    let last : d.number ≡ other = cc in (
+      exits c s0 (told 0 c (omega arith)) (some_same (stored_word c.ending c.last) (word.Ended s0) first) ∙ ap exit_of same,
+      exits d s1 (told 1 d (omega arith)) (some_same (stored_word d.ending d.last) (word.Ended s1) second) ∙ ap exit_of last,
+    )
+two_exits (c ∷ d ∷ e ∷ more) one other s0 s1 told is first second = absurd (cc)

@@ -1,3 +1,4 @@
 pub mod ChildView
 pub mod Exits
 pub mod Told
+pub mod WorkerView

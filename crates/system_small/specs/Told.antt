@@ -1,11 +1,13 @@
 -- What the children, the workers and the readers of the small system return.
-use Rattle.std.specs.Prelude.{ℕ, Bool, true, false, List, codes, ◌≡◌, ◌⊎◌, max, min, pos, Ok, Some, None}
+use Rattle.std.specs.Prelude.{ℕ, Bool, true, false, List, [], codes, ◌≡◌, ◌⊎◌, if◌then◌else◌, max, min, pos, Ok, Some, None}
+use Rattle.std.specs.Arc.{arc_value}
+use Rattle.duct_status.specs.EventView.{bytes_said}
+use Rattle.duct_running.specs.Stored.{Bytes}
 use Rattle.duct_system.specs.Child.{Answer, Obeyed}
 use Rattle.duct_system.specs.declared.system.ExitStatus.{ExitStatus}
 use Rattle.duct_system.specs.declared.system.ExitStatus.TheVariants.{Code}
-use Rattle.duct_system.specs.declared.system.Kind.TheVariants.{Unsupported}
 use Rattle.duct_system.specs.declared.system.Said.{Said}
-use Rattle.duct_system.specs.declared.system.Said.TheVariants.{Fault}
+use Rattle.duct_system.specs.declared.system.Said.TheVariants.{Running, Done}
 
 -- the exit status of the child with this number: the number as its code, at least 1 and at most 255
 abbrev pub exit_of : ℕ → ExitStatus
@@ -20,14 +22,27 @@ abbrev pub MayObey : Bool → Obeyed → Type 0
 MayObey true obeyed = obeyed ≡ Ok tt
 MayObey false obeyed = Unit {0}
 
--- the word of every worker
-abbrev pub unsupported : {T : Type 0} → Said T
-unsupported = Fault (record { kind = Unsupported })
-
--- a poll of a worker returns this word
-abbrev pub MaySay : {T : Type 0} → ℕ → Said T → Type 0
-MaySay number said = said ≡ unsupported
-
--- what each reader reads
+-- what each reader and each capture worker reads
 abbrev pub printed : List ℕ
 printed = codes "hello"
+
+-- a poll of a worker that writes returns that it is done
+abbrev pub MayFeed : ℕ → Said (Unit {0}) → Type 0
+MayFeed number said = said ≡ Done tt
+
+-- a poll of a worker that reads returns that it runs, or these bytes
+abbrev pub MayDrain : ℕ → Said Bytes → Type 0
+MayDrain number said = (said ≡ Running) ⊎ (bytes_said said ≡ Done printed)
+
+-- two owners of equal bytes
+abbrev pub SameBytes : Bytes → Bytes → Type 0
+SameBytes one other = (arc_value other).items ≡ (arc_value one).items
+
+-- these bytes were kept if it is done, and nothing before
+abbrev pub HasKept : Bool → Said Bytes → Type 0
+HasKept is_done said = bytes_said said ≡ (if is_done then Done printed else Running)
+
+-- what is captured of a stream that has a capture worker, and of one that has none
+abbrev pub captured_if : Bool → List ℕ
+captured_if true = printed
+captured_if false = []

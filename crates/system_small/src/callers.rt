@@ -1,17 +1,18 @@
 //! Callers over the small system, whose children return only that they run, or one exit status
-//! each. So the clauses of `run`, `wait` and `read` say there which status comes back, and that a
-//! command without `unchecked` returns no output. Each function makes one call, and its clauses
+//! each. So the clauses of `run`, `wait` and `read` say there which status comes back and which bytes
+//! are captured, and that a command without `unchecked` returns no output. Each function makes one call, and its clauses
 //! follow from those of the call: where the call promises less, they are refused.
 
-ghost use Rattle.std.specs.Prelude.{ℕ, List, ◌≡◌, IfOk, IfErr, OnOk, string_bytes};
+ghost use Rattle.std.specs.Prelude.{ℕ, List, [], ◌∷◌, ◌≡◌, IfOk, IfErr, OnOk, is_some, string_bytes};
 ghost use Rattle.std.specs.Arc.{arc_value};
 ghost use Rattle.duct_system.specs.Started.{children_in};
 ghost use Rattle.duct_system.specs.Trace.{segment};
 ghost use Rattle.duct_status.specs.ShapeView as shape;
 ghost use Rattle.duct_status.specs.ShapeView.{shape_view};
-ghost use Rattle.duct_start.specs.TreeView.{command};
+ghost use Rattle.duct_start.specs.Plan.{plan_of};
+ghost use Rattle.duct_start.specs.TreeView.{around, command, pipe, unchecked};
 ghost use Rattle.duct.specs.TreeView.{tree_view};
-ghost use Rattle.system_small.specs.Told.{printed};
+ghost use Rattle.system_small.specs.Told.{captured_if, exit_of, printed};
 ghost use Rattle.system_small.specs.Exits.{HasMessage, IsExitOf};
 
 use crate::child::SmallChild;
@@ -20,7 +21,9 @@ use duct::{Error, Expression, Handle, Hook, Output, Pool};
 use std::sync::{Arc, Wait};
 
 /// Runs an expression. Where it started one command, an output has the exit status of the child
-/// that the journal names; and an expression that is a command alone returns none.
+/// that the journal names; an unchecked pipe of two commands has that of the right one; and an
+/// expression that is a command alone returns none. An output has the bytes that the capture
+/// workers read, for each stream that the plan captures.
 pub fn run<H: Hook>(
     rt: &impl Wait,
     expression: &Expression<SmallEnd, H>,
@@ -31,6 +34,15 @@ pub fn run<H: Hook>(
         IsExitOf (children_in (segment system.old.entries system.new.entries)) output.status) }
     ensures failing { (words : List (List ℕ))
         → tree_view expression.now ≡ command words → OnOk result ⊥ }
+    ensures winner { (left right : List (List ℕ))
+        → tree_view expression.now ≡ around unchecked (pipe (command left) (command right))
+        → (one other : ℕ) → children_in (segment system.old.entries system.new.entries)
+            ≡ one ∷ other ∷ []
+        → IfOk result (λ output. output.status ≡ exit_of other) }
+    ensures captured { IfOk result (λ output.
+        let pipes = (plan_of (tree_view expression.now)).pipes in
+        (output.stdout.items ≡ captured_if (is_some pipes.out))
+        × (output.stderr.items ≡ captured_if (is_some pipes.err))) }
 {
     expression.run(rt, system, pool)
 }

@@ -1,14 +1,16 @@
 //! The small system.
 ghost use Rattle.std.specs.Prelude.{◌≡◌, ◌↔◌, ◌<◌, ◌+◌, ◌^◌, [], length, string_bytes, IfOk, IfErr, OnOk, OnErr, IsTrue};
+ghost use Rattle.std.specs.Arc.{arc_value};
 ghost use Rattle.duct_system.specs.Streams.{ends_of, stream_of};
+ghost use Rattle.system_small.specs.Told.{printed};
 ghost use Rattle.duct_system.specs.declared.system.Kind.TheVariants.{OutOfMemory};
 
 use crate::child::SmallChild;
-use crate::worker::NoWorker;
+use crate::worker::{SmallDrain, SmallFeed};
 use duct_system::journal::Journal;
 use duct_system::spec::CommandSpec;
 use duct_system::system::{Entry, Fault, Kind, Numbered, Side, Stdio, System};
-use std::alloc::Global;
+use std::alloc::{AllocError, Global};
 use std::io::Cursor;
 use std::marker::Model;
 use std::sync::Arc;
@@ -28,7 +30,7 @@ impl Numbered for SmallEnd {
 }
 
 /// A system that starts no process. Each request succeeds while there is memory and a number is
-/// left, but no worker can be started: that fails with `Unsupported`.
+/// left. Its workers have written all bytes and have read `hello`.
 #[derive(Drop)]
 pub struct SmallSystem {
     journal: Journal,
@@ -73,6 +75,14 @@ fn copy_of(alloc: Global, text: &str) -> Result<String, Fault>
     String::from_str(alloc, text).map_err(|_| Fault::new(Kind::OutOfMemory))
 }
 
+// Returns what a capture worker reads.
+fn hello(alloc: Global) -> Result<Arc<Vec<u8>>, AllocError>
+    ensures { IfOk result (λ bytes. (arc_value bytes).items ≡ printed) }
+{
+    let bytes = Vec::from_slice(alloc, b"hello")?;
+    Ok(Arc::new(alloc, bytes)?)
+}
+
 // Returns the stream with its end's number in place of the end.
 fn numbered(stream: Stdio<SmallEnd>) -> Stdio<u64>
     ensures { result ≡ stream_of (λ end. end.number) stream }
@@ -102,15 +112,14 @@ impl System for SmallSystem {
     ghost use Rattle.std.specs.Io.Cursor.{cursor_remaining};
     ghost use Rattle.std.proofs.Common.{lit<};
     ghost use Rattle.system_small.specs.ChildView.{child_view};
-    ghost use Rattle.system_small.specs.Told.{printed};
 
     type End = SmallEnd;
 
     type Child = SmallChild;
 
-    type Feed = NoWorker<()>;
+    type Feed = SmallFeed;
 
-    type Drain = NoWorker<Arc<Vec<u8>>>;
+    type Drain = SmallDrain;
 
     type Reader = Cursor<[u8; 5]>;
 
@@ -120,7 +129,7 @@ impl System for SmallSystem {
 
     ghost streams_fit = { lit< tt };
 
-    ghost same_bytes = { λ one other same. absurd same };
+    ghost same_bytes = { λ one other same. same };
 
     ghost feeds_say_again = { λ refusable. refusable };
 
@@ -207,16 +216,23 @@ impl System for SmallSystem {
         Ok(SmallChild::new(self.journal.allocator(), number?))
     }
 
-    fn start_feed(&mut self, end: SmallEnd, bytes: Arc<Vec<u8>>) -> Result<NoWorker<()>, Fault> {
-        let fault = Fault::new(Kind::Unsupported);
-        self.journal.add(Entry::Feed(end.number, bytes, Err(fault)));
-        Err(fault)
+    fn start_feed(&mut self, end: SmallEnd, bytes: Arc<Vec<u8>>) -> Result<SmallFeed, Fault> {
+        self.journal.add(Entry::Feed(end.number, bytes, Ok(())));
+        Ok(SmallFeed::new(end.number))
     }
 
-    fn start_drain(&mut self, end: SmallEnd) -> Result<NoWorker<Arc<Vec<u8>>>, Fault> {
-        let fault = Fault::new(Kind::Unsupported);
-        self.journal.add(Entry::Drain(end.number, Err(fault)));
-        Err(fault)
+    fn start_drain(&mut self, end: SmallEnd) -> Result<SmallDrain, Fault> {
+        match hello(self.journal.allocator()) {
+            Ok(bytes) => {
+                self.journal.add(Entry::Drain(end.number, Ok(())));
+                Ok(SmallDrain::new(end.number, bytes))
+            }
+            Err(_) => {
+                let fault = Fault::new(Kind::OutOfMemory);
+                self.journal.add(Entry::Drain(end.number, Err(fault)));
+                Err(fault)
+            }
+        }
     }
 
     fn reader(&mut self, end: SmallEnd) -> Cursor<[u8; 5]> {
