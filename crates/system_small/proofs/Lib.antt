@@ -1,3 +1,4 @@
 pub mod Ended
+pub mod Orders
 pub mod Results
 pub mod Starts

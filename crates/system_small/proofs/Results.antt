@@ -38,7 +38,7 @@ use Rattle.duct_status.specs.Winner.{IsWinner, LeftBeats}
 use Rattle.duct_running.specs.Allowed.{AnswersAllowed, WorkerResultAllowed}
 use Rattle.duct_running.specs.Answered.{Concluded, IsEnding, WasConcluded}
 use Rattle.duct_running.specs.NumbersView.{NumbersView}
-use Rattle.duct_running.specs.Polled.{Gives, Polled, WhileRuns}
+use Rattle.duct_running.specs.Polled.{Gives, WhileRuns}
 use Rattle.duct_running.specs.Stored.{Bytes, stored_latest}
 use Rattle.duct_handle.specs.Waited.{at_end}
 use Rattle.system_small.specs.Told.{MayAnswer, MayDrain, MayFeed, captured_if, exit_of, printed}
@@ -226,8 +226,8 @@ module _ (numbers : NumbersView) where
         let done = outcome_done Both words out err by.ended in
         let sides = done_parts (command_said (slice_get words.commands 0) ∷ []) (command_said (slice_get words.commands 1) ∷ []) done in
         let exits = two_exits it.children one other (status_of (slice_get words.commands 0)) (status_of (slice_get words.commands 1))
-            told.children_told (it.children_are ∙ two)
-            (report_ended (slice_get words.commands 0) sides.0) (report_ended (slice_get words.commands 1) sides.1) in
+        told.children_told (it.children_are ∙ two)
+        (report_ended (slice_get words.commands 0) sides.0) (report_ended (slice_get words.commands 1) sides.1) in
         right_wins left right (status_of (slice_get words.commands 0)) (status_of (slice_get words.commands 1)) by.way by.wins
         (ap is_success exits.0 ∙ exit_fails one) (ap is_success exits.1 ∙ exit_fails other) status by.is ∙ exits.1
 

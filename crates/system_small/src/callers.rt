@@ -3,7 +3,7 @@
 //! are captured, and that a command without `unchecked` returns no output. Each function makes one call, and its clauses
 //! follow from those of the call: where the call promises less, they are refused.
 
-ghost use Rattle.std.specs.Prelude.{ℕ, List, [], ◌∷◌, ◌≡◌, IfOk, IfErr, OnOk, is_some, string_bytes};
+ghost use Rattle.std.specs.Prelude.{ℕ, List, [], ◌∷◌, ◌≡◌, IfOk, IfErr, OnOk, true, is_some, string_bytes};
 ghost use Rattle.std.specs.Arc.{arc_value};
 ghost use Rattle.duct_system.specs.Started.{children_in};
 ghost use Rattle.duct_system.specs.Trace.{segment};
@@ -13,7 +13,7 @@ ghost use Rattle.duct_start.specs.Plan.{plan_of};
 ghost use Rattle.duct_start.specs.TreeView.{around, command, pipe, unchecked};
 ghost use Rattle.duct.specs.TreeView.{tree_view};
 ghost use Rattle.system_small.specs.Told.{captured_if, exit_of, printed};
-ghost use Rattle.system_small.specs.Exits.{HasMessage, IsExitOf};
+ghost use Rattle.system_small.specs.Exits.{HasMessage, IsExitOf, is_unnoted};
 
 use crate::child::SmallChild;
 use crate::system::{SmallEnd, SmallSystem};
@@ -37,7 +37,7 @@ pub fn run<H: Hook>(
     ensures winner { (left right : List (List ℕ))
         → tree_view expression.now ≡ around unchecked (pipe (command left) (command right))
         → (one other : ℕ) → children_in (segment system.old.entries system.new.entries)
-            ≡ one ∷ other ∷ []
+        ≡ one ∷ other ∷ []
         → IfOk result (λ output. output.status ≡ exit_of other) }
     ensures captured { IfOk result (λ output.
         let pipes = (plan_of (tree_view expression.now)).pipes in
@@ -59,6 +59,14 @@ pub fn wait(rt: &impl Wait, handle: &Handle<SmallSystem>) -> Result<Arc<Output>,
         → IfErr result (HasMessage words handle.now.numbers.children) }
 {
     handle.wait(rt)
+}
+
+/// Kills what a handle runs. An order that is noted is obeyed, so it fails only where there was no
+/// memory to note one, or where the handle isn't one of this system.
+pub fn kill(rt: &impl Wait, handle: &Handle<SmallSystem>) -> Result<(), Error>
+    ensures { IfErr result (λ e. is_unnoted e ≡ true) }
+{
+    handle.kill(rt)
 }
 
 /// Reads an expression. A text is what each reader reads; and an expression that is a command alone

@@ -1,5 +1,5 @@
 //! A system of one's own, in a few lines over `Journal`. It starts no process: each command prints
-//! the same line, runs for one poll, and exits with its own number. It is proved to keep the
+//! the same word, runs for one poll, and exits with its own number. It is proved to keep the
 //! contracts of the interface to the operating system, and callers over it to return what it says.
 #![tactic(auto)]
 
