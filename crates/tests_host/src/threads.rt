@@ -1,8 +1,7 @@
 //! Tests of threads that share a handle or a reader handle of commands on the real machine. A test
 //! compares what is left at its end with what there was before. No command sleeps for much more
 //! than 20 seconds, so that a test that loses an order fails and doesn't hang.
-use duct::{Clock, Error, ExitStatus, Expression, Handle, Output, Pool, System, cmd};
-use duct_host::end::End;
+use duct::{Clock, Error, ExitStatus, Expression, Handle, Output, Pool, ReaderHandle, System, cmd};
 use duct_host::host::Host;
 use duct_threads::handle::SharedHandle;
 use duct_threads::reader::SharedReader;
@@ -39,9 +38,19 @@ impl<R: rt::Clock> Clock for Ticking<R> {
 }
 
 /// A command that sleeps for 20 seconds, with a pipe to a shell that runs this script.
-fn sleepers(alloc: Global, script: &str) -> Result<Expression<End>, Error> {
+fn sleepers<E: Drop>(alloc: Global, script: &str) -> Result<Expression<E>, Error> {
     let left = cmd!(in alloc; "sleep", "20")?;
     left.pipe(&cmd!(in alloc; "sh", "-c", script)?)
+}
+
+/// Starts two commands that sleep for 20 seconds.
+fn asleep<S: System>(
+    alloc: Global,
+    sys: &mut S,
+    pool: &mut Pool<S::Child>,
+) -> Result<Handle<S>, Error> {
+    let tree: Expression<S::End> = sleepers(alloc, "exec sleep 20")?;
+    tree.start(sys, pool)
 }
 
 /// Whether an error says that this signal, a kill or 15, ended a command.
@@ -115,18 +124,14 @@ fn orders_end_two_waits(rt: HostRuntime) -> Result<(), Fail> {
     let before = count_left(&rt)?;
     let mut host = Host::new(&rt, rt.alloc());
     let mut pool = Pool::new(rt.alloc());
+    let mut well = true;
     for signal in [KILL, 15] {
-        let tree = sleepers(rt.alloc(), "exec sleep 20")?;
-        let handle = tree.start(&mut host, &mut pool)?;
+        let handle = asleep(rt.alloc(), &mut host, &mut pool)?;
         let told = wait_and_order(&rt, &handle, signal);
         handle.give_up(&mut pool);
-        let after = count_left(&rt)?;
-        assert_eq!(rt;
-            (told, after),
-            (((true, true), (2, true, true)), before),
-            "{signal}"
-        );
+        well &= told == ((true, true), (2, true, true));
     }
+    assert_eq!(rt; (well, count_left(&rt)?), (true, before));
     Ok(())
 }
 
@@ -172,6 +177,17 @@ fn read_and_kill<H: SharedReader, R: Wait + Threads + rt::Clock + Sync>(
     (bytes, read.1, killed) == (BYTES, true, (2, true, true))
 }
 
+/// Starts two commands that sleep after one has printed, with a reader.
+fn printing<S: System, R: Drop>(
+    rt: R,
+    alloc: Global,
+    sys: &mut S,
+    pool: &mut Pool<S::Child>,
+) -> Result<ReaderHandle<S, R>, Error> {
+    let tree: Expression<S::End> = sleepers(alloc, "printf %1000s; exec sleep 20")?;
+    tree.reader(rt, sys, pool)
+}
+
 /// Checks two threads that read what a pipeline prints, while a third one gets the ids, polls and
 /// kills, a little later in each round. A read before that shows that everything is printed. The
 /// two threads together read all the other bytes, and then see the kill.
@@ -180,18 +196,18 @@ fn a_kill_ends_two_reads(rt: HostRuntime) -> Result<(), Fail> {
     let before = count_left(&rt)?;
     let mut host = Host::new(&rt, rt.alloc());
     let mut pool = Pool::new(rt.alloc());
+    let mut well = true;
     for round in 0..12_u32 {
-        let tree = sleepers(rt.alloc(), "printf %1000s; exec sleep 20")?;
-        let handle = tree.reader(&rt, &mut host, &mut pool)?;
+        let handle = printing(&rt, rt.alloc(), &mut host, &mut pool)?;
         let ends = read_and_kill(
             &rt,
             &handle,
             Duration::from_millis(u64::from(round).saturating_mul(4)),
         );
         handle.give_up(&mut pool);
-        assert!(rt; ends, "{round}");
+        well &= ends;
     }
-    assert_eq!(rt; count_left(&rt)?, before);
+    assert_eq!(rt; (well, count_left(&rt)?), (true, before));
     Ok(())
 }
 
@@ -309,12 +325,23 @@ fn eight_agree<H: Played + Sync, R: Wait + Threads + rt::Clock + Sync>(
 
 /// A command that prints and then sleeps, for 20 seconds in the second of each three rounds,
 /// otherwise for a few hundredths of a second, with a pipe to another one, whose output is captured.
-fn captured_nap(alloc: Global, round: u32) -> Result<Expression<End>, Error> {
+fn captured_nap<E: Drop>(alloc: Global, round: u32) -> Result<Expression<E>, Error> {
     let whole = if round % 3 == 1 { 20 } else { 0 };
     let script = format!(in alloc; "echo hi; exec sleep {}.0{}", whole, round % 7)?;
-    let nap: Expression<End> = cmd!(in alloc; "sh", "-c", script.as_str())?;
+    let nap: Expression<E> = cmd!(in alloc; "sh", "-c", script.as_str())?;
     let both = nap.pipe(&cmd!(in alloc; "cat")?)?;
     both.stdout_capture()?.unchecked()
+}
+
+/// Starts that command.
+fn napping<S: System>(
+    alloc: Global,
+    round: u32,
+    sys: &mut S,
+    pool: &mut Pool<S::Child>,
+) -> Result<Handle<S>, Error> {
+    let nap: Expression<S::End> = captured_nap(alloc, round)?;
+    nap.start(sys, pool)
 }
 
 /// Checks eight threads that poll, wait with and without deadlines, kill and get ids, in many
@@ -325,12 +352,13 @@ fn eight_threads_are_told_the_same(rt: HostRuntime) -> Result<(), Fail> {
     let before = count_left(&rt)?;
     let mut host = Host::new(&rt, rt.alloc());
     let mut pool = Pool::new(rt.alloc());
+    let mut differing = 0_u32;
     for round in 0..ROUNDS {
-        let handle = captured_nap(rt.alloc(), round)?.start(&mut host, &mut pool)?;
+        let handle = napping(rt.alloc(), round, &mut host, &mut pool)?;
         let agree = eight_agree(&rt, rt.alloc(), &handle, round);
         handle.give_up(&mut pool);
-        assert!(rt; agree, "{round}");
+        differing = differing.saturating_add(u32::from(!agree));
     }
-    assert_eq!(rt; (pool.len(), count_left(&rt)?), (0, before));
+    assert_eq!(rt; (differing, pool.len(), count_left(&rt)?), (0, 0, before));
     Ok(())
 }

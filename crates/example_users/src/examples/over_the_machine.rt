@@ -8,26 +8,33 @@ use super::handles::{stopped, work_beside};
 use super::over_a_script::service_text;
 use super::readers::{copied, counted, longest_line};
 use super::script::{reason, run_script, started};
-use duct::{Error, Expression, Pool, System, cmd};
+use duct::{Clock, Error, Expression, Fault, Pool, System, cmd};
 use duct_host::clock::HostClock;
 use duct_host::end::End;
 use duct_host::host::Host;
+use duct_host::parents::Parents;
 use std::alloc::Global;
 use std::fs;
 use std::fs::File;
+use std::process::Processes;
+use std::rt::{Env, Files};
 use std::sync::Wait;
 use std::test::Fail;
-use std::thread::Parker;
+use std::thread::{Parker, Threads};
 use std::time::Duration;
+
+/// Returns what the first steps print, and why one of them fails.
+fn steps<S: System>(rt: &impl Wait, alloc: Global, system: &mut S) -> Result<String, Error> {
+    let mut text = piped(rt, alloc, system)?;
+    write!(text, "\n{}", filed(rt, alloc, system, "filed")?)?;
+    Ok(text)
+}
 
 #[test]
 fn the_first_steps(rt: HostRuntime) -> Result<(), Fail> {
-    let mut host = Host::new(&rt, rt.alloc());
-    let text = piped(&rt, rt.alloc(), &mut host)?;
-    let wanted = "6, 8, command [\"sh\", \"-c\", \"exit 3\"] exited with code 3";
+    let text = steps(&rt, rt.alloc(), &mut Host::new(&rt, rt.alloc()))?;
+    let wanted = "6, 8, command [\"sh\", \"-c\", \"exit 3\"] exited with code 3\nme\n/";
     assert_eq!(rt; text.as_str(), wanted);
-    let text = filed(&rt, rt.alloc(), &mut host, "filed")?;
-    assert_eq!(rt; text.as_str(), "me\n/");
     Ok(())
 }
 
@@ -57,16 +64,21 @@ fn endings<S: System>(rt: &impl Wait, alloc: Global, system: &mut S) -> Result<S
     let failed = failed(rt, alloc, system)?;
     let stopped = stopped(rt, alloc, system)?.status;
     let (count, worked) = (counted(rt, alloc, system)?, worked(rt, alloc, system)?);
-    Ok(format!(in alloc; "{failed}, {stopped:?}, {count} bytes, {worked}")?)
+    Ok(format!(in alloc; "; {failed}, {stopped:?}, {count} bytes, {worked}")?)
+}
+
+/// Returns what the commands of the cookbook print, and how they end.
+fn commands<S: System>(rt: &impl Wait, alloc: Global, system: &mut S) -> Result<String, Error> {
+    let mut text = texts(rt, alloc, system)?;
+    text.push_str(endings(rt, alloc, system)?.as_str())?;
+    Ok(text)
 }
 
 #[test]
 fn commands_of_the_cookbook(rt: HostRuntime) -> Result<(), Fail> {
-    let mut host = Host::new(&rt, rt.alloc());
-    let text = texts(&rt, rt.alloc(), &mut host)?;
-    assert_eq!(rt; text.as_str(), "foo bar bazfooout\nerr/\nfoobar");
-    let text = endings(&rt, rt.alloc(), &mut host)?;
-    assert_eq!(rt; text.as_str(), "Code(3), Signal(15), 3893 bytes, true");
+    let text = commands(&rt, rt.alloc(), &mut Host::new(&rt, rt.alloc()))?;
+    let wanted = "foo bar bazfooout\nerr/\nfoobar; Code(3), Signal(15), 3893 bytes, true";
+    assert_eq!(rt; text.as_str(), wanted);
     Ok(())
 }
 
@@ -104,23 +116,32 @@ fn pipes_text<S: System>(rt: &impl Wait, alloc: Global, system: &mut S) -> Resul
     Ok(text)
 }
 
-/// Returns what a pipeline prints that is made in a loop.
+/// Returns what a pipeline prints that is made in a loop, and how one of paths is shown.
 fn sorted<S: System>(rt: &impl Wait, alloc: Global, system: &mut S) -> Result<String, Error> {
     let first = sh(alloc, "printf 'b\na\n'")?;
-    filtered(alloc, &first, &["sort", "rev"])?.read(rt, system, &mut Pool::new(alloc))
+    let sorted = filtered(alloc, &first, &["sort", "rev"])?;
+    let text = sorted.read(rt, system, &mut Pool::new(alloc))?;
+    let pipe: Expression<S::End> = by_paths(alloc)?;
+    Ok(format!(in alloc; "{text}\n{pipe:?}")?)
+}
+
+/// Returns what all pipelines print.
+fn pipelines_text<S: System>(
+    rt: &impl Wait,
+    alloc: Global,
+    system: &mut S,
+) -> Result<String, Error> {
+    let mut text = pipes_text(rt, alloc, system)?;
+    text.push_str(sorted(rt, alloc, system)?.as_str())?;
+    Ok(text)
 }
 
 #[test]
 fn pipelines(rt: HostRuntime) -> Result<(), Fail> {
-    let mut host = Host::new(&rt, rt.alloc());
-    let text = pipes_text(&rt, rt.alloc(), &mut host)?;
+    let text = pipelines_text(&rt, rt.alloc(), &mut Host::new(&rt, rt.alloc()))?;
     let wanted = "bar\n; foo\n; ; command [\"sh\", \"-c\", \"exit 3\"] exited with code 3; \
-        command [\"sh\", \"-c\", \"exit 2\"] exited with code 2; ; foo\n; ";
-    assert_eq!(rt; text.as_str(), wanted);
-    assert_eq!(rt; sorted(&rt, rt.alloc(), &mut host)?.as_str(), "a\nb");
-    let pipe: Expression<End> = by_paths(rt.alloc())?;
-    let text = format!(in rt.alloc(); "{pipe:?}")?;
-    let wanted = "Pipe(Cmd([\"./tools/a\", \"-v\", \"in\"]), Cmd([\"b\"]))";
+        command [\"sh\", \"-c\", \"exit 2\"] exited with code 2; ; foo\n; a\nb\n\
+        Pipe(Cmd([\"./tools/a\", \"-v\", \"in\"]), Cmd([\"b\"]))";
     assert_eq!(rt; text.as_str(), wanted);
     Ok(())
 }
@@ -137,16 +158,26 @@ fn scripts<S: System>(rt: &impl Wait, alloc: Global, system: &mut S) -> Result<S
     Ok(format!(in alloc; "{text}, {kept} kept\n{started}")?)
 }
 
+/// Returns the same, and what comes of a service that may run for 20 milliseconds.
+fn served<S: System>(
+    rt: &impl Wait,
+    alloc: Global,
+    system: &mut S,
+    clock: &impl Clock,
+) -> Result<String, Error> {
+    let mut text = scripts(rt, alloc, system)?;
+    let limit = Duration::from_millis(20);
+    text.push_str(service_text(rt, alloc, system, clock, limit)?.as_str())?;
+    Ok(text)
+}
+
 #[test]
 fn scripts_and_a_service(rt: HostRuntime) -> Result<(), Fail> {
-    let mut host = Host::new(&rt, rt.alloc());
-    let text = scripts(&rt, rt.alloc(), &mut host)?;
+    let clock = HostClock::new(&rt)?;
+    let text = served(&rt, rt.alloc(), &mut Host::new(&rt, rt.alloc()), &clock)?;
     let wanted = "hi\nabc\nspawn of \"no-such-program\": NotFound, 0 kept\necho hi \n\
-        printf a%sc b \n";
+        printf a%sc b \nNone, 3 given";
     assert_eq!(rt; text.as_str(), wanted);
-    let (clock, limit) = (HostClock::new(&rt)?, Duration::from_millis(20));
-    let text = service_text(&rt, rt.alloc(), &mut host, &clock, limit)?;
-    assert_eq!(rt; text.as_str(), "None, 3 given");
     Ok(())
 }
 
@@ -175,15 +206,19 @@ fn failing<S: System>(rt: &impl Wait, alloc: Global, system: &mut S) -> Result<S
     }
 }
 
+/// Returns what is read of all lines, with a log that is too short and with one that isn't.
+fn all_lines<S: System>(rt: &impl Wait, alloc: Global, system: &mut S) -> Result<String, Error> {
+    let mut text = lines_text(rt, alloc, system, &mut [0; 7])?;
+    let whole = lines_text(rt, alloc, system, &mut [0; 20])?;
+    write!(text, "; {whole}; {}", failing(rt, alloc, system)?)?;
+    Ok(text)
+}
+
 #[test]
 fn lines_end_as_the_command_does(rt: HostRuntime) -> Result<(), Fail> {
-    let mut host = Host::new(&rt, rt.alloc());
-    let text = lines_text(&rt, rt.alloc(), &mut host, &mut [0; 7])?;
-    assert_eq!(rt; text.as_str(), "5, 13, 0, false");
-    let text = lines_text(&rt, rt.alloc(), &mut host, &mut [0; 20])?;
-    assert_eq!(rt; text.as_str(), "5, 13, 7, true");
-    let text = failing(&rt, rt.alloc(), &mut host)?;
-    let wanted = "command [\"sh\", \"-c\", \"echo hi; exit 3\"] exited with code 3";
+    let text = all_lines(&rt, rt.alloc(), &mut Host::new(&rt, rt.alloc()))?;
+    let wanted = "5, 13, 0, false; 5, 13, 7, true; \
+        command [\"sh\", \"-c\", \"echo hi; exit 3\"] exited with code 3";
     assert_eq!(rt; text.as_str(), wanted);
     Ok(())
 }
@@ -202,16 +237,33 @@ fn run_logged<S: System>(
     Ok(())
 }
 
+/// Writes what a command prints to an open file.
+fn write_file<R>(rt: &R, alloc: Global, file: File, host: &mut Host<R>) -> Result<(), Error>
+where
+    R: Processes + Files<File = File> + Env + Parents + Threads + Wait + Clone + Drop,
+{
+    let mut pool = Pool::new(alloc);
+    let echo: Expression<End> = cmd!(in alloc; "echo", "foo")?;
+    start_to_file(&echo, file, host, &mut pool)?.into_output(rt, &mut pool)?;
+    Ok(())
+}
+
+/// Writes a log and a file that are open.
+fn write_open<R>(rt: &R, alloc: Global, host: &mut Host<R>) -> Result<(), Error>
+where
+    R: Processes + Files<File = File> + Env + Parents + Threads + Wait + Clone + Drop,
+{
+    let log = File::create(rt, "log").map_err(Fault::from)?;
+    let log = host.adopt_file(log)?;
+    run_logged(rt, alloc, host, log)?;
+    let file = File::create(rt, "file").map_err(Fault::from)?;
+    write_file(rt, alloc, file, host)
+}
+
 #[test]
 fn open_files_are_written(rt: HostRuntime) -> Result<(), Fail> {
-    let mut host = Host::new(&rt, rt.alloc());
-    let end: End = host.adopt_file(File::create(&rt, "log")?)?;
-    run_logged(&rt, rt.alloc(), &mut host, end)?;
+    write_open(&&rt, rt.alloc(), &mut Host::new(&rt, rt.alloc()))?;
     assert_eq!(rt; fs::read_to_string(&rt, "log")?.as_str(), "bar\n");
-    let mut pool = Pool::new(rt.alloc());
-    let echo: Expression<End> = cmd!(in rt.alloc(); "echo", "foo")?;
-    let handle = start_to_file(&echo, File::create(&rt, "file")?, &mut host, &mut pool)?;
-    handle.into_output(&rt, &mut pool)?;
     assert_eq!(rt; fs::read_to_string(&rt, "file")?.as_str(), "foo\n");
     Ok(())
 }
