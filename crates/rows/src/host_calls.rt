@@ -5,8 +5,8 @@
 //!   existing file, and `adopt_new: f` a new one. `adopt_captured` adopts the write end of a pipe
 //!   whose read end the call `captured` reads. The adopted ends are numbered from 1, and
 //!   expressions name them by these numbers. `drop: 2` drops one.
-//! - Changes of files are described in `hosted`. `{place}` is the beginning of
-//!   the path of a file of this process.
+//! - Changes of files are described in `rows_requests::hosted`. `{place}` is the
+//!   beginning of the path of a file of this process.
 //!
 //! These calls are made besides those of the table.
 //! - `ids` fails unless the ids are those of the children that this thread has got since the row
@@ -28,8 +28,6 @@
 //!
 //! At the end of a row the pool is swept until it is empty. The row fails if a file descriptor or a
 //! child is left.
-use crate::hosted::arrange;
-use crate::requests::taken;
 use duct::{Clock, Entry, Numbered, Place, Pool, System};
 use duct_base::pool::pool_take;
 use duct_host::child::Child;
@@ -38,6 +36,8 @@ use duct_host::host::Host;
 use duct_script::calls::CallLog;
 use rows_calls::machine::{Line, Machine, PartsOf, PoolOf};
 use rows_calls::texts::push_bytes;
+use rows_requests::hosted::arrange;
+use rows_requests::requests::taken;
 use rows_table::expressions::Lender;
 use rows_table::odd::Script;
 use rows_table::real::{Real, children_text, open_descriptors};

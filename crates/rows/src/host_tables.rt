@@ -5,8 +5,8 @@
 //! runtime in this row, and go on like those of the other tables. `questions` is compared: it is
 //! `all` if as many results were taken as the row has, or else how many were taken.
 use crate::host_calls::HostMachine;
-use crate::hosted::Hosted;
 use rows_calls::calls::Calls;
+use rows_requests::hosted::Hosted;
 use rows_table::odd::{Odd, Script};
 use rows_table::real::{Real, filled};
 use rows_table::stop::TableError;

@@ -13,13 +13,10 @@
 
 mod host_calls;
 mod host_tables;
-mod hosted;
-mod requests;
-mod scripts;
 
-use crate::scripts::Scripts;
 use rows_calls::calls::Calls;
 use rows_calls::scripted::Scripted;
+use rows_requests::scripts::Scripts;
 use rows_starts::follows::Follows;
 use rows_starts::parts::Parts;
 use rows_starts::starts::Starts;

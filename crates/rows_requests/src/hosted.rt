@@ -10,7 +10,7 @@
 //! - `opened` is compared: how many more file descriptors are open than before the first row. At
 //!   the end of each row there have to be as many as before.
 //!
-//! `host_tables` says what the rare table has besides.
+//! The program `rows` says what the rare table has besides.
 use crate::requests::Requests;
 use duct_base::system::System;
 use duct_host::host::Host;
