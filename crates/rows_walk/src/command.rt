@@ -22,10 +22,10 @@ pub(crate) fn command(
     made: &mut Made,
 ) -> Result<(), Error> {
     pool.sweep();
-    match ready(words, &mut context, sys) {
+    match ready(words, &mut context, sys, made) {
         Ok((seat, spec)) => {
             let child = spawn(sys, spec, context)?;
-            made.children.push(place_new(child, seat))?;
+            made.children.push(place_new(child, seat))?; // there is room for it
             Ok(())
         }
         Err(error) => {
@@ -35,13 +35,16 @@ pub(crate) fn command(
     }
 }
 
-// Allocates the place of a command's child, and returns it with the command's spec after its hooks.
+// Allocates the place of a command's child and the room for it, and returns the place with the
+// command's spec after its hooks.
 fn ready(
     words: &[String],
     context: &mut Context<'_>,
     sys: &mut Script,
+    made: &mut Made,
 ) -> Result<(Seat<ScriptChild>, CommandSpec), Error> {
     let alloc = *context.hooks.allocator();
+    made.children.reserve(1)?;
     let seat = seat_new(alloc)?;
     let words = named(alloc, words, context.folder, sys)?;
     find(&mut context.output, Stream::Out, sys)?;
