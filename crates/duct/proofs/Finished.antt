@@ -89,10 +89,10 @@ module _ {S E C F D : Type 0} (views : SystemViews S E C F D (Unit {0}) Bytes) {
           waited = running;
           ran = ran_tree views (tree_view root) (drains_output kind (tree_view root)) (drains_error kind (tree_view root))
               (added_between views sys after) running runs running stays;
-          returns = inl (fault, runs.unasked);
+          returns = (reader, made, inl (fault, runs.unasked));
           given = takes_in views.may_answer views.child running.children before mid left swept gets;
         }
-    read_failed (inr ran) = wait_failed _ Stops (λ waited holds. inr (reader, made, holds)) ran
+    read_failed (inr ran) = wait_failed _ Stops (λ waited holds. (reader, made, inr holds)) ran
 
 -- two properties of a value, or of an error, give a third
 pub if_ok_two : {T F : Type 0} (r : Result T F) {P Q R : T → Type 0}

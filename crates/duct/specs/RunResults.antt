@@ -36,9 +36,10 @@ module _ {S E C F D : Type 0} (views : SystemViews S E C F D (Unit {0}) Bytes)
       (reader : R) × MadeReader may added reader
       × HasText views (remaining reader) text waited
 
-  -- the reader failed with a fault, and no child was polled; or there is no text of its bytes
+  -- this is the reader that the entries name; it failed with a fault, and no child was polled, or
+  -- there is no text of its bytes
   abbrev pub ReadStopsBy : List EntryView → Error → RunningView C F D → Type 0
   ReadStopsBy added e waited =
-      (IsFault e × All (λ c. IsUnasked (views.child c)) waited.children)
-      ⊎ ((reader : R) × MadeReader may added reader
-      × HasNoText views (remaining reader) e waited)
+      (reader : R) × MadeReader may added reader
+      × ((IsFault e × All (λ c. IsUnasked (views.child c)) waited.children)
+      ⊎ HasNoText views (remaining reader) e waited)

@@ -32,7 +32,7 @@ use Rattle.duct.specs.Launched.{Runs, StartKind, drains_error, drains_output}
 use Rattle.duct_deadline.specs.Moment.{HasNotEnded, MayRun}
 use Rattle.duct_deadline.specs.ReadUntil.{ReadsFirst}
 use Rattle.duct_deadline.specs.Stopped.{AreStopped}
-use Rattle.duct_deadline.specs.Until.{EndedAs, IsLate, LeavesStopped}
+use Rattle.duct_deadline.specs.Until.{IsLate, LeavesStopped}
 use Rattle.duct_deadline.specs.declared.late.Late.{Late}
 use Rattle.duct_deadline.proofs.Keeping.{stays_on}
 
@@ -60,10 +60,10 @@ pub ended_same : {S E C F D : Type 0} (views : SystemViews S E C F D (Unit {0}) 
     (before after : RunningView C F D) → shape_view after.shape ≡ shape_view before.shape
     → numbers_of views after ≡ numbers_of views before
     → (ended : Option (Result (Arc Output Global) Error))
-    → IfSome ended (λ how. EndedAs views after (at_end how))
-    → IfSome ended (λ how. EndedAs views before (at_end how))
+    → IfSome ended (λ how. EndsAs views after (at_end how))
+    → IfSome ended (λ how. EndsAs views before (at_end how))
 ended_same views before after shape same ended =
-    if_some_with ended (λ how ends. (ends_same views before after shape same (at_end how) ends.0, ends.1))
+    if_some_with ended (λ how ends. ends_same views before after shape same (at_end how) ends)
 
 -- the error of what ended with one
 pub failed_with : {S E C F D : Type 0} (views : SystemViews S E C F D (Unit {0}) Bytes)
@@ -107,14 +107,14 @@ module _ {S E C F D H : Type 0} (views : SystemViews S E C F D (Unit {0}) Bytes)
 
     -- it was late, and was then stopped
     pub is_late : (late : Late) (stopped : RunningView C F D) → HasNotEnded views running
-        → IfSome late.ended (λ ended. EndedAs views waited (at_end ended))
+        → IfSome late.ended (λ ended. EndsAs views waited (at_end ended))
         → numbers_of views stopped ≡ numbers_of views waited
         → IsLate views late kind tree added (numbers_of views stopped)
     is_late late stopped unended ended same =
         subst (λ (n : NumbersView). IsLate views late kind tree added n) (sym (same ∙ stays.numbers_are)) (record {
           are_numbers = numbers;
           may_run = subst (λ (s : ShapeView). MayRun views s (numbers_of views running)) runs.shape_is unended;
-          ended = if_some_with late.ended (λ how ends. (ending (at_end how) ends.0, ends.1)) ended;
+          ended = if_some_with late.ended (λ how ends. ending (at_end how) ends) ended;
         })
 
 -- the pool was swept, and then it was given what was stopped

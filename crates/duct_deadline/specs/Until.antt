@@ -1,6 +1,7 @@
 -- What an expression that runs until a moment returns, and what it leaves.
-use Rattle.std.specs.Prelude.{ℕ, Bool, List, ◌≡◌, ◌⊎◌, IfSome, map, Err}
+use Rattle.std.specs.Prelude.{ℕ, Bool, List, ◌≡◌, ◌⊎◌, IfNone, IfSome, map, Err}
 use Rattle.std.specs.declared.alloc.Global.{Global}
+use Rattle.std.specs.declared.option.Option.{Option}
 use Rattle.std.specs.declared.result.Result.{Result}
 use Rattle.std.specs.declared.sync.Arc.{Arc}
 use Rattle.std.specs.declared.time.Duration.{Duration}
@@ -12,7 +13,6 @@ use Rattle.duct_system.specs.declared.error.Error.{Error}
 use Rattle.duct_system.specs.declared.error.Error.TheVariants as error
 use Rattle.duct_system.specs.declared.system.Order.{Order}
 use Rattle.duct_system.specs.declared.system.Output.{Output}
-use Rattle.duct_status.specs.ShapeView.{ShapeView, shape_view}
 use Rattle.duct_start.specs.Chain.{Allows}
 use Rattle.duct_start.specs.Left.{TakesIn, pool_view}
 use Rattle.duct_start.specs.Plan.{plan_of}
@@ -23,7 +23,7 @@ use Rattle.duct_start.specs.TreeView.{TreeView}
 use Rattle.duct_run.specs.SystemViews.{SystemViews}
 use Rattle.duct_running.specs.Answered.{IsEnding}
 use Rattle.duct_running.specs.NumbersView.{NumbersView, numbers_of}
-use Rattle.duct_running.specs.Polled.{Polled, ReturnsOutcome}
+use Rattle.duct_running.specs.Polled.{ReturnsOutcome}
 use Rattle.duct_running.specs.PolledOnce.{PolledOnce}
 use Rattle.duct_running.specs.Stored.{Bytes}
 use Rattle.duct_handle.specs.Started.{AreNumbers}
@@ -47,6 +47,11 @@ abbrev pub IfLate : {T L : Type 0} → Until T L → (L → Type 0) → Type 0
 IfLate (until.Done value) holds = Unit {0}
 IfLate (until.Late late) holds = holds late
 
+-- it has ended, and how was concluded; or this holds
+abbrev pub UnlessEnded : Option (Result (Arc Output Global) Error) → Type 0 → Type 0
+UnlessEnded ended holds =
+    IfNone ended holds × IfSome ended (λ how. at_end how ≡ Err error.Memory → holds)
+
 -- the pool was given each child that the entries name, in order; each was sent signal 15 and then
 -- killed, with this as the result
 abbrev pub LeavesStopped : {C : Type 0} → (ℕ → Answer → Type 0)
@@ -58,16 +63,6 @@ LeavesStopped may obey view killed added before after =
     × TakesIn may given (pool_view view before) (pool_view view after)
 
 module _ {S E C F D : Type 0} (views : SystemViews S E C F D (Unit {0}) Bytes) where
-  -- this was concluded from what they may return, and no allocation failed
-  abbrev pub HasEnded : ShapeView → NumbersView → Polled → Type 0
-  HasEnded shape numbers polled =
-      IsEnding views.may_answer views.feed_says views.drain_says shape numbers polled
-      × (polled ≡ Err error.Memory → ⊥)
-
-  -- the same of a running expression
-  abbrev pub EndedAs : RunningView C F D → Polled → Type 0
-  EndedAs running polled = HasEnded (shape_view running.shape) (numbers_of views running) polled
-
   -- what was launched had ended when it was polled for the first time
   abbrev pub EndedAtOnce : {H : Type 0} → MadeBy E H
   EndedAtOnce kind tree added =
@@ -83,12 +78,14 @@ module _ {S E C F D : Type 0} (views : SystemViews S E C F D (Unit {0}) Bytes) w
       × (HasShownLess shows nanos ⊎ EndedAtOnce kind tree added)
 
   -- these are the numbers of the children and workers of the entries; one of them might still run
-  -- when the moment was seen; and how it ended was concluded from what they may return
+  -- when the moment was seen; and how it ended was concluded from what they may return, or it is
+  -- `Error::Memory`
   pub record IsLate {H : Type 0} (late : Late) (kind : StartKind) (tree : TreeView E H)
       (added : List EntryView) (numbers : NumbersView) : Type 0 where
     pub are_numbers : AreNumbers (drains_output kind tree) (drains_error kind tree) added numbers
     pub may_run : MayRun views (shape_of_tree tree) numbers
-    pub ended : IfSome late.ended (λ ended. HasEnded (shape_of_tree tree) numbers (at_end ended))
+    pub ended : IfSome late.ended (λ ended. IsEnding views.may_answer views.feed_says
+        views.drain_says (shape_of_tree tree) numbers (at_end ended))
 
   -- this runs what was late, and each of its children was sent signal 15 and then killed
   abbrev pub Stops : {H : Type 0} → Late → RunningView C F D → MadeBy E H

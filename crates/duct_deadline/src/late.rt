@@ -20,7 +20,8 @@ pub enum Until<T, L> {
 #[derive(Drop)]
 pub struct Late {
     /// How it ended, if it did so before the kill. A command that signal 15 ended makes it an
-    /// `Error::Checked`, unless it is unchecked.
+    /// `Error::Checked`, unless it is unchecked. It is `Error::Memory` where it may have ended, but
+    /// the last poll of the grace found no memory to say how.
     pub ended: Option<Result<Arc<Output>, Error>>,
     /// What the kill of the commands that were not known to have ended returned: `Ok` where there
     /// were none, or `Error::System` with the leftmost fault. A command that could not be killed

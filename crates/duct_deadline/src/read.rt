@@ -5,7 +5,7 @@ ghost use Rattle.duct_system.specs.declared.system.Fault.{Fault};
 ghost use Rattle.duct_system.specs.declared.system.Said.TheVariants as said;
 ghost use Rattle.duct_deadline.specs.Moment.{HasReached};
 ghost use Rattle.duct_deadline.specs.ReadUntil.{PrintsText, ReadFailed, ReadStopped, ReadsFirst, last_read};
-ghost use Rattle.duct_deadline.specs.Until.{IfDone, IfLate};
+ghost use Rattle.duct_deadline.specs.Until.{IfDone, IfLate, UnlessEnded};
 
 use crate::late::{LateRead, Until};
 use crate::run::launch_until;
@@ -102,7 +102,7 @@ pub fn read_until<E: Drop, H: Hook, S: System<End = E>, C: Clock>(
         expression.now sys.old sys.new pool.old pool.new)) }
     ensures late { IfOk result (λ until. IfLate until
         (λ late. HasReached (C.may_show clock.now) (as_nanos moment))) }
-    ensures grace { IfOk result (λ until. IfLate until (λ late. IfNone late.late.ended
+    ensures grace { IfOk result (λ until. IfLate until (λ late. UnlessEnded late.late.ended
         (HasReached (C.may_show clock.now) (min (as_nanos moment + as_nanos grace) max_nanos)))) }
     ensures failed { IfErr result (ReadFailed ⟦<S as Viewed>⟧.views H.allows
         (C.may_show clock.now) (as_nanos moment) H.refuses expression.now sys.old sys.new pool.old

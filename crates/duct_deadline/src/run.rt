@@ -1,5 +1,5 @@
 //! An expression that runs until a moment.
-ghost use Rattle.std.specs.Prelude.{◌≡◌, ◌+◌, min, IfErr, IfNone, IfOk, OnOk, Err};
+ghost use Rattle.std.specs.Prelude.{◌≡◌, ◌+◌, min, IfErr, IfOk, OnOk, Err};
 ghost use Rattle.std.specs.Duration.{as_nanos, max_nanos};
 ghost use Rattle.duct_status.specs.ReplyView.{answered};
 ghost use Rattle.duct_running.specs.Allowed.{StoresAllowed};
@@ -8,7 +8,7 @@ ghost use Rattle.duct_running.specs.Polled.{ReturnsOutcome};
 ghost use Rattle.duct_handle.specs.Finished.{RanUntil, RanUntilGiven, StoresError, StoresReply};
 ghost use Rattle.duct.specs.Launched.{Fails, Launched, RunFailed, draining};
 ghost use Rattle.duct_deadline.specs.Moment.{HasReached};
-ghost use Rattle.duct_deadline.specs.Until.{IfDone, IfLate, LaunchStopped, ReturnsInTime, Stops};
+ghost use Rattle.duct_deadline.specs.Until.{IfDone, IfLate, LaunchStopped, ReturnsInTime, Stops, UnlessEnded};
 
 use crate::late::{Late, Until};
 use crate::stop::stop;
@@ -77,7 +77,7 @@ pub(crate) fn launch_until<E: Drop, H: Hook, S: System<End = E>, C: Clock>(
         (Stops ⟦<S as Viewed>⟧.views stopped.0 stopped.1))) }
     ensures late { IfOk result (λ until. IfLate until
         (λ stopped. HasReached (C.may_show clock.now) (as_nanos moment))) }
-    ensures grace { IfOk result (λ until. IfLate until (λ stopped. IfNone stopped.0.ended
+    ensures grace { IfOk result (λ until. IfLate until (λ stopped. UnlessEnded stopped.0.ended
         (HasReached (C.may_show clock.now) (min (as_nanos moment + as_nanos grace) max_nanos)))) }
     ensures failed { IfErr result (RunFailed ⟦<S as Viewed>⟧.views H.allows H.refuses draining
         expression.now sys.old sys.new pool.old pool.new (Fails ⟦<S as Viewed>⟧.views)) }
@@ -105,7 +105,7 @@ pub(crate) fn launch_until<E: Drop, H: Hook, S: System<End = E>, C: Clock>(
 /// reaps them. That it was stopped is no error but `Until::Late`, with how it ended and what the
 /// kill returned. A command is sent neither once it is known to have ended; and a command whose
 /// order finds no memory to be noted gets the other one alone, or none. An allocation failure of a
-/// poll in the grace doesn't end the grace.
+/// poll doesn't end the grace: it is polled again.
 ///
 /// The call blocks until then, and returns late by the pause between two polls, a millisecond, and
 /// by as long as the signal takes: over a `Host` that waits for a shell for each command. What the
@@ -133,7 +133,7 @@ pub fn run_until<E: Drop, H: Hook, S: System<End = E>, C: Clock>(
         H.allows expression.now sys.old sys.new pool.old pool.new)) }
     ensures late { IfOk result (λ until. IfLate until
         (λ late. HasReached (C.may_show clock.now) (as_nanos moment))) }
-    ensures grace { IfOk result (λ until. IfLate until (λ late. IfNone late.ended
+    ensures grace { IfOk result (λ until. IfLate until (λ late. UnlessEnded late.ended
         (HasReached (C.may_show clock.now) (min (as_nanos moment + as_nanos grace) max_nanos)))) }
     ensures failed { IfErr result (RunFailed ⟦<S as Viewed>⟧.views H.allows H.refuses draining
         expression.now sys.old sys.new pool.old pool.new (Fails ⟦<S as Viewed>⟧.views)) }

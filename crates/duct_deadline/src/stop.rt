@@ -1,15 +1,16 @@
 //! How what runs is stopped: signal 15, a grace, and a kill.
-ghost use Rattle.std.specs.Prelude.{◌≡◌, ◌+◌, false, map, min, IfSome, IfNone, Err};
+ghost use Rattle.std.specs.Prelude.{◌≡◌, ◌+◌, false, map, min, IfSome, Err};
 ghost use Rattle.std.specs.Duration.{as_nanos, max_nanos};
 ghost use Rattle.duct_system.specs.declared.error.Error.TheVariants as error;
 ghost use Rattle.duct_system.specs.declared.system.Order.TheVariants.{Kill};
+ghost use Rattle.duct_running.specs.Answered.{EndsAs};
 ghost use Rattle.duct_running.specs.NumbersView.{numbers_of};
 ghost use Rattle.duct_running.specs.Ordered.{IsOrdered, IsUnordered};
 ghost use Rattle.duct_running.specs.Stays.{StaysSame};
 ghost use Rattle.duct_handle.specs.Waited.{at_end};
 ghost use Rattle.duct_deadline.specs.Moment.{HasReached};
 ghost use Rattle.duct_deadline.specs.Stopped.{AreStopped, ChildrenKeep};
-ghost use Rattle.duct_deadline.specs.Until.{EndedAs};
+ghost use Rattle.duct_deadline.specs.Until.{UnlessEnded};
 
 use crate::late::{Late, TERMINATE};
 use crate::watch::{PAUSE, is_over, watch};
@@ -33,7 +34,8 @@ fn is_memory(ended: &Option<Result<Arc<Output>, Error>>) -> bool
     }
 }
 
-/// Waits as `watch` does, but an allocation failure doesn't end the wait: the next poll tries again.
+/// Waits as `watch` does, but an allocation failure doesn't end the wait before this moment: the
+/// next poll tries again.
 fn watch_on<S: System, C: Clock>(
     rt: &impl Wait,
     clock: &C,
@@ -43,33 +45,31 @@ fn watch_on<S: System, C: Clock>(
     ensures stays { StaysSame ⟦<S as Viewed>⟧.views running.old running.new }
     ensures kept { ChildrenKeep ⟦<S as Viewed>⟧.views running.old running.new }
     ensures ended { IfSome result
-        (λ ended. EndedAs ⟦<S as Viewed>⟧.views running.old (at_end ended)) }
-    ensures late { IfNone result (HasReached (C.may_show clock.now) (as_nanos last)) }
+        (λ ended. EndsAs ⟦<S as Viewed>⟧.views running.old (at_end ended)) }
+    ensures late { UnlessEnded result (HasReached (C.may_show clock.now) (as_nanos last)) }
 {
     let parker = Parker::new();
     for _ in rt.forever() {
         let ended = watch(rt, clock, last, running);
-        if !is_memory(&ended) {
+        if !is_memory(&ended) || is_over(clock, last) {
             return ended;
         }
         drop(ended);
-        if is_over(clock, last) {
-            return None;
-        }
         parker.park_timeout(rt, Duration::from_micros(PAUSE));
     }
     unreachable!()
 }
 
 /// Kills each command that is not known to have ended, once and from left to right, where what runs
-/// has ended like this, or the clock showed the last moment of its grace.
+/// has ended like this, or the clock showed the last moment of its grace. Only the contract names
+/// the clock.
 fn kill<S: System, C: Clock>(
     _clock: &C,
     last: Duration,
     ended: Option<Result<Arc<Output>, Error>>,
     running: &mut Running<S>,
 ) -> Late
-    requires { IfNone ended (HasReached (C.may_show _clock.now) (as_nanos last)) }
+    requires { UnlessEnded ended (HasReached (C.may_show _clock.now) (as_nanos last)) }
     ensures ended { result.ended ≡ ended }
     ensures ordered { IsOrdered S.Child.may_obey Kill (map S.Child.child_view running.old.children)
         result.killed (map S.Child.child_view running.new.children) }
@@ -95,8 +95,8 @@ pub(crate) fn stop<S: System, C: Clock>(
     ensures numbers { numbers_of ⟦<S as Viewed>⟧.views running.new
         ≡ numbers_of ⟦<S as Viewed>⟧.views running.old }
     ensures ended { IfSome result.ended
-        (λ ended. EndedAs ⟦<S as Viewed>⟧.views running.old (at_end ended)) }
-    ensures grace { IfNone result.ended (HasReached (C.may_show clock.now)
+        (λ ended. EndsAs ⟦<S as Viewed>⟧.views running.old (at_end ended)) }
+    ensures grace { UnlessEnded result.ended (HasReached (C.may_show clock.now)
         (min (as_nanos moment + as_nanos grace) max_nanos)) }
     ensures stopped { AreStopped S.Child.may_obey result.killed
         (map S.Child.child_view running.new.children) }

@@ -4,7 +4,6 @@ use Rattle.std.specs.IoError.{error_kind}
 use Rattle.std.specs.declared.alloc.Global.{Global}
 use Rattle.std.specs.declared.io.ErrorKind.{ErrorKind}
 use Rattle.std.specs.declared.io.ErrorKind.TheVariants as kind
-use Rattle.std.specs.declared.option.Option.{Option}
 use Rattle.std.specs.declared.result.Result.{Result}
 use Rattle.std.specs.declared.sync.Arc.{Arc}
 use Rattle.std.specs.declared.io.Error as io
@@ -15,9 +14,7 @@ use Rattle.duct_system.specs.declared.system.Output.{Output}
 use Rattle.duct_status.specs.ShapeView.{shape_view}
 use Rattle.duct_worker.specs.Transfer.{fault_of}
 use Rattle.duct_run.specs.SystemViews.{SystemViews}
-use Rattle.duct_running.specs.Allowed.{OneRuns}
 use Rattle.duct_running.specs.Answered.{IsAnswer}
-use Rattle.duct_running.specs.Polled.{Polled}
 use Rattle.duct_running.specs.Stored.{Bytes}
 use Rattle.duct_handle.specs.HandleView.{HandleView}
 
@@ -28,26 +25,17 @@ error_read kind.OutOfMemory = error.Memory
 error_read other = error.System (fault_of other)
 
 module _ {S E C F D : Type 0} (views : SystemViews S E C F D (Unit {0}) Bytes) where
-  -- a poll of the handle may have returned this
-  abbrev pub MayEndAs : HandleView → Polled → Type 0
-  MayEndAs handle polled = IsAnswer views (shape_view handle.shape) handle.numbers polled
-
-  -- after a read that failed with this kind, its error; at `Other` how the expression failed, or
-  -- that error of the read where a poll returned no error
-  abbrev pub FailsFor : HandleView → ErrorKind → Error → Type 0
-  FailsFor handle kind.Other e =
-      MayEndAs handle (Err e)
-      ⊎ ((e ≡ error_read kind.Other)
-      × ((polled : Option (Arc Output Global)) × MayEndAs handle (Ok polled)))
-  FailsFor handle other e = e ≡ error_read other
-
-  -- after a read to EOF, how the expression ended, or `Other` where one of its children or workers
-  -- may run; after a read that failed, an error for it
+  -- after a read to EOF, how the expression ended, or `Other` if it still runs; after one that
+  -- failed, its error, or that of the expression if the read failed with `Other`
   abbrev pub EndsFor : HandleView → Result (Unit {0}) io.Error → Result (Arc Output Global) Error
       → Type 0
-  EndsFor handle (Ok done) (Ok output) = MayEndAs handle (Ok (Some output))
+  EndsFor handle (Ok done) (Ok output) =
+      IsAnswer views (shape_view handle.shape) handle.numbers (Ok (Some output))
   EndsFor handle (Ok done) (Err e) =
-      MayEndAs handle (Err e)
-      ⊎ ((e ≡ error.System (record { kind = Other })) × OneRuns views handle.numbers)
+      IsAnswer views (shape_view handle.shape) handle.numbers (Err e)
+      ⊎ (e ≡ error.System (record { kind = Other }))
   EndsFor handle (Err failed) (Ok output) = ⊥
-  EndsFor handle (Err failed) (Err e) = FailsFor handle (error_kind failed) e
+  EndsFor handle (Err failed) (Err e) =
+      (e ≡ error_read (error_kind failed))
+      ⊎ ((error_kind failed ≡ kind.Other)
+      × IsAnswer views (shape_view handle.shape) handle.numbers (Err e))

@@ -12,7 +12,7 @@ use Rattle.duct_start.specs.Start.{StartRefused, StartSucceeds}
 use Rattle.duct_start.specs.TreeView.{TreeView}
 use Rattle.duct_run.specs.SystemViews.{SystemViews}
 use Rattle.duct_running.specs.Stored.{Bytes}
-use Rattle.duct.specs.Launched.{ReadFails, Reads, added_between, reading}
+use Rattle.duct.specs.Launched.{Ran, ReadFails, Reads, added_between, reading}
 use Rattle.duct_program.specs.Line.{meant}
 use Rattle.duct_program.specs.declared.failure.Failure.{Failure}
 use Rattle.duct_program.specs.declared.failure.Failure.TheVariants as failures
@@ -53,4 +53,5 @@ module _ {S E C F D : Type 0} (views : SystemViews S E C F D (Unit {0}) Bytes) {
       ⊎ (StartSucceeds allows views.number_of tree (plan_of_reader tree) (views.journal sys)
       (views.journal after)
       × ((waited : RunningView C F D)
+      × Ran views waited reading tree (added_between views sys after)
       × ReadFails views may remaining error waited reading tree (added_between views sys after))))

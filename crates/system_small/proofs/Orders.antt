@@ -1,10 +1,9 @@
 -- Why an order fails over the small system.
 use Rattle.std.proofs.Common.{◌≡◌, ℕ, inl, inr, true, List, [], ◌∷◌, ap, ◌∙◌, Ok, Err}
-use Rattle.std.proofs.Math.Logic.{∥∥₁_elim}
+use Rattle.std.proofs.Math.Logic.{∥∥₁_map}
 use Rattle.std.specs.List.{AllZip}
 use Rattle.std.specs.Result.{IfErr}
 use Rattle.std.specs.declared.result.Result.{Result}
-use mathlib.Core.Bool.{Bool-set}
 use Rattle.duct_system.specs.Child.{ChildView, Obeyed}
 use Rattle.duct_system.specs.Job.{JobView}
 use Rattle.duct_system.specs.Journal.{JournalView}
@@ -16,7 +15,7 @@ use Rattle.duct_system.specs.declared.system.Order.{Order}
 use Rattle.duct_run.specs.SystemViews.{SystemViews}
 use Rattle.duct_running.specs.Ordered.{OrderAnswers, leftmost}
 use Rattle.duct_handle.specs.Obeyed.{CommandAnswers, IsObeyed}
-use Rattle.system_small.specs.Exits.{is_unnoted, is_unnoted_kind}
+use Rattle.system_small.specs.Exits.{IsUnnoted}
 use Rattle.system_small.specs.Told.{MayAnswer, MayObey}
 
 -- what orders read of the small system
@@ -38,28 +37,27 @@ small = record {
 }
 
 fault : (order : Order) (number : ℕ) (f : Fault) → CommandAnswers small order number (Err f)
-    → f.kind ≡ OutOfMemory
+    → f ≡ record { kind = OutOfMemory }
 fault order number f (inl p) = absurd (let ok = p.2 in cc)
 fault order number f (inr (inl obeyed)) = absurd (let ok : Err f ≡ Ok tt = obeyed in cc)
-fault order number f (inr (inr p)) =
-    let same : f ≡ record { kind = OutOfMemory } = (let is = p.1 in cc) in ap (λ g. g.kind) same
+fault order number f (inr (inr p)) = let is = p.1 in cc
 
 answered : (order : Order) (numbers : List ℕ) (answers : List Obeyed)
     → AllZip (CommandAnswers small order) numbers answers
-    → (e : Error) → OrderAnswers (leftmost answers) (Err e) → is_unnoted e ≡ true
+    → (e : Error) → OrderAnswers (leftmost answers) (Err e)
+    → e ≡ error.System (record { kind = OutOfMemory })
 answered order [] [] all e is = absurd (cc)
 answered order [] (answer ∷ answers) all e is = absurd all
 answered order (number ∷ numbers) [] all e is = absurd all
 answered order (number ∷ numbers) (Ok done ∷ answers) all e is = answered order numbers answers all.1 e is
 answered order (number ∷ numbers) (Err f ∷ answers) all e is =
     let same : e ≡ error.System f = cc in
-    ap is_unnoted same ∙ ap is_unnoted_kind (fault order number f all.0)
+    same ∙ ap error.System (fault order number f all.0)
 
 -- an order fails only where it was not noted, or where the handle is another's
 pub unnoted : (order : Order) (numbers : List ℕ) (result : Result (Unit {0}) Error)
-    → IsObeyed small order numbers result → IfErr result (λ e. is_unnoted e ≡ true)
+    → IsObeyed small order numbers result → IfErr result IsUnnoted
 unnoted order numbers (Ok done) obeyed = tt
-unnoted order numbers (Err e) (inl other) =
-    let same : e ≡ error.System (record { kind = Other }) = cc in ap is_unnoted same
+unnoted order numbers (Err e) (inl other) = ∣ inr cc ∣₁
 unnoted order numbers (Err e) (inr told) =
-    ∥∥₁_elim told (Bool-set _ _) (λ all. answered order numbers all.0 all.1 e all.2)
+    ∥∥₁_map told (λ all. inl (answered order numbers all.0 all.1 e all.2))

@@ -1,8 +1,8 @@
 //! Callers over the small system, whose children return only that they run, or one exit status
-//! each. So the clauses of `run`, `wait` and `read` say there which status comes back and which bytes
-//! are captured, and that a command without `unchecked` returns no output. Each function makes one call, and its clauses
-//! follow from those of the call: where the call promises less, they are refused.
-
+//! each. So the clauses of `run`, `wait` and `read` say there which status comes back and which
+//! bytes are captured, and that a command without `unchecked` returns no output. Each function makes
+//! one call, and its clauses follow from those of the call: where the call promises less, they are
+//! refused.
 ghost use Rattle.std.specs.Prelude.{ℕ, List, [], ◌∷◌, ◌≡◌, IfOk, IfErr, OnOk, true, is_some, string_bytes};
 ghost use Rattle.std.specs.Arc.{arc_value};
 ghost use Rattle.duct_system.specs.Started.{children_in};
@@ -13,7 +13,7 @@ ghost use Rattle.duct_start.specs.Plan.{plan_of};
 ghost use Rattle.duct_start.specs.TreeView.{around, command, pipe, unchecked};
 ghost use Rattle.duct.specs.TreeView.{tree_view};
 ghost use Rattle.system_small.specs.Told.{captured_if, exit_of, printed};
-ghost use Rattle.system_small.specs.Exits.{HasMessage, IsExitOf, is_unnoted};
+ghost use Rattle.system_small.specs.Exits.{HasMessage, IsExitOf, IsUnnoted};
 
 use crate::child::SmallChild;
 use crate::system::{SmallEnd, SmallSystem};
@@ -64,7 +64,7 @@ pub fn wait(rt: &impl Wait, handle: &Handle<SmallSystem>) -> Result<Arc<Output>,
 /// Kills what a handle runs. An order that is noted is obeyed, so it fails only where there was no
 /// memory to note one, or where the handle isn't one of this system.
 pub fn kill(rt: &impl Wait, handle: &Handle<SmallSystem>) -> Result<(), Error>
-    ensures { IfErr result (λ e. is_unnoted e ≡ true) }
+    ensures { IfErr result IsUnnoted }
 {
     handle.kill(rt)
 }

@@ -1,9 +1,10 @@
-use Rattle.std.specs.Prelude.{ℕ, map, pos, IfNone}
+use Rattle.std.specs.Prelude.{ℕ, map, pos}
 use Rattle.std.proofs.Common.{◌∙◌, ap, subst}
 use Rattle.duct_status.specs.ShapeView.{shape_view}
 use Rattle.duct_system.specs.declared.system.Order.TheVariants.{Signal}
 use Rattle.duct_run.proofs.Seeing.{views_of}
 use Rattle.duct_deadline.specs.Moment.{HasReached}
+use Rattle.duct_deadline.specs.Until.{UnlessEnded}
 use Rattle.duct_deadline.proofs.Ending.{ended_same}
 use Rattle.duct_deadline.proofs.Signalled.{all_kept, all_sent, numbers_after}
 use Rattle.duct_deadline.proofs.stop.stop.Goals as goal
@@ -30,7 +31,7 @@ returns-clause-ended g c =
 
 pub returns-clause-grace : goal.returns-clause-grace
 returns-clause-grace g c =
-    rw (c.kill.ensures.ended) (subst (λ (nanos : ℕ). IfNone c.watch_on-ended.result (HasReached (g.C.Clock.may_show c.args.clock.now) nanos))
+    rw (c.kill.ensures.ended) (subst (λ (nanos : ℕ). UnlessEnded c.watch_on-ended.result (HasReached (g.C.Clock.may_show c.args.clock.now) nanos))
     c.saturating_add-last.ensures c.watch_on-ended.ensures.late)
 
 pub returns-clause-stopped : goal.returns-clause-stopped

@@ -22,10 +22,6 @@ loop-preserved g c = record {
       (map g.S.Child.Child.child_view c.watch-ended.new.running.children) c.loop.invariant.kept c.watch-ended.ensures.kept;
 }
 
-pub returns-then-is_over-clause-kept : goal.returns-then-is_over-clause-kept
-returns-then-is_over-clause-kept g c = all_on (map g.S.Child.Child.child_view c.args.running.now.children) (map g.S.Child.Child.child_view c.loop.running.children)
-    (map g.S.Child.Child.child_view c.watch-ended.new.running.children) c.loop.invariant.kept c.watch-ended.ensures.kept
-
 pub returns-then-not-is_memory-clause-kept : goal.returns-then-not-is_memory-clause-kept
 returns-then-not-is_memory-clause-kept g c = all_on (map g.S.Child.Child.child_view c.args.running.now.children) (map g.S.Child.Child.child_view c.loop.running.children)
     (map g.S.Child.Child.child_view c.watch-ended.new.running.children) c.loop.invariant.kept c.watch-ended.ensures.kept

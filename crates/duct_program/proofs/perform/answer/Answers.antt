@@ -16,5 +16,5 @@ pub returns-clause-err : goal.returns-clause-err
 returns-clause-err g c = (
   tree_view c.in_ok-expression.expression,
   search rules,
-  either_way (λ refused. refused.asked) (λ failed. (failed.asked, (failed.waited, failed.returns))) c.in-Err.ensures.failed,
+  either_way (λ refused. refused.asked) (λ failed. (failed.asked, (failed.waited, failed.ran, failed.returns))) c.in-Err.ensures.failed,
 )
