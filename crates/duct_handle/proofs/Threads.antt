@@ -23,7 +23,8 @@ use Rattle.duct_status.proofs.Threads.{shared_shape_send, shared_shape_sync}
 use Rattle.duct_running.proofs.numbers.Numbers.TheSendSync as numbers
 use Rattle.duct_running.proofs.Threads.{running_send}
 use Rattle.duct_handle.specs.contracts.published.Published
-use Rattle.duct_handle.specs.contracts.poll.HandleState
+use Rattle.duct_handle.specs.contracts.lock.HandleState
+use Rattle.duct_handle.specs.contracts.lock.Lock
 use Rattle.duct_handle.specs.contracts.handle.Handle
 use Rattle.duct_handle.specs.contracts.handle.Handle.TheInside
 use Rattle.duct_handle.proofs.published.Answer.TheSendSync as answer
@@ -67,6 +68,14 @@ module _ (S E C F D R : RattleType)
       (HandleState.the_type S E C F D R s e c cn f fn d dn r).to_one
       (locked_field_send child feed drain)
 
+  lock_field_sync : IsSend C → IsSend F → IsSend D
+      → IsSync (Lock.the_field S E C F D R s e c cn f fn d dn r).row
+  lock_field_sync child feed drain = struct_sync
+      (shape (Lock.the_type S E C F D R s e c cn f fn d dn r)) (
+        mutex.the_sync (HandleState.the_row S E C F D R s e c cn f fn d dn r) (locked_send child feed drain),
+        tt,
+      )
+
   fields_sync : IsSend C → IsSend F → IsSend D
       → IsSync (TheInside.the_field S E C F D R s e c cn f fn d dn r).row
   fields_sync child feed drain = struct_sync
@@ -79,7 +88,7 @@ module _ (S E C F D R : RattleType)
             (
               Vec-sync u32 (search sendable),
               (
-                mutex.the_sync (HandleState.the_row S E C F D R s e c cn f fn d dn r) (locked_send child feed drain),
+                lock_field_sync child feed drain,
                 (
                   box.the_sync (Published.the_row S E C F D R s e c cn f fn d dn r) published_send published_sync,
                   tt,

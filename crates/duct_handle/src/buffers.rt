@@ -7,7 +7,7 @@ ghost use Rattle.duct_running.specs.NumbersView.{HaveRoom, numbers_of, numbers_v
 ghost use Rattle.duct_running.specs.Stored.{AreUnasked};
 
 use crate::handle::Handle;
-use crate::poll::HandleState;
+use crate::lock::Lock;
 use crate::published::Published;
 use duct_base::error::Error;
 use duct_base::pool::Pool;
@@ -19,7 +19,7 @@ use duct_running::running::Running;
 use once_cell::race::OnceBox;
 use std::alloc::Global;
 use std::marker::PhantomData;
-use std::sync::{Arc, Mutex};
+use std::sync::Arc;
 
 /// What a handle keeps outside its lock, and its result, allocated before the first request of a
 /// start: the shape of its tree, with room for the numbers and the ids of its children and workers.
@@ -71,6 +71,8 @@ pub fn handle_buffers<S: System>(
         (λ room. HaveRoom (shape_view (arc_value shape.now)) room.numbers) }
     ensures spare { IfOk result
         (λ room. HaveRoom (shape_view (arc_value shape.now)) room.spare.value.numbers) }
+    ensures same { IfOk result
+        (λ room. arc_value room.spare.value.shape ≡ arc_value shape.now) }
     ensures silent { IfOk result (λ room. room.spare.value.answer ≡ None) }
     ensures memory { IsOkUnless result Error.Memory }
 {
@@ -109,6 +111,7 @@ pub fn handle_of<S: System>(alloc: Global, running: Running<S>, room: HandleBuff
     requires ids { command_count (shape_view running.shape) ≤ vec_capacity room.ids }
     requires numbers { HaveRoom (shape_view running.shape) room.numbers }
     requires spare { HaveRoom (shape_view running.shape) room.spare.value.numbers }
+    requires same { shape_view (arc_value room.spare.value.shape) ≡ shape_view running.shape }
     requires silent { room.spare.value.answer ≡ None }
     requires unasked { AreUnasked ⟦<S as Viewed>⟧.views running.children running.feeds
         running.output running.error }
@@ -130,10 +133,7 @@ pub fn handle_of<S: System>(alloc: Global, running: Running<S>, room: HandleBuff
         shape,
         numbers,
         ids,
-        lock: Mutex::new(HandleState {
-            running,
-            spare: Some(spare),
-        }),
+        lock: Lock::new(running, spare),
         cell: OnceBox::new(alloc),
     }
 }
@@ -152,9 +152,7 @@ pub(crate) fn into_locked<S: System>(handle: Handle<S>) -> (Running<S>, Arc<Shap
         cell,
     } = handle;
     drop((ids, cell));
-    let HandleState { running, spare } = lock.into_inner();
-    drop(spare);
-    (running, shape, numbers)
+    (lock.into_running(), shape, numbers)
 }
 
 // Gives the children of what a lock held to a pool.

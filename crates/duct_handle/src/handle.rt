@@ -10,7 +10,8 @@ ghost use Rattle.duct_running.specs.PolledOnce.{PolledOnce};
 ghost use Rattle.duct_running.specs.Stays.{StaysSame};
 ghost use Rattle.duct_handle.specs.Waited.{GivesAgain, KnowsIfEnded, Waited};
 
-use crate::poll::{HandleState, mismatch_error, poll_and_publish, same};
+use crate::lock::{Guard, Lock};
+use crate::poll::{mismatch_error, same};
 use crate::published::{Answer, Published};
 use duct_base::error::Error;
 use duct_base::status::Shape;
@@ -20,7 +21,7 @@ use duct_running::numbers::Numbers;
 use once_cell::race::{Note, OnceBox};
 use std::alloc::Global;
 use std::marker::Model;
-use std::sync::{Arc, Mutex, Wait};
+use std::sync::{Arc, Wait};
 
 /// A running expression, which threads share by reference. The result is published once, and every
 /// wait returns it.
@@ -33,7 +34,7 @@ pub struct Handle<S: System> {
     pub(crate) shape: Arc<Shape>,
     pub(crate) numbers: Numbers,
     pub(crate) ids: Vec<u32>,
-    pub(crate) lock: Mutex<HandleState<S>>,
+    pub(crate) lock: Lock<S>,
     pub(crate) cell: OnceBox<Published<S>>,
 }
 
@@ -163,11 +164,11 @@ impl<S: System> Handle<S> {
         if let Some(answer) = self.recall(seen) {
             return answer;
         }
-        let mut guard = self.lock.lock(rt);
+        let guard = self.lock.lock(rt);
         if let Some(answer) = self.recall(seen) {
             return answer;
         }
-        self.poll_locked(&mut *guard, seen, busy)
+        self.poll_locked(guard, seen, busy)
     }
 
     // The result, if it is published already.
@@ -187,20 +188,20 @@ impl<S: System> Handle<S> {
     // Polls what the lock holds, once, and publishes how it ended.
     fn poll_locked(
         &self,
-        locked: &mut HandleState<S>,
+        guard: Guard<'_, S>,
         seen: &mut Seen<S>,
         busy: &mut bool,
     ) -> Result<Option<Arc<Output>>, Error>
         requires cell { seen.old.cell ≡ self.now.cell }
         requires unknown { seen.old.known ≡ None }
-        ensures polls { PolledOnce ⟦<S as Viewed>⟧.views locked.old.running locked.new.running }
-        ensures stays { StaysSame ⟦<S as Viewed>⟧.views locked.old.running locked.new.running }
-        ensures waited { Waited ⟦<S as Viewed>⟧.views self.now seen.old seen.new result }
+        ensures { Waited ⟦<S as Viewed>⟧.views self.now seen.old seen.new result }
     {
-        let looked = poll_and_publish(locked, &self.shape, &self.numbers);
-        *busy = locked.running.is_busy();
-        let Some(published) = looked? else {
-            return Ok(None);
+        let (looked, spent) = guard.poll(&self.shape, &self.numbers);
+        *busy = spent.is_busy();
+        let published = match looked {
+            Ok(Some(published)) => published,
+            Ok(None) => return Ok(None),
+            Err(error) => return Err(error),
         };
         let _ = self.cell.set_as(published, &mut seen.note);
         seen.knows = true;

@@ -5,6 +5,7 @@
 pub mod buffers;
 pub mod finish;
 pub mod handle;
+mod lock;
 mod orders;
 mod output;
 mod pause;

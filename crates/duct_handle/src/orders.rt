@@ -16,7 +16,7 @@ use std::sync::Wait;
 
 // Gives the order to what runs, once. Where the shape or the numbers differ from these, it fails and
 // gives nothing.
-fn ordered<S: System>(
+pub(crate) fn ordered<S: System>(
     running: &mut Running<S>,
     shape: &Shape,
     numbers: &Numbers,
@@ -56,8 +56,9 @@ impl<S: System> Handle<S> {
     pub(crate) fn order(&self, rt: &impl Wait, order: Order) -> Result<(), Error>
         ensures { IsObeyed ⟦<S as Viewed>⟧.views order self.now.numbers.children result }
     {
-        let mut guard = self.lock.lock(rt);
-        ordered(&mut guard.running, &self.shape, &self.numbers, order)
+        let guard = self.lock.lock(rt);
+        let (obeyed, _spent) = guard.order(&self.shape, &self.numbers, order);
+        obeyed
     }
 
     /// Returns the process ids of the children, one a command, from left to right. They stay the

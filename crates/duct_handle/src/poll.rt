@@ -1,4 +1,4 @@
-//! What the lock of a handle holds, and one poll of it.
+//! One poll of what a handle runs.
 ghost use Rattle.std.specs.Prelude.{◌≡◌, ◌↔◌, IfOk, IfErr, IfSome, IsTrue, is_some, true, Ok, Err, None};
 ghost use Rattle.std.specs.Arc.{arc_value};
 ghost use Rattle.duct_status.specs.ShapeView.{shape_view};
@@ -19,12 +19,6 @@ use duct_run::views::Viewed;
 use duct_running::numbers::Numbers;
 use duct_running::running::Running;
 use std::sync::Arc;
-
-/// What runs, and what is published once it has ended.
-pub(crate) struct HandleState<S: System> {
-    pub(crate) running: Running<S>,
-    pub(crate) spare: Option<Box<Published<S>>>,
-}
 
 // The error if shape or numbers differ, or if there is no result, which no start causes.
 pub(crate) fn mismatch_error() -> Error
@@ -49,7 +43,7 @@ pub(crate) fn polled<S: System>(running: &mut Running<S>) -> Result<Option<Arc<O
 }
 
 // Polls what runs, once. It fails where the shape or the numbers differ from these.
-fn poll_checked<S: System>(
+pub(crate) fn poll_checked<S: System>(
     running: &mut Running<S>,
     shape: &Shape,
     numbers: &Numbers,
@@ -75,36 +69,6 @@ fn poll_checked<S: System>(
         Err(Error::Checked(text)) => Ok(Some(Answer::Failed(text))),
         Err(error) => Err(error),
     }
-}
-
-// Polls what runs, once. Where it has ended, returns the spare with its result, to be published;
-// before that `None`.
-pub(crate) fn poll_and_publish<S: System>(
-    locked: &mut HandleState<S>,
-    shape: &Shape,
-    numbers: &Numbers,
-) -> Result<Option<Box<Published<S>>>, Error>
-    ensures polls { PolledOnce ⟦<S as Viewed>⟧.views locked.old.running locked.new.running }
-    ensures stays { StaysSame ⟦<S as Viewed>⟧.views locked.old.running locked.new.running }
-    ensures ended { IfOk result (λ o. IfSome o (λ b. is_some b.value.answer ≡ true)) }
-    ensures runs { result ≡ Ok None → OneRuns ⟦<S as Viewed>⟧.views (numbers_view numbers.now) }
-    ensures waits { result ≡ Ok None → IsAnswer ⟦<S as Viewed>⟧.views (shape_view shape.now)
-        (numbers_view numbers.now) (Ok None) }
-    ensures fault { IfErr result IsNoEnding }
-    ensures err { IfErr result (λ e. IsAnswer ⟦<S as Viewed>⟧.views (shape_view shape.now)
-        (numbers_view numbers.now) (Err e)) }
-{
-    let Some(answer) = poll_checked(&mut locked.running, shape, numbers)? else {
-        return Ok(None);
-    };
-    let Some(mut published) = locked.spare.take() else {
-        return Err(mismatch_error());
-    };
-    if !same(&published, shape, numbers) {
-        return Err(mismatch_error());
-    }
-    published.answer = Some(answer);
-    Ok(Some(published))
 }
 
 // Whether this has the given shape and the given numbers.

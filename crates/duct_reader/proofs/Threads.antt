@@ -14,6 +14,7 @@ use Rattle.duct_system.specs.declared.system.Job
 use Rattle.duct_system.specs.declared.system.Numbered
 use Rattle.duct_system.specs.declared.system.System
 use Rattle.duct_handle.proofs.Threads.{handle_sync}
+use Rattle.duct_reader.specs.contracts.pipe.Pipe
 use Rattle.duct_reader.specs.contracts.reader.ReaderHandle
 use Rattle.duct_reader.specs.contracts.reader.ReaderHandle.TheInside
 
@@ -25,6 +26,10 @@ module _ (S W E C F D R : RattleType)
     (d : Job.Ghosts D.Denot (Arc.Arc (Vec.Vec (Field.u8-field).Value Global.Global) Global.Global))
     (dn : Numbered.Ghosts D.Denot)
     (r : Read.Ghosts R.Denot) where
+  pipe_field_sync : IsSend R → IsSync (Pipe.the_field S E C F D R).row
+  pipe_field_sync reader = struct_sync (shape (Pipe.the_type S E C F D R))
+      (mutex.the_sync R reader, tt)
+
   fields_sync : IsSync W → IsSend C → IsSend F → IsSend D → IsSend R
       → IsSync (TheInside.the_field S W E C F D R s e c cn f fn d dn r).row
   fields_sync runtime child feed drain reader = struct_sync
@@ -32,7 +37,7 @@ module _ (S W E C F D R : RattleType)
         runtime,
         (
           handle_sync S E C F D R s e c cn f fn d dn r child feed drain,
-          (mutex.the_sync R reader, tt),
+          (pipe_field_sync reader, tt),
         ),
       )
 

@@ -4,6 +4,7 @@
 
 mod error;
 mod io;
+mod pipe;
 pub mod read;
 pub mod reader;
 pub mod text;

@@ -11,15 +11,14 @@ ghost use Rattle.duct_handle.specs.Obeyed.{IsObeyed};
 ghost use Rattle.duct_reader.specs.Reads.{ClosesAs, KnowsOutput, ReadsAs};
 ghost use Rattle.duct_reader.specs.ReadsText.{IsReadFault};
 
+use crate::pipe::Pipe;
 use duct_base::error::Error;
 use duct_base::pool::Pool;
-use duct_base::system::{Fault, Output, System};
+use duct_base::system::{Output, System};
 use duct_handle::handle::{Handle, Seen};
 use duct_run::views::Viewed;
-use duct_worker::watched::Watched;
-use std::io::Read;
 use std::marker::Model;
-use std::sync::{Arc, Mutex, Wait};
+use std::sync::{Arc, Wait};
 
 /// A running expression, and the end of the pipe that its stdout is written to. Threads share it by
 /// reference. The pipe has a lock of its own: `kill`, `try_wait` and `pids` never wait for a read,
@@ -37,7 +36,7 @@ use std::sync::{Arc, Mutex, Wait};
 pub struct ReaderHandle<S: System, R> {
     rt: R,
     handle: Handle<S>,
-    pipe: Mutex<S::Reader>,
+    pipe: Pipe<S>,
 }
 
 impl<S: System, R> Model for ReaderHandle<S, R> {
@@ -65,7 +64,7 @@ pub fn reader_handle_of<S: System, R>(
     ReaderHandle {
         rt,
         handle,
-        pipe: Mutex::new(reader),
+        pipe: Pipe::new(reader),
     }
 }
 
@@ -85,19 +84,6 @@ impl<S: System, R> ReaderHandle<S, R> {
         ensures unknown { result.known ≡ None }
     {
         self.handle.seen()
-    }
-}
-
-// One read. A fault is that of what stopped the reader.
-fn read_watched<R: Read>(reader: &mut Watched<'_, R>, buf: &mut [u8]) -> Result<usize, Error>
-    requires { reader.old.stopped ≡ None }
-    ensures bound { IfOk result (λ read. read ≤ length buf.new) }
-    ensures room { length buf.new ≡ length buf.old }
-    ensures err { IfErr result (IsReadFault reader.new.stopped) }
-{
-    match reader.read(buf) {
-        Ok(read) => Ok(read),
-        Err(error) => Err(Error::System(Fault::from(error))),
     }
 }
 
@@ -140,7 +126,7 @@ impl<S: System, R: Wait> ReaderHandle<S, R> {
             seen.new result }
         ensures ended { result ≡ Ok 0 → 0 < length buf.old → KnowsOutput self.now seen.new }
     {
-        let read = self.read_pipe(buf)?;
+        let read = self.pipe.read(&self.rt, buf)?;
         if read > 0 || buf.is_empty() {
             return Ok(read);
         }
@@ -154,20 +140,6 @@ impl<S: System, R: Wait> ReaderHandle<S, R> {
     {
         drop(self.handle.wait_as(&self.rt, seen)?);
         Ok(0)
-    }
-
-    // One read of the pipe, under its lock. Where the buffer has no room, none.
-    fn read_pipe(&self, buf: &mut [u8]) -> Result<usize, Error>
-        ensures bound { IfOk result (λ read. read ≤ length buf.new) }
-        ensures room { length buf.new ≡ length buf.old }
-        ensures err { IfErr result (λ e. (fault : Fault) × (e ≡ error.System fault)) }
-        ensures asked { OnErr result (0 < length buf.old) }
-    {
-        if buf.is_empty() {
-            return Ok(0);
-        }
-        let mut pipe = self.pipe.lock(&self.rt);
-        read_watched(&mut Watched::new(&mut *pipe), buf)
     }
 }
 
