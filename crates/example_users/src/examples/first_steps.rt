@@ -1,5 +1,5 @@
 //! The first steps, as README shows them.
-use duct::{Error, Expression, Pool, System, cmd};
+use duct::{Error, Expression, Output, Pool, System, cmd};
 use std::alloc::Global;
 use std::sync::Wait;
 
@@ -13,6 +13,11 @@ pub fn piped<S: System>(rt: &impl Wait, alloc: Global, system: &mut S) -> Result
     let fails: Expression<S::End> = cmd!(in alloc; "sh", "-c", "exit 3")?;
     let failed = fails.run(rt, system, &mut pool); // Err(Error::Checked(..))
 
+    told(alloc, &output, failed)
+}
+
+// Returns how many bytes an output has of each stream, and the error of another result.
+fn told(alloc: Global, output: &Output, failed: Result<Output, Error>) -> Result<String, Error> {
     let (out, err) = (output.stdout.len(), output.stderr.len());
     match failed {
         Ok(_) => Ok(format!(in alloc; "{out}, {err}, no error")?),

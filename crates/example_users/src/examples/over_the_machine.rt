@@ -1,4 +1,4 @@
-//! Tests of the examples over the real machine.
+//! A test of the examples over the real machine: each adds to a text what it prints, or why it fails.
 use super::commands::{
     by_paths, excused, failed, fed, filtered, listed, logged, merged, placed, silenced, swapped,
 };
@@ -13,7 +13,7 @@ use duct_host::clock::HostClock;
 use duct_host::end::End;
 use duct_host::host::Host;
 use duct_host::parents::Parents;
-use std::alloc::Global;
+use std::alloc::{AllocError, Global};
 use std::fs;
 use std::fs::File;
 use std::process::Processes;
@@ -23,29 +23,38 @@ use std::test::Fail;
 use std::thread::{Parker, Threads};
 use std::time::Duration;
 
-/// Returns what the first steps print, and why one of them fails.
-fn steps<S: System>(rt: &impl Wait, alloc: Global, system: &mut S) -> Result<String, Error> {
-    let mut text = piped(rt, alloc, system)?;
-    write!(text, "\n{}", filed(rt, alloc, system, "filed")?)?;
-    Ok(text)
+/// Adds a line to a text.
+fn push_line(text: &mut String, line: String) -> Result<(), AllocError> {
+    text.push_str(line.as_str())?;
+    text.push('\n')
 }
 
-#[test]
-fn the_first_steps(rt: HostRuntime) -> Result<(), Fail> {
-    let text = steps(&rt, rt.alloc(), &mut Host::new(&rt, rt.alloc()))?;
-    let wanted = "6, 8, command [\"sh\", \"-c\", \"exit 3\"] exited with code 3\nme\n/";
-    assert_eq!(rt; text.as_str(), wanted);
-    Ok(())
+/// Adds what a command prints.
+fn push_read<S: System>(
+    text: &mut String,
+    rt: &impl Wait,
+    alloc: Global,
+    system: &mut S,
+    command: Expression<S::End>,
+) -> Result<(), Error> {
+    let printed = command.read(rt, system, &mut Pool::new(alloc))?;
+    Ok(push_line(text, printed)?)
 }
 
-/// Returns what the commands of the cookbook print.
-fn texts<S: System>(rt: &impl Wait, alloc: Global, system: &mut S) -> Result<String, Error> {
-    let mut pool = Pool::new(alloc);
-    let mut text = String::new(alloc);
-    for command in [listed(alloc)?, fed(alloc)?, merged(alloc)?, placed(alloc)?] {
-        text.push_str(command.read(rt, system, &mut pool)?.as_str())?;
-    }
-    Ok(text)
+/// Adds what the first steps and the commands of the cookbook print.
+fn push_commands<S: System>(
+    text: &mut String,
+    rt: &impl Wait,
+    alloc: Global,
+    system: &mut S,
+) -> Result<(), Error> {
+    push_line(text, piped(rt, alloc, system)?)?;
+    push_line(text, filed(rt, alloc, system, "filed")?)?;
+    push_read(text, rt, alloc, system, listed(alloc)?)?;
+    push_read(text, rt, alloc, system, fed(alloc)?)?;
+    push_read(text, rt, alloc, system, merged(alloc)?)?;
+    push_read(text, rt, alloc, system, placed(alloc)?)?;
+    Ok(push_line(text, failed(rt, alloc, system)?)?)
 }
 
 /// Works beside a command, a millisecond a piece, and returns whether it succeeded.
@@ -59,27 +68,16 @@ fn worked<S: System>(rt: &impl Wait, alloc: Global, system: &mut S) -> Result<bo
     Ok(output.status.success() && done > 0)
 }
 
-/// Returns how commands of the cookbook end, how much they print, and whether one was worked beside.
-fn endings<S: System>(rt: &impl Wait, alloc: Global, system: &mut S) -> Result<String, Error> {
-    let failed = failed(rt, alloc, system)?;
-    let stopped = stopped(rt, alloc, system)?.status;
+/// Adds how a service is stopped, how many bytes a command prints, and whether one was worked beside.
+fn push_handles<S: System>(
+    text: &mut String,
+    rt: &impl Wait,
+    alloc: Global,
+    system: &mut S,
+) -> Result<(), Error> {
+    let status = stopped(rt, alloc, system)?.status;
     let (count, worked) = (counted(rt, alloc, system)?, worked(rt, alloc, system)?);
-    Ok(format!(in alloc; "; {failed}, {stopped:?}, {count} bytes, {worked}")?)
-}
-
-/// Returns what the commands of the cookbook print, and how they end.
-fn commands<S: System>(rt: &impl Wait, alloc: Global, system: &mut S) -> Result<String, Error> {
-    let mut text = texts(rt, alloc, system)?;
-    text.push_str(endings(rt, alloc, system)?.as_str())?;
-    Ok(text)
-}
-
-#[test]
-fn commands_of_the_cookbook(rt: HostRuntime) -> Result<(), Fail> {
-    let text = commands(&rt, rt.alloc(), &mut Host::new(&rt, rt.alloc()))?;
-    let wanted = "foo bar bazfooout\nerr/\nfoobar; Code(3), Signal(15), 3893 bytes, true";
-    assert_eq!(rt; text.as_str(), wanted);
-    Ok(())
+    Ok(writeln!(text, "{status:?}, {count} bytes, {worked}")?)
 }
 
 /// A command of this shell script.
@@ -87,139 +85,172 @@ fn sh<E: Drop>(alloc: Global, script: &str) -> Result<Expression<E>, Error> {
     cmd!(in alloc; "sh", "-c", script)
 }
 
-/// Returns what expressions print to stderr, or why they fail.
-fn told<S: System>(
+/// Adds what expressions print to stderr, or why they fail.
+fn push_stderr<S: System>(
+    text: &mut String,
     rt: &impl Wait,
     alloc: Global,
     system: &mut S,
     expressions: &[Expression<S::End>],
-) -> Result<String, Error> {
+) -> Result<(), Error> {
     let mut pool = Pool::new(alloc);
-    let mut text = String::new(alloc);
     for expression in expressions {
         match expression.stderr_capture()?.run(rt, system, &mut pool) {
             Ok(output) => write!(text, "{}; ", str::from_utf8(&output.stderr).unwrap_or("?"))?,
             Err(error) => write!(text, "{error}; ")?,
         }
     }
-    Ok(text)
+    Ok(text.push('\n')?)
 }
 
-/// Returns what pipes print where one side is silent, and why they fail where one may fail.
-fn pipes_text<S: System>(rt: &impl Wait, alloc: Global, system: &mut S) -> Result<String, Error> {
+/// Adds what pipes print where one side is silent, and why they fail where one may fail.
+fn push_pipes<S: System>(
+    text: &mut String,
+    rt: &impl Wait,
+    alloc: Global,
+    system: &mut S,
+) -> Result<(), Error> {
     let pipes = silenced(&sh(alloc, "echo foo >&2")?, &sh(alloc, "echo bar >&2")?)?;
-    let mut text = told(rt, alloc, system, &pipes)?;
+    push_stderr(text, rt, alloc, system, &pipes)?;
     let pipes = excused(&sh(alloc, "exit 2")?, &sh(alloc, "exit 3")?)?;
-    text.push_str(told(rt, alloc, system, &pipes)?.as_str())?;
-    let swapped = swapped(alloc)?;
-    text.push_str(told(rt, alloc, system, &[swapped])?.as_str())?;
-    Ok(text)
+    push_stderr(text, rt, alloc, system, &pipes)
 }
 
-/// Returns what a pipeline prints that is made in a loop, and how one of paths is shown.
-fn sorted<S: System>(rt: &impl Wait, alloc: Global, system: &mut S) -> Result<String, Error> {
-    let first = sh(alloc, "printf 'b\na\n'")?;
-    let sorted = filtered(alloc, &first, &["sort", "rev"])?;
-    let text = sorted.read(rt, system, &mut Pool::new(alloc))?;
+/// Adds what a command prints whose streams are exchanged, what a pipeline prints that is made in a
+/// loop, and how one of paths is shown.
+fn push_pipelines<S: System>(
+    text: &mut String,
+    rt: &impl Wait,
+    alloc: Global,
+    system: &mut S,
+) -> Result<(), Error> {
+    push_stderr(text, rt, alloc, system, &[swapped(alloc)?])?;
+    let sorted = filtered(alloc, &sh(alloc, "printf 'b\na\n'")?, &["sort", "rev"])?;
+    push_read(text, rt, alloc, system, sorted)?;
     let pipe: Expression<S::End> = by_paths(alloc)?;
-    Ok(format!(in alloc; "{text}\n{pipe:?}")?)
+    Ok(writeln!(text, "{pipe:?}")?)
 }
 
-/// Returns what all pipelines print.
-fn pipelines_text<S: System>(
+/// Adds what a script prints, why another one fails, how many children the pool keeps, and what was
+/// started.
+fn push_scripts<S: System>(
+    text: &mut String,
     rt: &impl Wait,
     alloc: Global,
     system: &mut S,
-) -> Result<String, Error> {
-    let mut text = pipes_text(rt, alloc, system)?;
-    text.push_str(sorted(rt, alloc, system)?.as_str())?;
-    Ok(text)
-}
-
-#[test]
-fn pipelines(rt: HostRuntime) -> Result<(), Fail> {
-    let text = pipelines_text(&rt, rt.alloc(), &mut Host::new(&rt, rt.alloc()))?;
-    let wanted = "bar\n; foo\n; ; command [\"sh\", \"-c\", \"exit 3\"] exited with code 3; \
-        command [\"sh\", \"-c\", \"exit 2\"] exited with code 2; ; foo\n; a\nb\n\
-        Pipe(Cmd([\"./tools/a\", \"-v\", \"in\"]), Cmd([\"b\"]))";
-    assert_eq!(rt; text.as_str(), wanted);
-    Ok(())
-}
-
-/// Returns what a script prints, why another one fails, how many children the pool keeps, and what
-/// was started.
-fn scripts<S: System>(rt: &impl Wait, alloc: Global, system: &mut S) -> Result<String, Error> {
+) -> Result<(), Error> {
     let mut pool = Pool::new(alloc);
-    let mut text = run_script(rt, alloc, system, &mut pool, "echo hi\nprintf a%sc b")?;
+    system.clear_journal();
+    push_line(
+        text,
+        run_script(rt, alloc, system, &mut pool, "echo hi\nprintf a%sc b")?,
+    )?;
     if let Err(error) = run_script(rt, alloc, system, &mut pool, "no-such-program\necho hi") {
-        text.push_str(reason(alloc, system, &error)?.as_str())?;
+        push_line(text, reason(alloc, system, &error)?)?;
     }
-    let (kept, started) = (pool.len(), started(alloc, system)?);
-    Ok(format!(in alloc; "{text}, {kept} kept\n{started}")?)
+    writeln!(text, "{} kept", pool.len())?;
+    Ok(push_line(text, started(alloc, system)?)?)
 }
 
-/// Returns the same, and what comes of a service that may run for 20 milliseconds.
-fn served<S: System>(
-    rt: &impl Wait,
-    alloc: Global,
-    system: &mut S,
-    clock: &impl Clock,
-) -> Result<String, Error> {
-    let mut text = scripts(rt, alloc, system)?;
-    let limit = Duration::from_millis(20);
-    text.push_str(service_text(rt, alloc, system, clock, limit)?.as_str())?;
-    Ok(text)
-}
-
-#[test]
-fn scripts_and_a_service(rt: HostRuntime) -> Result<(), Fail> {
-    let clock = HostClock::new(&rt)?;
-    let text = served(&rt, rt.alloc(), &mut Host::new(&rt, rt.alloc()), &clock)?;
-    let wanted = "hi\nabc\nspawn of \"no-such-program\": NotFound, 0 kept\necho hi \n\
-        printf a%sc b \nNone, 3 given";
-    assert_eq!(rt; text.as_str(), wanted);
-    Ok(())
-}
-
-/// Returns the longest line of what a command prints in pieces, its bytes, what is left of a log,
-/// and whether the log got all of them.
-fn lines_text<S: System>(
+/// Adds the longest line of what a command prints in pieces, its bytes, what is left of a log, and
+/// whether the log got all of them.
+fn push_lines<S: System>(
+    text: &mut String,
     rt: &impl Wait,
     alloc: Global,
     system: &mut S,
     mut log: &mut [u8],
-) -> Result<String, Error> {
+) -> Result<(), Error> {
     let script = "printf 'one\nth'; sleep 0.02; printf 'ree\ntwo'";
     let command: Expression<S::End> = sh(alloc, script)?;
     let longest = longest_line(rt, alloc, system, &command)?;
     let (bytes, whole) = copied(rt, alloc, system, &command, &mut log)?;
-    let (bytes, left) = (bytes.len(), log.len());
-    Ok(format!(in alloc; "{longest}, {bytes}, {left}, {whole}")?)
+    Ok(writeln!(text, "{longest}, {}, {}, {whole}", bytes.len(), log.len())?)
 }
 
-/// Returns why the lines of a command that fails can't be read to their end.
-fn failing<S: System>(rt: &impl Wait, alloc: Global, system: &mut S) -> Result<String, Error> {
+/// Adds why the lines of a command that fails can't be read to their end.
+fn push_failing<S: System>(
+    text: &mut String,
+    rt: &impl Wait,
+    alloc: Global,
+    system: &mut S,
+) -> Result<(), Error> {
     let command: Expression<S::End> = sh(alloc, "echo hi; exit 3")?;
     match longest_line(rt, alloc, system, &command) {
-        Ok(longest) => Ok(format!(in alloc; "{longest}")?),
-        Err(error) => Ok(format!(in alloc; "{error}")?),
+        Ok(longest) => Ok(writeln!(text, "{longest}")?),
+        Err(error) => Ok(writeln!(text, "{error}")?),
     }
 }
 
-/// Returns what is read of all lines, with a log that is too short and with one that isn't.
-fn all_lines<S: System>(rt: &impl Wait, alloc: Global, system: &mut S) -> Result<String, Error> {
-    let mut text = lines_text(rt, alloc, system, &mut [0; 7])?;
-    let whole = lines_text(rt, alloc, system, &mut [0; 20])?;
-    write!(text, "; {whole}; {}", failing(rt, alloc, system)?)?;
-    Ok(text)
+/// Adds what all examples print. A log is too short, and another one isn't; a service may run for 20
+/// milliseconds.
+fn push_all<S: System>(
+    text: &mut String,
+    rt: &impl Wait,
+    alloc: Global,
+    system: &mut S,
+    clock: &impl Clock,
+) -> Result<(), Error> {
+    push_commands(text, rt, alloc, system)?;
+    push_handles(text, rt, alloc, system)?;
+    push_pipes(text, rt, alloc, system)?;
+    push_pipelines(text, rt, alloc, system)?;
+    push_scripts(text, rt, alloc, system)?;
+    push_lines(text, rt, alloc, system, &mut [0; 7])?;
+    push_lines(text, rt, alloc, system, &mut [0; 20])?;
+    push_failing(text, rt, alloc, system)?;
+    let limit = Duration::from_millis(20);
+    Ok(push_line(text, service_text(rt, alloc, system, clock, limit)?)?)
 }
 
+/// What all examples print.
+const WANTED: &str = "6, 8, command [\"sh\", \"-c\", \"exit 3\"] exited with code 3
+me
+/
+foo bar baz
+foo
+out
+err
+/
+foobar
+Code(3)
+Signal(15), 3893 bytes, true
+bar
+; foo
+; ;\x20
+command [\"sh\", \"-c\", \"exit 3\"] exited with code 3; \
+command [\"sh\", \"-c\", \"exit 2\"] exited with code 2; ;\x20
+foo
+;\x20
+a
+b
+Pipe(Cmd([\"./tools/a\", \"-v\", \"in\"]), Cmd([\"b\"]))
+hi
+abc
+
+spawn of \"no-such-program\": NotFound
+0 kept
+echo hi\x20
+printf a%sc b\x20
+
+5, 13, 0, false
+5, 13, 7, true
+command [\"sh\", \"-c\", \"echo hi; exit 3\"] exited with code 3
+None, 3 given
+";
+
 #[test]
-fn lines_end_as_the_command_does(rt: HostRuntime) -> Result<(), Fail> {
-    let text = all_lines(&rt, rt.alloc(), &mut Host::new(&rt, rt.alloc()))?;
-    let wanted = "5, 13, 0, false; 5, 13, 7, true; \
-        command [\"sh\", \"-c\", \"echo hi; exit 3\"] exited with code 3";
-    assert_eq!(rt; text.as_str(), wanted);
+fn examples_over_the_machine(rt: HostRuntime) -> Result<(), Fail> {
+    let clock = HostClock::new(&rt)?;
+    let mut text = String::new(rt.alloc());
+    push_all(
+        &mut text,
+        &rt,
+        rt.alloc(),
+        &mut Host::new(&rt, rt.alloc()),
+        &clock,
+    )?;
+    assert_eq!(rt; text.as_str(), WANTED);
     Ok(())
 }
 
