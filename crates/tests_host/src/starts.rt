@@ -77,10 +77,13 @@ fn two_started<S: System>(
 #[test]
 fn two_handles_of_one_host(rt: HostRuntime) -> Result<(), Fail> {
     let before = count_left(&rt)?;
-    let mut host = Host::new(&rt, rt.alloc());
-    let mut pool = Pool::new(rt.alloc());
-    let well = two_started(&rt, rt.alloc(), &mut host, &mut pool)?;
-    assert_eq!(rt; (well, pool.len(), count_left(&rt)?), (true, 0, before));
+    let (well, kept) = {
+        let mut host = Host::new(&rt, rt.alloc());
+        let mut pool = Pool::new(rt.alloc());
+        let well = two_started(&rt, rt.alloc(), &mut host, &mut pool)?;
+        (well, pool.len())
+    };
+    assert_eq!(rt; (well, kept, count_left(&rt)?), (true, 0, before));
     Ok(())
 }
 

@@ -118,20 +118,22 @@ fn wait_and_order<H: SharedHandle, R: Wait + Threads + rt::Clock + Sync>(
 }
 
 /// Checks that two threads that wait for a pipeline both see the kill or the signal of a third one,
-/// and that nothing is left.
+/// and that nothing is left after either.
 #[test]
 fn orders_end_two_waits(rt: HostRuntime) -> Result<(), Fail> {
     let before = count_left(&rt)?;
-    let mut host = Host::new(&rt, rt.alloc());
-    let mut pool = Pool::new(rt.alloc());
-    let mut well = true;
     for signal in [KILL, 15] {
-        let handle = asleep(rt.alloc(), &mut host, &mut pool)?;
-        let told = wait_and_order(&rt, &handle, signal);
-        handle.give_up(&mut pool);
-        well &= told == ((true, true), (2, true, true));
+        let told = {
+            let mut host = Host::new(&rt, rt.alloc());
+            let mut pool = Pool::new(rt.alloc());
+            let handle = asleep(rt.alloc(), &mut host, &mut pool)?;
+            let told = wait_and_order(&rt, &handle, signal);
+            handle.give_up(&mut pool);
+            told
+        };
+        let wanted = (((true, true), (2, true, true)), before);
+        assert_eq!(rt; (told, count_left(&rt)?), wanted, "{signal}");
     }
-    assert_eq!(rt; (well, count_left(&rt)?), (true, before));
     Ok(())
 }
 
@@ -194,20 +196,19 @@ fn printing<S: System, R: Drop>(
 #[test]
 fn a_kill_ends_two_reads(rt: HostRuntime) -> Result<(), Fail> {
     let before = count_left(&rt)?;
-    let mut host = Host::new(&rt, rt.alloc());
-    let mut pool = Pool::new(rt.alloc());
-    let mut well = true;
     for round in 0..12_u32 {
-        let handle = printing(&rt, rt.alloc(), &mut host, &mut pool)?;
-        let ends = read_and_kill(
-            &rt,
-            &handle,
-            Duration::from_millis(u64::from(round).saturating_mul(4)),
-        );
-        handle.give_up(&mut pool);
-        well &= ends;
+        let later = Duration::from_millis(u64::from(round).saturating_mul(4));
+        let ends = {
+            let mut host = Host::new(&rt, rt.alloc());
+            let mut pool = Pool::new(rt.alloc());
+            let handle = printing(&rt, rt.alloc(), &mut host, &mut pool)?;
+            let ends = read_and_kill(&rt, &handle, later);
+            handle.give_up(&mut pool);
+            ends
+        };
+        assert!(rt; ends, "{round}");
     }
-    assert_eq!(rt; (well, count_left(&rt)?), (true, before));
+    assert_eq!(rt; count_left(&rt)?, before);
     Ok(())
 }
 
@@ -350,15 +351,17 @@ fn napping<S: System>(
 #[test]
 fn eight_threads_are_told_the_same(rt: HostRuntime) -> Result<(), Fail> {
     let before = count_left(&rt)?;
-    let mut host = Host::new(&rt, rt.alloc());
-    let mut pool = Pool::new(rt.alloc());
-    let mut differing = 0_u32;
     for round in 0..ROUNDS {
-        let handle = napping(rt.alloc(), round, &mut host, &mut pool)?;
-        let agree = eight_agree(&rt, rt.alloc(), &handle, round);
-        handle.give_up(&mut pool);
-        differing = differing.saturating_add(u32::from(!agree));
+        let (agree, kept) = {
+            let mut host = Host::new(&rt, rt.alloc());
+            let mut pool = Pool::new(rt.alloc());
+            let handle = napping(rt.alloc(), round, &mut host, &mut pool)?;
+            let agree = eight_agree(&rt, rt.alloc(), &handle, round);
+            handle.give_up(&mut pool);
+            (agree, pool.len())
+        };
+        assert_eq!(rt; (agree, kept), (true, 0), "{round}");
     }
-    assert_eq!(rt; (differing, pool.len(), count_left(&rt)?), (0, 0, before));
+    assert_eq!(rt; count_left(&rt)?, before);
     Ok(())
 }
