@@ -1,5 +1,5 @@
-//! Tests of allocation failures. Whichever single allocation of the process fails, each test named
-//! `memory_..` checks that the result is the same as with ample memory, or the fault `OutOfMemory`.
+//! Tests of allocation failures. Whichever single allocation of the process fails, the test
+//! `memory_..` checks that the results are the same as with ample memory, or the fault `OutOfMemory`.
 //! After that fault a file is as it was, a child still runs, and no descriptor stays open.
 use duct::{Error, Worker};
 use duct_base::spec::{CommandSpec, Port, spec_of};
@@ -29,12 +29,17 @@ fn written<R: Real>(rt: &R) -> io::Result<String> {
 /// of the create if the file has its text, and returns false if it hasn't.
 fn created<R: Real>(rt: &R) -> Result<bool, Error> {
     let path = written(rt).map_err(Fault::from)?;
-    let answer = Host::new(rt.clone()?, rt.alloc()).create(path.as_str());
-    let length = fs::metadata(rt, path.as_str()).map(|found| found.len());
+    let refused = Host::new(rt.clone()?, rt.alloc())
+        .create(path.as_str())
+        .err();
+    let length = match fs::metadata(rt, path.as_str()) {
+        Ok(found) => Some(found.len()),
+        Err(_) => None,
+    };
     fs::remove_file(rt, path.as_str()).map_err(Fault::from)?;
-    match (answer, length) {
-        (Ok(_), Ok(length)) => Ok(length == 0),
-        (Err(fault), Ok(4)) => Err(Error::System(fault)),
+    match (refused, length) {
+        (None, length) => Ok(length == Some(0)),
+        (Some(fault), Some(4)) => Err(Error::System(fault)),
         _ => Ok(false),
     }
 }
@@ -137,29 +142,21 @@ fn is_right(made: Result<bool, Error>) -> bool {
     }
 }
 
-#[test]
-fn memory_of_a_create(rt: HostRuntime) {
-    assert!(rt; is_right(created(&rt)));
+/// Whether all is as it should be, and no call failed.
+fn all_made<R: Real>(rt: &R) -> Result<bool, Error> {
+    Ok(created(rt)? && killed(rt)? && spawned(rt)? && worked(rt)?)
 }
 
 #[test]
-fn memory_of_a_kill(rt: HostRuntime) {
-    assert!(rt; is_right(killed(&rt)));
-}
-
-#[test]
-fn memory_of_a_spawn(rt: HostRuntime) {
-    assert!(rt; is_right(spawned(&rt)));
-}
-
-#[test]
-fn memory_of_workers(rt: HostRuntime) {
-    assert!(rt; is_right(worked(&rt)));
+fn memory_of_requests(rt: HostRuntime) {
+    assert!(rt; is_right(created(&rt)), "a create");
+    assert!(rt; is_right(killed(&rt)), "a kill");
+    assert!(rt; is_right(spawned(&rt)), "a spawn");
+    assert!(rt; is_right(worked(&rt)), "two workers");
 }
 
 /// Checks that all succeed if no allocation fails.
 #[test]
 fn all_memory_is_there(rt: HostRuntime) {
-    let made = (created(&rt), killed(&rt), spawned(&rt), worked(&rt));
-    assert_eq!(rt; made, (Ok(true), Ok(true), Ok(true), Ok(true)));
+    assert_eq!(rt; all_made(&rt), Ok(true));
 }

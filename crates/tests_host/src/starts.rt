@@ -1,9 +1,7 @@
 //! Tests of starts on the real machine: of two handles of one host, of threads that share a pool,
 //! and of threads with a host each.
 use crate::threads::Ticking;
-use duct::{Clock, Error, Expression, Handle, Output, Pool, System, cmd};
-use duct_deadline::late::Until;
-use duct_deadline::read::read_until;
+use duct::{Error, Expression, Handle, Output, Pool, System, cmd};
 use duct_host::child::Child;
 use duct_host::end::End;
 use duct_host::host::Host;
@@ -145,10 +143,19 @@ fn two_threads_share_a_pool(rt: HostRuntime) -> Result<(), Fail> {
     Ok(())
 }
 
-/// Starts a command that sleeps for 8 seconds, gives up its handle, and then reads what a pipe of
-/// two commands makes of an input. Both of them end at EOF alone. Returns whether they did within 5
-/// seconds.
-fn is_echoed<S: System, R: Ticks + Wait>(
+/// A pipe of two commands that copy an input, whose output is captured. Both of them end at EOF
+/// alone.
+fn copying<E: Drop>(alloc: Global) -> Result<Expression<E>, Error> {
+    let input = Vec::from_slice(alloc, b"hi")?;
+    let copy = cmd!(in alloc; "cat")?;
+    copy.stdin_bytes(input)?
+        .pipe(&cmd!(in alloc; "cat")?)?
+        .stdout_capture()
+}
+
+/// Starts a command that sleeps for 8 seconds, gives up its handle, and then waits for commands that
+/// copy an input. Returns whether they did within 5 seconds.
+fn is_copied<S: System, R: Ticks + Wait>(
     rt: &R,
     alloc: Global,
     sys: &mut S,
@@ -156,26 +163,26 @@ fn is_echoed<S: System, R: Ticks + Wait>(
 ) -> Result<bool, Error> {
     let sleeper: Expression<S::End> = cmd!(in alloc; "sleep", "8")?;
     sleeper.start(sys, pool)?.give_up(pool);
-    let cat: Expression<S::End> = cmd!(in alloc; "cat")?;
-    let input = Vec::from_slice(alloc, b"hi")?;
-    let tree = cat.stdin_bytes(input)?.pipe(&cmd!(in alloc; "cat")?)?;
-    let clock = Ticking { rt };
-    let moment = clock.now().saturating_add(Duration::from_secs(5));
-    match read_until(&tree, alloc, rt, &clock, moment, Duration::ZERO, sys, pool)? {
-        Until::Done(text) => Ok(text.as_str() == "hi"),
-        Until::Late(_) => Ok(false),
+    let copying: Expression<S::End> = copying(alloc)?;
+    let handle = copying.start(sys, pool)?;
+    let waited = handle.wait_timeout(rt, &Ticking { rt }, Duration::from_secs(5));
+    handle.give_up(pool);
+    match waited {
+        Ok(Some(output)) => Ok(output.stdout.as_slice() == b"hi".as_slice()),
+        Ok(None) => Ok(false),
+        Err(error) => Err(error),
     }
 }
 
 /// Does this many times with a host and a pool of its own. Returns how many times it went well, or
 /// 0 if a child is left in the pool.
-fn echoes<R: Real + Wait>(rt: &R, alloc: Global) -> Result<u32, Error> {
+fn copies<R: Real + Wait>(rt: &R, alloc: Global) -> Result<u32, Error> {
     let mut host = Host::new(rt.clone()?, alloc);
     let mut pool = Pool::new(alloc);
     let mut well = 0_u32;
     for _ in 0..STARTS {
         // No start follows one that went wrong, which costs five seconds.
-        if !is_echoed(rt, alloc, &mut host, &mut pool)? {
+        if !is_copied(rt, alloc, &mut host, &mut pool)? {
             break;
         }
         well = well.saturating_add(1);
@@ -192,7 +199,7 @@ struct Apart;
 
 impl<R: Real + Wait> Starts<R> for Apart {
     fn starts(&self, rt: &R, alloc: Global) -> u32 {
-        match echoes(rt, alloc) {
+        match copies(rt, alloc) {
             Ok(well) => well,
             Err(_error) => 0,
         }

@@ -2,7 +2,7 @@
 use super::handles::started_at_last;
 use super::limits::{build, supervise};
 use super::script::{run_script, started};
-use duct::{Clock, Error, ExitStatus, Expression, Fault, Kind, Pool, System, cmd};
+use duct::{Clock, Error, ExitStatus, Expression, Fault, Kind, Output, Pool, System, cmd};
 use duct_attempts::run_attempts;
 use duct_host::clock::HostClock;
 use duct_script::calls::{Call, CallLog};
@@ -45,35 +45,50 @@ fn a_script_stops_at_a_failure(rt: HostRuntime) -> Result<(), Fail> {
     Ok(())
 }
 
-/// Runs a step of two commands whose limit has passed at its first poll. Returns what it comes to,
-/// and how many children are given to the pool.
-fn step_text<S: System>(rt: &impl Wait, alloc: Global, system: &mut S) -> Result<String, Error> {
-    let mut pool = Pool::new(alloc);
+/// Runs a step of two commands whose limit has passed at its first poll.
+fn built<S: System>(
+    rt: &impl Wait,
+    alloc: Global,
+    system: &mut S,
+    pool: &mut Pool<S::Child>,
+) -> Result<Option<Output>, Error> {
     let step = cmd!(in alloc; "make")?.pipe(&cmd!(in alloc; "tee", "log")?)?;
     let moments = [Duration::from_secs(1), Duration::from_secs(9)];
     let clock = ScriptClock::new(Vec::from_slice(alloc, &moments)?);
-    let built = build(rt, system, &mut pool, &clock, &step, Duration::from_secs(5));
-    let given = pool.given();
-    match built.map(|output| if output.is_some() {
-        "output"
-    } else {
-        "nothing"
-    }) {
-        Ok(text) => Ok(format!(in alloc; "{text}, {given} given")?),
-        Err(error) => Ok(format!(in alloc; "{error}, {given} given")?),
+    build(rt, system, pool, &clock, &step, Duration::from_secs(5))
+}
+
+/// Returns what a step comes to.
+fn built_text(alloc: Global, built: Result<Option<Output>, Error>) -> Result<String, AllocError> {
+    match built {
+        Ok(Some(_)) => String::from_str(alloc, "output"),
+        Ok(None) => String::from_str(alloc, "nothing"),
+        Err(error) => format!(in alloc; "{error}"),
     }
 }
 
-/// Returns the same of a step whose commands return these results to polls, and how many of them
-/// were killed.
-fn killed_text(rt: &impl Wait, alloc: Global, polls: &[PollAnswer]) -> Result<String, Error> {
+/// Returns how many commands were killed.
+fn killed(calls: &CallLog) -> u32 {
+    let mut killed = 0_u32;
+    for place in 0..100 {
+        if matches!(calls.get(place), Some(Call::Order(_))) {
+            killed = killed.saturating_add(1);
+        }
+    }
+    killed
+}
+
+/// Runs that step. Its commands return these results to polls. Returns what the step comes to, how
+/// many children are given to the pool, and how many of them were killed.
+fn step_text(rt: &impl Wait, alloc: Global, polls: &[PollAnswer]) -> Result<String, Error> {
     let mut system = scripted(alloc, polls)?;
     let calls = Arc::new(alloc, CallLog::new(alloc, 100)?)?;
     system.note_in(Arc::try_clone(&calls)?);
-    let text = step_text(rt, alloc, &mut system)?;
-    let ordered = |place: &usize| matches!(calls.get(*place), Some(Call::Order(_)));
-    let killed = (0..100).filter(ordered).count();
-    Ok(format!(in alloc; "{text}, {killed} killed")?)
+    let mut pool = Pool::new(alloc);
+    let built = built(rt, alloc, &mut system, &mut pool);
+    let (given, killed) = (pool.given(), killed(&calls));
+    let text = built_text(alloc, built)?;
+    Ok(format!(in alloc; "{text}, {given} given, {killed} killed")?)
 }
 
 /// Checks that no command of a started step runs on after it, whatever the step returns.
@@ -90,7 +105,7 @@ fn steps_with_a_time_limit(rt: HostRuntime) -> Result<(), Fail> {
         ([fault, RUNS], "system: Other, 2 given, 2 killed"),
         ([RUNS, fault], "system: Other, 2 given, 2 killed"),
     ] {
-        let found = killed_text(&rt, rt.alloc(), &polls)?;
+        let found = step_text(&rt, rt.alloc(), &polls)?;
         assert_eq!(rt; found.as_str(), wanted);
     }
     Ok(())
