@@ -1,5 +1,5 @@
 //! Tests of what no row of data can express, over the scripted system and below it: threads that
-//! share handles, reader handles and pools, and workers on their threads.
+//! share handles and reader handles, and workers on their threads.
 #![tactic(auto)]
 
 #[cfg(test)]

@@ -1,22 +1,22 @@
-//! Tests of threads that share a handle or a pool. A thread that waits for another one checks a
+//! Tests of threads that share a handle. A thread that waits for another one checks a
 //! limited number of times, and then goes on.
 ghost use Rattle.std.specs.Prelude.{◌≡◌};
 
 use duct::unix::HandleExt;
-use duct::{Clock, Error, ExitStatus, Handle, Output, Pool, Seen, cmd};
+use duct::{Clock, Error, ExitStatus, Handle, Output, Seen};
 use duct_script::answers::Answers;
 use duct_script::calls::{Call, CallLog};
-use duct_script::child::{ChildScript, PollAnswer, ScriptChild};
+use duct_script::child::{ChildScript, PollAnswer};
 use duct_script::gate::Gate;
-use duct_script::system::{Script, ScriptEnd};
-use rows_table::expressions::{Tree, written};
+use duct_script::system::Script;
+use rows_table::expressions::written;
 use rows_table::scenes::{Bench, Scene, bench_of};
 use rows_table::stop::TableError;
-use rows_table::told::{counts, turns_text};
+use rows_table::told::turns_text;
 use rows_table::waits::until;
 use rows_table::workers::set_drains;
 use std::alloc::{AllocError, Global};
-use std::sync::{Arc, Mutex, Wait};
+use std::sync::{Arc, Wait};
 use std::test::Fail;
 use std::thread;
 use std::thread::Threads;
@@ -325,21 +325,21 @@ fn are_steps(log: &CallLog) -> bool {
     begun.is_none()
 }
 
+/// Lets eight threads share a handle. Returns whether all was as it should be, and whether the calls
+/// on the children were whole steps.
+fn eight_play<R: Wait + Threads + Sync>(rt: &R, alloc: Global) -> Result<(bool, bool), TableError> {
+    let play = play_of(alloc, Cast::Eight)?;
+    let mut bench = greeting_bench(alloc, 30, &play.second)?;
+    let well = played(rt, alloc, &mut bench, "a b pipe stdout_capture", &play)?;
+    Ok((well, are_steps(&bench.calls)))
+}
+
 /// Checks, in many runs, eight threads that wait, poll, kill, send signals and get ids. Each poll
 /// and each order is one step, which no other thread interrupts.
 #[test]
 fn eight_threads_share_a_handle(rt: HostRuntime) -> Result<(), Fail> {
     for _ in 0..40 {
-        let play = play_of(rt.alloc(), Cast::Eight)?;
-        let mut bench = greeting_bench(rt.alloc(), 30, &play.second)?;
-        let well = played(
-            &rt,
-            rt.alloc(),
-            &mut bench,
-            "a b pipe stdout_capture",
-            &play,
-        )?;
-        assert_eq!(rt; (well, are_steps(&bench.calls)), (true, true));
+        assert_eq!(rt; eight_play(&rt, rt.alloc())?, (true, true));
     }
     Ok(())
 }
@@ -375,38 +375,4 @@ fn tokens_agree(rt: HostRuntime) -> Result<(), Fail> {
     let told = told_by_tokens(&rt, rt.alloc(), &mut bench)?;
     assert_eq!(rt; told, ((true, true, true), true));
     Ok(())
-}
-
-/// Starts a command with the pool that the threads share, and gives up its handle.
-fn start_one(rt: &impl Wait, alloc: Global, pool: &Mutex<Pool<ScriptChild>>) -> Result<(), Error> {
-    let mut sys = Script::new(alloc)?;
-    let tree: Tree<ScriptEnd> = cmd!(in alloc; "a")?;
-    let handle = tree.start(&mut sys, &mut *pool.lock(rt))?;
-    handle.give_up(&mut *pool.lock(rt));
-    Ok(())
-}
-
-/// Starts ten commands, and returns whether all starts succeeded.
-fn start_ten(rt: &impl Wait, alloc: Global, pool: &Mutex<Pool<ScriptChild>>) -> bool {
-    for _ in 0..10 {
-        if start_one(rt, alloc, pool).is_err() {
-            return false;
-        }
-    }
-    true
-}
-
-/// Checks that two threads can start ten commands each with one pool, and give up the handles. The
-/// commands run on.
-#[test]
-fn two_threads_share_a_pool(rt: HostRuntime) {
-    let alloc = rt.alloc();
-    let pool = Mutex::new(Pool::new(alloc));
-    let well = thread::join(
-        &rt,
-        || start_ten(&rt, alloc, &pool),
-        || start_ten(&rt, alloc, &pool),
-    );
-    let counts = counts(&pool.into_inner());
-    assert_eq!(rt; (well, counts), ((true, true), (20, 20, 0, 0)));
 }
