@@ -5,84 +5,37 @@ use rows_table::odd::{Odd, Script};
 use rows_table::real::Real;
 use std::alloc::{AllocError, Global};
 use std::fmt::Write;
-use std::fs;
 use std::test::Fail;
 
-/// Adds an entry of an environment, followed by a NUL, if it is UTF-8.
-fn push_readable(text: &mut String, entry: &[u8]) -> Result<(), AllocError> {
-    match str::from_utf8(entry) {
-        Ok(entry) if !entry.is_empty() => write!(text, "{entry}\0"),
-        _ => Ok(()),
-    }
-}
-
-/// The entries that this process was started with.
-fn started_with<R: Real>(rt: &R) -> Result<String, Fail> {
-    let environ = fs::read(rt, "/proc/self/environ")?;
-    let mut text = String::new(rt.alloc());
-    for entry in environ.as_slice().split(|b| *b == 0) {
-        push_readable(&mut text, entry)?;
-    }
-    Ok(text)
-}
-
-/// The size of a buffer that any entry of a test's environment fits in, in bytes.
-const LONGEST: usize = 1 << 20;
-
-/// The entries that the runtime returns one by one.
-fn told_in_turn<R: Real>(rt: &R) -> Result<String, Fail> {
-    let mut bytes = Vec::new(rt.alloc());
-    bytes.resize(LONGEST, 0u8)?;
-    let mut text = String::new(rt.alloc());
-    for i in 0..usize::MAX {
-        let Ok(length) = rt.var_at(i, bytes.as_mut_slice()) else {
-            break;
-        };
-        push_readable(&mut text, &bytes[..length])?;
-    }
-    Ok(text)
-}
-
-/// Variables as entries, each with this sign between its name and its value, and followed by a NUL.
-fn entries_of(alloc: Global, pairs: &[(String, String)], sign: &str) -> Result<String, AllocError> {
+/// Variables as entries, each with `:` between its name and its value, and followed by a NUL.
+fn entries_of(alloc: Global, pairs: &[(String, String)]) -> Result<String, AllocError> {
     let mut text = String::new(alloc);
     for pair in pairs {
-        write!(text, "{}{sign}{}\0", pair.0, pair.1)?;
+        write!(text, "{}:{}\0", pair.0, pair.1)?;
     }
     Ok(text)
 }
 
 /// Returns the environment of a host as entries. Fails unless its journal has these variables, and
 /// nothing else.
-fn environment<R: Real>(host: &mut Host<R>, sign: &str) -> Result<String, Fail> {
+fn environment<R: Real>(host: &mut Host<R>) -> Result<String, Fail> {
     let pairs = host.environment()?;
     match host.journal() {
-        [Entry::Environment(Ok(noted))] if noted.as_slice() == pairs.as_slice() => Ok(entries_of(
-            host.allocator(),
-            pairs.as_slice(),
-            sign,
-        )?),
+        [Entry::Environment(Ok(noted))] if noted.as_slice() == pairs.as_slice() => {
+            Ok(entries_of(host.allocator(), pairs.as_slice())?)
+        }
         _ => Err(Fail::new("the journal has another entry")),
     }
 }
 
-#[test]
-fn the_environment_is_the_parents(rt: HostRuntime) -> Result<(), Fail> {
-    let expected = started_with(&rt)?;
-    assert_eq!(rt; told_in_turn(&rt)?.as_str(), expected.as_str());
-    let mut host = Host::new(rt.clone()?, rt.alloc());
-    assert_eq!(rt; environment(&mut host, "=")?.as_str(), expected.as_str());
-    Ok(())
-}
-
-/// Returns the environment of a host, with `:` between a name and its value, over a runtime that
-/// returns the entries in `shown` at once, and those in `entries` one by one.
+/// Returns the environment of a host over a runtime that returns the entries in `shown` at once, and
+/// those in `entries` one by one.
 fn read<R: Real>(rt: &R, shown: &str, entries: &str) -> Result<String, Fail> {
     let alloc = rt.alloc();
     let mut odd = Odd::new(alloc, rt.clone()?, Script::new(alloc, "")?);
     odd.shown = String::from_str(alloc, shown)?;
     odd.entries = String::from_str(alloc, entries)?;
-    environment(&mut Host::new(odd, alloc), ":")
+    environment(&mut Host::new(odd, alloc))
 }
 
 /// Entries with and without signs: the first `=` after an entry's first byte separates the name

@@ -17,26 +17,15 @@ use std::rt::{Clock, Files};
 use std::sync::Arc;
 use std::{fs, io};
 
-/// Writes a file that has a text, and returns its path.
-fn written<R: Real>(rt: &R) -> io::Result<String> {
-    let own = fs::canonicalize(rt, "/proc/self")?.into_string();
-    let path = own.replace(rt.alloc(), "/proc/", "/tmp/duct_host-memory-")?;
-    fs::write(rt, path.as_str(), "text")?;
-    Ok(path)
-}
-
-/// Creates a file where one has a text. Returns whether the file is then empty. Fails with the fault
+/// Writes a text to this file, and creates it. Returns whether it is then empty. Fails with the fault
 /// of the create if the file has its text, and returns false if it hasn't.
-fn created<R: Real>(rt: &R) -> Result<bool, Error> {
-    let path = written(rt).map_err(Fault::from)?;
-    let refused = Host::new(rt.clone()?, rt.alloc())
-        .create(path.as_str())
-        .err();
-    let length = match fs::metadata(rt, path.as_str()) {
+fn created<R: Real>(rt: &R, path: &str) -> Result<bool, Error> {
+    fs::write(rt, path, "text").map_err(Fault::from)?;
+    let refused = Host::new(rt.clone()?, rt.alloc()).create(path).err();
+    let length = match fs::metadata(rt, path) {
         Ok(found) => Some(found.len()),
         Err(_) => None,
     };
-    fs::remove_file(rt, path.as_str()).map_err(Fault::from)?;
     match (refused, length) {
         (None, length) => Ok(length == Some(0)),
         (Some(fault), Some(4)) => Err(Error::System(fault)),
@@ -144,12 +133,12 @@ fn is_right(made: Result<bool, Error>) -> bool {
 
 /// Whether all is as it should be, and no call failed.
 fn all_made<R: Real>(rt: &R) -> Result<bool, Error> {
-    Ok(created(rt)? && killed(rt)? && spawned(rt)? && worked(rt)?)
+    Ok(created(rt, "all")? && killed(rt)? && spawned(rt)? && worked(rt)?)
 }
 
 #[test]
 fn memory_of_requests(rt: HostRuntime) {
-    assert!(rt; is_right(created(&rt)), "a create");
+    assert!(rt; is_right(created(&rt, "created")), "a create");
     assert!(rt; is_right(killed(&rt)), "a kill");
     assert!(rt; is_right(spawned(&rt)), "a spawn");
     assert!(rt; is_right(worked(&rt)), "two workers");

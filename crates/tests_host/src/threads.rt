@@ -123,16 +123,15 @@ fn wait_and_order<H: SharedHandle, R: Wait + Threads + rt::Clock + Sync>(
 fn orders_end_two_waits(rt: HostRuntime) -> Result<(), Fail> {
     let before = count_left(&rt)?;
     for signal in [KILL, 15] {
-        let told = {
+        let well = {
             let mut host = Host::new(&rt, rt.alloc());
             let mut pool = Pool::new(rt.alloc());
             let handle = asleep(rt.alloc(), &mut host, &mut pool)?;
             let told = wait_and_order(&rt, &handle, signal);
             handle.give_up(&mut pool);
-            told
+            told == ((true, true), (2, true, true))
         };
-        let wanted = (((true, true), (2, true, true)), before);
-        assert_eq!(rt; (told, count_left(&rt)?), wanted, "{signal}");
+        assert_eq!(rt; (well, count_left(&rt)?), (true, before), "{signal}");
     }
     Ok(())
 }
@@ -198,7 +197,7 @@ fn a_kill_ends_two_reads(rt: HostRuntime) -> Result<(), Fail> {
     let before = count_left(&rt)?;
     for round in 0..12_u32 {
         let later = Duration::from_millis(u64::from(round).saturating_mul(4));
-        let ends = {
+        let well = {
             let mut host = Host::new(&rt, rt.alloc());
             let mut pool = Pool::new(rt.alloc());
             let handle = printing(&rt, rt.alloc(), &mut host, &mut pool)?;
@@ -206,7 +205,7 @@ fn a_kill_ends_two_reads(rt: HostRuntime) -> Result<(), Fail> {
             handle.give_up(&mut pool);
             ends
         };
-        assert!(rt; ends, "{round}");
+        assert!(rt; well, "{round}");
     }
     assert_eq!(rt; count_left(&rt)?, before);
     Ok(())
@@ -352,7 +351,7 @@ fn napping<S: System>(
 fn eight_threads_are_told_the_same(rt: HostRuntime) -> Result<(), Fail> {
     let before = count_left(&rt)?;
     for round in 0..ROUNDS {
-        let (agree, kept) = {
+        let (well, kept) = {
             let mut host = Host::new(&rt, rt.alloc());
             let mut pool = Pool::new(rt.alloc());
             let handle = napping(rt.alloc(), round, &mut host, &mut pool)?;
@@ -360,7 +359,7 @@ fn eight_threads_are_told_the_same(rt: HostRuntime) -> Result<(), Fail> {
             handle.give_up(&mut pool);
             (agree, pool.len())
         };
-        assert_eq!(rt; (agree, kept), (true, 0), "{round}");
+        assert_eq!(rt; (well, kept), (true, 0), "{round}");
     }
     assert_eq!(rt; count_left(&rt)?, before);
     Ok(())
