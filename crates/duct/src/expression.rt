@@ -1,5 +1,5 @@
 //! An expression: a shared tree of commands, pipes between them, and modifiers around them.
-ghost use Rattle.std.specs.Prelude.{◌≡◌, ◌∷◌, map, string_bytes, IfOk, IsOkUnless};
+ghost use Rattle.std.specs.Prelude.{◌≡◌, ◌∷◌, IfOk, IsOkUnless};
 ghost use Rattle.duct_system.specs.SpecView.{texts_of};
 ghost use Rattle.duct_start.specs.TreeView.{command};
 ghost use Rattle.duct_tree.specs.NodeView.{node_view};
@@ -11,6 +11,7 @@ mod debug;
 use duct_base::error::Error;
 use duct_base::exe::IntoExecutablePath;
 use duct_base::spec::HookBox;
+use duct_system::copy::copies_of_texts;
 use duct_tree::tree::Node;
 use std::alloc::{AllocError, Global};
 use std::sync::Arc;
@@ -55,24 +56,12 @@ pub fn cmd<E: Drop, P: IntoExecutablePath, H: Drop>(
         (λ made. tree_view made ≡ command (P.executable program ∷ texts_of args.now)) }
     ensures memory { IsOkUnless result Error.Memory }
 {
-    let words = words(alloc, program.to_executable(alloc)?, args)?;
+    let mut words = Vec::new(alloc);
+    words.push(program.to_executable(alloc)?)?;
+    words.append(&mut copies_of_texts(alloc, args)?)?;
     let words = Arc::new(alloc, words)?;
     let root = Arc::new(alloc, Node::Cmd(words))?;
     Ok(Expression { root, alloc })
-}
-
-// The words of a command, the program first.
-fn words(alloc: Global, program: String, args: &[&str]) -> Result<Vec<String>, Error>
-    ensures words { IfOk result
-        (λ words. map string_bytes words.items ≡ string_bytes program ∷ texts_of args.now) }
-    ensures memory { IsOkUnless result Error.Memory }
-{
-    let mut words = Vec::new(alloc);
-    words.push(program)?;
-    for arg in args {
-        words.push(String::from_str(alloc, arg)?)?;
-    }
-    Ok(words)
 }
 
 impl<E, H> Expression<E, H> {

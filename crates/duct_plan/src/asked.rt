@@ -20,6 +20,7 @@ use crate::variables::variables;
 use duct::{CommandSpec, Entry, Numbered, Stdio, Stream};
 use duct_base::spec::spec_of;
 use std::alloc::{AllocError, Global};
+use std::sync::Arc;
 
 /// Why the spec and the streams that the tree gives a command can't be computed.
 #[derive(Debug, Drop, Clone, Copy, PartialEq, Eq)]
@@ -131,7 +132,7 @@ fn spec<E, H>(
         (IsAsked (map pair_text pairs.now) program.now (found_of found.now)
         (map string_bytes words.now)) }
 {
-    let words = with_program(alloc, program, words)?;
+    let words = Arc::new(alloc, with_program(alloc, program, words)?)?;
     let folder = copied(alloc, found.folder)?;
     let vars = variables(alloc, pairs, found.changes.as_slice())?;
     let stdin = port_to(Stream::In, found.input);

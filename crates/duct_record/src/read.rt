@@ -190,6 +190,7 @@ fn spec(
     let folder = folder(alloc, place)?;
     let vars = variables(alloc, vars)?;
     let (input, output, error) = ports(connected)?;
+    let words = Arc::new(alloc, words)?;
     let mut spec = spec_of(words, folder, BTreeMap::new(alloc), input, output, error);
     set_variables(&mut spec, vars.as_slice())?;
     Ok(spec)

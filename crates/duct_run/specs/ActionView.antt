@@ -29,7 +29,7 @@ action_view (DuplicateCallerEnd end) = action.duplicate_caller_end end.now
 action_view (Parent which) = action.parent which
 action_view Close = action.close
 action_view (Spawn scope words ports) =
-    action.spawn scope (map string_bytes words.now) (ports_view ports)
+    action.spawn scope (map string_bytes (arc_value words.now).items) (ports_view ports)
 action_view (Feed bytes) = action.feed (arc_value bytes.now).items
 
 -- the actions of a list

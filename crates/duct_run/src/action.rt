@@ -37,7 +37,7 @@ pub enum Action<'a, E> {
     /// Closes the end on top.
     Close,
     /// Starts the command with these words in the scope of this index. Its ports pop their ends.
-    Spawn(usize, &'a [String], Ports),
+    Spawn(usize, &'a Arc<Vec<String>>, Ports),
     /// Starts the worker that writes these bytes to the end on top.
     Feed(&'a Arc<Vec<u8>>),
 }

@@ -1,4 +1,5 @@
 //! The spec of a command before its hooks run, made from its scopes, its words and its ports.
+ghost use Rattle.std.specs.Arc.{arc_value};
 ghost use Rattle.std.specs.Prelude.{◌≡◌, ◌≤◌, length, map, string_bytes, IfOk, IsOkUnless};
 ghost use Rattle.std.specs.Option.{option_copied, option_map};
 ghost use Rattle.duct_system.specs.SpecView.{pair_text};
@@ -15,6 +16,7 @@ use crate::variables::variables_in;
 use duct_base::error::Error;
 use duct_base::spec::{CommandSpec, spec_of};
 use std::alloc::Global;
+use std::sync::Arc;
 
 /// Returns the folder of a command in the scope of this index (0 is the root's): that of the
 /// nearest scope that sets one.
@@ -49,20 +51,21 @@ fn folder_of<'a, E, H>(setting: Setting<'a, E, H>) -> Option<&'a str>
 
 /// Returns the spec of a command in the scope of this index (0 is the root's). `pairs` is the
 /// environment that the system returned. The spec has the words, with the canonical path of the
-/// program where `program` is one, the folder and the variables of the scopes, and the ports. Fails
-/// only with `Error::Memory`, on allocation failure.
+/// program where `program` is one, the folder and the variables of the scopes, and the ports. It
+/// shares the words where `program` is none. Fails only with `Error::Memory`, on allocation failure
+/// or where the words have too many owners.
 pub(crate) fn asked_spec<E, H>(
     alloc: Global,
     pairs: &[(String, String)],
     scopes: &[Scope<'_, E, H>],
     scope: usize,
     program: Option<String>,
-    words: &[String],
+    words: &Arc<Vec<String>>,
     ports: Ports,
 ) -> Result<CommandSpec, Error>
     requires within { scope ≤ length scopes.now }
     requires outwards { AreOutwards (scopes_view scopes.now) }
-    ensures asked { IfOk result (λ spec. let texts = map string_bytes words.now in
+    ensures asked { IfOk result (λ spec. let texts = map string_bytes (arc_value words.now).items in
         IsMade (map pair_text pairs.now) (program_text program texts)
         (scope_in (scopes_view scopes.now) scope) texts (ports_view ports) spec) }
     ensures memory { IsOkUnless result Error.Memory }
@@ -74,28 +77,28 @@ pub(crate) fn asked_spec<E, H>(
     Ok(spec)
 }
 
-// Copies the words, with `program` in place of the first one if there is a `program`.
+// Returns the words, shared, or a copy of them with `program` in place of the first one if there is
+// a `program`.
 fn words_with(
     alloc: Global,
     program: Option<String>,
-    words: &[String],
-) -> Result<Vec<String>, Error>
-    ensures words { IfOk result (λ copy. let texts = map string_bytes words.now in
-        map string_bytes copy.items ≡ with_program (program_text program texts) texts) }
+    words: &Arc<Vec<String>>,
+) -> Result<Arc<Vec<String>>, Error>
+    ensures words { IfOk result (λ with. let texts = map string_bytes (arc_value words.now).items in
+        map string_bytes (arc_value with).items ≡ with_program (program_text program texts) texts) }
     ensures memory { IsOkUnless result Error.Memory }
 {
-    let Some((first, arguments)) = words.split_first() else {
-        return Ok(Vec::new(alloc));
+    let Some(program) = program else {
+        return Ok(Arc::try_clone(words)?);
     };
     let mut copy = Vec::with_capacity(alloc, words.len())?;
-    match program {
-        Some(program) => copy.push(program)?,
-        None => copy.push(first.clone()?)?,
+    if let Some((_, arguments)) = words.split_first() {
+        copy.push(program)?;
+        for argument in arguments {
+            copy.push(argument.clone()?)?;
+        }
     }
-    for argument in arguments {
-        copy.push(argument.clone()?)?;
-    }
-    Ok(copy)
+    Ok(Arc::new(alloc, copy)?)
 }
 
 // Copies a text, if there is one.

@@ -1,6 +1,7 @@
 //! Starts a command: makes the seat of its child, asks for the canonical path of its program, runs
 //! its hooks and spawns it.
 
+ghost use Rattle.std.specs.Arc.{arc_value};
 ghost use Rattle.std.specs.Prelude.{◌≡◌, ◌≤◌, ◌+◌, ◌++◌, length, map, string_bytes, IfOk, IfErr, OnOk, vec_len, vec_capacity};
 ghost use Rattle.duct_system.specs.SpecView.{pair_text};
 ghost use Rattle.duct_system.specs.Streams.{end_of, stream_of};
@@ -29,10 +30,11 @@ use duct_base::exe::asks_canonical;
 use duct_base::pool::{Place, Seat, place_new, seat_new};
 use duct_base::spec::{CommandSpec, Hook, Port};
 use duct_base::system::{Numbered, Stdio, System};
+use std::sync::Arc;
 
 // Returns the program of a command: the first of its words, or an empty text if it has none.
-fn program_of(words: &[String]) -> &str
-    ensures { result.now ≡ program_of (map string_bytes words.now) }
+fn program_of(words: &Arc<Vec<String>>) -> &str
+    ensures { result.now ≡ program_of (map string_bytes (arc_value words.now).items) }
 {
     match words.first() {
         Some(program) => program.as_str(),
@@ -45,15 +47,17 @@ fn canonical<S: System, H: Hook>(
     sys: &mut S,
     scopes: &[Scope<'_, S::End, H>],
     scope: usize,
-    words: &[String],
+    words: &Arc<Vec<String>>,
 ) -> Result<Option<String>, Error>
     requires within { scope ≤ length scopes.now }
     requires outwards { AreOutwards (scopes_view scopes.now) }
-    ensures ok { IfOk result (λ name. let texts = map string_bytes words.now in NameSucceeds
-        {E = S.End} {H = H} H.allows S.End.number_of (scope_in (scopes_view scopes.now) scope) texts
+    ensures ok { IfOk result (λ name. let texts = map string_bytes (arc_value words.now).items in
+        NameSucceeds {E = S.End} {H = H} H.allows S.End.number_of
+        (scope_in (scopes_view scopes.now) scope) texts
         (S.journal_view sys.old) (S.journal_view sys.new) (program_text name texts)) }
     ensures err { IfErr result (NameRefused (scope_in (scopes_view scopes.now) scope)
-        (map string_bytes words.now) (S.journal_view sys.old) (S.journal_view sys.new)) }
+        (map string_bytes (arc_value words.now).items)
+        (S.journal_view sys.old) (S.journal_view sys.new)) }
     ensures left { OnOk result ((S.journal_view sys.old).room ≤ (S.journal_view sys.new).room) }
 {
     let program = program_of(words);
@@ -133,16 +137,18 @@ fn prepared<S: System, H: Hook>(
     pairs: &Vec<(String, String)>,
     scopes: &[Scope<'_, S::End, H>],
     scope: usize,
-    words: &[String],
+    words: &Arc<Vec<String>>,
     ports: Ports,
 ) -> Result<(Seat<S::Child>, CommandSpec), Error>
     requires within { scope ≤ length scopes.now }
     requires outwards { AreOutwards (scopes_view scopes.now) }
     ensures ok { IfOk result (λ made. IsPrepared {E = S.End} {H = H} H.allows S.End.number_of (map
         pair_text pairs.now.items) (scope_in (scopes_view scopes.now) scope) (map string_bytes
-        words.now) (ports_view ports) (S.journal_view sys.old) (S.journal_view sys.new) made.1) }
+        (arc_value words.now).items) (ports_view ports) (S.journal_view sys.old)
+        (S.journal_view sys.new) made.1) }
     ensures err { IfErr result (λ error. (held : ResourcesView) → ActionFailsWith H.allows H.refuses
-        S.End.number_of (map pair_text pairs.now.items) (spawn_in scopes.now scope words.now ports)
+        S.End.number_of (map pair_text pairs.now.items)
+        (spawn_in scopes.now scope (arc_value words.now).items ports)
         (S.journal_view sys.old) (S.journal_view sys.new) held held error) }
     ensures left { OnOk result ((S.journal_view sys.old).room ≤ (S.journal_view sys.new).room) }
 {
@@ -160,7 +166,7 @@ pub(crate) fn command<S: System, H: Hook>(
     pairs: &Vec<(String, String)>,
     scopes: &[Scope<'_, S::End, H>],
     scope: usize,
-    words: &[String],
+    words: &Arc<Vec<String>>,
     ports: Ports,
     held: &mut Resources<S::End, Place<S::Child>, S::Feed, S::Drain>,
 ) -> Result<(), Error>
@@ -172,11 +178,11 @@ pub(crate) fn command<S: System, H: Hook>(
         ≤ (S.journal_view sys.old).room }
     requires reserved { HasRoom held.old }
     ensures ok { OnOk result (CommandSucceeds ⟦<S as Viewed>⟧.views H.allows (map pair_text
-        pairs.now.items) (spawn_in scopes.now scope words.now ports) sys.old sys.new held.old
-        held.new) }
+        pairs.now.items) (spawn_in scopes.now scope (arc_value words.now).items ports)
+        sys.old sys.new held.old held.new) }
     ensures err { IfErr result (CommandFails ⟦<S as Viewed>⟧.views H.allows H.refuses (map pair_text
-        pairs.now.items) (spawn_in scopes.now scope words.now ports) sys.old sys.new held.old
-        held.new) }
+        pairs.now.items) (spawn_in scopes.now scope (arc_value words.now).items ports)
+        sys.old sys.new held.old held.new) }
     ensures new { IsNew ⟦<S as Viewed>⟧.views held.old → IsNew ⟦<S as Viewed>⟧.views held.new }
     ensures workers { HasSameWorkers held.old held.new }
 {

@@ -1,3 +1,4 @@
+pub mod Clones
 pub mod Copying
 pub mod Entries
 pub mod NameOrder

@@ -1,14 +1,25 @@
-//! Copies of what stands in a journal.
+//! Copies of texts and of what stands in a journal.
 ghost use Rattle.std.specs.Prelude.{◌≡◌, [], map, string_bytes, IfOk, OnOk};
 ghost use Rattle.std.specs.Option.{option_map, option_copied};
 ghost use Rattle.duct_system.specs.EntryView.{entry_view};
-ghost use Rattle.duct_system.specs.SpecView.{pair_text, with_var};
+ghost use Rattle.duct_system.specs.SpecView.{pair_text, texts_of, with_var};
 
 use crate::spec::{CommandSpec, Stream, spec_of};
 use crate::system::Entry;
 use std::alloc::{AllocError, Global};
 use std::collections::BTreeMap;
 use std::sync::Arc;
+
+/// Returns copies of these texts. Fails only at an allocation failure.
+pub fn copies_of_texts(alloc: Global, texts: &[&str]) -> Result<Vec<String>, AllocError>
+    ensures { IfOk result (λ copies. map string_bytes copies.items ≡ texts_of texts.now) }
+{
+    let mut copies = Vec::with_capacity(alloc, texts.len())?;
+    for text in texts {
+        copies.push(String::from_str(alloc, text)?)?;
+    }
+    Ok(copies)
+}
 
 /// Returns copies of these pairs of texts. Fails only at an allocation failure.
 pub fn copies_of(
@@ -25,7 +36,8 @@ pub fn copies_of(
     Ok(copies)
 }
 
-/// Returns a copy of a spec. Fails only at an allocation failure.
+/// Returns a copy of a spec, which shares its words. Fails only at an allocation failure, or where
+/// the words have too many owners.
 pub fn spec_copy(alloc: Global, spec: &CommandSpec) -> Result<CommandSpec, AllocError>
     ensures { IfOk result (λ copy. copy ≡ spec.now) }
 {
@@ -43,7 +55,7 @@ pub fn spec_copy(alloc: Global, spec: &CommandSpec) -> Result<CommandSpec, Alloc
 fn bare_spec(alloc: Global, spec: &CommandSpec) -> Result<CommandSpec, AllocError>
     ensures { IfOk result (λ copy. copy ≡ record spec.now { vars = [] }) }
 {
-    let words = words_of(alloc, spec.words())?;
+    let words = Arc::try_clone(spec.shared_words())?;
     let folder = folder_of(alloc, spec.folder())?;
     Ok(spec_of(
         words,
@@ -53,17 +65,6 @@ fn bare_spec(alloc: Global, spec: &CommandSpec) -> Result<CommandSpec, AllocErro
         spec.port(Stream::Out),
         spec.port(Stream::Err),
     ))
-}
-
-// Returns copies of these words.
-fn words_of(alloc: Global, words: &[String]) -> Result<Vec<String>, AllocError>
-    ensures { IfOk result (λ copies. map string_bytes copies.items ≡ map string_bytes words.now) }
-{
-    let mut copies = Vec::new(alloc);
-    for word in words {
-        copies.push(String::from_str(alloc, word.as_str())?)?;
-    }
-    Ok(copies)
 }
 
 // Returns a copy of the folder, if there is one.

@@ -1,16 +1,18 @@
 //! The spec of a command: the words, folder, variables and streams that its child is started with.
+ghost use Rattle.std.specs.Arc.{arc_value};
 ghost use Rattle.std.specs.Prelude.{◌≡◌, ◌≢◌, [], ◌∷◌, ◌++◌, map, string_bytes, Some, IfOk, IfErr, IsOkUnless, OnOk, OnErr};
 ghost use Rattle.std.specs.Option.{option_copied, option_map};
 ghost use Rattle.duct_system.specs.SpecView.{SpecView, AreOrdered, value_of, with_var, without_var, var_view, texts_of, port_of, gives, GivesNothing};
 ghost use Rattle.duct_system.specs.declared.system.Fault.{Fault};
 
+use crate::copy::copies_of_texts;
 use crate::error::Error;
 use crate::names::EnvNameString;
 use crate::system::Fault;
-use std::alloc::Global;
 use std::collections::BTreeMap;
 use std::convert::AsStr;
 use std::marker::Model;
+use std::sync::Arc;
 
 /// What one of the three streams of a child is connected to.
 #[derive(Clone, Copy, Debug, PartialEq, Eq)]
@@ -35,10 +37,10 @@ pub enum Stream {
 }
 
 /// What a child is started with. A start makes it, the hooks may change it, and `System::spawn`
-/// takes it.
+/// takes it. It shares its words with the expression until an argument is added.
 #[derive(Debug, Drop)]
 pub struct CommandSpec {
-    words: Vec<String>,
+    words: Arc<Vec<String>>,
     folder: Option<String>,
     vars: BTreeMap<EnvNameString, String>,
     stdin: Port,
@@ -47,6 +49,7 @@ pub struct CommandSpec {
 }
 
 impl Model for CommandSpec {
+    ghost use Rattle.std.specs.Arc.{arc_value};
     ghost use Rattle.std.specs.Prelude.{map, string_bytes};
     ghost use Rattle.std.specs.Option.{option_map};
     ghost use Rattle.duct_system.specs.SpecView.{SpecView, var_view};
@@ -54,7 +57,7 @@ impl Model for CommandSpec {
     ghost Value = { SpecView };
 
     ghost view = { λ s. record {
-      words = map string_bytes s.words.items;
+      words = map string_bytes (arc_value s.words).items;
       folder = option_map string_bytes s.folder;
       vars = map var_view s.vars.entries;
       input = s.stdin;
@@ -66,7 +69,7 @@ impl Model for CommandSpec {
 /// Returns the spec with these parts: the program and its arguments, the folder if one is set, the
 /// whole environment of the child, and its streams. It is meant for a start only.
 pub fn spec_of(
-    words: Vec<String>,
+    words: Arc<Vec<String>>,
     folder: Option<String>,
     vars: BTreeMap<EnvNameString, String>,
     stdin: Port,
@@ -74,7 +77,7 @@ pub fn spec_of(
     stderr: Port,
 ) -> CommandSpec
     ensures { result ≡ record {
-      words = map string_bytes words.items;
+      words = map string_bytes (arc_value words).items;
       folder = option_map string_bytes folder;
       vars = map var_view vars.entries;
       input = stdin;
@@ -98,6 +101,13 @@ impl CommandSpec {
         ensures { map string_bytes result.now ≡ self.now.words }
     {
         self.words.as_slice()
+    }
+
+    // Returns the program and its arguments, as the spec shares them.
+    pub(crate) fn shared_words(&self) -> &Arc<Vec<String>>
+        ensures { map string_bytes (arc_value result.now).items ≡ self.now.words }
+    {
+        &self.words
     }
 
     /// Returns the folder that the child starts in, or `None` if it is the parent's.
@@ -159,9 +169,7 @@ impl CommandSpec {
         ensures err { OnErr result (self.new ≡ self.old) }
         ensures memory { IsOkUnless result Error.Memory }
     {
-        let arg = String::from_str(*self.words.allocator(), arg)?;
-        self.words.push(arg)?;
-        Ok(())
+        self.args(&[arg])
     }
 
     /// Adds arguments at the end. Fails only with `Error::Memory`, at an allocation failure, and
@@ -172,8 +180,8 @@ impl CommandSpec {
         ensures err { OnErr result (self.new ≡ self.old) }
         ensures memory { IsOkUnless result Error.Memory }
     {
-        let mut more = texts(*self.words.allocator(), args)?;
-        self.words.append(&mut more)?;
+        let mut more = copies_of_texts(*self.words.allocator(), args)?;
+        Arc::make_mut(&mut self.words)?.append(&mut more)?;
         Ok(())
     }
 
@@ -244,18 +252,6 @@ impl CommandSpec {
     {
         self.stderr = port;
     }
-}
-
-// Returns copies of the texts.
-fn texts(alloc: Global, texts: &[&str]) -> Result<Vec<String>, Error>
-    ensures words { IfOk result (λ words. map string_bytes words.items ≡ texts_of texts.now) }
-    ensures memory { IsOkUnless result Error.Memory }
-{
-    let mut words = Vec::new(alloc);
-    for text in texts {
-        words.push(String::from_str(alloc, text)?)?;
-    }
-    Ok(words)
 }
 
 /// Sets a stream to `Given`. It is meant for a start only: a hook that calls it breaks its

@@ -98,7 +98,7 @@ fn walk<'a, E, H>(
 {
     match node {
         Node::Cmd(words) => {
-            command(words.as_slice(), inside, list)?;
+            command(words, inside, list)?;
             Ok(Shape::Command(words.clone()?))
         }
         Node::Pipe(left, right) => {
@@ -306,11 +306,11 @@ fn close<'a, E, H>(opening: Opening<'a>, list: &mut ActionList<'a, E, H>) -> Res
 
 // Adds the actions of a command in this context.
 fn command<'a, E, H>(
-    words: &'a [String],
+    words: &'a Arc<Vec<String>>,
     inside: NodeContext<'a, E>,
     list: &mut ActionList<'a, E, H>,
 ) -> Result<(), Error>
-    ensures actions { OnOk result (let words = map string_bytes words.now in
+    ensures actions { OnOk result (let words = map string_bytes (arc_value words.now).items in
         actions_view list.new.actions.items
         ≡ actions_view list.old.actions.items
         ++ command_actions inside.entry.scope (sources_view inside.entry) words) }

@@ -253,6 +253,7 @@ impl<S: System + Drop> Requests<S> {
             }
         }
         let inherit = Port::Inherit;
+        let texts = Arc::new(alloc, texts)?;
         let mut spec = spec_of(texts, None, BTreeMap::new(alloc), inherit, inherit, inherit);
         if !self.folder.is_empty() {
             spec.current_dir(self.folder.as_str())?;

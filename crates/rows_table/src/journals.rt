@@ -122,6 +122,7 @@ fn spawn(alloc: Global, text: &str) -> Result<Entry, TableError> {
             _ => return Err(TableError::Text("no such word of a spawn")),
         }
     }
+    let texts = Arc::new(alloc, texts)?;
     let spec = spec_of(texts, folder, vars, port(input), port(output), port(error));
     Ok(Entry::Spawn(spec, streams, answer))
 }

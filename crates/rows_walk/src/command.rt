@@ -12,6 +12,7 @@ use duct_script::child::ScriptChild;
 use duct_script::system::Script;
 use std::alloc::Global;
 use std::mem::replace;
+use std::sync::Arc;
 
 /// Starts the command with these words in this context.
 pub(crate) fn command(
@@ -100,6 +101,7 @@ fn asked(
     let input = port(&context.input);
     let output = port(&context.output);
     let error = port(&context.error);
+    let words = Arc::new(alloc, words)?;
     Ok(spec_of(words, folder, variables, input, output, error))
 }
 

@@ -39,6 +39,7 @@ fn spec(alloc: Global, word: &str) -> Result<CommandSpec, AllocError> {
     words.push(String::from_str(alloc, word)?)?;
     let inherit = Port::Inherit;
     let variables = BTreeMap::new(alloc);
+    let words = Arc::new(alloc, words)?;
     Ok(spec_of(words, None, variables, inherit, inherit, inherit))
 }
 

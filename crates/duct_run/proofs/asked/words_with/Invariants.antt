@@ -1,8 +1,9 @@
 -- The words so far are the program and the arguments so far.
+use Rattle.std.specs.Arc.{arc_value}
 use Rattle.std.proofs.Common.{map, ◌≡◌, ◌∷◌, string_bytes, take}
 use Rattle.duct_run.specs.Made.{program_text}
 use Rattle.duct_run.proofs.asked.words_with.Given as goal
 
 abbrev pub invariant-loop-argument : goal.invariant-loop-argument
 invariant-loop-argument l =
-    map string_bytes l.copy.items ≡ program_text l.fn.program (map string_bytes l.words) ∷ map string_bytes (take l.argument-index l.arguments)
+    map string_bytes l.copy.items ≡ program_text l.fn.program (map string_bytes (arc_value l.words).items) ∷ map string_bytes (take l.argument-index l.arguments)

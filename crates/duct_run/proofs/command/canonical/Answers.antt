@@ -1,3 +1,4 @@
+use Rattle.std.specs.Arc.{arc_value}
 use Rattle.std.proofs.Common.{◌≡◌, ap, sym, ◌∙◌, subst, map, string_bytes, true, Ok, is_some, Some, None, Bor, refl}
 use Rattle.duct_base.specs.Executable.{asks_canonical}
 use Rattle.duct_system.specs.EntryView.{Canonicalize}
@@ -16,7 +17,7 @@ some_copied (Some x) = refl
 
 pub returns-clause-ok : goal.returns-clause-ok
 returns-clause-ok g c =
-    let texts = map string_bytes c.args.words.now in
+    let texts = map string_bytes (arc_value c.args.words.now).items in
     let scope = scope_in (scopes_view c.args.scopes.now) c.args.scope in
     let some : c.is_some.result ≡ is_some scope.folder = c.is_some.ensures ∙ some_copied c.folder_in.result ∙ ap (λ o. is_some o) c.folder_in.ensures in
     let is : asks_canonical_path scope texts ≡ true = sym (λ i. asks_canonical (c.program_of-program.ensures i) (some i)) ∙ sym c.asks_canonical.ensures ∙ c.if-not-asks_canonical.false in

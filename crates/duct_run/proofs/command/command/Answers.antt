@@ -1,4 +1,5 @@
 -- The spawn of a command, or what makes it fail.
+use Rattle.std.specs.Arc.{arc_value}
 use Rattle.std.proofs.lemmas.Result.{err_from_is_err_and}
 use Rattle.std.proofs.Common.{◌≡◌, ◌+◌, ◌≤◌, ap, sym, ◌∙◌, subst, arith, rules, length, map, string_bytes, length-append, ◌++◌, ◌∷◌, []}
 use Rattle.duct_system.specs.Child.{IsUnasked}
@@ -28,7 +29,7 @@ change_all-requires-clause-room g c =
     let h = resources_view num g.S.Child.Child.child_view g.S.Feed.Job.job_view g.S.Drain.Job.job_view c.args.held.now in
     let pairs = map pair_text c.args.pairs.now.items in
     let scope = scope_in (scopes_view c.args.scopes.now) c.args.scope in
-    let texts = map string_bytes c.args.words.now in
+    let texts = map string_bytes (arc_value c.args.words.now).items in
     let ports = ports_view c.args.ports in
     let start = g.S.System.journal_view c.args.sys.now in
     let long = length_stack num c.args.held.now.stack.items in
@@ -44,7 +45,7 @@ returns-in-Err-clause-err g c =
     let h = resources_view num g.S.Child.Child.child_view g.S.Feed.Job.job_view g.S.Drain.Job.job_view c.args.held.now in
     let pairs = map pair_text c.args.pairs.now.items in
     let scope = scope_in (scopes_view c.args.scopes.now) c.args.scope in
-    let texts = map string_bytes c.args.words.now in
+    let texts = map string_bytes (arc_value c.args.words.now).items in
     let ports = ports_view c.args.ports in
     let start = g.S.System.journal_view c.args.sys.now in
     let one = g.S.System.journal_view c.prepared.new.sys in
@@ -75,7 +76,7 @@ returns-in_err-child-clause-err g c =
     let h = resources_view num g.S.Child.Child.child_view g.S.Feed.Job.job_view g.S.Drain.Job.job_view c.args.held.now in
     let pairs = map pair_text c.args.pairs.now.items in
     let scope = scope_in (scopes_view c.args.scopes.now) c.args.scope in
-    let texts = map string_bytes c.args.words.now in
+    let texts = map string_bytes (arc_value c.args.words.now).items in
     let ports = ports_view c.args.ports in
     let start = g.S.System.journal_view c.args.sys.now in
     let one = g.S.System.journal_view c.prepared.new.sys in
@@ -95,7 +96,7 @@ returns-clause-ok g c =
     let h = resources_view num g.S.Child.Child.child_view g.S.Feed.Job.job_view g.S.Drain.Job.job_view c.args.held.now in
     let pairs = map pair_text c.args.pairs.now.items in
     let scope = scope_in (scopes_view c.args.scopes.now) c.args.scope in
-    let texts = map string_bytes c.args.words.now in
+    let texts = map string_bytes (arc_value c.args.words.now).items in
     let ports = ports_view c.args.ports in
     let start = g.S.System.journal_view c.args.sys.now in
     let one = g.S.System.journal_view c.prepared.new.sys in

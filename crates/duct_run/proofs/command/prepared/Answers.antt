@@ -1,4 +1,5 @@
 -- What is asked for before a command, or what makes that fail.
+use Rattle.std.specs.Arc.{arc_value}
 use Rattle.std.proofs.lemmas.Result.{err_from_is_err_and}
 use Rattle.std.proofs.Common.{subst, map, string_bytes}
 use Rattle.duct_system.specs.SpecView.{pair_text}
@@ -17,7 +18,7 @@ returns-in_err-seat-clause-err g c =
     let allows = g.H.Hook.allows in
     let pairs = map pair_text c.args.pairs.now.items in
     let scope = scope_in (scopes_view c.args.scopes.now) c.args.scope in
-    let texts = map string_bytes c.args.words.now in
+    let texts = map string_bytes (arc_value c.args.words.now).items in
     let ports = ports_view c.args.ports in
     let start = g.S.System.journal_view c.args.sys.now in
     rw (p.1, p.2) (λ held. unasked_refused allows num scope texts g.H.Hook.refuses pairs ports start held start _ (still start) tt)
@@ -29,7 +30,7 @@ returns-in_err-name-clause-err g c =
     let allows = g.H.Hook.allows in
     let pairs = map pair_text c.args.pairs.now.items in
     let scope = scope_in (scopes_view c.args.scopes.now) c.args.scope in
-    let texts = map string_bytes c.args.words.now in
+    let texts = map string_bytes (arc_value c.args.words.now).items in
     let ports = ports_view c.args.ports in
     let start = g.S.System.journal_view c.args.sys.now in
     let e = c.in_err-name.ensures.err in
@@ -42,7 +43,7 @@ returns-in_err-spec-clause-err g c =
     let allows = g.H.Hook.allows in
     let pairs = map pair_text c.args.pairs.now.items in
     let scope = scope_in (scopes_view c.args.scopes.now) c.args.scope in
-    let texts = map string_bytes c.args.words.now in
+    let texts = map string_bytes (arc_value c.args.words.now).items in
     let ports = ports_view c.args.ports in
     let start = g.S.System.journal_view c.args.sys.now in
     rw (p.1, p.2, c.in_err-spec.ensures.memory) (λ held. spec_refused allows num scope texts g.H.Hook.refuses pairs ports start held (g.S.System.journal_view c.canonical.new.sys) (program_text c.in_ok-name.name texts) c.in_ok-name.ensures.ok _ tt)
@@ -50,7 +51,7 @@ returns-in_err-spec-clause-err g c =
 pub returns-clause-ok : goal.returns-clause-ok
 returns-clause-ok g c =
     let scope = scope_in (scopes_view c.args.scopes.now) c.args.scope in
-    let texts = map string_bytes c.args.words.now in
+    let texts = map string_bytes (arc_value c.args.words.now).items in
     let ports = ports_view c.args.ports in
     let program = program_text c.in_ok-name.name texts in
     record {
