@@ -11,12 +11,11 @@ use Rattle.duct_system.specs.EntryView.{EntryView}
 use Rattle.duct_system.specs.declared.error.Error.{Error}
 use Rattle.duct_start.specs.Chain.{Allows}
 use Rattle.duct_start.specs.Plan.{Plan}
-use Rattle.duct_start.specs.RunContract.{MadeReader}
-use Rattle.duct_start.specs.Running.{IsRunning, RunningView}
+use Rattle.duct_start.specs.Running.{MadeReader, IsRunning, RunningView}
 use Rattle.duct_start.specs.Start.{StartSucceeds}
 use Rattle.duct_start.specs.TreeView.{TreeView}
-use Rattle.duct_start.proofs.Leaving.{takes_in}
-use Rattle.duct_run.specs.Requested.{PoolLeaves}
+use Rattle.duct_run.proofs.Leaving.{takes_in}
+use Rattle.duct_start.specs.Left.{Leaves, pool_view}
 use Rattle.duct_run.specs.SystemViews.{SystemViews}
 use Rattle.duct_running.specs.NumbersView.{numbers_of}
 use Rattle.duct_running.specs.Stays.{StaysSame}
@@ -59,7 +58,7 @@ module _ {S E C F D : Type 0} (views : SystemViews S E C F D (Unit {0}) Bytes) {
     (kind : StartKind) (root : Expression E H) (sys after : S) (before mid left : PoolView C)
     (asked : StartSucceeds allows views.number_of (tree_view root) (plan_for kind (tree_view root)) (views.journal sys) (views.journal after))
     (running : RunningView C F D) (runs : Runs views running kind (tree_view root) (added_between views sys after))
-    (swept : PoolLeaves views before mid) where
+    (swept : Leaves views.may_answer [] (pool_view views.child before) (pool_view views.child mid)) where
   -- a wait in vain, after which the pool was given the children
   pub wait_failed : (holds : RunningView C F D → Type 0) (returned : RunningView C F D → MadeBy E H)
       → ((waited : RunningView C F D) → holds waited → returned waited kind (tree_view root) (added_between views sys after))

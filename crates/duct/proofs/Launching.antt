@@ -11,23 +11,23 @@ use Rattle.duct_system.specs.declared.error.Error.{Error}
 use Rattle.duct_system.specs.declared.error.Error.TheVariants.{Memory}
 use Rattle.duct_status.specs.ShapeView.{command_count, input_count, shape_view}
 use Rattle.duct_status.specs.declared.status.Shape.{Shape}
-use Rattle.duct_start.specs.Actions.{Action}
+use Rattle.duct_run.specs.Actions.{Action}
 use Rattle.duct_start.specs.Chain.{Allows, Refuses}
-use Rattle.duct_start.specs.Commands.{StoppedWithCause}
-use Rattle.duct_start.specs.Flat.{actions_of}
+use Rattle.duct_run.specs.Commands.{StoppedWithCause}
+use Rattle.duct_run.specs.Flat.{actions_of}
 use Rattle.duct_start.specs.Left.{LeavesStarted}
 use Rattle.duct_start.specs.Plan.{initial_plan, plan_of_subtree}
-use Rattle.duct_start.specs.ResourcesView.{ResourcesView}
-use Rattle.duct_start.specs.RunContract.{ActionsSucceed, HavePipes, PlanTail, context_of, drain_and_reader_tail, drain_tail}
+use Rattle.duct_run.specs.ResourcesView.{ResourcesView, AreNew, resources_view}
+use Rattle.duct_run.specs.RunContract.{ActionsSucceed, HavePipes, PlanTail, context_of, drain_and_reader_tail, drain_tail}
 use Rattle.duct_start.specs.Running.{IsRunning}
 use Rattle.duct_start.specs.ShapeOfTree.{shape_of_tree}
-use Rattle.duct_start.specs.Start.{StartRefused, StartSucceeds, ceiling, depth}
+use Rattle.duct_start.specs.Start.{StartRefused, StartSucceeds, depth}
+use Rattle.duct_run.proofs.Ceiling.{ceiling}
 use Rattle.duct_start.specs.TreeView.{TreeView}
-use Rattle.duct_start.proofs.Counted.{reader_counts, started_counts}
-use Rattle.duct_start.proofs.Launched.{drained_items, drained_pipes, launched, list_leads, read_items, read_launched, read_pipe, refused_launched, stands_launched, unasked_launch}
-use Rattle.duct_start.proofs.Leaving.{leaves_unasked}
+use Rattle.duct_run.proofs.Counted.{reader_counts, started_counts}
+use Rattle.duct_run.proofs.Launched.{drained_items, drained_pipes, launched, list_leads, read_items, read_launched, read_pipe, refused_launched, invariant_launched, unasked_launch}
+use Rattle.duct_run.proofs.Leaving.{leaves_unasked}
 use Rattle.duct_run.specs.GivesUp.{GivesUp}
-use Rattle.duct_run.specs.ResourcesView.{AreNew, resources_view}
 use Rattle.duct_run.specs.SystemViews.{SystemViews}
 use Rattle.duct_run.specs.declared.resources.Resources.{Resources}
 use Rattle.duct_run.proofs.GivenUp.{given_up, left_started}
@@ -69,10 +69,10 @@ module _ {E H : Type 0} (allows : Allows H) (number_of : E → ℕ) (tree : Tree
       → (length held.children ≡ command_count (shape_of_tree tree))
       × (length held.feeds ≡ input_count (shape_of_tree tree))
   counts draining actions same old now held runs =
-      started_counts allows number_of _ _ now held tree (stands_launched allows number_of tree actions same drain_tail old now held runs) (drained_items (plan_of_subtree [] tree initial_plan))
+      started_counts allows number_of _ _ now held tree (invariant_launched allows number_of tree actions same drain_tail old now held runs) (drained_items (plan_of_subtree [] tree initial_plan))
   counts reading actions same old now held runs =
       let captured = tree_for reading tree in
-      reader_counts allows number_of _ _ now held tree (stands_launched allows number_of captured actions same drain_and_reader_tail old now held runs) (read_items (plan_of_subtree [] captured initial_plan))
+      reader_counts allows number_of _ _ now held tree (invariant_launched allows number_of captured actions same drain_and_reader_tail old now held runs) (read_items (plan_of_subtree [] captured initial_plan))
 
 module _ {E H C F D V W : Type 0} (allows : Allows H) (number_of : E → ℕ) (child : C → ChildView) (feed : F → JobView V) (drain : D → JobView W)
     (kind : StartKind) (tree : TreeView E H) (actions : List (Action E H)) (same : actions ≡ actions_of (tree_for kind tree)) where
@@ -109,7 +109,7 @@ module _ {E H C F D V W : Type 0} (allows : Allows H) (number_of : E → ℕ) (c
         → IsRunning child feed drain tree (drains_output kind tree) (drains_error kind tree) (segment old.entries now.entries)
         (run child feed drain number_of tree shape kept new seen)
     made new shape seen out err =
-        rw (← out, ← err) (runs_started child feed drain number_of tree shape kept new seen allows _ _ now (stands_launched allows number_of (tree_for kind tree) actions same (tail_for kind) old now (resources_view number_of child feed drain kept) runs))
+        rw (← out, ← err) (runs_started child feed drain number_of tree shape kept new seen allows _ _ now (invariant_launched allows number_of (tree_for kind tree) actions same (tail_for kind) old now (resources_view number_of child feed drain kept) runs))
 
 -- which capture pipes have a worker
 module _ {E H : Type 0} (allows : Allows H) (number_of : E → ℕ) (tree : TreeView E H) where

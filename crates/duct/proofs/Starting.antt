@@ -4,15 +4,15 @@ use Rattle.std.proofs.lemmas.List.{length-map}
 use Rattle.std.specs.List.{All}
 use Rattle.std.specs.Prelude.{is_some}
 use Rattle.duct_system.specs.declared.system.Side.{Side}
-use Rattle.duct_start.specs.Actions.{ActionOf, capture_place, captures_in}
-use Rattle.duct_start.specs.Flat.{actions_of, root_scope}
-use Rattle.duct_start.specs.ActionList.{AreOutwards, IsWithin, ScopeEntry, list_of, resolved_all, scopes_from}
-use Rattle.duct_start.specs.Plan.{initial_plan, plan_of_subtree}
+use Rattle.duct_run.specs.Actions.{ActionOf, captures_in}
+use Rattle.duct_start.specs.Plan.{capture_place, initial_plan, plan_of_subtree}
+use Rattle.duct_run.specs.Flat.{actions_of, root_scope}
+use Rattle.duct_run.specs.ActionList.{AreOutwards, IsWithin, ScopeEntry, list_of, resolved_all, scopes_from}
 use Rattle.duct_start.specs.TreeView.{TreeView}
-use Rattle.duct_start.proofs.Counted.{list_captures}
-use Rattle.duct_start.proofs.Outwards.{listed_outwards}
-use Rattle.duct_start.proofs.Resolved.{list_resolves}
-use Rattle.duct_start.proofs.Within.{listed_within}
+use Rattle.duct_run.proofs.Counted.{list_captures}
+use Rattle.duct_run.proofs.ListedOutwards.{listed_outwards}
+use Rattle.duct_run.proofs.Resolved.{list_resolves}
+use Rattle.duct_run.proofs.Within.{listed_within}
 use Rattle.duct_run.specs.ActionView.{actions_view}
 use Rattle.duct_run.specs.ScopeView.{all_scopes, scopes_view}
 use Rattle.duct_run.specs.declared.action.Action.{Action}

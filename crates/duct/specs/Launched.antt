@@ -1,5 +1,5 @@
 -- What a start promises: of the journal, of what it makes, and of the pool.
-use Rattle.std.specs.Prelude.{ℕ, Bool, List, ◌⊎◌, false, is_some, map}
+use Rattle.std.specs.Prelude.{ℕ, Bool, List, ◌⊎◌, false, is_some, map, []}
 use Rattle.std.specs.declared.alloc.Global.{Global}
 use Rattle.std.specs.declared.option.Option.{Option}
 use Rattle.std.specs.declared.string.String.{String}
@@ -10,13 +10,11 @@ use Rattle.duct_system.specs.declared.error.Error.{Error}
 use Rattle.duct_system.specs.declared.system.Output.{Output}
 use Rattle.duct_status.specs.ReplyView.{answered}
 use Rattle.duct_start.specs.Chain.{Allows, Refuses}
-use Rattle.duct_start.specs.Left.{LeavesStarted, TakesIn, pool_view}
+use Rattle.duct_start.specs.Left.{LeavesStarted, TakesIn, pool_view, Leaves}
 use Rattle.duct_start.specs.Plan.{Plan, plan_of, plan_of_reader}
-use Rattle.duct_start.specs.RunContract.{MadeReader}
-use Rattle.duct_start.specs.Running.{IsRunning, RunningView}
+use Rattle.duct_start.specs.Running.{MadeReader, IsRunning, RunningView}
 use Rattle.duct_start.specs.Start.{StartSucceeds, StartRefused}
 use Rattle.duct_start.specs.TreeView.{TreeView, around, stdout_capture}
-use Rattle.duct_run.specs.Requested.{PoolLeaves}
 use Rattle.duct_run.specs.SystemViews.{SystemViews}
 use Rattle.duct_running.specs.Stored.{Bytes}
 use Rattle.duct_handle.specs.Finished.{StoresError, StoresReply}
@@ -83,7 +81,9 @@ module _ {S E C F D V W : Type 0} (views : SystemViews S E C F D V W) where
     pub asked : StartSucceeds allows views.number_of (tree_view root)
         (plan_for kind (tree_view root)) (views.journal sys) (views.journal after)
     pub makes : made kind (tree_view root) (added_between sys after)
-    pub swept : PoolLeaves views before left
+    pub swept : Leaves views.may_answer []
+        (pool_view views.child before)
+        (pool_view views.child left)
 
   -- a start that failed with an error: its requests are the start of its plan, and the pool was
   -- given the children that it had started

@@ -6,7 +6,7 @@ use Rattle.duct_status.specs.Latest.{latest_told}
 use Rattle.duct_status.specs.ShapeView.{ShapeView, command_count, shape_view}
 use Rattle.duct_status.specs.declared.status.Core.{Core}
 use Rattle.duct_status.specs.declared.status.Drains.{Drains}
-use Rattle.duct_start.specs.ActionList.{list_of}
+use Rattle.duct_run.specs.ActionList.{list_of}
 use Rattle.duct_start.specs.ShapeOfTree.{shape_of_tree}
 use Rattle.duct_start.specs.TreeView.{TreeView}
 use Rattle.duct_run.specs.ActionView.{actions_view}
@@ -26,7 +26,7 @@ pub record FitsShape {D : Type 0} (shape : ShapeView) (room : RunningBuffers D) 
   pub drained : 2 ≤ vec_capacity room.drains
 
 -- a core of this shape that was told nothing, with room that fits its shape, and nothing held
-pub record IsPrepared {A C F D : Type 0} (shape : ShapeView) (drains : Drains) (core : Core)
+pub record IsPreparedStart {A C F D : Type 0} (shape : ShapeView) (drains : Drains) (core : Core)
     (room : RunningBuffers D) (held : Resources A C F D) : Type 0 where
   pub shape_is : shape_in core ≡ shape
   pub silent : latest_in core ≡ latest_told (shape_in core) drains []
@@ -34,13 +34,13 @@ pub record IsPrepared {A C F D : Type 0} (shape : ShapeView) (drains : Drains) (
   pub nothing : IsEmpty held
 
 -- the list for this kind of start of a tree, the tree's shape, and what the start needs besides
-pub record IsReady {E H C F D : Type 0} (kind : StartKind) (tree : TreeView E H)
+pub record IsReadyStart {E H C F D : Type 0} (kind : StartKind) (tree : TreeView E H)
     (ready : Ready E H C F D) : Type 0 where
   pub actions : actions_view ready.compiled.list.actions.items
       ≡ (list_of (tree_for kind tree)).actions
   pub scopes : scopes_view ready.compiled.list.scopes.items
       ≡ (list_of (tree_for kind tree)).scopes
   pub shape : shape_view (arc_value ready.compiled.shape) ≡ shape_of_tree tree
-  pub prepared : IsPrepared (shape_of_tree tree)
+  pub prepared : IsPreparedStart (shape_of_tree tree)
       (record { out = drains_output kind tree; err = drains_error kind tree }) ready.core
       ready.room ready.held

@@ -7,8 +7,7 @@ use Rattle.duct_system.specs.Child.{IsUnasked}
 use Rattle.duct_system.specs.EntryView.{EntryView}
 use Rattle.duct_system.specs.declared.error.Error.{Error}
 use Rattle.duct_status.specs.ShapeView.{shape_view}
-use Rattle.duct_start.specs.RunContract.{MadeReader}
-use Rattle.duct_start.specs.Running.{RunningView}
+use Rattle.duct_start.specs.Running.{MadeReader, RunningView}
 use Rattle.duct_start.specs.ShapeOfTree.{shape_of_tree}
 use Rattle.duct_start.specs.TreeView.{TreeView}
 use Rattle.duct_run.specs.SystemViews.{SystemViews}

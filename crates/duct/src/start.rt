@@ -7,7 +7,7 @@ ghost use Rattle.duct_status.specs.Latest.{latest_told};
 ghost use Rattle.duct_status.specs.ShapeView.{command_count, input_count, shape_view};
 ghost use Rattle.duct_run.specs.ResourcesView.{AreNew};
 ghost use Rattle.duct.specs.Launched.{Handles, LaunchRefused, Launched, Runs, RunsRead, draining, reading};
-ghost use Rattle.duct.specs.Ready.{FitsShape, IsPrepared, IsReady};
+ghost use Rattle.duct.specs.Ready.{FitsShape, IsPreparedStart, IsReadyStart};
 ghost use Rattle.duct.specs.TreeView.{tree_view};
 
 use crate::expression::Expression;
@@ -42,7 +42,7 @@ fn prepare<'a, E: Drop, H, C: Drop, F: Drop, D: Drop>(
     drains: Drains,
 ) -> Result<Ready<'a, E, H, C, F, D>, Error>
     ensures compiled { IfOk result (λ ready. ready.compiled ≡ compiled.entry) }
-    ensures prepared { IfOk result (λ ready. IsPrepared
+    ensures prepared { IfOk result (λ ready. IsPreparedStart
         (shape_view (arc_value compiled.entry.shape)) drains ready.core ready.room ready.held) }
     ensures memory { IsOkUnless result Error.Memory }
 {
@@ -185,7 +185,7 @@ impl<E: Drop, H: Hook> Expression<E, H> {
 impl<E: Drop, H: Hook> Expression<E, H> {
     // Allocates what `launch` needs.
     pub(crate) fn ready<C: Drop, F: Drop, D: Drop>(&self) -> Result<Ready<'_, E, H, C, F, D>, Error>
-        ensures ready { IfOk result (IsReady draining (tree_view self.now)) }
+        ensures ready { IfOk result (IsReadyStart draining (tree_view self.now)) }
         ensures memory { IsOkUnless result Error.Memory }
     {
         let compiled = compile(self.allocator(), self.root())?;
@@ -197,7 +197,7 @@ impl<E: Drop, H: Hook> Expression<E, H> {
     pub(crate) fn ready_captured<C: Drop, F: Drop, D: Drop>(
         &self,
     ) -> Result<Ready<'_, E, H, C, F, D>, Error>
-        ensures ready { IfOk result (IsReady reading (tree_view self.now)) }
+        ensures ready { IfOk result (IsReadyStart reading (tree_view self.now)) }
         ensures memory { IsOkUnless result Error.Memory }
     {
         let compiled = compile_captured(self.allocator(), self.root())?;
@@ -215,7 +215,7 @@ impl<E: Drop, H: Hook> Expression<E, H> {
         pool: &mut Pool<S::Child>,
         ready: Ready<'_, E, H, Place<S::Child>, S::Feed, S::Drain>,
     ) -> Result<Running<S>, Error>
-        requires { IsReady draining (tree_view self.now) ready }
+        requires { IsReadyStart draining (tree_view self.now) ready }
         ensures launched { IfOk result (λ running. Launched ⟦<S as Viewed>⟧.views H.allows draining
             self.now sys.old sys.new pool.old pool.new (Runs ⟦<S as Viewed>⟧.views running)) }
         ensures refused { IfErr result (LaunchRefused ⟦<S as Viewed>⟧.views H.allows H.refuses
@@ -239,7 +239,7 @@ impl<E: Drop, H: Hook> Expression<E, H> {
         pool: &mut Pool<S::Child>,
         ready: Ready<'_, E, H, Place<S::Child>, S::Feed, S::Drain>,
     ) -> Result<(Running<S>, S::Reader), Error>
-        requires { IsReady reading (tree_view self.now) ready }
+        requires { IsReadyStart reading (tree_view self.now) ready }
         ensures launched { IfOk result (λ made. Launched ⟦<S as Viewed>⟧.views H.allows reading
             self.now sys.old sys.new pool.old pool.new (RunsRead ⟦<S as Viewed>⟧.views S.may_read
             made.0 made.1)) }

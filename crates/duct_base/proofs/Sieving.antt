@@ -4,7 +4,7 @@ use Rattle.std.proofs.lemmas.List.{append-nil, take_all, drop_all}
 use Rattle.std.specs.Prelude.{map, Some, None, Ok, Err}
 use Rattle.std.specs.declared.option.Option.{Option}
 use Rattle.duct_system.specs.Child.{Answer, ChildView, PollsChild}
-use Rattle.duct_base.specs.Pool.{PoolView, seated, counted, Sieves, AsksAll, Sweeps, IsSwept, Takes}
+use Rattle.duct_base.specs.Pool.{PoolView, in_nodes, counted, Sieves, AsksAll, Sweeps, IsSwept, Takes}
 use Rattle.duct_system.specs.declared.system.ExitStatus.{ExitStatus}
 use Rattle.duct_system.specs.declared.system.Fault.{Fault}
 
@@ -87,69 +87,69 @@ module _ {C : Type 0} (may : ℕ → Answer → Type 0) (view : C → ChildView)
     lost_is = ap (λ (p : PoolView C). p.lost) is;
   }
 
-seated-append : {C : Type 0} (seats : List (Option C)) (child : C)
-    → seated (seats ++ Some child ∷ []) ≡ seated seats ++ child ∷ []
-seated-append [] child = refl
-seated-append {C} (Some other ∷ seats) child = ap (λ (l : List C). other ∷ l) (seated-append seats child)
-seated-append (None ∷ seats) child = seated-append seats child
+in_nodes-append : {C : Type 0} (nodes : List (Option C)) (child : C)
+    → in_nodes (nodes ++ Some child ∷ []) ≡ in_nodes nodes ++ child ∷ []
+in_nodes-append [] child = refl
+in_nodes-append {C} (Some other ∷ nodes) child = ap (λ (l : List C). other ∷ l) (in_nodes-append nodes child)
+in_nodes-append (None ∷ nodes) child = in_nodes-append nodes child
 
--- at most one seat more, with a child
-pub seated_after : {C : Type 0} (old after one : List (Option C)) (child : C) (joined : Bool)
+-- at most one reservation more, with a child
+pub in_nodes_after : {C : Type 0} (old after one : List (Option C)) (child : C) (joined : Bool)
     → one ≡ Some child ∷ [] → after ≡ (if joined then old ++ one else old)
-    → (more : List C) × (seated after ≡ seated old ++ more)
-seated_after old after one child true one_is is =
-    (child ∷ [], ap (λ l. seated l) is ∙ ap (λ l. seated (old ++ l)) one_is ∙ seated-append old child)
-seated_after old after one child false one_is is = ([], ap (λ l. seated l) is ∙ sym (append-nil (seated old)))
+    → (more : List C) × (in_nodes after ≡ in_nodes old ++ more)
+in_nodes_after old after one child true one_is is =
+    (child ∷ [], ap (λ l. in_nodes l) is ∙ ap (λ l. in_nodes (old ++ l)) one_is ∙ in_nodes-append old child)
+in_nodes_after old after one child false one_is is = ([], ap (λ l. in_nodes l) is ∙ sym (append-nil (in_nodes old)))
 
--- the first child of a pool is polled: the pool is given by its seats, and the first one is that
+-- the first child of a pool is polled: the pool is given by its nodes, and the first one is that
 -- child's
-module _ {C : Type 0} (may : ℕ → Answer → Type 0) (view : C → ChildView) (by_seats before after : PoolView C) (seats one rest : List (Option C)) (child : C)
-    (same : by_seats ≡ before) (children : by_seats.children ≡ seated seats) (whole : seats ≡ one ++ rest) (first : one ≡ Some child ∷ []) where
-  children_are : before.children ≡ child ∷ seated rest
-  children_are = sym (ap (λ (p : PoolView C). p.children) same) ∙ children ∙ ap (λ (l : List (Option C)). seated l) whole ∙ ap (λ (l : List (Option C)). seated (l ++ rest)) first
+module _ {C : Type 0} (may : ℕ → Answer → Type 0) (view : C → ChildView) (by_nodes before after : PoolView C) (nodes one rest : List (Option C)) (child : C)
+    (same : by_nodes ≡ before) (children : by_nodes.children ≡ in_nodes nodes) (whole : nodes ≡ one ++ rest) (first : one ≡ Some child ∷ []) where
+  children_are : before.children ≡ child ∷ in_nodes rest
+  children_are = sym (ap (λ (p : PoolView C). p.children) same) ∙ children ∙ ap (λ (l : List (Option C)). in_nodes l) whole ∙ ap (λ (l : List (Option C)). in_nodes (l ++ rest)) first
 
   asked_first : take 1 before.children ≡ child ∷ []
   asked_first = ap (λ (l : List C). take 1 l) children_are
 
-  behind : (kept : List C) → after.children ≡ seated rest ++ kept
+  behind : (kept : List C) → after.children ≡ in_nodes rest ++ kept
       → after.children ≡ drop 1 before.children ++ kept
   behind kept is = is ∙ ap (λ (l : List C). drop 1 l ++ kept) (sym children_are)
 
   pub sweeps_kept : (filled : List (Option C)) (kept : C)
       → PollsChild may (view child) (Ok None) (view kept) → filled ≡ Some kept ∷ [] →
-      after ≡ record by_seats { children = seated (rest ++ filled) } → Sweeps may view 1 before after
+      after ≡ record by_nodes { children = in_nodes (rest ++ filled) } → Sweeps may view 1 before after
   sweeps_kept filled kept polls full is = record {
     kept = kept ∷ [];
     reaped = 0;
     lost = 0;
     asked = subst (λ (l : List C). AsksAll may view l (kept ∷ []) 0 0) (sym asked_first) (one_kept may view child kept polls);
-    children_are = behind (kept ∷ []) (ap (λ (p : PoolView C). p.children) is ∙ ap (λ (l : List (Option C)). seated (rest ++ l)) full ∙ seated-append rest kept);
+    children_are = behind (kept ∷ []) (ap (λ (p : PoolView C). p.children) is ∙ ap (λ (l : List (Option C)). in_nodes (rest ++ l)) full ∙ in_nodes-append rest kept);
     given_is = ap (λ (p : PoolView C). p.given) is ∙ ap (λ (p : PoolView C). p.given) same;
     reaped_is = ap (λ (p : PoolView C). p.reaped) is ∙ ap (λ (p : PoolView C). p.reaped) same;
     lost_is = ap (λ (p : PoolView C). p.lost) is ∙ ap (λ (p : PoolView C). p.lost) same;
   }
 
   pub sweeps_reaped : (status : ExitStatus) → may (view child).number (Ok (Some status)) →
-      after ≡ record by_seats { children = seated rest; reaped = counted by_seats.reaped 1 } → Sweeps may view 1 before after
+      after ≡ record by_nodes { children = in_nodes rest; reaped = counted by_nodes.reaped 1 } → Sweeps may view 1 before after
   sweeps_reaped status told is = record {
     kept = [];
     reaped = 1;
     lost = 0;
     asked = subst (λ (l : List C). AsksAll may view l [] 1 0) (sym asked_first) (one_reaped may view child status told);
-    children_are = behind [] (ap (λ (p : PoolView C). p.children) is ∙ sym (append-nil (seated rest)));
+    children_are = behind [] (ap (λ (p : PoolView C). p.children) is ∙ sym (append-nil (in_nodes rest)));
     given_is = ap (λ (p : PoolView C). p.given) is ∙ ap (λ (p : PoolView C). p.given) same;
     reaped_is = ap (λ (p : PoolView C). p.reaped) is ∙ ap (λ (p : PoolView C). counted p.reaped 1) same;
     lost_is = ap (λ (p : PoolView C). p.lost) is ∙ ap (λ (p : PoolView C). p.lost) same;
   }
 
   pub sweeps_lost : (fault : Fault) → may (view child).number (Err fault) →
-      after ≡ record by_seats { children = seated rest; lost = counted by_seats.lost 1 } → Sweeps may view 1 before after
+      after ≡ record by_nodes { children = in_nodes rest; lost = counted by_nodes.lost 1 } → Sweeps may view 1 before after
   sweeps_lost fault told is = record {
     kept = [];
     reaped = 0;
     lost = 1;
     asked = subst (λ (l : List C). AsksAll may view l [] 0 1) (sym asked_first) (one_lost may view child fault told);
-    children_are = behind [] (ap (λ (p : PoolView C). p.children) is ∙ sym (append-nil (seated rest)));
+    children_are = behind [] (ap (λ (p : PoolView C). p.children) is ∙ sym (append-nil (in_nodes rest)));
     given_is = ap (λ (p : PoolView C). p.given) is ∙ ap (λ (p : PoolView C). p.given) same;
     reaped_is = ap (λ (p : PoolView C). p.reaped) is ∙ ap (λ (p : PoolView C). p.reaped) same;
     lost_is = ap (λ (p : PoolView C). p.lost) is ∙ ap (λ (p : PoolView C). counted p.lost 1) same;
@@ -222,18 +222,18 @@ sweep_ends {C} may view i before now s done = record {
   lost_is = s.lost_is;
 }
 
-pub one_seat : {C : Type 0} (seats one rest : List (Option C)) → seats ≡ map Some (seated seats)
-    → seats ≡ one ++ rest → length one ≡ 1 →
+pub one_node : {C : Type 0} (nodes one rest : List (Option C)) → nodes ≡ map Some (in_nodes nodes)
+    → nodes ≡ one ++ rest → length one ≡ 1 →
     (child : C) × (one ≡ Some child ∷ [])
-one_seat seats [] rest full whole long = absurd (omega (arith, long))
-one_seat seats (Some child ∷ []) rest full whole long = (child, refl)
-one_seat {C} seats (None ∷ []) rest full whole long = no_none (seated seats) rest (sym whole ∙ full)
+one_node nodes [] rest full whole long = absurd (omega (arith, long))
+one_node nodes (Some child ∷ []) rest full whole long = (child, refl)
+one_node {C} nodes (None ∷ []) rest full whole long = no_none (in_nodes nodes) rest (sym whole ∙ full)
   where
     no_none : (xs : List C) (rest : List (Option C)) → None ∷ rest ≡ map Some xs
         → (child : C) × (None ∷ [] ≡ Some child ∷ [])
     no_none [] rest is = absurd (cc)
     no_none (x ∷ xs) rest is = absurd (cc)
-one_seat seats (o ∷ p ∷ one) rest full whole long = absurd (omega (arith, long))
+one_node nodes (o ∷ p ∷ one) rest full whole long = absurd (omega (arith, long))
 
 -- at most as many children are left as were polled
 pub sieves_fewer : {A B : Type 0} (may : A → Answer → Type 0) (keeps : A → B → Type 0)

@@ -14,9 +14,9 @@ pub record PoolView (C : Type 0) : Type 0 where
   pub reaped : ℕ
   pub lost : ℕ
 
--- the children in these seats
-abbrev pub seated : {C : Type 0} → List (Option C) → List C
-seated seats = flat_map option_to_list seats
+-- the children in these nodes
+abbrev pub in_nodes : {C : Type 0} → List (Option C) → List C
+in_nodes nodes = flat_map option_to_list nodes
 
 -- the greatest count
 abbrev pub greatest : ℕ

@@ -11,32 +11,32 @@ use std::marker::Model;
 
 /// Room for one child in any pool, allocated before there is a child.
 #[derive(Drop)]
-pub struct Seat<C> {
-    seat: LinkedList<Option<C>>,
+pub struct Reservation<C> {
+    reservation: LinkedList<Option<C>>,
 }
 
-impl<C> Model for Seat<C> {
+impl<C> Model for Reservation<C> {
     ghost use Rattle.std.specs.Prelude.{◌≡◌, ◌∷◌, [], None};
 
     ghost Value = { Unit {0} };
 
     ghost view = { λ s. tt };
 
-    ghost invariant = { λ s. s.seat ≡ None ∷ [] };
+    ghost invariant = { λ s. s.reservation ≡ None ∷ [] };
 }
 
 /// Allocates room for a child. Fails only at an allocation failure.
-pub fn seat_new<C: Drop>(alloc: Global) -> Result<Seat<C>, AllocError> {
-    let mut seat = LinkedList::new(alloc);
-    seat.push_back(None)?;
-    Ok(Seat { seat })
+pub fn reservation_new<C: Drop>(alloc: Global) -> Result<Reservation<C>, AllocError> {
+    let mut reservation = LinkedList::new(alloc);
+    reservation.push_back(None)?;
+    Ok(Reservation { reservation })
 }
 
 /// A child with its room in any pool. Polls of it and orders to it go to the child.
 #[derive(Drop)]
 pub struct Place<C> {
     child: C,
-    seat: Seat<C>,
+    reservation: Reservation<C>,
 }
 
 impl<C> Model for Place<C> {
@@ -46,10 +46,10 @@ impl<C> Model for Place<C> {
 }
 
 /// Joins a child and its room. It is meant for a start only.
-pub fn place_new<C>(child: C, seat: Seat<C>) -> Place<C>
+pub fn place_new<C>(child: C, reservation: Reservation<C>) -> Place<C>
     ensures { result ≡ child }
 {
-    Place { child, seat }
+    Place { child, reservation }
 }
 
 impl<C: Drop> Place<C> {
@@ -57,8 +57,8 @@ impl<C: Drop> Place<C> {
     pub fn into_child(self) -> C
         ensures { result ≡ self }
     {
-        let Place { child, seat } = self;
-        drop(seat);
+        let Place { child, reservation } = self;
+        drop(reservation);
         child
     }
 }
@@ -101,7 +101,7 @@ impl<C: Child> Child for Place<C> {
 /// starts.
 #[derive(Drop)]
 pub struct Pool<C> {
-    seats: LinkedList<Option<C>>,
+    nodes: LinkedList<Option<C>>,
     given: u64,
     reaped: u64,
     lost: u64,
@@ -109,20 +109,20 @@ pub struct Pool<C> {
 
 impl<C> Model for Pool<C> {
     ghost use Rattle.std.specs.Prelude.{◌≡◌, map, Some};
-    ghost use Rattle.duct_base.specs.Pool.{PoolView, AddsUp, seated};
+    ghost use Rattle.duct_base.specs.Pool.{PoolView, AddsUp, in_nodes};
 
     ghost Value = { PoolView C };
 
     ghost view = { λ p. record {
-      children = seated p.seats;
+      children = in_nodes p.nodes;
       given = p.given;
       reaped = p.reaped;
       lost = p.lost;
     } };
 
-    ghost invariant = { λ p. (p.seats ≡ map Some (seated p.seats))
+    ghost invariant = { λ p. (p.nodes ≡ map Some (in_nodes p.nodes))
         × AddsUp (record
-        { children = seated p.seats; given = p.given; reaped = p.reaped; lost = p.lost }) };
+        { children = in_nodes p.nodes; given = p.given; reaped = p.reaped; lost = p.lost }) };
 }
 
 impl<C: Drop> Pool<C> {
@@ -131,7 +131,7 @@ impl<C: Drop> Pool<C> {
         ensures { result ≡ record { children = []; given = 0; reaped = 0; lost = 0 } }
     {
         Pool {
-            seats: LinkedList::new(alloc),
+            nodes: LinkedList::new(alloc),
             given: 0,
             reaped: 0,
             lost: 0,
@@ -144,7 +144,7 @@ impl<C: Drop> Pool<C> {
         ensures length { result ≡ length self.now.children }
         ensures adds_up { AddsUp self.now }
     {
-        self.seats.len()
+        self.nodes.len()
     }
 
     /// Returns how many children were ever given to it, at most the greatest u64.
@@ -169,9 +169,9 @@ impl<C: Drop> Pool<C> {
         self.lost
     }
 
-    // Keeps a child that runs, after the others. There is room for fewer than 2 ^ 63 seats. Without
+    // Keeps a child that runs, after the others. There is room for fewer than 2 ^ 63 nodes. Without
     // room the child is dropped and counted as lost.
-    fn keep(&mut self, child: C, seat: Seat<C>)
+    fn keep(&mut self, child: C, reservation: Reservation<C>)
         ensures counts { self.new.given ≡ one_more self.old.given }
         ensures stays { (more : List C) × (self.new.children ≡ self.old.children ++ more) }
         ensures keeps { length self.old.children + 1 < 2 ^ 63 → self.new ≡ record self.old {
@@ -179,9 +179,9 @@ impl<C: Drop> Pool<C> {
           given = one_more self.old.given;
         } }
     {
-        let Seat { mut seat } = seat;
-        fill(&mut seat, child);
-        if self.seats.append(&mut seat).is_err() {
+        let Reservation { mut reservation } = reservation;
+        fill(&mut reservation, child);
+        if self.nodes.append(&mut reservation).is_err() {
             raise(&mut self.lost);
         }
         raise(&mut self.given);
@@ -229,20 +229,20 @@ impl<C: Child> Pool<C> {
         requires { 0 < length self.old.children }
         ensures { Sweeps C.may_answer C.child_view 1 self.old self.new }
     {
-        let mut rest = others(&mut self.seats);
-        let mut child = vacate(&mut self.seats);
+        let mut rest = others(&mut self.nodes);
+        let mut child = vacate(&mut self.nodes);
         match child.poll() {
             Ok(None) => {
-                fill(&mut self.seats, child);
-                let _ = rest.append(&mut self.seats);
-                self.seats = rest;
+                fill(&mut self.nodes, child);
+                let _ = rest.append(&mut self.nodes);
+                self.nodes = rest;
             }
             Ok(Some(_)) => {
-                self.seats = rest;
+                self.nodes = rest;
                 raise(&mut self.reaped);
             }
             Err(_) => {
-                self.seats = rest;
+                self.nodes = rest;
                 raise(&mut self.lost);
             }
         }
@@ -256,10 +256,13 @@ impl<C: Child> Pool<C> {
 pub fn pool_take<C: Child>(pool: &mut Pool<C>, place: Place<C>)
     ensures { IsGiven C.may_answer C.child_view (place ∷ []) pool.old pool.new }
 {
-    let _ = &pool.seats;
-    let Place { mut child, seat } = place;
+    let _ = &pool.nodes;
+    let Place {
+        mut child,
+        reservation,
+    } = place;
     match child.poll() {
-        Ok(None) => pool.keep(child, seat),
+        Ok(None) => pool.keep(child, reservation),
         Ok(Some(_)) => pool.reap(),
         Err(_) => pool.lose(),
     }
@@ -272,23 +275,23 @@ fn raise(count: &mut u64)
     *count = count.saturating_add(1);
 }
 
-// Puts a child into the one empty seat of this list.
-fn fill<C: Drop>(seat: &mut LinkedList<Option<C>>, child: C)
-    requires { seat.old ≡ None ∷ [] }
-    ensures { seat.new ≡ Some child ∷ [] }
+// Puts a child into the one empty node of this list.
+fn fill<C: Drop>(reservation: &mut LinkedList<Option<C>>, child: C)
+    requires { reservation.old ≡ None ∷ [] }
+    ensures { reservation.new ≡ Some child ∷ [] }
 {
-    if let Some(slot) = seat.front_mut() {
+    if let Some(slot) = reservation.front_mut() {
         *slot = Some(child);
     }
 }
 
-// Takes the child out of the one seat of this list.
-fn vacate<C: Drop>(seat: &mut LinkedList<Option<C>>) -> C
-    requires { (child : C) × (seat.old ≡ Some child ∷ []) }
-    ensures was { seat.old ≡ Some result ∷ [] }
-    ensures empty { seat.new ≡ None ∷ [] }
+// Takes the child out of the one node of this list.
+fn vacate<C: Drop>(reservation: &mut LinkedList<Option<C>>) -> C
+    requires { (child : C) × (reservation.old ≡ Some child ∷ []) }
+    ensures was { reservation.old ≡ Some result ∷ [] }
+    ensures empty { reservation.new ≡ None ∷ [] }
 {
-    let child = match seat.front_mut() {
+    let child = match reservation.front_mut() {
         Some(slot) => slot.take(),
         None => None,
     };
@@ -298,15 +301,15 @@ fn vacate<C: Drop>(seat: &mut LinkedList<Option<C>>) -> C
     }
 }
 
-// Leaves the first seat in the list, and returns the others.
-fn others<C: Drop>(seats: &mut LinkedList<Option<C>>) -> LinkedList<Option<C>>
-    requires { 0 < length seats.old }
-    ensures whole { seats.old ≡ seats.new ++ result }
-    ensures one { length seats.new ≡ 1 }
-    ensures fits { length seats.old < 2 ^ 63 }
+// Leaves the first node in the list, and returns the others.
+fn others<C: Drop>(nodes: &mut LinkedList<Option<C>>) -> LinkedList<Option<C>>
+    requires { 0 < length nodes.old }
+    ensures whole { nodes.old ≡ nodes.new ++ result }
+    ensures one { length nodes.new ≡ 1 }
+    ensures fits { length nodes.old < 2 ^ 63 }
 {
-    let _ = seats.len();
-    match seats.split_off(1) {
+    let _ = nodes.len();
+    match nodes.split_off(1) {
         Ok(rest) => rest,
         Err(_) => unreachable!(),
     }

@@ -1,5 +1,5 @@
 -- How what a start left ended, by the numbers of its journal.
-use Rattle.std.specs.Prelude.{ℕ, List, ◌∷◌, ◌++◌, IfErr, IfNone, IfSome, Ok, Err, Some, None, map}
+use Rattle.std.specs.Prelude.{ℕ, List, ◌∷◌, ◌++◌, IfErr, IfNone, IfSome, Ok, Err, Some, None, map, []}
 use Rattle.std.specs.Option.{option_map, option_to_list}
 use Rattle.std.specs.declared.alloc.Global.{Global}
 use Rattle.std.specs.declared.option.Option.{Option}
@@ -16,10 +16,11 @@ use Rattle.duct_status.specs.ShapeView.{ShapeView, shape_view}
 use Rattle.duct_start.specs.Running.{RunningView}
 use Rattle.duct_start.specs.ShapeOfTree.{shape_of_tree}
 use Rattle.duct_start.specs.TreeView.{TreeView}
-use Rattle.duct_start.proofs.Leaving.{takes_in}
-use Rattle.duct_run.specs.Requested.{PoolGets, PoolLeaves}
+use Rattle.duct_run.proofs.Leaving.{takes_in}
+use Rattle.duct_run.specs.Requested.{PoolGets}
+use Rattle.duct_start.specs.Left.{Leaves, pool_view}
 use Rattle.duct_run.specs.SystemViews.{SystemViews}
-use Rattle.duct_running.specs.Answered.{EndsAs, IsEnding}
+use Rattle.duct_running.specs.Answered.{ReturnsConclusion, IsConcludedPoll}
 use Rattle.duct_running.specs.NumbersView.{NumbersView, numbers_of}
 use Rattle.duct_running.specs.Polled.{Polled, ReturnsOutcome}
 use Rattle.duct_running.specs.Stays.{StaysSame}
@@ -51,17 +52,17 @@ if_none_with None step holds = step holds
 pub ends_same : {S E C F D : Type 0} (views : SystemViews S E C F D (Unit {0}) Bytes)
     (before after : RunningView C F D) → shape_view after.shape ≡ shape_view before.shape
     → numbers_of views after ≡ numbers_of views before
-    → (polled : Polled) → EndsAs views after polled → EndsAs views before polled
+    → (polled : Polled) → ReturnsConclusion views after polled → ReturnsConclusion views before polled
 ends_same views before after shape same polled ends =
-    subst (λ (s : ShapeView). IsEnding views.may_answer views.feed_says views.drain_says s (numbers_of views before) polled) shape
-    (subst (λ (n : NumbersView). IsEnding views.may_answer views.feed_says views.drain_says (shape_view after.shape) n polled) same ends)
+    subst (λ (s : ShapeView). IsConcludedPoll views.may_answer views.feed_says views.drain_says s (numbers_of views before) polled) shape
+    (subst (λ (n : NumbersView). IsConcludedPoll views.may_answer views.feed_says views.drain_says (shape_view after.shape) n polled) same ends)
 
 pub ended_same : {S E C F D : Type 0} (views : SystemViews S E C F D (Unit {0}) Bytes)
     (before after : RunningView C F D) → shape_view after.shape ≡ shape_view before.shape
     → numbers_of views after ≡ numbers_of views before
     → (ended : Option (Result (Arc Output Global) Error))
-    → IfSome ended (λ how. EndsAs views after (at_end how))
-    → IfSome ended (λ how. EndsAs views before (at_end how))
+    → IfSome ended (λ how. ReturnsConclusion views after (at_end how))
+    → IfSome ended (λ how. ReturnsConclusion views before (at_end how))
 ended_same views before after shape same ended =
     if_some_with ended (λ how ends. ends_same views before after shape same (at_end how) ends)
 
@@ -99,15 +100,15 @@ module _ {S E C F D H : Type 0} (views : SystemViews S E C F D (Unit {0}) Bytes)
     shape_waited : shape_view waited.shape ≡ shape_of_tree tree
     shape_waited = stays.shape_is ∙ runs.shape_is
 
-    ending : (polled : Polled) → EndsAs views waited polled
-        → IsEnding views.may_answer views.feed_says views.drain_says (shape_of_tree tree) (numbers_of views running) polled
+    ending : (polled : Polled) → ReturnsConclusion views waited polled
+        → IsConcludedPoll views.may_answer views.feed_says views.drain_says (shape_of_tree tree) (numbers_of views running) polled
     ending polled ends =
-        subst (λ (s : ShapeView). IsEnding views.may_answer views.feed_says views.drain_says s (numbers_of views running) polled) shape_waited
-        (subst (λ (n : NumbersView). IsEnding views.may_answer views.feed_says views.drain_says (shape_view waited.shape) n polled) stays.numbers_are ends)
+        subst (λ (s : ShapeView). IsConcludedPoll views.may_answer views.feed_says views.drain_says s (numbers_of views running) polled) shape_waited
+        (subst (λ (n : NumbersView). IsConcludedPoll views.may_answer views.feed_says views.drain_says (shape_view waited.shape) n polled) stays.numbers_are ends)
 
     -- it was late, and was then stopped
     pub is_late : (late : Late) (stopped : RunningView C F D) → HasNotEnded views running
-        → IfSome late.ended (λ ended. EndsAs views waited (at_end ended))
+        → IfSome late.ended (λ ended. ReturnsConclusion views waited (at_end ended))
         → numbers_of views stopped ≡ numbers_of views waited
         → IsLate views late kind tree added (numbers_of views stopped)
     is_late late stopped unended ended same =
@@ -122,7 +123,7 @@ pub gives_stopped : {S E C F D H : Type 0} (views : SystemViews S E C F D (Unit 
     (kind : StartKind) (tree : TreeView E H) (added : List EntryView) (late : Late)
     (running : RunningView C F D) → IsLate views late kind tree added (numbers_of views running)
     → AreStopped views.may_obey late.killed (map views.child running.children)
-    → (before mid after : PoolView C) → PoolLeaves views before mid
+    → (before mid after : PoolView C) → Leaves views.may_answer [] (pool_view views.child before) (pool_view views.child mid)
     → PoolGets views running.children mid after
     → LeavesStopped views.may_answer views.may_obey views.child late.killed added before after
 gives_stopped views kind tree added late running is stopped before mid after swept gets = (

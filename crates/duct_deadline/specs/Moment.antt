@@ -8,7 +8,7 @@ use Rattle.duct_status.specs.ShapeView.{ShapeView, shape_view}
 use Rattle.duct_start.specs.Running.{RunningView}
 use Rattle.duct_run.specs.SystemViews.{SystemViews}
 use Rattle.duct_running.specs.Allowed.{OneRuns}
-use Rattle.duct_running.specs.Answered.{IsEnding}
+use Rattle.duct_running.specs.Answered.{IsConcludedPoll}
 use Rattle.duct_running.specs.NumbersView.{NumbersView, numbers_of}
 use Rattle.duct_running.specs.Stored.{Bytes}
 
@@ -25,8 +25,8 @@ module _ {S E C F D : Type 0} (views : SystemViews S E C F D (Unit {0}) Bytes) w
   abbrev pub MayRun : ShapeView → NumbersView → Type 0
   MayRun shape numbers =
       OneRuns views numbers
-      ⊎ ((fault : Fault) × IsEnding views.may_answer views.feed_says views.drain_says shape numbers
-      (Err (error.System fault)))
+      ⊎ ((fault : Fault) × IsConcludedPoll views.may_answer views.feed_says views.drain_says
+      shape numbers (Err (error.System fault)))
 
   -- the same of a running expression
   abbrev pub HasNotEnded : RunningView C F D → Type 0

@@ -21,7 +21,7 @@ use Rattle.duct_start.specs.ShapeOfTree.{shape_of_tree}
 use Rattle.duct_start.specs.Start.{StartSucceeds}
 use Rattle.duct_start.specs.TreeView.{TreeView}
 use Rattle.duct_run.specs.SystemViews.{SystemViews}
-use Rattle.duct_running.specs.Answered.{IsEnding}
+use Rattle.duct_running.specs.Answered.{IsConcludedPoll}
 use Rattle.duct_running.specs.NumbersView.{NumbersView, numbers_of}
 use Rattle.duct_running.specs.Polled.{ReturnsOutcome}
 use Rattle.duct_running.specs.PolledOnce.{PolledOnce}
@@ -84,7 +84,7 @@ module _ {S E C F D : Type 0} (views : SystemViews S E C F D (Unit {0}) Bytes) w
       (added : List EntryView) (numbers : NumbersView) : Type 0 where
     pub are_numbers : AreNumbers (drains_output kind tree) (drains_error kind tree) added numbers
     pub may_run : MayRun views (shape_of_tree tree) numbers
-    pub ended : IfSome late.ended (λ ended. IsEnding views.may_answer views.feed_says
+    pub ended : IfSome late.ended (λ ended. IsConcludedPoll views.may_answer views.feed_says
         views.drain_says (shape_of_tree tree) numbers (at_end ended))
 
   -- this runs what was late, and each of its children was sent signal 15 and then killed

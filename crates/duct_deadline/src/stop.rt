@@ -3,7 +3,7 @@ ghost use Rattle.std.specs.Prelude.{◌≡◌, ◌+◌, false, map, min, IfSome,
 ghost use Rattle.std.specs.Duration.{as_nanos, max_nanos};
 ghost use Rattle.duct_system.specs.declared.error.Error.TheVariants as error;
 ghost use Rattle.duct_system.specs.declared.system.Order.TheVariants.{Kill};
-ghost use Rattle.duct_running.specs.Answered.{EndsAs};
+ghost use Rattle.duct_running.specs.Answered.{ReturnsConclusion};
 ghost use Rattle.duct_running.specs.NumbersView.{numbers_of};
 ghost use Rattle.duct_running.specs.Ordered.{IsOrdered, IsUnordered};
 ghost use Rattle.duct_running.specs.Stays.{StaysSame};
@@ -45,7 +45,7 @@ fn watch_on<S: System, C: Clock>(
     ensures stays { StaysSame ⟦<S as Viewed>⟧.views running.old running.new }
     ensures kept { ChildrenKeep ⟦<S as Viewed>⟧.views running.old running.new }
     ensures ended { IfSome result
-        (λ ended. EndsAs ⟦<S as Viewed>⟧.views running.old (at_end ended)) }
+        (λ ended. ReturnsConclusion ⟦<S as Viewed>⟧.views running.old (at_end ended)) }
     ensures late { UnlessEnded result (HasReached (C.may_show clock.now) (as_nanos last)) }
 {
     let parker = Parker::new();
@@ -95,7 +95,7 @@ pub(crate) fn stop<S: System, C: Clock>(
     ensures numbers { numbers_of ⟦<S as Viewed>⟧.views running.new
         ≡ numbers_of ⟦<S as Viewed>⟧.views running.old }
     ensures ended { IfSome result.ended
-        (λ ended. EndsAs ⟦<S as Viewed>⟧.views running.old (at_end ended)) }
+        (λ ended. ReturnsConclusion ⟦<S as Viewed>⟧.views running.old (at_end ended)) }
     ensures grace { UnlessEnded result.ended (HasReached (C.may_show clock.now)
         (min (as_nanos moment + as_nanos grace) max_nanos)) }
     ensures stopped { AreStopped S.Child.may_obey result.killed

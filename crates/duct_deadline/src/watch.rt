@@ -2,7 +2,7 @@
 ghost use Rattle.std.specs.Prelude.{◌≡◌, ◌⊎◌, true, false, IfSome, IfNone, Ok, None};
 ghost use Rattle.std.specs.Duration.{as_nanos};
 ghost use Rattle.duct_running.specs.Allowed.{OneRuns, StoresAllowed};
-ghost use Rattle.duct_running.specs.Answered.{EndsAs};
+ghost use Rattle.duct_running.specs.Answered.{ReturnsConclusion};
 ghost use Rattle.duct_running.specs.NumbersView.{numbers_of};
 ghost use Rattle.duct_running.specs.Polled.{ReturnsOutcome};
 ghost use Rattle.duct_running.specs.PolledOnce.{PolledOnce};
@@ -37,7 +37,7 @@ fn polled<S: System>(running: &mut Running<S>) -> Result<Option<Arc<Output>>, Er
     ensures kept { ChildrenKeep ⟦<S as Viewed>⟧.views running.old running.new }
     ensures outcome { ReturnsOutcome ⟦<S as Viewed>⟧.views running.new result }
     ensures allowed { ∥ StoresAllowed ⟦<S as Viewed>⟧.views running.new ∥₁ }
-    ensures ending { EndsAs ⟦<S as Viewed>⟧.views running.new result }
+    ensures ending { ReturnsConclusion ⟦<S as Viewed>⟧.views running.new result }
     ensures runs { result ≡ Ok None
         → OneRuns ⟦<S as Viewed>⟧.views (numbers_of ⟦<S as Viewed>⟧.views running.new) }
 {
@@ -61,7 +61,7 @@ pub(crate) fn watch<S: System, C: Clock>(
         (λ ended. ReturnsOutcome ⟦<S as Viewed>⟧.views running.new (at_end ended)) }
     ensures allowed { ∥ StoresAllowed ⟦<S as Viewed>⟧.views running.new ∥₁ }
     ensures ended { IfSome result
-        (λ ended. EndsAs ⟦<S as Viewed>⟧.views running.old (at_end ended)) }
+        (λ ended. ReturnsConclusion ⟦<S as Viewed>⟧.views running.old (at_end ended)) }
     ensures in_time { IfSome result (λ ended. HasShownLess (C.may_show clock.now) (as_nanos moment)
         ⊎ PolledOnce ⟦<S as Viewed>⟧.views running.old running.new) }
     ensures late { IfNone result (HasReached (C.may_show clock.now) (as_nanos moment)) }

@@ -5,7 +5,7 @@ use Rattle.std.proofs.Common.{arith, refl, sym, ◌∙◌, inl, inr}
 use Rattle.std.proofs.lemmas.Bool.Decides.{nat_tests}
 use Rattle.std.proofs.lemmas.List.Folds.{find-append}
 use Rattle.duct_system.specs.EntryView.{EntryView}
-use Rattle.duct_system.specs.Ledger.{closed_numbers, opened_numbers, IsBalanced}
+use Rattle.duct_system.specs.Ledger.{spent_numbers, opened_numbers, IsBalanced}
 use Rattle.duct_start.proofs.Counts.{count-append}
 use Rattle.duct_plan.specs.Balance.{AllBalance, BalancesAt}
 use Rattle.duct_plan.proofs.Balance.{absent_or_balances}
@@ -57,7 +57,7 @@ pub balanced_unless_found : (entries : List EntryView) → unbalanced entries �
     → IsBalanced entries
 balanced_unless_found entries none number =
     let got = opened_numbers entries in
-    let spent = closed_numbers entries in
+    let spent = spent_numbers entries in
     let all = find-append (is_unbalanced got spent) got spent ∙ none in
     elim (absent_or_balances got spent number (got ++ spent)) [
       | inr held ↦ held (none_found got spent (got ++ spent) all)
@@ -71,6 +71,6 @@ pub unbalanced_if_found : (entries : List EntryView) (number : ℕ) → unbalanc
     → ¬ (IsBalanced entries)
 unbalanced_if_found entries number some balanced =
     let got = opened_numbers entries in
-    let spent = closed_numbers entries in
+    let spent = spent_numbers entries in
     let found = find-append (is_unbalanced got spent) got spent ∙ some in
     some_found got spent number (got ++ spent) found (balanced number)

@@ -4,7 +4,7 @@ use Rattle.std.specs.List.{find}
 use Rattle.std.specs.Option.{option_or}
 use Rattle.std.specs.declared.option.Option.{Option}
 use Rattle.duct_system.specs.EntryView.{EntryView}
-use Rattle.duct_system.specs.Ledger.{closed_numbers, count_of, opened_numbers}
+use Rattle.duct_system.specs.Ledger.{spent_numbers, count_of, opened_numbers}
 
 -- whether a number occurs more than once in the first list, or not equally often in the second
 abbrev pub is_unbalanced : List ℕ → List ℕ → ℕ → Bool
@@ -15,5 +15,5 @@ is_unbalanced got spent number =
 abbrev pub unbalanced : List EntryView → Option ℕ
 unbalanced entries =
     let got = opened_numbers entries in
-    let spent = closed_numbers entries in
+    let spent = spent_numbers entries in
     option_or (find (is_unbalanced got spent) got) (find (is_unbalanced got spent) spent)

@@ -4,7 +4,7 @@ ghost use Rattle.std.specs.Option.{option_copied};
 ghost use Rattle.duct_system.specs.EntryView.{entry_view};
 ghost use Rattle.duct_system.specs.Trace.{trace};
 ghost use Rattle.duct_system.specs.declared.system.Kind.TheVariants.{OutOfMemory};
-ghost use Rattle.duct_start.specs.Causes.{last_fault, ReturnsLastFault, StoppedBy, StoppedNext, HasCause};
+ghost use Rattle.duct_start.specs.Causes.{last_fault, ReturnsLastFault, StoppedBy, StoppedNext, IsCausedOrMemory};
 ghost use Rattle.duct_start.specs.Step.{AskSpawn};
 ghost use Rattle.duct_follows.specs.Cause.{IsSameStop, Tells};
 ghost use Rattle.duct_follows.specs.ScriptHooks.{allows, refuses};
@@ -32,15 +32,15 @@ use std::alloc::Global;
 /// those hooks are run again, on a spec of their own. Fails with `Untold::HookOutOfMemory` if one
 /// of them then refuses with `OutOfMemory` and the error is not a hook's `OutOfMemory`, and with
 /// `Untold::Memory` on allocation failure.
-pub fn has_cause<E: Numbered>(
+pub fn is_caused_or_memory<E: Numbered>(
     alloc: Global,
     plan: &Plan<'_, E, ScriptHook>,
     added: &[Entry],
     error: &Error,
 ) -> Result<bool, Untold>
     ensures { IfOk result
-        (λ yes. IsTrue yes ↔ HasCause ⟦<ScriptHook as Hook>⟧.allows ⟦<ScriptHook as Hook>⟧.refuses
-        E.number_of (plan_view plan.now) (map entry_view added.now) error.now) }
+        (λ yes. IsTrue yes ↔ IsCausedOrMemory ⟦<ScriptHook as Hook>⟧.allows
+        ⟦<ScriptHook as Hook>⟧.refuses E.number_of (plan_view plan.now) (map entry_view added.now) error.now) }
 {
     match error {
         Error::System(fault) => Ok(is_last_fault(added, *fault)),

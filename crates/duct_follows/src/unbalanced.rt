@@ -6,7 +6,7 @@ ghost use Rattle.duct_system.specs.Ledger.{count_of};
 ghost use Rattle.duct_follows.specs.Unbalanced.{is_unbalanced, unbalanced};
 
 use duct_base::system::Entry;
-use duct_plan::checker::{closed_numbers, opened_numbers};
+use duct_plan::checker::{opened_numbers, spent_numbers};
 use std::alloc::{AllocError, Global};
 
 /// Returns the first number, of those that requests returned and then of those that were spent,
@@ -15,7 +15,7 @@ pub(crate) fn unbalanced(alloc: Global, entries: &[Entry]) -> Result<Option<u64>
     ensures { IfOk result (λ found. found ≡ unbalanced (map entry_view entries.now)) }
 {
     let got = opened_numbers(alloc, entries)?;
-    let spent = closed_numbers(alloc, entries)?;
+    let spent = spent_numbers(alloc, entries)?;
     let (got, spent) = (got.as_slice(), spent.as_slice());
     Ok(first_unbalanced(got, got, spent).or(first_unbalanced(spent, got, spent)))
 }

@@ -4,7 +4,7 @@ use Rattle.std.proofs.Common.{◌≡◌, ◌+◌, ◌-◌}
 use Rattle.duct_system.specs.Child.{Answer}
 use Rattle.duct_system.specs.EntryView.{EntryView}
 use Rattle.duct_system.specs.Journal.{JournalView}
-use Rattle.duct_system.specs.Ledger.{opened_by, closed_by}
+use Rattle.duct_system.specs.Ledger.{opened_by, spent_by}
 use Rattle.duct_guard.specs.Crew.{IsCrew}
 use Rattle.duct_guard.specs.Forwarded.{ForwardsAll, IsForwarded}
 use Rattle.duct_guard.specs.Held.{child_of, started_by, held_after, Fits}
@@ -18,7 +18,7 @@ pub one_held : {may_answer : ℕ → Answer → Type 0} {running : List ℕ} (ru
     → held ≡ held_after earlier own → Fits rules.limits earlier
     → ∥ IsCrew may_answer rules.at_once earlier.children own running ∥₁
     → IsForwarded rules held entry old next → child_of entry ≡ [] → more ≡ own ++ entry ∷ []
-    → new.ends ≡ (held.ends + length (opened_by entry)) - length (closed_by entry)
+    → new.ends ≡ (held.ends + length (opened_by entry)) - length (spent_by entry)
     → new.children ≡ held.children + started_by entry
     → ∥ ForwardsAll rules earlier more next.entries ∥₁
     × ((new ≡ held_after earlier more) × (Fits rules.limits earlier

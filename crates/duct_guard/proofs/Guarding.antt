@@ -11,7 +11,7 @@ use mathlib.Core.Bool.{Bool-set}
 use mathlib.Core.Logic.{∥∥₁_map, ∥∥₁_elim}
 use Rattle.duct_system.specs.EntryView.{EntryView, Environment, Pipe, Canonicalize, Spawn, Close}
 use Rattle.duct_system.specs.Journal.{JournalView, Adds, AddsNothing, GetsEnd, GetsEnds, IsNew, IsRefused}
-use Rattle.duct_system.specs.Ledger.{opened_by, closed_by}
+use Rattle.duct_system.specs.Ledger.{opened_by, spent_by}
 use Rattle.duct_system.specs.SpecView.{SpecView, Vars}
 use Rattle.duct_system.specs.Streams.{ends_of}
 use Rattle.duct_system.specs.Trace.{fault_of}
@@ -53,7 +53,7 @@ module _ (rules : Rules) where
 module _ (rules : Rules) (held : Counts) where
   -- an allowed request that was passed on
   pub passed : (entry : EntryView) (old new : JournalView) → may_ask rules held entry ≡ true
-      → Adds entry (length (opened_by entry)) (length (closed_by entry)) old new
+      → Adds entry (length (opened_by entry)) (length (spent_by entry)) old new
       → IsForwarded rules held entry old new
   passed entry old new allowed adds = record {
     asked = entry ∷ [];
@@ -78,9 +78,9 @@ module _ (rules : Rules) (held : Counts) where
   -- an allowed request that failed below
   pub failed : (entry : EntryView) (fault : Fault) (old new : JournalView)
       → may_ask rules held entry ≡ true → fault_of entry ≡ Some fault → opened_by entry ≡ []
-      → IsRefused entry (length (closed_by entry)) fault old new → IsForwarded rules held entry old new
+      → IsRefused entry (length (spent_by entry)) fault old new → IsForwarded rules held entry old new
   failed entry fault old new allowed is opened (inl adds) =
-      passed entry old new allowed (subst (λ l. Adds entry (length l) (length (closed_by entry)) old new) (sym opened) adds)
+      passed entry old new allowed (subst (λ l. Adds entry (length l) (length (spent_by entry)) old new) (sym opened) adds)
   failed entry fault old new allowed is opened (inr refused) =
       let of : Kind → Fault = λ kind. record { kind = kind } in
       unasked entry old new (rw (is, allowed) (ap (λ kind. Some (of kind)) refused.2)) opened refused.1
@@ -88,19 +88,19 @@ module _ (rules : Rules) (held : Counts) where
   -- a request that was refused here, whose ends were closed
   pub closed : (entry : EntryView) (room : ℕ) (old new : JournalView)
       → fault_of entry ≡ Some (refusal (may_ask rules held entry)) → opened_by entry ≡ []
-      → ClosesFirst room (closed_by entry) old new → IsForwarded rules held entry old new
+      → ClosesFirst room (spent_by entry) old new → IsForwarded rules held entry old new
   closed entry room old new fault opened closes = record {
-    asked = map Close (take room (closed_by entry));
+    asked = map Close (take room (spent_by entry));
     forwards = Refused room fault refl;
     entries_are = closes.entries_are;
     next_grows = closes.next_grows;
-    room_is = rw opened (let kept = closes.room_is in let few = length-take room (closed_by entry) in omega arith);
+    room_is = rw opened (let kept = closes.room_is in let few = length-take room (spent_by entry) in omega arith);
   }
 
   -- a request for a worker that was refused here, whose end was closed
   pub one_closed : (entry : EntryView) (n : ℕ) (fault : Fault) (old new : JournalView)
       → may_ask rules held entry ≡ true → fault_of entry ≡ Some fault → fault ≡ refusal true
-      → opened_by entry ≡ [] → closed_by entry ≡ n ∷ [] → Adds (Close n) 0 1 old new
+      → opened_by entry ≡ [] → spent_by entry ≡ n ∷ [] → Adds (Close n) 0 1 old new
       → IsForwarded rules held entry old new
   one_closed entry n fault old new allowed noted is opened one adds = record {
     asked = Close n ∷ [];
@@ -116,7 +116,7 @@ module _ (rules : Rules) (held : Counts) where
       → ((answer : Result ℕ Fault) → may_ask rules held (entry answer) ≡ true)
       → ((n : ℕ) → opened_by (entry (Ok n)) ≡ n ∷ [])
       → ((fault : Fault) → opened_by (entry (Err fault)) ≡ [])
-      → ((answer : Result ℕ Fault) → closed_by (entry answer) ≡ [])
+      → ((answer : Result ℕ Fault) → spent_by (entry answer) ≡ [])
       → ((fault : Fault) → fault_of (entry (Err fault)) ≡ Some fault)
       → IfOk made (λ end. GetsEnd (entry (Ok (number end))) (number end) old new)
       → IfErr made (λ fault. IsRefused (entry (Err fault)) 0 fault old new)
@@ -150,7 +150,7 @@ module _ (rules : Rules) (held : Counts) where
       (old new : JournalView) (made : Result E Fault) (own ready left : ℕ)
       → ((n : ℕ) → opened_by (entry (Ok n)) ≡ n ∷ [])
       → ((fault : Fault) → opened_by (entry (Err fault)) ≡ [])
-      → ((answer : Result ℕ Fault) → closed_by (entry answer) ≡ [])
+      → ((answer : Result ℕ Fault) → spent_by (entry answer) ≡ [])
       → own ≤ old.room → ready ≡ own + 1 + 1
       → OnOk made (left ≡ ready - 1) → OnErr made (left ≡ ready - 2)
       → IsForwarded rules held (entry (answer_of number made)) old new → left ≤ new.room
@@ -166,7 +166,7 @@ module _ (rules : Rules) (held : Counts) where
       (old new : JournalView) (made : Result J Fault)
       → ((answer : Result (Unit {0}) Fault) → may_ask rules held (entry answer) ≡ true)
       → ((answer : Result (Unit {0}) Fault) → opened_by (entry answer) ≡ [])
-      → ((answer : Result (Unit {0}) Fault) → closed_by (entry answer) ≡ n ∷ [])
+      → ((answer : Result (Unit {0}) Fault) → spent_by (entry answer) ≡ n ∷ [])
       → IfOk made (λ job. Adds (entry (Ok tt)) 0 1 old new)
       → IfErr made (λ fault. Adds (entry (Err fault)) 0 1 old new)
       → IsForwarded rules held (entry (answer_of (λ job. tt) made)) old new
@@ -247,9 +247,9 @@ module _ (rules : Rules) where
   asked_allowed held entry asked (Passed allowed is) =
       rw (is, (and_parts (is_allowed rules entry) (is_within rules.limits held entry) allowed).0) refl
   asked_allowed held entry asked (Refused count fault is) =
-      subst (AreAllowed rules) (sym is) (closes_allowed (take count (closed_by entry)))
+      subst (AreAllowed rules) (sym is) (closes_allowed (take count (spent_by entry)))
   asked_allowed held entry asked (Crowded count spec io noted full is) =
-      subst (AreAllowed rules) (sym is) (closes_allowed (take count (closed_by entry)))
+      subst (AreAllowed rules) (sym is) (closes_allowed (take count (spent_by entry)))
   asked_allowed held entry asked (LostVars vars noted is) = rw is refl
   asked_allowed held entry asked (LostPath path name allowed noted is) = rw (is, allowed) refl
 

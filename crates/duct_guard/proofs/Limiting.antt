@@ -9,7 +9,7 @@ use mathlib.Core.Logic.{∥∥₁_elim}
 use Rattle.duct_system.specs.Child.{Answer}
 use Rattle.duct_system.specs.EntryView.{EntryView, Environment, Pipe, OpenRead, Create, Duplicate, Parent, Canonicalize, Spawn, Feed, Drain, Reader, Close}
 use Rattle.duct_system.specs.Journal.{JournalView}
-use Rattle.duct_system.specs.Ledger.{opened_by, closed_by}
+use Rattle.duct_system.specs.Ledger.{opened_by, spent_by}
 use Rattle.duct_system.specs.SpecView.{SpecView}
 use Rattle.duct_system.specs.Streams.{ends_of}
 use Rattle.duct_system.specs.Trace.{fault_of}
@@ -31,7 +31,7 @@ counts_are one other ends children = λ i. record { ends = ends i; children = ch
 
 -- what is held after an entry, by its two numbers
 pub held_is : (held new : Counts) (entry : EntryView)
-    → new.ends ≡ (held.ends + length (opened_by entry)) - length (closed_by entry)
+    → new.ends ≡ (held.ends + length (opened_by entry)) - length (spent_by entry)
     → new.children ≡ held.children + started_by entry → new ≡ with_entry held entry
 held_is held new entry ends children = counts_are new (with_entry held entry) ends children
 
@@ -40,7 +40,7 @@ pub end_held : {E : Type 0} (number : E → ℕ) (entry : Result ℕ Fault → E
     (held new : Counts) (made : Result E Fault)
     → ((n : ℕ) → opened_by (entry (Ok n)) ≡ n ∷ [])
     → ((fault : Fault) → opened_by (entry (Err fault)) ≡ [])
-    → ((answer : Result ℕ Fault) → closed_by (entry answer) ≡ [])
+    → ((answer : Result ℕ Fault) → spent_by (entry answer) ≡ [])
     → ((answer : Result ℕ Fault) → started_by (entry answer) ≡ 0)
     → OnOk made (new.ends ≡ held.ends + 1) → OnErr made (new.ends ≡ held.ends)
     → new.children ≡ held.children → new ≡ with_entry held (entry (answer_of number made))

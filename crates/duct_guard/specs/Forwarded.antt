@@ -3,7 +3,7 @@ use Rattle.std.specs.Prelude.{ℕ, Bool, true, false, ◌&&◌, ◌≡◌, ◌�
 use Rattle.std.specs.declared.result.Result.{Result}
 use Rattle.duct_system.specs.EntryView.{EntryView, Environment, Canonicalize, Spawn, Close}
 use Rattle.duct_system.specs.Journal.{JournalView}
-use Rattle.duct_system.specs.Ledger.{opened_by, closed_by}
+use Rattle.duct_system.specs.Ledger.{opened_by, spent_by}
 use Rattle.duct_system.specs.SpecView.{SpecView, Vars}
 use Rattle.duct_system.specs.Trace.{fault_of}
 use Rattle.duct_system.specs.declared.system.Fault.{Fault}
@@ -41,10 +41,10 @@ pub data Forwards (rules : Rules) (held : Counts) (entry : EntryView) (below : L
     : Type 0 where
   Passed : may_ask rules held entry ≡ true → below ≡ entry ∷ [] → Forwards rules held entry below
   Refused : (count : ℕ) → fault_of entry ≡ Some (refusal (may_ask rules held entry))
-      → below ≡ map Close (take count (closed_by entry)) → Forwards rules held entry below
+      → below ≡ map Close (take count (spent_by entry)) → Forwards rules held entry below
   Crowded : (count : ℕ) (spec : SpecView) (io : List (Stdio ℕ))
       → entry ≡ Spawn spec io (Err (refusal false)) → rules.at_once ≤ held.children
-      → below ≡ map Close (take count (closed_by entry)) → Forwards rules held entry below
+      → below ≡ map Close (take count (spent_by entry)) → Forwards rules held entry below
   LostVars : (vars : Vars) → entry ≡ Environment (Err no_memory)
       → below ≡ Environment (Ok vars) ∷ [] → Forwards rules held entry below
   LostPath : (path name : List ℕ) → rules.canonicalizes path ≡ true
@@ -69,7 +69,7 @@ pub record IsForwarded (rules : Rules) (held : Counts) (entry : EntryView) (old 
   pub forwards : Forwards rules held entry asked
   pub entries_are : new.entries ≡ old.entries ++ asked
   pub next_grows : old.next ≤ new.next
-  pub room_is : old.room + length (opened_by entry) ≤ new.room + length (closed_by entry)
+  pub room_is : old.room + length (opened_by entry) ≤ new.room + length (spent_by entry)
 
 -- the same for a request for an end that returned this
 abbrev pub ForwardsEnd : {E : Type 0} → Rules → Counts → (E → ℕ) → (Result ℕ Fault → EntryView)

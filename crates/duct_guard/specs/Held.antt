@@ -1,7 +1,7 @@
 -- What a guard holds: how many ends are open, by its journal, and how many children were started.
 use Rattle.std.specs.Prelude.{ℕ, Bool, true, ◌+◌, ◌-◌, ◌≤◌, List, [], ◌∷◌, length, nat_le, Ok, Err}
 use Rattle.duct_system.specs.EntryView.{EntryView, Environment, Pipe, OpenRead, Create, Duplicate, Parent, Canonicalize, Spawn, Feed, Drain, Reader, Close}
-use Rattle.duct_system.specs.Ledger.{opened_by, closed_by}
+use Rattle.duct_system.specs.Ledger.{opened_by, spent_by}
 use Rattle.duct_guard.specs.declared.counts.Counts.{Counts}
 
 -- nothing
@@ -32,7 +32,7 @@ started_by entry = length (child_of entry)
 -- took are not any more; a child counts also after it has ended
 abbrev pub with_entry : Counts → EntryView → Counts
 with_entry held entry = record {
-  ends = (held.ends + length (opened_by entry)) - length (closed_by entry);
+  ends = (held.ends + length (opened_by entry)) - length (spent_by entry);
   children = held.children + started_by entry;
 }
 

@@ -11,7 +11,7 @@ use Rattle.duct_system.specs.declared.system.Output.{Output}
 use Rattle.duct_system.specs.declared.system.Said.{Said}
 use Rattle.duct_status.specs.ReplyView.{ReplyView, noted, unknown, pending, faulted, answered, failed, no_memory}
 use Rattle.duct_status.specs.ShapeView.{ShapeView}
-use Rattle.duct_running.specs.Answered.{IsEnding, WasConcluded}
+use Rattle.duct_running.specs.Answered.{IsConcludedPoll, WasConcluded}
 use Rattle.duct_running.specs.NumbersView.{NumbersView}
 use Rattle.duct_running.specs.Polled.{Gives}
 use Rattle.duct_running.specs.Stored.{Bytes}
@@ -38,13 +38,13 @@ gives_failure unknown text gives = absurd gives
 
 module _ (may : ℕ → Answer → Type 0) (feed : ℕ → Said (Unit {0}) → Type 0) (drain : ℕ → Said Bytes → Type 0) (shape : ShapeView) (numbers : NumbersView) where
   -- an output that was returned was concluded
-  pub output_concluded : (output : Arc Output Global) → IsEnding may feed drain shape numbers (Ok (Some output))
+  pub output_concluded : (output : Arc Output Global) → IsConcludedPoll may feed drain shape numbers (Ok (Some output))
       → WasConcluded may feed drain shape numbers (answered (arc_value output).status (arc_value output).stdout.items (arc_value output).stderr.items)
   output_concluded output (inl (reply, was, gives)) = subst (λ r. WasConcluded may feed drain shape numbers r) (gives_output reply output gives) was
   output_concluded output (inr is) = absurd (cc)
 
   -- so was a checked failure
-  pub failure_concluded : (text : Arc (String Global) Global) → IsEnding may feed drain shape numbers (Err (error.Checked text))
+  pub failure_concluded : (text : Arc (String Global) Global) → IsConcludedPoll may feed drain shape numbers (Err (error.Checked text))
       → WasConcluded may feed drain shape numbers (failed (string_bytes (arc_value text)))
   failure_concluded text (inl (reply, was, gives)) = subst (λ r. WasConcluded may feed drain shape numbers r) (gives_failure reply text gives) was
   failure_concluded text (inr is) = absurd (cc)

@@ -2,7 +2,7 @@
 ghost use Rattle.std.specs.Prelude.{◌≡◌, ◌↔◌, IfOk, IfErr, IfSome, IsTrue, is_some, true, Ok, Err, None};
 ghost use Rattle.std.specs.Arc.{arc_value};
 ghost use Rattle.duct_status.specs.ShapeView.{shape_view};
-ghost use Rattle.duct_running.specs.Answered.{EndsAs, IsAnswer, IsConcluded};
+ghost use Rattle.duct_running.specs.Answered.{ReturnsConclusion, IsAnswer, IsConcluded};
 ghost use Rattle.duct_running.specs.NumbersView.{numbers_of, numbers_view};
 ghost use Rattle.duct_running.specs.Polled.{ReturnsOutcome};
 ghost use Rattle.duct_running.specs.PolledOnce.{PolledOnce};
@@ -33,7 +33,7 @@ pub(crate) fn polled<S: System>(running: &mut Running<S>) -> Result<Option<Arc<O
     ensures stays { StaysSame ⟦<S as Viewed>⟧.views running.old running.new }
     ensures outcome { ReturnsOutcome ⟦<S as Viewed>⟧.views running.new result }
     ensures allowed { ∥ StoresAllowed ⟦<S as Viewed>⟧.views running.new ∥₁ }
-    ensures ending { EndsAs ⟦<S as Viewed>⟧.views running.new result }
+    ensures ending { ReturnsConclusion ⟦<S as Viewed>⟧.views running.new result }
     ensures runs { result ≡ Ok None
         → OneRuns ⟦<S as Viewed>⟧.views (numbers_of ⟦<S as Viewed>⟧.views running.new) }
 {

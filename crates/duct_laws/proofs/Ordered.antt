@@ -9,10 +9,9 @@ use Rattle.duct_base.specs.Executable.{asks_canonical}
 use Rattle.duct_system.specs.declared.system.Side.{Side}
 use Rattle.duct_system.specs.declared.system.Side.TheVariants as side
 use Rattle.duct_status.specs.PerSide.{at_side, with_side}
-use Rattle.duct_start.specs.Actions.{capture_place}
+use Rattle.duct_start.specs.Plan.{capture_place, Plan, initial_plan, is_canonical, place_for, plan_of, plan_of_reader, plan_of_subtree, program_of, with_closing, with_drain, with_item, with_opening, with_reader}
 use Rattle.duct_start.specs.Lookup.{folder_on, surroundings_on}
 use Rattle.duct_start.specs.Path.{Path, left_of, right_of, within}
-use Rattle.duct_start.specs.Plan.{Plan, initial_plan, is_canonical, place_for, plan_of, plan_of_reader, plan_of_subtree, program_of, with_closing, with_drain, with_item, with_opening, with_reader}
 use Rattle.duct_start.specs.Row.{RowOpening, SettingView, opens_nothing, opens_input, opens_read, opens_create, opens_capture, says_folder, says_change, says_hook, row}
 use Rattle.duct_start.specs.Step.{Item, AskCreate, AskDrain, AskOpenRead, AskPipe, AskReader, closing_of, opening_of, step, step_if_setting}
 use Rattle.duct_start.specs.Surroundings.{Surroundings}

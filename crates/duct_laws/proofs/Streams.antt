@@ -11,7 +11,7 @@ use Rattle.duct_laws.specs.Redirected.{redirected}
 use Rattle.duct_start.specs.Surroundings.{Target}
 use Rattle.duct_start.specs.Lookup.{resolved_turn, stream_goes, folder_on, changes_on, hooks_on, surroundings_on}
 use Rattle.duct_start.specs.Path.{Path, within, segment_place, step_of}
-use Rattle.duct_start.specs.Step.{Turn, Decides, Follows, step}
+use Rattle.duct_start.specs.Step.{Turn, Decides, DefersTo, step}
 use Rattle.duct_start.specs.TreeView.{ModifierView, stdin_bytes, stdin_path, stdin_file, stdin_null, stdout_path, stdout_file, stdout_null, stdout_capture, stdout_to_stderr, stderr_path, stderr_file, stderr_null, stderr_capture, stderr_to_stdout, stdout_stderr_swap, dir, env, env_remove, full_env, unchecked, before_spawn}
 
 -- two paths to the root on which a command finds the same
@@ -24,13 +24,13 @@ record AreAlike {E H : Type 0} (one other : Path E H) : Type 0 where
 alike_within : {E H : Type 0} (front one other : Path E H) → AreAlike one other
     → AreAlike (front ++ one) (front ++ other)
 alike_within [] one other alike = alike
-alike_within (crumb ∷ front) one other alike =
+alike_within (segment ∷ front) one other alike =
     let rest = alike_within front one other alike in
     record {
-      streams = λ stream i. resolved_turn ((step_of crumb).turn (segment_place crumb) stream) (λ outer. rest.streams outer i);
-      folders = λ i. option_or (step_of crumb).folder (rest.folders i);
-      variables = λ i. (step_of crumb).changes ++ rest.variables i;
-      hooked = λ i. rest.hooked i ++ (step_of crumb).hooks;
+      streams = λ stream i. resolved_turn ((step_of segment).turn (segment_place segment) stream) (λ outer. rest.streams outer i);
+      folders = λ i. option_or (step_of segment).folder (rest.folders i);
+      variables = λ i. (step_of segment).changes ++ rest.variables i;
+      hooked = λ i. rest.hooked i ++ (step_of segment).hooks;
     }
 
 found_alike : {E H : Type 0} (one other : Path E H) → AreAlike one other
@@ -47,12 +47,12 @@ found_alike one other alike = λ i. record {
 -- a turn that does not follow this stream
 abbrev IsApart : {E : Type 0} → Stream → Turn E → Type 0
 IsApart stream (Decides target) = Unit {0}
-IsApart stream (Follows other) = other ≡ stream → ⊥
+IsApart stream (DefersTo other) = other ≡ stream → ⊥
 
 -- turns of the three streams that leave all streams but one as they are, and none of which follows
 -- that one
 record TurnsOne {E : Type 0} (stream : Stream) (turns : Stream → Turn E) : Type 0 where
-  others : (other : Stream) → (other ≡ stream → ⊥) → turns other ≡ Follows other
+  others : (other : Stream) → (other ≡ stream → ⊥) → turns other ≡ DefersTo other
   apart : (other : Stream) → IsApart stream (turns other)
 
 apart_as : {E : Type 0} (stream : Stream) (turn other : Turn E) → turn ≡ other → IsApart stream other
@@ -60,43 +60,43 @@ apart_as : {E : Type 0} (stream : Stream) (turn other : Turn E) → turn ≡ oth
 apart_as stream turn other is apart = subst (λ turn. IsApart stream turn) (sym is) apart
 
 module _ {E : Type 0} (turns : Stream → Turn E) where
-  at_in : turns Out ≡ Follows Out → turns Err ≡ Follows Err → IsApart In (turns In) → TurnsOne In turns
+  at_in : turns Out ≡ DefersTo Out → turns Err ≡ DefersTo Err → IsApart In (turns In) → TurnsOne In turns
   at_in output error apart = record { others = others; apart = aparts }
     where
-      others : (other : Stream) → (other ≡ In → ⊥) → turns other ≡ Follows other
+      others : (other : Stream) → (other ≡ In → ⊥) → turns other ≡ DefersTo other
       others In differs = absurd (differs refl)
       others Out differs = output
       others Err differs = error
 
       aparts : (other : Stream) → IsApart In (turns other)
       aparts In = apart
-      aparts Out = apart_as In (turns Out) (Follows Out) output (λ is. cc)
-      aparts Err = apart_as In (turns Err) (Follows Err) error (λ is. cc)
+      aparts Out = apart_as In (turns Out) (DefersTo Out) output (λ is. cc)
+      aparts Err = apart_as In (turns Err) (DefersTo Err) error (λ is. cc)
 
-  at_out : turns In ≡ Follows In → turns Err ≡ Follows Err → IsApart Out (turns Out) → TurnsOne Out turns
+  at_out : turns In ≡ DefersTo In → turns Err ≡ DefersTo Err → IsApart Out (turns Out) → TurnsOne Out turns
   at_out input error apart = record { others = others; apart = aparts }
     where
-      others : (other : Stream) → (other ≡ Out → ⊥) → turns other ≡ Follows other
+      others : (other : Stream) → (other ≡ Out → ⊥) → turns other ≡ DefersTo other
       others In differs = input
       others Out differs = absurd (differs refl)
       others Err differs = error
 
       aparts : (other : Stream) → IsApart Out (turns other)
-      aparts In = apart_as Out (turns In) (Follows In) input (λ is. cc)
+      aparts In = apart_as Out (turns In) (DefersTo In) input (λ is. cc)
       aparts Out = apart
-      aparts Err = apart_as Out (turns Err) (Follows Err) error (λ is. cc)
+      aparts Err = apart_as Out (turns Err) (DefersTo Err) error (λ is. cc)
 
-  at_err : turns In ≡ Follows In → turns Out ≡ Follows Out → IsApart Err (turns Err) → TurnsOne Err turns
+  at_err : turns In ≡ DefersTo In → turns Out ≡ DefersTo Out → IsApart Err (turns Err) → TurnsOne Err turns
   at_err input output apart = record { others = others; apart = aparts }
     where
-      others : (other : Stream) → (other ≡ Err → ⊥) → turns other ≡ Follows other
+      others : (other : Stream) → (other ≡ Err → ⊥) → turns other ≡ DefersTo other
       others In differs = input
       others Out differs = output
       others Err differs = absurd (differs refl)
 
       aparts : (other : Stream) → IsApart Err (turns other)
-      aparts In = apart_as Err (turns In) (Follows In) input (λ is. cc)
-      aparts Out = apart_as Err (turns Out) (Follows Out) output (λ is. cc)
+      aparts In = apart_as Err (turns In) (DefersTo In) input (λ is. cc)
+      aparts Out = apart_as Err (turns Out) (DefersTo Out) output (λ is. cc)
       aparts Err = apart
 
 -- a turn that does not follow this stream is not changed by turns that redirect only this stream
@@ -104,7 +104,7 @@ passes : {E : Type 0} (stream : Stream) (turn : Turn E) → IsApart stream turn
     → (turns : Stream → Turn E) → TurnsOne stream turns → (further : Stream → Target E)
     → resolved_turn turn (λ other. resolved_turn (turns other) further) ≡ resolved_turn turn further
 passes stream (Decides target) apart turns one further = refl
-passes stream (Follows other) apart turns one further =
+passes stream (DefersTo other) apart turns one further =
     ap (λ next. resolved_turn next further) (one.others other apart)
 
 -- a node that changes only this stream

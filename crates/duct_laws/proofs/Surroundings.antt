@@ -15,8 +15,8 @@ use Rattle.duct_laws.specs.Laws.{InnerEnvironmentHides, InnerFolderReplaces, Inn
 -- a folder that is set inside replaces each one that is set outside
 pub inner_folder : (E H : Type 0) → InnerFolderReplaces E H
 inner_folder E H [] up other p path = refl
-inner_folder E H (crumb ∷ front) up other p path =
-    ap (option_or (step_of crumb).folder) (inner_folder E H front up other p path)
+inner_folder E H (segment ∷ front) up other p path =
+    ap (option_or (step_of segment).folder) (inner_folder E H front up other p path)
 
 -- if two lists of changes agree on a name, they still do with the same nearer changes added to both
 behind : (pairs others : Vars) (name : List ℕ) (near one other : List VariableChange)
@@ -69,8 +69,8 @@ module _ {E H : Type 0} where
       → value_found pairs (changes_on (front ++ one)) name
       ≡ value_found pairs (changes_on (front ++ other)) name
   value_round pairs name [] one other same = same
-  value_round pairs name (crumb ∷ front) one other same =
-      value_behind pairs name (step_of crumb).changes (changes_on (front ++ one))
+  value_round pairs name (segment ∷ front) one other same =
+      value_behind pairs name (step_of segment).changes (changes_on (front ++ one))
       (changes_on (front ++ other)) (value_round pairs name front one other same)
 
 -- the nearest change that sets a variable decides its value
@@ -113,8 +113,8 @@ inner_variable E H pairs front middle up p q inner value outer hidden same name 
 -- of the parent
 pub inner_environment : (E H : Type 0) → InnerEnvironmentHides E H
 inner_environment E H pairs others [] up other p vars name = refl
-inner_environment E H pairs others (crumb ∷ front) up other p vars name =
-    behind pairs others name (step_of crumb).changes
+inner_environment E H pairs others (segment ∷ front) up other p vars name =
+    behind pairs others name (step_of segment).changes
     (changes_on (front ++ within p (full_env vars) ∷ up))
     (changes_on (front ++ within p (full_env vars) ∷ other))
     (inner_environment E H pairs others front up other p vars name)

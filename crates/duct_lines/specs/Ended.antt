@@ -12,7 +12,7 @@ use Rattle.duct_system.specs.declared.error.Error.TheVariants as error
 use Rattle.duct_system.specs.declared.system.Kind.TheVariants.{Other}
 use Rattle.duct_system.specs.declared.system.Output.{Output}
 use Rattle.duct_status.specs.ShapeView.{shape_view}
-use Rattle.duct_worker.specs.Transfer.{fault_of}
+use Rattle.duct_worker.specs.Transfer.{stop_fault}
 use Rattle.duct_run.specs.SystemViews.{SystemViews}
 use Rattle.duct_running.specs.Answered.{IsAnswer}
 use Rattle.duct_running.specs.Stored.{Bytes}
@@ -22,7 +22,7 @@ use Rattle.duct_handle.specs.HandleView.{HandleView}
 abbrev pub error_read : ErrorKind → Error
 error_read kind.InvalidData = error.NotUtf8
 error_read kind.OutOfMemory = error.Memory
-error_read other = error.System (fault_of other)
+error_read other = error.System (stop_fault other)
 
 module _ {S E C F D : Type 0} (views : SystemViews S E C F D (Unit {0}) Bytes) where
   -- after a read to EOF, how the expression ended, or `Other` if it still runs; after one that

@@ -16,7 +16,7 @@ use Rattle.duct_plan.specs.declared.step.Turn.TheVariants as turn
 
 -- where a stream goes inside a node, by the node's place
 abbrev pub turn_of : {E : Type 0} → Turn E → ℕ → node.Turn E
-turn_of (turn.Follows stream) place = node.Follows stream
+turn_of (turn.DefersTo stream) place = node.DefersTo stream
 turn_of turn.Nothing place = node.Decides outwards.Nothing
 turn_of (turn.Lends end) place = node.Decides (outwards.Lends end.now)
 turn_of turn.Reads place = node.Decides (outwards.ReaderAt place)
@@ -37,9 +37,9 @@ hooks_of (Some hook) = hook_of hook ∷ []
 abbrev pub idle : {E H : Type 0} → NodeStep E H
 idle = record {
   opening = opening.Nothing;
-  input = turn.Follows In;
-  output = turn.Follows Out;
-  error = turn.Follows Err;
+  input = turn.DefersTo In;
+  output = turn.DefersTo Out;
+  error = turn.DefersTo Err;
   folder = None;
   change = None;
   hook = None;

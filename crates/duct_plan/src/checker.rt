@@ -3,7 +3,7 @@
 ghost use Rattle.std.specs.Prelude.{◌≡◌, ◌++◌, ◌↔◌, map, IfOk, OnOk, IsTrue};
 ghost use Rattle.duct_system.specs.EntryView.{entry_view};
 ghost use Rattle.duct_system.specs.Trace.{trace, is_traced, fault_of};
-ghost use Rattle.duct_system.specs.Ledger.{opened_numbers, opened_by, closed_numbers, closed_by, count_of, IsBalanced, open_count};
+ghost use Rattle.duct_system.specs.Ledger.{opened_numbers, opened_by, spent_numbers, spent_by, count_of, IsBalanced, open_count};
 ghost use Rattle.duct_system.specs.Origin.{origin};
 ghost use Rattle.duct_system.specs.Streams.{ends_of};
 ghost use Rattle.duct_plan.specs.Balance.{Balances, BalancesAt, AllBalance};
@@ -39,8 +39,8 @@ pub fn opened_numbers(alloc: Global, entries: &[Entry]) -> Result<Vec<u64>, Allo
 
 /// Returns the numbers of the ends that were spent, in order: those that a request took. Fails only
 /// on allocation failure.
-pub fn closed_numbers(alloc: Global, entries: &[Entry]) -> Result<Vec<u64>, AllocError>
-    ensures { IfOk result (λ numbers. numbers.items ≡ closed_numbers (map entry_view entries.now)) }
+pub fn spent_numbers(alloc: Global, entries: &[Entry]) -> Result<Vec<u64>, AllocError>
+    ensures { IfOk result (λ numbers. numbers.items ≡ spent_numbers (map entry_view entries.now)) }
 {
     let mut numbers = Vec::new(alloc);
     for entry in entries {
@@ -55,7 +55,7 @@ pub fn is_balanced(alloc: Global, entries: &[Entry]) -> Result<bool, AllocError>
     ensures { IfOk result (λ balanced. IsTrue balanced ↔ IsBalanced (map entry_view entries.now)) }
 {
     let got = opened_numbers(alloc, entries)?;
-    let spent = closed_numbers(alloc, entries)?;
+    let spent = spent_numbers(alloc, entries)?;
     Ok(balance(got.as_slice(), spent.as_slice()))
 }
 
@@ -64,7 +64,7 @@ pub fn open_count(alloc: Global, entries: &[Entry]) -> Result<usize, AllocError>
     ensures { IfOk result (λ count. count ≡ open_count (map entry_view entries.now)) }
 {
     let got = opened_numbers(alloc, entries)?.len();
-    let spent = closed_numbers(alloc, entries)?.len();
+    let spent = spent_numbers(alloc, entries)?.len();
     Ok(got.saturating_sub(spent))
 }
 
@@ -191,7 +191,7 @@ fn push_got(numbers: &mut Vec<u64>, entry: &Entry) -> Result<(), AllocError>
 /// Adds the numbers of the ends that an entry's request took.
 fn push_spent(numbers: &mut Vec<u64>, entry: &Entry) -> Result<(), AllocError>
     ensures { OnOk result
-        (numbers.new.items ≡ numbers.old.items ++ closed_by (entry_view entry.now)) }
+        (numbers.new.items ≡ numbers.old.items ++ spent_by (entry_view entry.now)) }
 {
     match entry {
         Entry::Spawn(_, io, _) => push_ends(numbers, io),

@@ -41,7 +41,7 @@ fn stream_goes<'t, E, H>(path: &[PathSegment<'t, E, H>], stream: Stream) -> Targ
     };
     let place = segment_place(segment);
     match turn_at(segment, stream) {
-        Turn::Follows(next) => stream_goes(up, next),
+        Turn::DefersTo(next) => stream_goes(up, next),
         Turn::Nothing => Target::Nothing,
         Turn::Lends(end) => Target::Lends(end),
         Turn::Reads => Target::ReaderAt(place),

@@ -19,7 +19,7 @@ use std::convert::AsStr;
 #[derive_where(Clone, Copy)]
 pub(crate) enum Turn<'t, E> {
     /// Where this stream goes outside the node.
-    Follows(Stream),
+    DefersTo(Stream),
     /// To nothing.
     Nothing,
     /// To this caller's end.
@@ -55,9 +55,9 @@ fn idle<'t, E, H>() -> NodeStep<'t, E, H>
 {
     NodeStep {
         opening: Opening::Nothing,
-        input: Turn::Follows(Stream::In),
-        output: Turn::Follows(Stream::Out),
-        error: Turn::Follows(Stream::Err),
+        input: Turn::DefersTo(Stream::In),
+        output: Turn::DefersTo(Stream::Out),
+        error: Turn::DefersTo(Stream::Err),
         folder: None,
         change: None,
         hook: None,
@@ -108,7 +108,7 @@ fn input_turn<'t, E>(route: InputRoute<'t, E>, opening: Opening<'t>) -> Turn<'t,
         (opening_view opening.entry) place (input_route_view route.entry) }
 {
     match route {
-        InputRoute::Outside => Turn::Follows(Stream::In),
+        InputRoute::Outside => Turn::DefersTo(Stream::In),
         InputRoute::Nothing => Turn::Nothing,
         InputRoute::Lent(end) => Turn::Lends(end),
         InputRoute::Opened => opened_turn(opening),
@@ -121,8 +121,8 @@ fn output_turn<'t, E>(route: OutputRoute<'t, E>, opening: Opening<'t>) -> Turn<'
         (opening_view opening.entry) place (output_route_view route.entry) }
 {
     match route {
-        OutputRoute::Outside(Side::Out) => Turn::Follows(Stream::Out),
-        OutputRoute::Outside(Side::Err) => Turn::Follows(Stream::Err),
+        OutputRoute::Outside(Side::Out) => Turn::DefersTo(Stream::Out),
+        OutputRoute::Outside(Side::Err) => Turn::DefersTo(Stream::Err),
         OutputRoute::Nothing => Turn::Nothing,
         OutputRoute::Lent(end) => Turn::Lends(end),
         OutputRoute::Opened => opened_turn(opening),

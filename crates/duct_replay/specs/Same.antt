@@ -20,15 +20,15 @@ abbrev pub SameBytes : Shared → Shared → Type 0
 SameBytes one other = bytes_of other ≡ bytes_of one
 
 -- the bytes of what was said, whoever owns them
-abbrev pub word_of : Said Shared → Said (List ℕ)
-word_of Running = Running
-word_of (Done shared) = Done (bytes_of shared)
-word_of (Fault fault) = Fault fault
+abbrev pub bytes_said : Said Shared → Said (List ℕ)
+bytes_said Running = Running
+bytes_said (Done shared) = Done (bytes_of shared)
+bytes_said (Fault fault) = Fault fault
 
 -- these bytes were said if it is done, and nothing before
 abbrev pub SaysBytes : Bool → List ℕ → Said Shared → Type 0
-SaysBytes is_done bytes said = word_of said ≡ (if is_done then Done bytes else Running)
+SaysBytes is_done bytes said = bytes_said said ≡ (if is_done then Done bytes else Running)
 
 -- a poll returned these bytes, or Running
 abbrev pub HasRead : List ℕ → Said Shared → Type 0
-HasRead bytes said = (word_of said ≡ Done bytes) ⊎ (word_of said ≡ Running)
+HasRead bytes said = (bytes_said said ≡ Done bytes) ⊎ (bytes_said said ≡ Running)

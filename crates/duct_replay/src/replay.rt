@@ -135,7 +135,7 @@ impl Replay {
     // Returns the result of a request for an end or a child: what was found, and if nothing was,
     // the fault `Other`. Counts up to its number; if it has none, releases the room for this many
     // ends.
-    fn settle(&mut self, found: Option<Result<u64, Fault>>, ends: usize) -> Result<u64, Fault>
+    fn take_answer(&mut self, found: Option<Result<u64, Fault>>, ends: usize) -> Result<u64, Fault>
         requires found { IfSome found (FitsNumber self.old.journal.next) }
         requires room { ends ≤ self.old.journal.room }
         ensures answer { result ≡ unwrap_or found (Err unrecorded) }
@@ -156,8 +156,8 @@ impl Replay {
         answer
     }
 
-    // Returns the result of opening a pipe, as `settle` does.
-    fn settle_pipe(&mut self, found: Option<Result<(u64, u64), Fault>>) -> Result<(u64, u64), Fault>
+    // Returns the result of opening a pipe, as `take_answer` does.
+    fn take_pipe(&mut self, found: Option<Result<(u64, u64), Fault>>) -> Result<(u64, u64), Fault>
         requires found { IfSome found (FitsPipe self.old.journal.next) }
         requires room { 2 ≤ self.old.journal.room }
         ensures answer { result ≡ unwrap_or found (Err unrecorded) }
@@ -349,7 +349,7 @@ impl System for Replay {
     {
         self.prepare(2)?;
         let found = found_pipe(self.next(), self.journal.next());
-        let answer = self.settle_pipe(found);
+        let answer = self.take_pipe(found);
         self.note(Entry::Pipe(answer), found.is_some());
         let (reader, writer) = answer?;
         Ok((ReplayEnd { number: reader }, ReplayEnd { number: writer }))
@@ -367,7 +367,7 @@ impl System for Replay {
         let kept = text_copy(self.journal.allocator(), path)?;
         self.prepare(1)?;
         let found = found_open_read(self.next(), path, self.journal.next());
-        let answer = self.settle(found, 1);
+        let answer = self.take_answer(found, 1);
         self.note(Entry::OpenRead(kept, answer), found.is_some());
         Ok(ReplayEnd { number: answer? })
     }
@@ -384,7 +384,7 @@ impl System for Replay {
         let kept = text_copy(self.journal.allocator(), path)?;
         self.prepare(1)?;
         let found = found_create(self.next(), path, self.journal.next());
-        let answer = self.settle(found, 1);
+        let answer = self.take_answer(found, 1);
         self.note(Entry::Create(kept, answer), found.is_some());
         Ok(ReplayEnd { number: answer? })
     }
@@ -401,7 +401,7 @@ impl System for Replay {
     {
         self.prepare(1)?;
         let found = found_duplicate(self.next(), end.number, self.journal.next());
-        let answer = self.settle(found, 1);
+        let answer = self.take_answer(found, 1);
         self.note(Entry::Duplicate(end.number, answer), found.is_some());
         Ok(ReplayEnd { number: answer? })
     }
@@ -417,7 +417,7 @@ impl System for Replay {
     {
         self.prepare(1)?;
         let found = found_parent(self.next(), side, self.journal.next());
-        let answer = self.settle(found, 1);
+        let answer = self.take_answer(found, 1);
         self.note(Entry::Parent(side, answer), found.is_some());
         Ok(ReplayEnd { number: answer? })
     }
@@ -474,7 +474,7 @@ impl System for Replay {
         self.prepare_spawn(ends)?;
         match found_spawn(self.next(), &spec, &streams, self.journal.next()) {
             Ok(found) => {
-                let answer = self.settle(found, 0);
+                let answer = self.take_answer(found, 0);
                 self.note(Entry::Spawn(spec, streams, answer), found.is_some());
                 let number = answer?;
                 let status = self.recording.status(number);

@@ -11,20 +11,20 @@ use Rattle.duct_system.specs.Ledger.{count_of}
 use Rattle.duct_system.specs.Trace.{segment}
 use Rattle.duct_system.specs.declared.error.Error.{Error}
 use Rattle.duct_start.specs.Chain.{Allows, Refuses}
-use Rattle.duct_start.specs.Closes.{Closes}
-use Rattle.duct_start.specs.Commands.{StoppedWithCause}
-use Rattle.duct_start.specs.ResourcesView.{ResourcesView, open_ends, ends_of_pipes}
+use Rattle.duct_run.specs.Closes.{Closes}
+use Rattle.duct_run.specs.Commands.{StoppedWithCause}
+use Rattle.duct_run.specs.ResourcesView.{ResourcesView, open_ends, ends_of_pipes, AreNew, resources_view}
 use Rattle.duct_start.specs.Left.{Leaves, LeavesStarted, pool_view}
 use Rattle.duct_start.specs.Plan.{Plan}
-use Rattle.duct_start.specs.RunInvariant.{RunContext}
-use Rattle.duct_start.specs.Start.{StartRefused, ceiling, depth}
+use Rattle.duct_run.specs.RunInvariant.{RunContext}
+use Rattle.duct_start.specs.Start.{StartRefused, depth}
+use Rattle.duct_run.proofs.Ceiling.{ceiling}
 use Rattle.duct_start.specs.Step.{Item}
 use Rattle.duct_start.specs.TreeView.{TreeView}
-use Rattle.duct_start.proofs.Closing.{refused_closed, refused_children, refused_room}
+use Rattle.duct_run.proofs.Closing.{refused_closed, refused_children, refused_room}
 use Rattle.duct_start.proofs.Counts.{count-append, count-reverse}
-use Rattle.duct_start.proofs.Leaving.{leaves_started}
+use Rattle.duct_run.proofs.Leaving.{leaves_started}
 use Rattle.duct_run.specs.ResourceEnds.{ends_of_resources}
-use Rattle.duct_run.specs.ResourcesView.{AreNew, resources_view}
 use Rattle.duct_run.specs.declared.resources.Resources.{Resources}
 
 module _ {E H C F D V W : Type 0} (allows : Allows H) (refuses : Refuses H) (number_of : E → ℕ) (child : C → ChildView) (feed : F → JobView V) (drain : D → JobView W)

@@ -5,7 +5,7 @@ use Rattle.std.proofs.Common.{◌≡◌, ◌∙◌}
 use Rattle.duct_system.specs.SpecView.{SpecView, Vars}
 use Rattle.duct_system.specs.declared.spec.Port.{Port}
 use Rattle.duct_system.specs.declared.spec.Stream.{Stream}
-use Rattle.duct_start.specs.Actions.{Scope, PerStream, surroundings_by, port_in}
+use Rattle.duct_run.specs.Actions.{Scope, PerStream, surroundings_by, port_in}
 use Rattle.duct_start.specs.Asked.{IsAsked, port_to}
 use Rattle.duct_start.specs.Surroundings.{Target, target_of}
 use Rattle.duct_run.specs.Made.{IsMade}

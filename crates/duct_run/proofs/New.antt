@@ -13,13 +13,13 @@ use Rattle.duct_system.specs.Job.{JobView, unpolled_job}
 use Rattle.duct_system.specs.Journal.{JournalView}
 use Rattle.duct_system.specs.Trace.{segment}
 use Rattle.duct_system.specs.declared.system.Side.TheVariants as side
-use Rattle.duct_start.specs.Actions.{State}
+use Rattle.duct_run.specs.Actions.{State}
 use Rattle.duct_start.specs.Chain.{Allows}
 use Rattle.duct_start.specs.Running.{IsRunning, RunningView}
 use Rattle.duct_start.specs.ShapeOfTree.{shape_of_tree}
-use Rattle.duct_start.specs.RunInvariant.{LedgerInvariant, RunContext, RunInvariant}
+use Rattle.duct_run.specs.RunInvariant.{LedgerInvariant, RunContext, RunInvariant}
 use Rattle.duct_start.specs.TreeView.{TreeView}
-use Rattle.duct_start.proofs.Whole.{segment_is}
+use Rattle.duct_run.proofs.Whole.{segment_is}
 use Rattle.duct_run.specs.ResourcesView.{AreNew, resources_view}
 use Rattle.duct_run.specs.declared.resources.Resources.{Resources}
 
@@ -49,16 +49,16 @@ module _ {E H C F D V W : Type 0} (child : C → ChildView) (feed : F → JobVie
       → LedgerInvariant old now added (resources_view number_of child feed drain held)
       → IsRunning child feed drain tree (is_some held.drains.out) (is_some held.drains.err)
       added run
-  runs_new old now added books =
+  runs_new old now added ledger =
       let outputs = option_to_list held.drains.out in
       let errors = option_to_list held.drains.err in
       record {
         shape_is = seen;
-        children_are = books.children_are;
+        children_are = ledger.children_are;
         unasked = new.children;
-        feeds_are = unpolled_all feed held.feeds.items new.feeds ∙ ap (λ (l : List ℕ). map (λ number. unpolled_job number) l) books.feeds_are;
+        feeds_are = unpolled_all feed held.feeds.items new.feeds ∙ ap (λ (l : List ℕ). map (λ number. unpolled_job number) l) ledger.feeds_are;
         drains_are = unpolled_all drain (outputs ++ errors) (All-append (λ d. drain d ≡ unpolled_job (drain d).number) outputs errors (new.drains side.Out) (new.drains side.Err))
-            ∙ ap (λ (l : List ℕ). map (λ number. unpolled_job number) l) books.drains_are;
+            ∙ ap (λ (l : List ℕ). map (λ number. unpolled_job number) l) ledger.drains_are;
         output_is = refl;
         error_is = refl;
       }
@@ -68,8 +68,8 @@ module _ {E H C F D V W : Type 0} (child : C → ChildView) (feed : F → JobVie
       → RunInvariant allows number_of context state now (resources_view number_of child feed drain held)
       → IsRunning child feed drain tree (is_some held.drains.out) (is_some held.drains.err)
       (segment context.old.entries now.entries) run
-  runs_started allows context state now stands =
-      let added = stands.added in
+  runs_started allows context state now invariant =
+      let added = invariant.added in
       subst (λ (l : List EntryView). IsRunning child feed drain tree (is_some held.drains.out) (is_some held.drains.err) l
       run)
-      (sym (segment_is context.old.entries now.entries added stands.books.entries_are)) (runs_new context.old now added stands.books)
+      (sym (segment_is context.old.entries now.entries added invariant.ledger.entries_are)) (runs_new context.old now added invariant.ledger)

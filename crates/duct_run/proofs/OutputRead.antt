@@ -2,7 +2,7 @@
 use Rattle.std.proofs.Common.{◌≡◌, ℕ, ◌≤◌, true, length, arith, length-append}
 use Rattle.std.specs.Prelude.{Some, None, is_some}
 use Rattle.std.specs.declared.option.Option.{Option}
-use Rattle.duct_start.specs.ResourcesView.{ResourcesView, open_ends, ends_of_pipes, pipe_ends}
+use Rattle.duct_run.specs.ResourcesView.{ResourcesView, open_ends, ends_of_pipes, pipe_ends}
 
 two_open : (pipe : Option (ℕ × ℕ)) → is_some pipe ≡ true → 2 ≤ length (pipe_ends pipe)
 two_open (Some pair) is = omega arith

@@ -3,12 +3,12 @@ use Rattle.std.specs.Prelude.{List, ◌++◌, Some, slice_get}
 use Rattle.std.specs.Option.{option_map, option_or}
 use Rattle.std.proofs.Common.{Option, ◌≡◌, ℕ, ◌+◌, ◌-◌, ◌<◌, ◌≤◌, length, get_or, refl, ap, sym, ◌∙◌, arith}
 use Rattle.std.proofs.lemmas.Option.{slice_get-map, slice_get_read}
-use Rattle.duct_start.specs.Actions as plan
-use Rattle.duct_start.specs.Flat.{root_scope, scope_inside}
+use Rattle.duct_run.specs.Actions as plan
+use Rattle.duct_run.specs.Flat.{root_scope, scope_inside}
 use Rattle.duct_start.specs.Surroundings.{VariableChange}
-use Rattle.duct_start.specs.ActionList.{AreOutwards, scope_in}
+use Rattle.duct_run.specs.ActionList.{AreOutwards, scope_in}
 use Rattle.duct_start.specs.Step.{step_of_setting}
-use Rattle.duct_start.proofs.ScopeIn.{scope_in_root, scope_in_next}
+use Rattle.duct_run.proofs.ScopeIn.{scope_in_root, scope_in_next}
 use Rattle.duct_run.specs.ScopeView.{scope_view, scopes_view, setting_view}
 use Rattle.duct_run.specs.declared.scope.Scope.{Scope}
 
@@ -22,15 +22,15 @@ pub record IsRead {E H : Type 0} (scopes : List (Scope E H)) (n : ℕ) (here : S
 
 module _ {E H : Type 0} {scopes : List (Scope E H)} {n : ℕ} {here : Scope E H}
     (read : IsRead scopes n here) where
-  stands_there : slice_get (scopes_view scopes) (n - 1) ≡ Some (scope_view here)
-  stands_there =
+  invariant_there : slice_get (scopes_view scopes) (n - 1) ≡ Some (scope_view here)
+  invariant_there =
       let low : n - 1 < length scopes = omega (arith, read.above, read.within) in
       slice_get-map (λ s. scope_view s) scopes (n - 1)
       ∙ ap (λ o. option_map (λ s. scope_view s) o) (slice_get_read scopes (length scopes) (n - 1) here refl low read.is)
 
   -- the index of the scope outside is lower
   pub outer_below : here.outer < n
-  outer_below = omega (arith, read.outwards (n - 1) (scope_view here) stands_there, read.above)
+  outer_below = omega (arith, read.outwards (n - 1) (scope_view here) invariant_there, read.above)
 
   pub outer_within : here.outer ≤ length scopes
   outer_within = omega (arith, outer_below, read.within)
@@ -41,7 +41,7 @@ module _ {E H : Type 0} {scopes : List (Scope E H)} {n : ℕ} {here : Scope E H}
   is_next =
       let next : n - 1 + 1 ≡ n = omega (arith, read.above) in
       sym (ap (λ m. scope_in (scopes_view scopes) m) next)
-      ∙ scope_in_next (scopes_view scopes) (n - 1) (scope_view here) read.outwards stands_there
+      ∙ scope_in_next (scopes_view scopes) (n - 1) (scope_view here) read.outwards invariant_there
 
   -- the folder is the one that the node sets, or else that of the scope outside
   pub folder_is : (folder : Option (List ℕ)) → folder ≡ (step_of_setting (setting_view here.setting)).folder

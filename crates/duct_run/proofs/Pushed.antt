@@ -16,14 +16,13 @@ use Rattle.duct_system.specs.Streams.{end_of, ends_of, stream_of}
 use Rattle.duct_system.specs.declared.spec.Port.{Port}
 use Rattle.duct_system.specs.declared.system.Stdio.{Stdio}
 use Rattle.duct_system.specs.declared.system.Stdio.TheVariants.{Inherit, Null, End}
-use Rattle.duct_start.specs.Actions.{Action, PerStream, stack_after_ports, at_depth, port_end_count}
-use Rattle.duct_start.specs.Commands.{stack_with_streams, resources_with_stack, port_streams}
+use Rattle.duct_run.specs.Actions.{Action, PerStream, stack_after_ports, at_depth, port_end_count}
+use Rattle.duct_run.specs.Commands.{stack_with_streams, resources_with_stack, port_streams}
 use Rattle.duct_start.specs.Chain.{Allows}
-use Rattle.duct_start.specs.ResourcesView.{ResourcesView}
-use Rattle.duct_start.specs.RunInvariant.{ActionSucceeds}
-use Rattle.duct_start.proofs.Changing.{handed_long}
-use Rattle.duct_start.proofs.Wires.{handed_taken}
-use Rattle.duct_run.specs.ResourcesView.{stack_view}
+use Rattle.duct_run.specs.ResourcesView.{ResourcesView, stack_view}
+use Rattle.duct_run.specs.RunInvariant.{ActionSucceeds}
+use Rattle.duct_run.proofs.Changing.{handed_long}
+use Rattle.duct_run.proofs.Wires.{handed_taken}
 use Rattle.duct_run.specs.StreamsView.{many_ends, streams_view}
 use Rattle.duct_run.specs.declared.streams.Streams.{Streams}
 

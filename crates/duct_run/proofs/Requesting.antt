@@ -1,22 +1,22 @@
 -- A request that succeeded, and one that failed.
 use Rattle.std.specs.Prelude.{Ok, Err}
 use Rattle.duct_system.specs.declared.error.Error.{Error}
-use Rattle.duct_start.specs.Actions.{Action}
+use Rattle.duct_run.specs.Actions.{Action}
 use Rattle.duct_start.specs.Chain.{Allows}
 use Rattle.duct_run.specs.ResourcesView.{HasSameWorkers}
-use Rattle.duct_run.specs.Requested.{IsNew, RequestSucceeds, RequestFails, Requested}
+use Rattle.duct_run.specs.Requested.{HoldsUnasked, RequestSucceeds, RequestFails, Requested}
 use Rattle.duct_run.specs.SystemViews.{SystemViews}
 use Rattle.duct_run.specs.declared.resources.Resources.{Resources}
 
 pub goes_on : {S E H C F D V W : Type 0} {views : SystemViews S E C F D V W} {allows : Allows H}
     {act : Action E H} {sys after : S} {held kept : Resources E C F D}
-    → RequestSucceeds views allows act sys after held kept → (IsNew views held → IsNew views kept)
+    → RequestSucceeds views allows act sys after held kept → (HoldsUnasked views held → HoldsUnasked views kept)
     → HasSameWorkers held kept → Requested views allows act (Ok tt) sys after held kept
 goes_on goes new workers = record { ok = goes; err = tt; new = new; workers = workers }
 
 pub stops : {S E H C F D V W : Type 0} {views : SystemViews S E C F D V W} {allows : Allows H}
     {act : Action E H} {error : Error} {sys after : S} {held kept : Resources E C F D}
     → RequestFails views allows act sys after held kept error
-    → (IsNew views held → IsNew views kept) → HasSameWorkers held kept
+    → (HoldsUnasked views held → HoldsUnasked views kept) → HasSameWorkers held kept
     → Requested views allows act (Err error) sys after held kept
 stops quits new workers = record { ok = tt; err = quits; new = new; workers = workers }

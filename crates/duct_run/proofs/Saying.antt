@@ -6,15 +6,15 @@ use Rattle.std.specs.declared.result.Result.{Result}
 use Rattle.duct_system.specs.Journal.{JournalView}
 use Rattle.duct_system.specs.SpecView.{Vars}
 use Rattle.duct_system.specs.declared.error.Error.{Error}
-use Rattle.duct_start.specs.Actions.{Action, advance}
+use Rattle.duct_run.specs.Actions.{Action, advance}
 use Rattle.duct_start.specs.Chain.{Allows, Refuses}
-use Rattle.duct_start.specs.Commands.{ActionSucceedsWith, ActionFailsWith}
-use Rattle.duct_start.specs.ResourcesView.{ResourcesView}
-use Rattle.duct_start.specs.RunInvariant.{ActionSucceeds, IsHookError, ActionFails}
+use Rattle.duct_run.specs.Commands.{ActionSucceedsWith, ActionFailsWith}
+use Rattle.duct_run.specs.ResourcesView.{ResourcesView}
+use Rattle.duct_run.specs.RunInvariant.{ActionSucceeds, IsHookError, ActionFails}
 use Rattle.duct_run.specs.Requested.{Performed, Requested}
 use Rattle.duct_run.specs.SystemViews.{SystemViews}
 use Rattle.duct_run.specs.declared.resources.Resources.{Resources}
-use Rattle.duct_start.proofs.Spawning.{plain_refused}
+use Rattle.duct_run.proofs.Spawning.{plain_refused}
 
 module _ {E H : Type 0} (allows : Allows H) (number_of : E → ℕ) (pairs : Vars) (act : Action E H)
     (now next : JournalView) (held kept : ResourcesView) where
@@ -25,8 +25,8 @@ module _ {E H : Type 0} (allows : Allows H) (number_of : E → ℕ) (pairs : Var
   pub quits_refused : (refuses : Refuses H) (error : Error)
       → (IsHookError error → ⊥) × ActionFails allows number_of act now next held kept error
       → ActionFailsWith allows refuses number_of pairs act now next held kept error
-  quits_refused refuses error quits = λ context state same ready stands.
-      plain_refused allows refuses number_of context (advance state act).plan.items next kept error quits.0 (quits.1 context state ready stands)
+  quits_refused refuses error quits = λ context state same ready invariant.
+      plain_refused allows refuses number_of context (advance state act).plan.items next kept error quits.0 (quits.1 context state ready invariant)
 
   pub ok_saying : (answer : Result (Unit {0}) Error)
       → OnOk answer (ActionSucceeds allows number_of act now next held kept)

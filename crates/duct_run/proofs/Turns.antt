@@ -18,24 +18,22 @@ use Rattle.duct_system.specs.declared.error.Error.TheVariants.{Memory}
 use Rattle.duct_system.specs.declared.system.Side.{Side}
 use Rattle.duct_status.specs.PerSide.{at_side}
 use Rattle.duct_status.specs.declared.per_side.PerSide.{PerSide}
-use Rattle.duct_start.specs.Actions as action
-use Rattle.duct_start.specs.Actions.{Action, ActionOf, AreReady, Scope, State, advance, after_actions, pop_count}
+use Rattle.duct_run.specs.Actions as action
+use Rattle.duct_run.specs.Actions.{Action, ActionOf, AreReady, Scope, State, advance, after_actions, pop_count}
 use Rattle.duct_start.specs.Causes.{StoppedBy}
 use Rattle.duct_start.specs.Chain.{Allows, Refuses}
-use Rattle.duct_start.specs.Commands.{ActionSucceedsWith, StoppedWithCause, ActionFailsWith}
-use Rattle.duct_start.specs.ResourcesView.{ResourcesView, open_ends}
-use Rattle.duct_start.specs.ActionList.{IsWithin, resolved, resolved_all}
-use Rattle.duct_start.specs.RunInvariant.{FindsItsEnds, RunContext, IsHookError, IsAllocationFailure, RunInvariant, ReadyForActions, GivesUnder, IsEarly}
+use Rattle.duct_run.specs.Commands.{ActionSucceedsWith, StoppedWithCause, ActionFailsWith}
+use Rattle.duct_run.specs.ResourcesView.{ResourcesView, open_ends, AreNew, AreSame, HasSameWorkers, both, pipes_view, resources_view, stack_view}
+use Rattle.duct_run.specs.ActionList.{IsWithin, resolved, resolved_all}
+use Rattle.duct_run.specs.RunInvariant.{FindsItsEnds, RunContext, IsHookError, IsAllocationFailure, RunInvariant, ReadyForActions, GivesUnder, IsEarly}
 use Rattle.duct_start.specs.Step.{Item}
-use Rattle.duct_start.proofs.Running.{can_now, memory_now}
-use Rattle.duct_start.proofs.Spawning.{plain_refused}
-use Rattle.duct_start.proofs.Stacks.{get_front}
-use Rattle.duct_start.proofs.RunInvariant.{answers_front}
+use Rattle.duct_run.proofs.Running.{can_now, memory_now, items_grow}
+use Rattle.duct_run.proofs.Spawning.{plain_refused}
+use Rattle.duct_run.proofs.Stacks.{get_front}
+use Rattle.duct_run.proofs.RunInvariant.{answers_front}
 use Rattle.duct_run.specs.ActionView.{action_view, actions_view}
-use Rattle.duct_run.specs.ResourcesView.{AreNew, AreSame, HasSameWorkers, both, pipes_view, resources_view, stack_view}
 use Rattle.duct_run.specs.declared.action.Action as declared
 use Rattle.duct_run.specs.declared.resources.Resources.{Resources}
-use Rattle.duct_start.proofs.Running.{items_grow}
 use Rattle.duct_run.proofs.Pushed.{still}
 
 -- a mapped option has a value where the option has one
@@ -133,7 +131,7 @@ module _ {E H : Type 0} (allows : Allows H) (refuses : Refuses H) (number_of : E
         record {
           stopped = record {
             added = stopped.added;
-            books = stopped.books;
+            ledger = stopped.ledger;
             few = stopped.few;
             answers = λ l later. answers_front (GivesUnder (IsEarly context) (stopped.added ++ l)) allows number_of (stopped.added ++ l) 0 items more (trace stopped.added) (stopped.answers l later);
             ended = stopped.ended;
@@ -144,13 +142,13 @@ module _ {E H : Type 0} (allows : Allows H) (refuses : Refuses H) (number_of : E
         }
 
     -- a run is at its goal when no action is left
-    pub stands_done : (goal : State E H) (actions : List (Action E H)) (now : JournalView)
+    pub invariant_done : (goal : State E H) (actions : List (Action E H)) (now : JournalView)
         (held : ResourcesView) → actions ≡ []
         → ReadyForActions allows number_of context goal actions now held
         → RunInvariant allows number_of context goal now held
-    stands_done goal actions now held none stood =
+    invariant_done goal actions now held none stood =
         let is : stood.state ≡ goal = ap (λ (l : List (Action E H)). after_actions stood.state l) (sym none) ∙ stood.goal_is in
-        subst (λ (s : State E H). RunInvariant allows number_of context s now held) is stood.stands
+        subst (λ (s : State E H). RunInvariant allows number_of context s now held) is stood.invariant
 
     module _ (pairs : Vars) (same : context.pairs ≡ pairs) (goal : State E H) (actions rest : List (Action E H)) (act : Action E H) (now : JournalView) (kept : ResourcesView)
         (stood : ReadyForActions allows number_of context goal actions now kept) (is : actions ≡ act ∷ rest) where
@@ -166,7 +164,7 @@ module _ {E H : Type 0} (allows : Allows H) (refuses : Refuses H) (number_of : E
           → ReadyForActions allows number_of context goal rest next other
       goes_on_saying next other goes = record {
         state = advance stood.state act;
-        stands = goes context stood.state same ready_here.0 stood.stands;
+        invariant = goes context stood.state same ready_here.0 stood.invariant;
         ready = ready_here.1;
         goal_is = goal_here;
       }
@@ -179,7 +177,7 @@ module _ {E H : Type 0} (allows : Allows H) (refuses : Refuses H) (number_of : E
           let more = items_grow (advance stood.state act) rest in
           let all : (advance stood.state act).plan.items ++ more.0 ≡ goal.plan.items = sym more.1 ∙ ap (λ (x : State E H). x.plan.items) goal_here in
           subst (λ (l : List (Item E H)). StoppedWithCause allows refuses number_of context l next other error) all
-          (refused_more (advance stood.state act).plan.items more.0 next other error (refused context stood.state same ready_here.0 stood.stands))
+          (refused_more (advance stood.state act).plan.items more.0 next other error (refused context stood.state same ready_here.0 stood.invariant))
 
       -- on allocation failure no request was made
       pub memory_refused : (error : Error) → error ≡ Memory
@@ -192,4 +190,4 @@ module _ {E H : Type 0} (allows : Allows H) (refuses : Refuses H) (number_of : E
       can_here = can_now allows number_of context goal actions rest act now kept stood is
 
       pub room_here : length (open_ends kept) ≤ now.room
-      room_here = omega (arith, stood.stands.books.room_is)
+      room_here = omega (arith, stood.invariant.ledger.room_is)

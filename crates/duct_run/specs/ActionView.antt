@@ -3,9 +3,9 @@ use Rattle.std.specs.Prelude.{ℕ, List, map, string_bytes}
 use Rattle.std.specs.Arc.{arc_value}
 use Rattle.std.specs.declared.string.String.{String}
 use Rattle.duct_system.specs.declared.spec.Port.{Port}
-use Rattle.duct_start.specs.Actions as action
-use Rattle.duct_start.specs.ActionList.{resolved_all, scope_in}
-use Rattle.duct_start.specs.Actions.{ActionOf, PerStream}
+use Rattle.duct_run.specs.Actions as action
+use Rattle.duct_run.specs.ActionList.{resolved_all, scope_in}
+use Rattle.duct_run.specs.Actions.{ActionOf, PerStream}
 use Rattle.duct_run.specs.ScopeView.{all_scopes, scopes_view}
 use Rattle.duct_run.specs.declared.action.Action.{Action}
 use Rattle.duct_run.specs.declared.action.Action.TheVariants.{OpenRead, Create, Pipe, Input, Capture, Duplicate, DuplicateCapture, DuplicateCallerEnd, Parent, Close, Spawn, Feed}

@@ -5,11 +5,11 @@ use Rattle.duct_system.specs.Child.{Answer, ChildView}
 use Rattle.duct_system.specs.Job.{JobView}
 use Rattle.duct_system.specs.Journal.{JournalView}
 use Rattle.duct_system.specs.declared.error.Error.{Error}
-use Rattle.duct_start.specs.Actions.{Action}
+use Rattle.duct_run.specs.Actions.{Action}
 use Rattle.duct_start.specs.Chain.{Allows, Refuses}
-use Rattle.duct_start.specs.Closes.{Closes}
+use Rattle.duct_run.specs.Closes.{Closes}
 use Rattle.duct_start.specs.Left.{Leaves, pool_view}
-use Rattle.duct_start.specs.RunContract.{PlanTail, ActionsFail}
+use Rattle.duct_run.specs.RunContract.{PlanTail, ActionsFail}
 use Rattle.duct_run.specs.ResourceEnds.{ends_of_resources}
 use Rattle.duct_run.specs.ResourcesView.{AreNew, resources_view}
 use Rattle.duct_run.specs.declared.resources.Resources.{Resources}

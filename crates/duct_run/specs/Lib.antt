@@ -11,3 +11,10 @@ pub mod Requested
 pub mod ScopeView
 pub mod StreamsView
 pub mod SystemViews
+pub mod Actions
+pub mod ActionList
+pub mod Flat
+pub mod RunInvariant
+pub mod Commands
+pub mod Closes
+pub mod RunContract

@@ -6,10 +6,10 @@ use Rattle.duct_system.specs.Journal.{JournalView}
 use Rattle.duct_system.specs.SpecView.{SpecView, Vars, AreOrdered, variable_in, port_of}
 use Rattle.duct_system.specs.declared.spec.Port.{Port}
 use Rattle.duct_system.specs.declared.spec.Stream.{Stream}
-use Rattle.duct_start.specs.Actions.{Scope, PerStream, port_in}
+use Rattle.duct_run.specs.Actions.{Scope, PerStream, port_in}
 use Rattle.duct_start.specs.Asked.{with_program}
 use Rattle.duct_start.specs.Chain.{Allows}
-use Rattle.duct_start.specs.Commands.{NameSucceeds}
+use Rattle.duct_run.specs.Commands.{NameSucceeds}
 use Rattle.duct_start.specs.Surroundings.{variable}
 use Rattle.duct_start.specs.Plan.{program_of}
 

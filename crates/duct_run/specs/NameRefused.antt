@@ -5,8 +5,8 @@ use Rattle.duct_system.specs.Journal.{JournalView, IsRefused}
 use Rattle.duct_system.specs.declared.error.Error.{Error}
 use Rattle.duct_system.specs.declared.error.Error.TheVariants.{System}
 use Rattle.duct_system.specs.declared.system.Fault.{Fault}
-use Rattle.duct_start.specs.Actions.{Scope}
-use Rattle.duct_start.specs.Commands.{asks_canonical_path}
+use Rattle.duct_run.specs.Actions.{Scope}
+use Rattle.duct_run.specs.Commands.{asks_canonical_path}
 use Rattle.duct_start.specs.Plan.{program_of}
 
 -- the command needs the canonical path of its program, and the system refused it with this error

@@ -1,19 +1,16 @@
 -- What a request of a run does, by the views of its system.
-use Rattle.std.specs.Prelude.{OnOk, IfErr}
+use Rattle.std.specs.Prelude.{OnOk, IfErr, List, ◌≡◌}
 use Rattle.std.specs.declared.result.Result.{Result}
-use Rattle.duct_start.specs.Actions.{Action, State}
+use Rattle.duct_run.specs.Actions.{Action, State}
 use Rattle.duct_start.specs.Chain.{Allows, Refuses}
-use Rattle.duct_start.specs.ResourcesView.{ResourcesView}
-use Rattle.duct_start.specs.RunInvariant.{ActionSucceeds, IsHookError, ActionFails, ReadyForActions, RunContext, RunInvariant}
+use Rattle.duct_run.specs.ResourcesView.{ResourcesView, AreNew, HasSameWorkers, resources_view}
+use Rattle.duct_run.specs.RunInvariant.{ActionSucceeds, IsHookError, ActionFails, ReadyForActions, RunContext, RunInvariant}
 use Rattle.duct_system.specs.declared.error.Error.{Error}
-use Rattle.std.specs.Prelude.{List, [], ◌≡◌}
 use Rattle.duct_base.specs.Pool.{PoolView, IsGiven}
 use Rattle.duct_system.specs.SpecView.{SpecView, Vars}
-use Rattle.duct_start.specs.Commands.{ActionSucceedsWith, ActionFailsWith, HooksFail, HooksSucceed, StoppedWithCause}
-use Rattle.duct_start.specs.Left.{Leaves, pool_view}
-use Rattle.duct_start.specs.RunContract.{PlanTail, ActionsFail, ActionsSucceed}
+use Rattle.duct_run.specs.Commands.{ActionSucceedsWith, ActionFailsWith, HooksFail, HooksSucceed, StoppedWithCause}
+use Rattle.duct_run.specs.RunContract.{PlanTail, ActionsFail, ActionsSucceed}
 use Rattle.duct_run.specs.GivesUp.{GivesUp}
-use Rattle.duct_run.specs.ResourcesView.{AreNew, HasSameWorkers, resources_view}
 use Rattle.duct_run.specs.StreamsView.{streams_view}
 use Rattle.duct_run.specs.SystemViews.{SystemViews}
 use Rattle.duct_run.specs.declared.resources.Resources.{Resources}
@@ -25,8 +22,8 @@ module _ {S E C F D V W : Type 0} (views : SystemViews S E C F D V W) where
   resources_of held = resources_view views.number_of views.child views.feed views.drain held
 
   -- no child was polled or given an order, and no worker was polled
-  abbrev pub IsNew : Resources E C F D → Type 0
-  IsNew held = AreNew views.child views.feed views.drain held
+  abbrev pub HoldsUnasked : Resources E C F D → Type 0
+  HoldsUnasked held = AreNew views.child views.feed views.drain held
 
   -- an action succeeds, by the resources before and after it
   abbrev pub RequestSucceeds : {H : Type 0} → Allows H → Action E H → S → S → Resources E C F D
@@ -47,7 +44,7 @@ module _ {S E C F D V W : Type 0} (views : SystemViews S E C F D V W) where
       (held kept : Resources E C F D) : Type 0 where
     pub ok : OnOk result (RequestSucceeds allows action sys after held kept)
     pub err : IfErr result (RequestFails allows action sys after held kept)
-    pub new : IsNew held → IsNew kept
+    pub new : HoldsUnasked held → HoldsUnasked kept
     pub workers : HasSameWorkers held kept
 
   -- an action succeeds, where the system returned these variables
@@ -72,7 +69,7 @@ module _ {S E C F D V W : Type 0} (views : SystemViews S E C F D V W) where
       (held kept : Resources E C F D) : Type 0 where
     pub ok : OnOk result (CommandSucceeds allows pairs action sys after held kept)
     pub err : IfErr result (CommandFails allows refuses pairs action sys after held kept)
-    pub new : IsNew held → IsNew kept
+    pub new : HoldsUnasked held → HoldsUnasked kept
     pub workers : HasSameWorkers held kept
 
   -- the actions succeed: whatever run is ready for them goes on to where they lead
@@ -107,12 +104,6 @@ module _ {S E C F D V W : Type 0} (views : SystemViews S E C F D V W) where
   ChangeFails allows refuses hooks sys after spec old new error = HooksFail allows refuses
       views.number_of hooks (views.journal sys) (views.journal after) spec
       (streams_view views.number_of old) (streams_view views.number_of new) error
-
-  -- the pool keeps each of its children, or counts it as reaped or lost by a result that the child
-  -- may give
-  abbrev pub PoolLeaves : PoolView C → PoolView C → Type 0
-  PoolLeaves before after = Leaves views.may_answer [] (pool_view views.child before)
-      (pool_view views.child after)
 
   -- these children were given to the pool, which polled each once: it keeps those that run
   abbrev pub PoolGets : List C → PoolView C → PoolView C → Type 0

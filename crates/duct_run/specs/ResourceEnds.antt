@@ -1,7 +1,6 @@
 -- The ends of a run's resources.
 use Rattle.std.specs.Prelude.{ℕ, ◌++◌, List, map}
-use Rattle.duct_start.specs.ResourcesView.{ends_of_pipes}
-use Rattle.duct_run.specs.ResourcesView.{pipes_view}
+use Rattle.duct_run.specs.ResourcesView.{ends_of_pipes, pipes_view}
 use Rattle.duct_run.specs.declared.resources.Resources.{Resources}
 
 -- the numbers of all ends, in the order in which they are closed: the stack from its bottom, then

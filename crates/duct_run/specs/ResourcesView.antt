@@ -1,20 +1,47 @@
 -- The resources of a run, as contracts see them.
-use Rattle.std.specs.Prelude.{ℕ, ◌+◌, ◌≤◌, ◌≡◌, ◌++◌, List, All, map, reverse, vec_len, vec_capacity, [], None}
+use Rattle.std.specs.Prelude.{ℕ, ◌+◌, ◌≤◌, ◌≡◌, ◌++◌, List, All, map, reverse, vec_len, vec_capacity, [], None, ◌∷◌, Some}
 use Rattle.std.specs.Option.{option_to_list}
 use Rattle.std.specs.declared.option.Option.{Option}
 use Rattle.duct_system.specs.Child.{ChildView, IsUnasked}
 use Rattle.duct_system.specs.Job.{JobView, unpolled_job}
-use Rattle.duct_system.specs.Journal.{JournalView}
 use Rattle.duct_system.specs.declared.system.Side.{Side}
 use Rattle.duct_status.specs.PerSide.{at_side}
 use Rattle.duct_status.specs.declared.per_side.PerSide.{PerSide}
-use Rattle.duct_start.specs.Actions.{Action, State}
-use Rattle.duct_system.specs.SpecView.{Vars}
-use Rattle.duct_start.specs.Chain.{Allows}
-use Rattle.duct_start.specs.ResourcesView.{ResourcesView, no_pipes}
-use Rattle.duct_start.specs.RunInvariant.{RunContext, ReadyForActions}
+use Rattle.duct_start.specs.Plan.{no_pipes}
 use Rattle.duct_run.specs.OutputRead.{pipe_view}
 use Rattle.duct_run.specs.declared.resources.Resources.{Resources}
+
+-- the stack, its top first; the ends of the two capture pipes, the read end first; and the children
+-- and workers, in order
+pub record ResourcesView : Type 0 where
+  pub stack : List ℕ
+  pub pipes : PerSide (Option (ℕ × ℕ))
+  pub children : List ℕ
+  pub feeds : List ℕ
+  pub drains : List ℕ
+
+-- the ends of a capture pipe, if it is open
+abbrev pub pipe_ends : {A : Type 0} → Option (A × A) → List A
+pipe_ends None = []
+pipe_ends (Some pair) = pair.0 ∷ pair.1 ∷ []
+
+-- the ends of both capture pipes, stdout's first
+abbrev pub ends_of_pipes : {A : Type 0} → PerSide (Option (A × A)) → List A
+ends_of_pipes pipes = pipe_ends pipes.out ++ pipe_ends pipes.err
+
+-- all open ends
+abbrev pub open_ends : ResourcesView → List ℕ
+open_ends held = held.stack ++ ends_of_pipes held.pipes
+
+-- no resources
+abbrev pub empty_resources : ResourcesView
+empty_resources = record {
+  stack = [];
+  pipes = no_pipes;
+  children = [];
+  feeds = [];
+  drains = [];
+}
 
 -- the numbers of the ends on the stack, the top first
 abbrev pub stack_view : {E : Type 0} → (E → ℕ) → List E → List ℕ
@@ -73,10 +100,3 @@ pub record AreNew {E C F D V W : Type 0} (child : C → ChildView) (feed : F →
 -- the capture workers are the same
 abbrev pub HasSameWorkers : {E C F D : Type 0} → Resources E C F D → Resources E C F D → Type 0
 HasSameWorkers old new = new.drains ≡ old.drains
-
--- some run has these actions left to perform, where the system returned these variables
-abbrev pub SomeReadyForActions : {E H : Type 0} → Allows H → (E → ℕ) → Vars → List (Action E H)
-    → JournalView → ResourcesView → Type 0
-SomeReadyForActions {E} {H} allows number_of pairs actions now held =
-    (context : RunContext) × (goal : State E H) × (context.pairs ≡ pairs)
-    × ReadyForActions allows number_of context goal actions now held

@@ -1,9 +1,9 @@
 -- Scopes as contracts see them.
 use Rattle.std.specs.Prelude.{List, [], ◌∷◌, map}
 use Rattle.duct_system.specs.SpecView.{var_view}
-use Rattle.duct_start.specs.Actions.{Scope}
-use Rattle.duct_start.specs.Flat.{root_scope}
-use Rattle.duct_start.specs.ActionList.{ScopeEntry, scopes_from}
+use Rattle.duct_run.specs.Actions.{Scope}
+use Rattle.duct_run.specs.Flat.{root_scope}
+use Rattle.duct_run.specs.ActionList.{ScopeEntry, scopes_from}
 use Rattle.duct_start.specs.Surroundings.{Sets, Removes, Replaces}
 use Rattle.duct_start.specs.Row.{SettingView, says_folder, says_change, says_hook}
 use Rattle.duct_run.specs.declared.scope.Setting.{Setting}

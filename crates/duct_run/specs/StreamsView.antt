@@ -2,7 +2,7 @@
 use Rattle.std.specs.Prelude.{ℕ, ◌+◌, length}
 use Rattle.duct_system.specs.Streams.{end_of, stream_of}
 use Rattle.duct_system.specs.declared.system.Stdio.{Stdio}
-use Rattle.duct_start.specs.Actions.{PerStream}
+use Rattle.duct_run.specs.Actions.{PerStream}
 use Rattle.duct_run.specs.declared.streams.Streams.{Streams}
 
 -- the three streams, with ends by number

@@ -4,7 +4,7 @@ ghost use Rattle.std.specs.Prelude.{◌≡◌, ◌≤◌, length, map, string_by
 ghost use Rattle.std.specs.Option.{option_copied, option_map};
 ghost use Rattle.duct_system.specs.SpecView.{pair_text};
 ghost use Rattle.duct_start.specs.Asked.{with_program};
-ghost use Rattle.duct_start.specs.ActionList.{AreOutwards, scope_in};
+ghost use Rattle.duct_run.specs.ActionList.{AreOutwards, scope_in};
 ghost use Rattle.duct_start.specs.Step.{step_of_setting};
 ghost use Rattle.duct_run.specs.ActionView.{ports_view};
 ghost use Rattle.duct_run.specs.Made.{IsMade, program_text};

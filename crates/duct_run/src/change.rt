@@ -1,7 +1,7 @@
 //! Runs the hooks of a command, one after the other.
 ghost use Rattle.std.specs.Prelude.{◌≡◌, ◌≤◌, ◌+◌, ◌∷◌, [], length, map, OnOk, IfErr};
 ghost use Rattle.std.specs.Option.{option_to_list};
-ghost use Rattle.duct_start.specs.ActionList.{AreOutwards, scope_in};
+ghost use Rattle.duct_run.specs.ActionList.{AreOutwards, scope_in};
 ghost use Rattle.duct_start.specs.Step.{step_of_setting};
 ghost use Rattle.duct_run.specs.Requested.{ChangeFails, ChangeSucceeds};
 ghost use Rattle.duct_run.specs.ScopeView.{scopes_view, setting_view};
@@ -9,7 +9,7 @@ ghost use Rattle.duct_run.specs.StreamsView.{many_ends};
 
 use crate::places::{find, missing_place};
 use crate::scope::{Scope, Setting};
-use crate::streams::{Streams, settle};
+use crate::streams::{Streams, redirect};
 use crate::views::Viewed;
 use duct_base::error::Error;
 use duct_base::spec::{CommandSpec, Hook, Stream};
@@ -38,9 +38,9 @@ fn change<S: System, H: Hook>(
     if let Some(place) = missing_place(ends.len(), spec) {
         return Err(Error::HookEnd(place));
     }
-    settle::<S, H>(sys, ends, spec.port(Stream::In), &mut streams.input)?;
-    settle::<S, H>(sys, ends, spec.port(Stream::Out), &mut streams.output)?;
-    settle::<S, H>(sys, ends, spec.port(Stream::Err), &mut streams.error)?;
+    redirect::<S, H>(sys, ends, spec.port(Stream::In), &mut streams.input)?;
+    redirect::<S, H>(sys, ends, spec.port(Stream::Out), &mut streams.output)?;
+    redirect::<S, H>(sys, ends, spec.port(Stream::Err), &mut streams.error)?;
     find(spec);
     Ok(())
 }

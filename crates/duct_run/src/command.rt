@@ -1,20 +1,19 @@
-//! Starts a command: makes the seat of its child, asks for the canonical path of its program, runs
-//! its hooks and spawns it.
+//! Starts a command: makes the reservation of its child, asks for the canonical path of its
+//! program, runs its hooks and spawns it.
 
 ghost use Rattle.std.specs.Arc.{arc_value};
 ghost use Rattle.std.specs.Prelude.{◌≡◌, ◌≤◌, ◌+◌, ◌++◌, length, map, string_bytes, IfOk, IfErr, OnOk, vec_len, vec_capacity};
 ghost use Rattle.duct_system.specs.SpecView.{pair_text};
 ghost use Rattle.duct_system.specs.Streams.{end_of, stream_of};
-ghost use Rattle.duct_start.specs.Actions.{stack_after_ports, stack_after_port, port_end_count};
-ghost use Rattle.duct_start.specs.Commands.{NameSucceeds, ActionFailsWith, stack_with_streams, port_stream, port_streams};
-ghost use Rattle.duct_start.specs.ResourcesView.{ResourcesView, open_ends};
-ghost use Rattle.duct_start.specs.ActionList.{AreOutwards, scope_in};
+ghost use Rattle.duct_run.specs.Actions.{stack_after_ports, stack_after_port, port_end_count};
+ghost use Rattle.duct_run.specs.Commands.{NameSucceeds, ActionFailsWith, stack_with_streams, port_stream, port_streams};
+ghost use Rattle.duct_run.specs.ResourcesView.{ResourcesView, open_ends, HasRoom, HasSameWorkers, stack_view};
+ghost use Rattle.duct_run.specs.ActionList.{AreOutwards, scope_in};
 ghost use Rattle.duct_start.specs.Plan.{program_of};
 ghost use Rattle.duct_run.specs.ActionView.{ports_view, spawn_in};
-ghost use Rattle.duct_run.specs.ResourcesView.{HasRoom, HasSameWorkers, stack_view};
 ghost use Rattle.duct_run.specs.Made.{IsPrepared, program_text};
 ghost use Rattle.duct_run.specs.NameRefused.{NameRefused};
-ghost use Rattle.duct_run.specs.Requested.{CommandSucceeds, CommandFails, IsNew, resources_of};
+ghost use Rattle.duct_run.specs.Requested.{CommandSucceeds, CommandFails, HoldsUnasked, resources_of};
 ghost use Rattle.duct_run.specs.ScopeView.{scopes_view};
 ghost use Rattle.duct_run.specs.StreamsView.{streams_view};
 
@@ -27,7 +26,7 @@ use crate::streams::Streams;
 use crate::views::Viewed;
 use duct_base::error::Error;
 use duct_base::exe::asks_canonical;
-use duct_base::pool::{Place, Seat, place_new, seat_new};
+use duct_base::pool::{Place, Reservation, place_new, reservation_new};
 use duct_base::spec::{CommandSpec, Hook, Port};
 use duct_base::system::{Numbered, Stdio, System};
 use std::sync::Arc;
@@ -130,7 +129,7 @@ fn put_all<E: Numbered>(stack: &mut Vec<E>, streams: Streams<E>)
     put(stack, streams.error);
 }
 
-// Makes the seat of a command's child and the spec of the command before its hooks, with the
+// Makes the reservation of a command's child and the spec of the command before its hooks, with the
 // canonical path of its program where it needs one.
 fn prepared<S: System, H: Hook>(
     sys: &mut S,
@@ -139,7 +138,7 @@ fn prepared<S: System, H: Hook>(
     scope: usize,
     words: &Arc<Vec<String>>,
     ports: Ports,
-) -> Result<(Seat<S::Child>, CommandSpec), Error>
+) -> Result<(Reservation<S::Child>, CommandSpec), Error>
     requires within { scope ≤ length scopes.now }
     requires outwards { AreOutwards (scopes_view scopes.now) }
     ensures ok { IfOk result (λ made. IsPrepared {E = S.End} {H = H} H.allows S.End.number_of (map
@@ -153,10 +152,10 @@ fn prepared<S: System, H: Hook>(
     ensures left { OnOk result ((S.journal_view sys.old).room ≤ (S.journal_view sys.new).room) }
 {
     let alloc = *pairs.allocator();
-    let seat = seat_new(alloc)?;
+    let reservation = reservation_new(alloc)?;
     let name = canonical(sys, scopes, scope, words)?;
     let spec = asked_spec(alloc, pairs, scopes, scope, name, words, ports)?;
-    Ok((seat, spec))
+    Ok((reservation, spec))
 }
 
 // Starts the command with these words in the scope of this index, with the ends that its ports pop
@@ -183,10 +182,11 @@ pub(crate) fn command<S: System, H: Hook>(
     ensures err { IfErr result (CommandFails ⟦<S as Viewed>⟧.views H.allows H.refuses (map pair_text
         pairs.now.items) (spawn_in scopes.now scope (arc_value words.now).items ports)
         sys.old sys.new held.old held.new) }
-    ensures new { IsNew ⟦<S as Viewed>⟧.views held.old → IsNew ⟦<S as Viewed>⟧.views held.new }
+    ensures new { HoldsUnasked ⟦<S as Viewed>⟧.views held.old
+        → HoldsUnasked ⟦<S as Viewed>⟧.views held.new }
     ensures workers { HasSameWorkers held.old held.new }
 {
-    let (seat, mut spec) = prepared(sys, pairs, scopes, scope, words, ports)?;
+    let (reservation, mut spec) = prepared(sys, pairs, scopes, scope, words, ports)?;
     let mut streams = take_all(&mut held.stack, ports);
     if let Err(error) = change_all(sys, scopes, scope, &mut spec, &mut streams) {
         put_all(&mut held.stack, streams);
@@ -198,6 +198,6 @@ pub(crate) fn command<S: System, H: Hook>(
         error,
     } = streams;
     let child = sys.spawn(spec, [input, output, error])?;
-    held.children.push_reserved(place_new(child, seat));
+    held.children.push_reserved(place_new(child, reservation));
     Ok(())
 }

@@ -3,9 +3,9 @@
 ghost use Rattle.std.specs.Prelude.{◌≡◌, ◌<◌, ◌≤◌, ◌+◌, length, None, Ok, OnOk, IfErr, IsSome, is_some, vec_len, vec_capacity};
 ghost use Rattle.std.specs.Arc.{arc_value};
 ghost use Rattle.duct_status.specs.PerSide.{at_side, with_side};
-ghost use Rattle.duct_start.specs.Actions as action;
-ghost use Rattle.duct_start.specs.ResourcesView.{open_ends};
-ghost use Rattle.duct_run.specs.Requested.{IsNew, RequestSucceeds, RequestFails, Requested, resources_of};
+ghost use Rattle.duct_run.specs.Actions as action;
+ghost use Rattle.duct_run.specs.ResourcesView.{open_ends};
+ghost use Rattle.duct_run.specs.Requested.{HoldsUnasked, RequestSucceeds, RequestFails, Requested, resources_of};
 
 use crate::resources::{Resources, top};
 use crate::views::Viewed;
@@ -207,7 +207,8 @@ pub(crate) fn finish<S: System, H: Hook>(
         sys.old sys.new held.old held.new) }
     ensures err { IfErr result (RequestFails ⟦<S as Viewed>⟧.views H.allows (action.finish side)
         sys.old sys.new held.old held.new) }
-    ensures new { IsNew ⟦<S as Viewed>⟧.views held.old → IsNew ⟦<S as Viewed>⟧.views held.new }
+    ensures new { HoldsUnasked ⟦<S as Viewed>⟧.views held.old
+        → HoldsUnasked ⟦<S as Viewed>⟧.views held.new }
     ensures drains { held.new.drains
         ≡ with_side held.old.drains side (at_side held.new.drains side) }
     ensures worker { OnOk result (is_some (at_side held.new.drains side)

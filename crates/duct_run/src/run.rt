@@ -1,13 +1,13 @@
 //! Runs a list of actions on a system.
-ghost use Rattle.std.specs.Prelude.{◌≤◌, All, length, map, OnOk, IfErr, vec_len};
+ghost use Rattle.std.specs.Prelude.{◌≤◌, All, length, map, OnOk, IfErr, vec_len, []};
 ghost use Rattle.duct_system.specs.SpecView.{pair_text};
-ghost use Rattle.duct_start.specs.Actions.{pop_count};
-ghost use Rattle.duct_start.specs.ResourcesView.{open_ends};
-ghost use Rattle.duct_start.specs.ActionList.{AreOutwards, IsWithin, resolved};
-ghost use Rattle.duct_start.specs.RunInvariant.{FindsItsEnds};
+ghost use Rattle.duct_run.specs.Actions.{pop_count};
+ghost use Rattle.duct_run.specs.ResourcesView.{open_ends, HasRoom, HasSameWorkers};
+ghost use Rattle.duct_run.specs.ActionList.{AreOutwards, IsWithin, resolved};
+ghost use Rattle.duct_run.specs.RunInvariant.{FindsItsEnds, SomeReadyForActions};
 ghost use Rattle.duct_run.specs.ActionView.{action_view, actions_view, resolved_in};
-ghost use Rattle.duct_run.specs.ResourcesView.{HasRoom, HasSameWorkers, SomeReadyForActions};
-ghost use Rattle.duct_run.specs.Requested.{ActionsPerformed, ActionsStopped, IsNew, Performed, PoolLeaves, resources_of};
+ghost use Rattle.duct_run.specs.Requested.{ActionsPerformed, ActionsStopped, HoldsUnasked, Performed, resources_of};
+ghost use Rattle.duct_start.specs.Left.{Leaves, pool_view};
 ghost use Rattle.duct_run.specs.ScopeView.{all_scopes, scopes_view};
 
 use crate::action::Action;
@@ -44,7 +44,9 @@ fn perform<S: System, H: Hook>(
     ensures performed { Performed ⟦<S as Viewed>⟧.views H.allows H.refuses (map pair_text
         pairs.now.items) (resolved (all_scopes scopes.now) (action_view action.entry)) result
         sys.old sys.new held.old held.new }
-    ensures pool { PoolLeaves ⟦<S as Viewed>⟧.views pool.old pool.new }
+    ensures pool { Leaves ⟦<S as Viewed>⟧.views.may_answer []
+        (pool_view ⟦<S as Viewed>⟧.views.child pool.old)
+        (pool_view ⟦<S as Viewed>⟧.views.child pool.new) }
 {
     match action {
         Action::OpenRead(path) => open_read::<S, H>(sys, path, held),
@@ -87,9 +89,12 @@ pub(crate) fn perform_all<S: System, H: Hook>(
     ensures err { IfErr result (ActionsStopped ⟦<S as Viewed>⟧.views H.allows H.refuses (map
         pair_text pairs.now.items) (resolved_in scopes.now actions.now) sys.old sys.new held.old
         held.new) }
-    ensures new { IsNew ⟦<S as Viewed>⟧.views held.old → IsNew ⟦<S as Viewed>⟧.views held.new }
+    ensures new { HoldsUnasked ⟦<S as Viewed>⟧.views held.old
+        → HoldsUnasked ⟦<S as Viewed>⟧.views held.new }
     ensures workers { HasSameWorkers held.old held.new }
-    ensures pool { PoolLeaves ⟦<S as Viewed>⟧.views pool.old pool.new }
+    ensures pool { Leaves ⟦<S as Viewed>⟧.views.may_answer []
+        (pool_view ⟦<S as Viewed>⟧.views.child pool.old)
+        (pool_view ⟦<S as Viewed>⟧.views.child pool.new) }
 {
     for action in actions {
         make_room(held)?;

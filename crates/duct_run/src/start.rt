@@ -1,13 +1,14 @@
 //! A start: it runs its actions, and where one of them fails it gives up its resources.
-ghost use Rattle.std.specs.Prelude.{◌≡◌, ◌≤◌, All, length, is_some, true, None, OnOk, IfOk, IfErr, IsSome};
+ghost use Rattle.std.specs.Prelude.{◌≡◌, ◌≤◌, All, length, is_some, true, None, OnOk, IfOk, IfErr, IsSome, []};
 ghost use Rattle.duct_system.specs.Trace.{segment};
-ghost use Rattle.duct_start.specs.ResourcesView.{empty_resources};
-ghost use Rattle.duct_start.specs.ActionList.{AreOutwards, IsWithin};
-ghost use Rattle.duct_start.specs.RunContract.{HavePipes, MadeReader, OpenOutputCapture, LeadToSomePlan, drain_tail, drain_and_reader_tail, no_tail};
+ghost use Rattle.duct_run.specs.ResourcesView.{empty_resources, HasSameWorkers};
+ghost use Rattle.duct_run.specs.ActionList.{AreOutwards, IsWithin};
+ghost use Rattle.duct_run.specs.RunContract.{HavePipes, OpenOutputCapture, LeadToSomePlan, drain_tail, drain_and_reader_tail, no_tail};
+ghost use Rattle.duct_start.specs.Running.{MadeReader};
 ghost use Rattle.duct_run.specs.ActionView.{actions_view, resolved_in};
-ghost use Rattle.duct_run.specs.ResourcesView.{HasSameWorkers};
 ghost use Rattle.duct_run.specs.OutputRead.{IsRead, pipe_view};
-ghost use Rattle.duct_run.specs.Requested.{RunGivesUp, IsNew, PoolLeaves, RunFails, RunSucceeds, resources_of};
+ghost use Rattle.duct_run.specs.Requested.{RunGivesUp, HoldsUnasked, RunFails, RunSucceeds, resources_of};
+ghost use Rattle.duct_start.specs.Left.{Leaves, pool_view};
 ghost use Rattle.duct_run.specs.ScopeView.{scopes_view};
 
 use crate::action::Action;
@@ -39,8 +40,11 @@ fn run_actions<S: System, H: Hook>(
     ensures err { IfErr result (RunFails ⟦<S as Viewed>⟧.views H.allows H.refuses no_tail
         (resolved_in scopes.now actions.now) sys.old sys.new held.new) }
     ensures workers { HasSameWorkers held.old held.new }
-    ensures new { IsNew ⟦<S as Viewed>⟧.views held.old → IsNew ⟦<S as Viewed>⟧.views held.new }
-    ensures pool { PoolLeaves ⟦<S as Viewed>⟧.views pool.old pool.new }
+    ensures new { HoldsUnasked ⟦<S as Viewed>⟧.views held.old
+        → HoldsUnasked ⟦<S as Viewed>⟧.views held.new }
+    ensures pool { Leaves ⟦<S as Viewed>⟧.views.may_answer []
+        (pool_view ⟦<S as Viewed>⟧.views.child pool.old)
+        (pool_view ⟦<S as Viewed>⟧.views.child pool.new) }
 {
     let pairs = sys.environment()?;
     perform_all(sys, pool, &pairs, scopes, actions, held)
@@ -64,8 +68,11 @@ fn run<S: System, H: Hook>(
         (resolved_in scopes.now actions.now) sys.old sys.new held.new) }
     ensures workers { OnOk result (HavePipes S.End.number_of (resolved_in scopes.now actions.now)
         (is_some held.new.drains.out) (is_some held.new.drains.err)) }
-    ensures new { IsNew ⟦<S as Viewed>⟧.views held.old → IsNew ⟦<S as Viewed>⟧.views held.new }
-    ensures pool { PoolLeaves ⟦<S as Viewed>⟧.views pool.old pool.new }
+    ensures new { HoldsUnasked ⟦<S as Viewed>⟧.views held.old
+        → HoldsUnasked ⟦<S as Viewed>⟧.views held.new }
+    ensures pool { Leaves ⟦<S as Viewed>⟧.views.may_answer []
+        (pool_view ⟦<S as Viewed>⟧.views.child pool.old)
+        (pool_view ⟦<S as Viewed>⟧.views.child pool.new) }
 {
     run_actions(sys, pool, scopes, actions, held)?;
     finish::<S, H>(sys, Side::Out, held)?;
@@ -112,8 +119,11 @@ fn run_reader<S: System, H: Hook>(
     ensures output { OnOk result (held.new.drains.out ≡ None) }
     ensures workers { OnOk result (HavePipes S.End.number_of (resolved_in scopes.now actions.now)
         true (is_some held.new.drains.err)) }
-    ensures new { IsNew ⟦<S as Viewed>⟧.views held.old → IsNew ⟦<S as Viewed>⟧.views held.new }
-    ensures pool { PoolLeaves ⟦<S as Viewed>⟧.views pool.old pool.new }
+    ensures new { HoldsUnasked ⟦<S as Viewed>⟧.views held.old
+        → HoldsUnasked ⟦<S as Viewed>⟧.views held.new }
+    ensures pool { Leaves ⟦<S as Viewed>⟧.views.may_answer []
+        (pool_view ⟦<S as Viewed>⟧.views.child pool.old)
+        (pool_view ⟦<S as Viewed>⟧.views.child pool.new) }
 {
     run_actions(sys, pool, scopes, actions, held)?;
     finish::<S, H>(sys, Side::Err, held)?;
@@ -137,14 +147,16 @@ pub fn start<S: System, H: Hook>(
     requires outwards { AreOutwards (scopes_view scopes.now) }
     requires within { All (IsWithin (length scopes.now)) (actions_view actions.now) }
     requires begun { resources_of ⟦<S as Viewed>⟧.views held ≡ empty_resources }
-    requires new { IsNew ⟦<S as Viewed>⟧.views held }
+    requires new { HoldsUnasked ⟦<S as Viewed>⟧.views held }
     requires leads { LeadToSomePlan S.End.number_of (resolved_in scopes.now actions.now) }
     ensures ok { IfOk result (λ kept. RunSucceeds ⟦<S as Viewed>⟧.views H.allows drain_tail
         (resolved_in scopes.now actions.now) sys.old sys.new kept) }
-    ensures kept { IfOk result (λ kept. IsNew ⟦<S as Viewed>⟧.views kept) }
+    ensures kept { IfOk result (λ kept. HoldsUnasked ⟦<S as Viewed>⟧.views kept) }
     ensures workers { IfOk result (λ kept. HavePipes S.End.number_of (resolved_in scopes.now
         actions.now) (is_some kept.drains.out) (is_some kept.drains.err)) }
-    ensures swept { OnOk result (PoolLeaves ⟦<S as Viewed>⟧.views pool.old pool.new) }
+    ensures swept { OnOk result (Leaves ⟦<S as Viewed>⟧.views.may_answer []
+        (pool_view ⟦<S as Viewed>⟧.views.child pool.old)
+        (pool_view ⟦<S as Viewed>⟧.views.child pool.new)) }
     ensures err { IfErr result (RunGivesUp ⟦<S as Viewed>⟧.views H.allows H.refuses drain_tail
         (resolved_in scopes.now actions.now) sys.old sys.new pool.old pool.new) }
 {
@@ -179,18 +191,20 @@ pub fn start_reader<S: System, H: Hook>(
     requires outwards { AreOutwards (scopes_view scopes.now) }
     requires within { All (IsWithin (length scopes.now)) (actions_view actions.now) }
     requires begun { resources_of ⟦<S as Viewed>⟧.views held ≡ empty_resources }
-    requires new { IsNew ⟦<S as Viewed>⟧.views held }
+    requires new { HoldsUnasked ⟦<S as Viewed>⟧.views held }
     requires leads { LeadToSomePlan S.End.number_of (resolved_in scopes.now actions.now) }
     requires opens { OpenOutputCapture S.End.number_of (resolved_in scopes.now actions.now) }
     ensures ok { IfOk result (λ made. RunSucceeds ⟦<S as Viewed>⟧.views H.allows
         drain_and_reader_tail (resolved_in scopes.now actions.now) sys.old sys.new made.0) }
     ensures reader { IfOk result (λ made. MadeReader S.may_read
         (segment (S.journal_view sys.old).entries (S.journal_view sys.new).entries) made.1) }
-    ensures kept { IfOk result (λ made. IsNew ⟦<S as Viewed>⟧.views made.0) }
+    ensures kept { IfOk result (λ made. HoldsUnasked ⟦<S as Viewed>⟧.views made.0) }
     ensures output { IfOk result (λ made. made.0.drains.out ≡ None) }
     ensures workers { IfOk result (λ made. HavePipes S.End.number_of (resolved_in scopes.now
         actions.now) true (is_some made.0.drains.err)) }
-    ensures swept { OnOk result (PoolLeaves ⟦<S as Viewed>⟧.views pool.old pool.new) }
+    ensures swept { OnOk result (Leaves ⟦<S as Viewed>⟧.views.may_answer []
+        (pool_view ⟦<S as Viewed>⟧.views.child pool.old)
+        (pool_view ⟦<S as Viewed>⟧.views.child pool.new)) }
     ensures err { IfErr result (RunGivesUp ⟦<S as Viewed>⟧.views H.allows H.refuses
         drain_and_reader_tail (resolved_in scopes.now actions.now)
         sys.old sys.new pool.old pool.new) }

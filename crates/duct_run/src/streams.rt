@@ -2,7 +2,7 @@
 ghost use Rattle.std.specs.Prelude.{◌≡◌, ◌≤◌, ◌+◌, length, None, OnOk, OnErr, IfErr};
 ghost use Rattle.duct_system.specs.Streams.{end_of, stream_of};
 ghost use Rattle.duct_start.specs.Chain.{missing_at};
-ghost use Rattle.duct_start.specs.Commands.{CloseSucceeds, SettleSucceeds, SettleFails};
+ghost use Rattle.duct_run.specs.Commands.{CloseSucceeds, RedirectSucceeds, RedirectFails};
 
 use duct_base::error::Error;
 use duct_base::spec::{Hook, Port};
@@ -34,7 +34,7 @@ pub(crate) fn let_go<S: System, H: Hook>(sys: &mut S, stream: Stdio<S::End>)
 
 // Sets a stream according to a hook's port. For a place the stream gets a duplicate of that end of
 // the hook. The end that the stream had is closed; a `Given` port leaves the stream as it is.
-pub(crate) fn settle<S: System, H: Hook>(
+pub(crate) fn redirect<S: System, H: Hook>(
     sys: &mut S,
     ends: &[S::End],
     port: Port,
@@ -42,11 +42,11 @@ pub(crate) fn settle<S: System, H: Hook>(
 ) -> Result<(), Error>
     requires place { missing_at (length ends.now) port ≡ None }
     requires room { length (end_of stream.old) ≤ (S.journal_view sys.old).room }
-    ensures ok { OnOk result (SettleSucceeds {E = S.End}
+    ensures ok { OnOk result (RedirectSucceeds {E = S.End}
         {H = H} H.allows S.End.number_of ends.now port (S.journal_view sys.old)
         (S.journal_view sys.new) (stream_of S.End.number_of stream.old)
         (stream_of S.End.number_of stream.new)) }
-    ensures err { IfErr result (SettleFails {E = S.End} {H = H} H.allows S.End.number_of ends.now
+    ensures err { IfErr result (RedirectFails {E = S.End} {H = H} H.allows S.End.number_of ends.now
         (S.journal_view sys.old) (S.journal_view sys.new)) }
     ensures left { OnOk result (length (end_of stream.new) + (S.journal_view sys.old).room
         ≤ (S.journal_view sys.new).room + length (end_of stream.old)) }

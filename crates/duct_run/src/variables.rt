@@ -2,7 +2,7 @@
 ghost use Rattle.std.specs.Prelude.{ℕ, ◌≡◌, ◌≤◌, ◌∷◌, [], List, length, map, IfOk, IsOkUnless};
 ghost use Rattle.duct_system.specs.SpecView.{AreOrdered, Vars, pair_text, said_of, var_view, variable_in};
 ghost use Rattle.duct_start.specs.Surroundings.{Replaces, variable};
-ghost use Rattle.duct_start.specs.ActionList.{AreOutwards, scope_in};
+ghost use Rattle.duct_run.specs.ActionList.{AreOutwards, scope_in};
 ghost use Rattle.duct_run.specs.Changes.{change_of, changes_of};
 ghost use Rattle.duct_run.specs.ScopeView.{scopes_view};
 

@@ -9,7 +9,7 @@ use Rattle.duct_status.specs.Latest.{Latest, is_due, is_word_due, word_after, ch
 use Rattle.duct_status.specs.declared.status.Word.{Word}
 use Rattle.duct_system.specs.declared.system.ExitStatus.{ExitStatus}
 use Rattle.duct_running.specs.Polled.{AskedIfDue, ChangedAt}
-use Rattle.duct_running.specs.Stored.{Bytes, word_of, stored_word, stored_latest}
+use Rattle.duct_running.specs.Stored.{Bytes, answer_word, stored_word, stored_latest}
 
 -- the word that a child stores
 abbrev pub said : ChildView → Word
@@ -31,7 +31,7 @@ left_alone None None P Q over q = absurd (cc)
 
 -- the word that a child without an ending stores after a poll is the word of the poll's result
 word_heard : (answer : Answer) → stored_word (ending_after None answer) (Some answer)
-    ≡ word_of answer
+    ≡ answer_word answer
 word_heard (Ok (Some status)) = refl
 word_heard (Ok None) = refl
 word_heard (Err fault) = refl
@@ -49,9 +49,9 @@ asked_once before after may answer polls none =
 
 word_changed : (before after : ChildView) (may : ℕ → Answer → Type 0) (answer : Answer)
     → PollsChild may before answer after → before.ending ≡ None
-    → word_after (said before) (word_of answer) ≡ said after
+    → word_after (said before) (answer_word answer) ≡ said after
 word_changed before after may answer polls none =
-    ap (λ e. word_after (stored_word e before.last) (word_of answer)) none ∙ word_replaced before.last (word_of answer) ∙ sym (word_heard answer)
+    ap (λ e. word_after (stored_word e before.last) (answer_word answer)) none ∙ word_replaced before.last (answer_word answer) ∙ sym (word_heard answer)
     ∙ sym (ap (λ (c : ChildView). said c) polls.after_is ∙ ap (λ e. stored_word (ending_after e answer) (Some answer)) none)
 
 module _ {C : Type 0} (view : C → ChildView) where
@@ -109,7 +109,7 @@ module _ {C : Type 0} (view : C → ChildView) (may : ℕ → Answer → Type 0)
   words_changed : (children : List C) (at : ℕ) (before after : C) (answer : Answer)
       → at < length children → before ≡ get_or children at before →
       PollsChild may (view before) answer (view after) → is_word_due (slice_get (words view children) at) ≡ true →
-      change_at (λ old. word_after old (word_of answer)) at (words view children) ≡ words view (set children at after)
+      change_at (λ old. word_after old (answer_word answer)) at (words view children) ≡ words view (set children at after)
   words_changed [] at before after answer low is polls due = absurd (omega arith)
   words_changed (child ∷ children) zero before after answer low is polls due =
       let polls' = subst (λ c. PollsChild may (view c) answer (view after)) is polls in
@@ -143,8 +143,8 @@ module _ {C : Type 0} (view : C → ChildView) (may : ℕ → Answer → Type 0)
     pub words_in_step : (items children : List C) (at : ℕ) (before after : C) (answer : Answer)
         (kept later : Latest) (heard : Word) → items ≡ children
         → kept ≡ stored items → at < length children →
-        is_due kept at ≡ true → before ≡ get_or items at before → PollsChild may (view before) answer (view after) → heard ≡ word_of answer → later ≡ latest_after kept (from_command at heard) →
+        is_due kept at ≡ true → before ≡ get_or items at before → PollsChild may (view before) answer (view after) → heard ≡ answer_word answer → later ≡ latest_after kept (from_command at heard) →
         later ≡ stored (set items at after)
     words_in_step items children at before after answer kept later heard same is low due found polls hears told =
-        told ∙ ap (λ (h : Word). latest_after kept (from_command at h)) hears ∙ ap (λ (w : Latest). latest_after w (from_command at (word_of answer))) is
+        told ∙ ap (λ (h : Word). latest_after kept (from_command at h)) hears ∙ ap (λ (w : Latest). latest_after w (from_command at (answer_word answer))) is
         ∙ ap (λ (ws : List Word). record (stored items) { commands = ws }) (words_changed items at before after answer (within view items children at same low) found polls (due_in items at kept is due))

@@ -41,9 +41,9 @@ WasConcluded answer feed drain shape numbers reply =
     ∥ Concluded answer feed drain shape numbers reply ∥₁
 
 -- a poll returned what was concluded, or `Error::Memory`
-abbrev pub IsEnding : (ℕ → Answer → Type 0) → (ℕ → Said (Unit {0}) → Type 0)
+abbrev pub IsConcludedPoll : (ℕ → Answer → Type 0) → (ℕ → Said (Unit {0}) → Type 0)
     → (ℕ → Said Bytes → Type 0) → ShapeView → NumbersView → Polled → Type 0
-IsEnding answer feed drain shape numbers polled =
+IsConcludedPoll answer feed drain shape numbers polled =
     ((reply : ReplyView) × WasConcluded answer feed drain shape numbers reply
     × Gives reply polled)
     ⊎ (polled ≡ Err error.Memory)
@@ -55,14 +55,14 @@ module _ {S E C F D : Type 0} (views : SystemViews S E C F D (Unit {0}) Bytes) w
       WasConcluded views.may_answer views.feed_says views.drain_says shape numbers reply
 
   -- a poll of a running expression returned what was concluded, or `Error::Memory`
-  abbrev pub EndsAs : RunningView C F D → Polled → Type 0
-  EndsAs running polled =
-      IsEnding views.may_answer views.feed_says views.drain_says (shape_view running.shape)
+  abbrev pub ReturnsConclusion : RunningView C F D → Polled → Type 0
+  ReturnsConclusion running polled =
+      IsConcludedPoll views.may_answer views.feed_says views.drain_says (shape_view running.shape)
       (numbers_of views running) polled
 
   -- a poll returned what was concluded, or `Error::Memory`, or the error `Other` because the shape
   -- or the numbers differ
   abbrev pub IsAnswer : ShapeView → NumbersView → Polled → Type 0
   IsAnswer shape numbers polled =
-      IsEnding views.may_answer views.feed_says views.drain_says shape numbers polled
+      IsConcludedPoll views.may_answer views.feed_says views.drain_says shape numbers polled
       ⊎ (polled ≡ Err (error.System (record { kind = Other })))

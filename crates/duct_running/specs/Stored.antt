@@ -16,10 +16,10 @@ use Rattle.duct_status.specs.declared.status.Word.TheVariants as word
 use Rattle.duct_system.specs.declared.system.ExitStatus.{ExitStatus}
 
 -- the word for the result of a child's poll
-abbrev pub word_of : Answer → Word
-word_of (Ok (Some status)) = word.Ended status
-word_of (Ok None) = word.Running
-word_of (Err fault) = word.Fault fault
+abbrev pub answer_word : Answer → Word
+answer_word (Ok (Some status)) = word.Ended status
+answer_word (Ok None) = word.Running
+answer_word (Err fault) = word.Fault fault
 
 -- the word that a child stores: its ending, else the fault of its last poll, else Running
 abbrev pub stored_word : Option ExitStatus → Option Answer → Word

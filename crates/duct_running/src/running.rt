@@ -9,7 +9,7 @@ ghost use Rattle.duct_status.specs.ReplyView.{reply_view};
 ghost use Rattle.duct_status.specs.ShapeView.{command_count, input_count, shape_view};
 ghost use Rattle.duct_running.specs.Polled.{IsConclusion, Gives, ReturnsOutcome, ChildAskedAt, ChildrenAsked, FeedPolledAt, FeedsPolled, StreamPolled, is_awaited};
 ghost use Rattle.duct_running.specs.PolledOnce.{PolledOnce};
-ghost use Rattle.duct_running.specs.Stored.{AreUnasked, word_of};
+ghost use Rattle.duct_running.specs.Stored.{AreUnasked, answer_word};
 ghost use Rattle.duct_running.specs.NumbersView.{numbers_of};
 ghost use Rattle.duct_running.specs.Allowed.{OneRuns, StoresAllowed};
 
@@ -67,7 +67,7 @@ impl<S: System> Model for Running<S> {
 
 // Returns the word for the result of a child's poll.
 fn word(answer: Result<Option<ExitStatus>, Fault>) -> Word
-    ensures { result ≡ word_of answer }
+    ensures { result ≡ answer_word answer }
 {
     match answer {
         Ok(Some(status)) => Word::Ended(status),
@@ -210,7 +210,7 @@ impl<S: System> Running<S> {
     }
 
     // Polls the child at this place, if it has not ended, and passes the result to the core.
-    fn ask(&mut self, at: usize)
+    fn poll_child(&mut self, at: usize)
         requires { at < length self.old.children }
         ensures shape { shape_view self.new.shape ≡ shape_view self.old.shape }
         ensures asked { ChildAskedAt ⟦<S as Viewed>⟧.views at self.old self.new }
@@ -234,7 +234,7 @@ impl<S: System> Running<S> {
     }
 
     // Polls each child that has not ended, once and from left to right.
-    fn ask_children(&mut self)
+    fn poll_children(&mut self)
         ensures shape { shape_view self.new.shape ≡ shape_view self.old.shape }
         ensures asked { ChildrenAsked ⟦<S as Viewed>⟧.views self.old self.new }
         ensures feeds { self.new.feeds ≡ self.old.feeds }
@@ -242,13 +242,13 @@ impl<S: System> Running<S> {
         ensures error { self.new.error ≡ self.old.error }
     {
         for at in 0..self.children.len() {
-            self.ask(at);
+            self.poll_child(at);
         }
     }
 
     // Polls the input worker at this place, if it has not finished, and passes the result to the
     // core.
-    fn ask_feed(&mut self, at: usize)
+    fn poll_feed(&mut self, at: usize)
         requires { at < length self.old.feeds }
         ensures shape { shape_view self.new.shape ≡ shape_view self.old.shape }
         ensures children { self.new.children ≡ self.old.children }
@@ -264,7 +264,7 @@ impl<S: System> Running<S> {
     }
 
     // Polls each input worker that has not finished, once and in tree order.
-    fn ask_feeds(&mut self)
+    fn poll_feeds(&mut self)
         ensures shape { shape_view self.new.shape ≡ shape_view self.old.shape }
         ensures children { self.new.children ≡ self.old.children }
         ensures asked { FeedsPolled ⟦<S as Viewed>⟧.views self.old self.new }
@@ -272,13 +272,13 @@ impl<S: System> Running<S> {
         ensures error { self.new.error ≡ self.old.error }
     {
         for at in 0..self.feeds.len() {
-            self.ask_feed(at);
+            self.poll_feed(at);
         }
     }
 
     // Polls the capture worker of this stream, if the outcome waits for it, and passes the result
     // to the core.
-    fn ask_drain(&mut self, side: Side)
+    fn poll_drain(&mut self, side: Side)
         ensures shape { shape_view self.new.shape ≡ shape_view self.old.shape }
         ensures children { self.new.children ≡ self.old.children }
         ensures feeds { self.new.feeds ≡ self.old.feeds }
@@ -312,10 +312,10 @@ impl<S: System> Running<S> {
             → OneRuns ⟦<S as Viewed>⟧.views (numbers_of ⟦<S as Viewed>⟧.views self.new) }
     {
         self.begin_poll();
-        self.ask_children();
-        self.ask_feeds();
-        self.ask_drain(Side::Out);
-        self.ask_drain(Side::Err);
+        self.poll_children();
+        self.poll_feeds();
+        self.poll_drain(Side::Out);
+        self.poll_drain(Side::Err);
         self.conclude()
     }
 

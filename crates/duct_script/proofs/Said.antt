@@ -5,12 +5,12 @@ use Rattle.std.specs.declared.option.Option.{Option}
 use Rattle.duct_system.specs.Job.{SaysAgain}
 use Rattle.duct_system.specs.declared.system.Said.{Said}
 use Rattle.duct_system.specs.declared.system.Said.TheVariants.{Running, Done, Fault}
-use Rattle.duct_script.specs.Said.{Shared, SameBytes, word_of}
+use Rattle.duct_script.specs.Said.{Shared, SameBytes, bytes_said}
 
 -- a clone of what is kept is the same result again; if cloning fails, which happens only for bytes,
 -- the result is Running
 pub says_again : (kept said : Said Shared) (answer : Option (Said Shared)) →
-    word_of said ≡ word_of kept → IfSome answer (λ again. word_of again ≡ word_of said) → IfNone answer ((bytes : List ℕ) × (word_of said ≡ Done bytes)) →
+    bytes_said said ≡ bytes_said kept → IfSome answer (λ again. bytes_said again ≡ bytes_said said) → IfNone answer ((bytes : List ℕ) × (bytes_said said ≡ Done bytes)) →
     SaysAgain SameBytes (Unit {0}) kept (unwrap_or answer Running)
 says_again Running said answer is same refused = tt
 says_again (Done bytes) said None is same refused = tt

@@ -16,7 +16,7 @@ abbrev pub SameBytes : Shared → Shared → Type 0
 SameBytes one other = (arc_value other).items ≡ (arc_value one).items
 
 -- the result with its bytes, whoever owns them
-abbrev pub word_of : Said Shared → Said (List ℕ)
-word_of Running = Running
-word_of (Done bytes) = Done (arc_value bytes).items
-word_of (Fault fault) = Fault fault
+abbrev pub bytes_said : Said Shared → Said (List ℕ)
+bytes_said Running = Running
+bytes_said (Done bytes) = Done (arc_value bytes).items
+bytes_said (Fault fault) = Fault fault

@@ -2,7 +2,7 @@
 ghost use Rattle.std.specs.Prelude.{◌≡◌, ℕ, List, IfSome, IfNone, IsTrue, ◌↔◌};
 ghost use Rattle.duct_system.specs.Job.{unpolled_job};
 ghost use Rattle.duct_system.specs.declared.system.Said.TheVariants.{Running, Done};
-ghost use Rattle.duct_script.specs.Said.{word_of, SameBytes};
+ghost use Rattle.duct_script.specs.Said.{bytes_said, SameBytes};
 
 use crate::answers::Answers;
 use crate::calls::{Call, CallLog, note};
@@ -110,7 +110,7 @@ pub struct ScriptDrain {
     said: Said<Arc<Vec<u8>>>,
     kept: Snapshot<Said<Arc<Vec<u8>>>>,
     calls: Option<Arc<CallLog>>,
-    ghost same_word: { word_of said ≡ word_of kept.value },
+    ghost same_word: { bytes_said said ≡ bytes_said kept.value },
 }
 
 impl ScriptDrain {
@@ -207,8 +207,8 @@ fn is_running(said: &Said<Arc<Vec<u8>>>) -> bool
 /// Returns the same result, with one more owner of its bytes, or `None` if that owner can't be
 /// made.
 fn said_again(said: &Said<Arc<Vec<u8>>>) -> Option<Said<Arc<Vec<u8>>>>
-    ensures same { IfSome result (λ again. word_of again ≡ word_of said.now) }
-    ensures refused { IfNone result ((bytes : List ℕ) × (word_of said.now ≡ Done bytes)) }
+    ensures same { IfSome result (λ again. bytes_said again ≡ bytes_said said.now) }
+    ensures refused { IfNone result ((bytes : List ℕ) × (bytes_said said.now ≡ Done bytes)) }
 {
     match said {
         Said::Running => Some(Said::Running),

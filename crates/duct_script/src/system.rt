@@ -10,7 +10,7 @@ ghost use Rattle.duct_system.specs.Streams.{stream_of, end_of, ends_of};
 ghost use Rattle.duct_system.specs.declared.system.Said.TheVariants.{Done};
 ghost use Rattle.duct_script.specs.Next.{IsNext};
 ghost use Rattle.duct_script.specs.Refusals.{next_fault, with_request};
-ghost use Rattle.duct_script.specs.Said.{word_of};
+ghost use Rattle.duct_script.specs.Said.{bytes_said};
 ghost use Rattle.duct_script.specs.Shares.{SharesLog};
 ghost use Rattle.duct_script.specs.declared.requests.Sort.TheVariants.{Drain};
 
@@ -432,7 +432,7 @@ impl Script {
         ensures script { IfOk result (λ job.
             IsNext self.old.drains.items (λ script. script.items ≡ []) job.script) }
         ensures empty { IfOk result (λ job.
-            word_of job.otherwise ≡ Done (arc_value self.old.empty).items) }
+            bytes_said job.otherwise ≡ Done (arc_value self.old.empty).items) }
         ensures calls { IfOk result (λ job. SharesLog self.old.calls job.calls) }
         ensures refused { IfSome (next_fault Drain self.old.requests)
             (λ fault. result ≡ Err fault) }

@@ -6,7 +6,6 @@ use Rattle.std.proofs.lemmas.List.{reverse-append}
 use Rattle.std.proofs.lemmas.Bool.Decides.{nat_tests}
 use Rattle.std.specs.Prelude.{◌==◌, true, false, reverse}
 use Rattle.duct_system.specs.Ledger.{count_of}
-use Rattle.duct_start.specs.RunInvariant.{AreFresh}
 
 -- two counts add up to at most 1, if each is at most 1 and one of them is 0
 pub once_of : (next n a b : ℕ) → a ≤ 1 → b ≤ 1 → (next ≤ n → a ≡ 0) → (n < next → b ≡ 0) → a + b ≤ 1
@@ -40,24 +39,3 @@ pub is_itself : (n : ℕ) → (n == n) ≡ true
 is_itself n = grind (arith, nat_tests)
 
 -- the numbers that a request got: none, one or two
-
-pub fresh_none : (next then : ℕ) → next ≤ then → AreFresh next then []
-fresh_none next then le = record { newer = le; once = λ n. omega arith; above = λ n lt. refl; below = λ n lt. refl }
-
-pub fresh_one : (next then m : ℕ) → next ≤ m → m < then → AreFresh next then (m ∷ [])
-fresh_one next then m low high = record {
-  newer = omega arith;
-  once = λ n. count_le n m;
-  above = λ n lt. let ne : n ≢ m = omega arith in count_other n m ne;
-  below = λ n lt. let ne : n ≢ m = omega arith in count_other n m ne;
-}
-
-pub fresh_two : (next then m k : ℕ) → next ≤ m → m < then → next ≤ k → k < then → m ≢ k
-    → AreFresh next then (m ∷ k ∷ [])
-fresh_two next then m k low high low' high' differ =
-    let one = fresh_one next then m low high in let two = fresh_one next then k low' high' in record {
-      newer = omega arith;
-      once = λ n. grind (arith, nat_tests);
-      above = λ n lt. omega (arith, count-cons n m (k ∷ []), one.above n lt, two.above n lt);
-      below = λ n le. omega (arith, count-cons n m (k ∷ []), one.below n le, two.below n le);
-    }

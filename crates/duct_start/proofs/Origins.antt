@@ -1,24 +1,23 @@
 -- The origin of a number and the end at a place stay the same, whatever entries come later.
-use Rattle.std.proofs.Common.{◌≡◌, ℕ, ◌+◌, ◌<◌, List, [], ◌∷◌, ◌++◌, length, refl, ap, sym, ◌∙◌, arith, append_assoc}
+use Rattle.std.proofs.Common.{◌≡◌, ℕ, ◌+◌, List, [], ◌∷◌, ◌++◌, length, refl, ap, sym, ◌∙◌, arith, append_assoc}
 use Rattle.std.proofs.lemmas.Grind.{flat_map-append}
 use Rattle.std.proofs.lemmas.List.{reverse-append, append-nil}
 use Rattle.std.proofs.lemmas.List.Elements.{filter-append}
 use Rattle.std.specs.Prelude.{Ok, reverse, slice_get, slice_index, Some, ◌==◌, true, false}
 use Rattle.std.specs.Option.{option_to_list}
 use Rattle.std.specs.List.{flat_map}
-use Rattle.duct_system.specs.Ledger.{opened_numbers, opened_by, closed_numbers, closed_by, count_of}
+use Rattle.duct_system.specs.Ledger.{opened_numbers, opened_by, spent_numbers, spent_by, count_of}
 use Rattle.duct_system.specs.EntryView.{EntryView, Pipe, OpenRead, Create, Duplicate, Parent}
 use Rattle.duct_system.specs.Origin.{Lent, origin, origin_before}
 use Rattle.duct_system.specs.Trace.{trace, is_traced}
 use Rattle.duct_start.specs.Asked.{end_at}
-use Rattle.duct_start.specs.RunInvariant.{AreFresh, RunContext, IsLater}
 use Rattle.duct_start.proofs.Counts.{count-append, count-cons, other_than}
 
 pub opened_numbers-append : (xs ys : List EntryView) → opened_numbers (xs ++ ys) ≡ opened_numbers xs ++ opened_numbers ys
 opened_numbers-append xs ys = flat_map-append opened_by xs ys
 
-pub closed_numbers-append : (xs ys : List EntryView) → closed_numbers (xs ++ ys) ≡ closed_numbers xs ++ closed_numbers ys
-closed_numbers-append xs ys = flat_map-append closed_by xs ys
+pub spent_numbers-append : (xs ys : List EntryView) → spent_numbers (xs ++ ys) ≡ spent_numbers xs ++ spent_numbers ys
+spent_numbers-append xs ys = flat_map-append spent_by xs ys
 
 pub trace-append : (xs ys : List EntryView) → trace (xs ++ ys) ≡ trace xs ++ trace ys
 trace-append xs ys = filter-append is_traced xs ys
@@ -28,8 +27,8 @@ pub count_got-append : (n : ℕ) (xs ys : List EntryView)
 count_got-append n xs ys = ap (λ (l : List ℕ). count_of n l) (opened_numbers-append xs ys) ∙ count-append n (opened_numbers xs) (opened_numbers ys)
 
 pub count_spent-append : (n : ℕ) (xs ys : List EntryView)
-    → count_of n (closed_numbers (xs ++ ys)) ≡ count_of n (closed_numbers xs) + count_of n (closed_numbers ys)
-count_spent-append n xs ys = ap (λ (l : List ℕ). count_of n l) (closed_numbers-append xs ys) ∙ count-append n (closed_numbers xs) (closed_numbers ys)
+    → count_of n (spent_numbers (xs ++ ys)) ≡ count_of n (spent_numbers xs) + count_of n (spent_numbers ys)
+count_spent-append n xs ys = ap (λ (l : List ℕ). count_of n l) (spent_numbers-append xs ys) ∙ count-append n (spent_numbers xs) (spent_numbers ys)
 
 pub count_got-reverse : (n : ℕ) (xs : List EntryView)
     → count_of n (opened_numbers (reverse xs)) ≡ count_of n (opened_numbers xs)
@@ -102,13 +101,3 @@ end_at_seam xs entry more which traced =
     ap (λ (l : List EntryView). end_at l (length (trace xs)) which) all
     ∙ ap (λ o. slice_index (flat_map opened_by (option_to_list o)) which) (slice_get_seam (trace xs) entry (trace more))
     ∙ ap (λ (l : List ℕ). slice_index l which) (append-nil (opened_by entry))
-
--- an entry that got fresh numbers, together with later entries, is later than what came before it
-pub later_more : (context : RunContext) (next then : ℕ) (entry : EntryView) (more : List EntryView)
-    → AreFresh next then (opened_by entry) → IsLater context then more
-    → IsLater context next (entry ∷ more)
-later_more context next then entry more fresh later = record {
-  fresh = λ n lt.
-      let lt' : n < then = omega (arith, fresh.newer) in
-      omega (arith, count_got-append n (entry ∷ []) more, count_got-append n [] (entry ∷ []), fresh.above n lt, later.fresh n lt', ap (λ (l : List ℕ). count_of n l) (append-nil (opened_by entry)));
-}

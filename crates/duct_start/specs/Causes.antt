@@ -51,15 +51,16 @@ MayFailWith added Memory = Unit {0}
 -- the error has a cause: a system's fault is an allocation failure or that of the last entry that
 -- is not a close; a hook's error comes from the next command; the only other error is an allocation
 -- failure
-abbrev pub HasCause : {E H : Type 0} → Allows H → Refuses H → (E → ℕ) → Plan E H → List EntryView
-    → Error → Type 0
-HasCause allows refuses number_of plan added (System fault) = MayFailWith added (System fault)
-HasCause allows refuses number_of plan added (Hook fault) =
+abbrev pub IsCausedOrMemory : {E H : Type 0} → Allows H → Refuses H → (E → ℕ) → Plan E H
+    → List EntryView → Error → Type 0
+IsCausedOrMemory allows refuses number_of plan added (System fault) =
+    MayFailWith added (System fault)
+IsCausedOrMemory allows refuses number_of plan added (Hook fault) =
     StoppedNext allows refuses number_of plan added (Hook fault)
-HasCause allows refuses number_of plan added (HookEnd place) =
+IsCausedOrMemory allows refuses number_of plan added (HookEnd place) =
     StoppedNext allows refuses number_of plan added (HookEnd place)
-HasCause allows refuses number_of plan added Memory = Unit {0}
-HasCause allows refuses number_of plan added other = ⊥
+IsCausedOrMemory allows refuses number_of plan added Memory = Unit {0}
+IsCausedOrMemory allows refuses number_of plan added other = ⊥
 
 -- if the last entry that is not a close has a fault, the error is that fault and no other
 abbrev pub ReturnsLastFault : List EntryView → Error → Type 0

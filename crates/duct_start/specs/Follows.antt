@@ -43,8 +43,8 @@ pub record IsAskedAt {E H : Type 0} (entries : List EntryView) (number_of : E �
 
 -- a relation between the streams that a spawn is given, by number, and the origins that they should
 -- have
-abbrev pub Gives : Type 1
-Gives = List (Stdio ℕ) → List (Stdio Origin) → Type 0
+abbrev pub StreamsRelation : Type 1
+StreamsRelation = List (Stdio ℕ) → List (Stdio Origin) → Type 0
 
 -- the spawn at this place is given what the hooks of the command make of the spec and the streams
 -- that the tree gives it, and `gives` holds for its streams
@@ -64,8 +64,8 @@ IsSpawnedAt allows number_of entries place found words spec streams =
 
 -- an entry of the trace matches the item at its place; a worker and the reader get an end of their
 -- own pipe
-abbrev pub AnswersBy : {E H : Type 0} → Gives → Allows H → (E → ℕ) → List EntryView → ℕ → Item E H
-    → EntryView → Type 0
+abbrev pub AnswersBy : {E H : Type 0} → StreamsRelation → Allows H → (E → ℕ) → List EntryView → ℕ
+    → Item E H → EntryView → Type 0
 AnswersBy gives allows number_of added place AskEnvironment (Environment answer) = Unit {0}
 AnswersBy gives allows number_of added place AskPipe (Pipe answer) = Unit {0}
 AnswersBy gives allows number_of added place (AskOpenRead path) (OpenRead opened answer) =
@@ -85,8 +85,8 @@ AnswersBy gives allows number_of added place item entry = ⊥
 
 -- the entries from this place on match the items from there on, one by one; there may be fewer
 -- entries than items
-abbrev pub AnswersFromBy : {E H : Type 0} → Gives → Allows H → (E → ℕ) → List EntryView → ℕ
-    → List (Item E H) → List EntryView → Type 0
+abbrev pub AnswersFromBy : {E H : Type 0} → StreamsRelation → Allows H → (E → ℕ) → List EntryView
+    → ℕ → List (Item E H) → List EntryView → Type 0
 AnswersFromBy gives allows number_of added place items [] = Unit {0}
 AnswersFromBy gives allows number_of added place [] (entry ∷ entries) = ⊥
 AnswersFromBy gives allows number_of added place (item ∷ items) (entry ∷ entries) =
@@ -94,7 +94,7 @@ AnswersFromBy gives allows number_of added place (item ∷ items) (entry ∷ ent
     × AnswersFromBy gives allows number_of added (place + 1) items entries
 
 -- the streams have exactly these origins
-abbrev pub GivesExactly : List EntryView → Gives
+abbrev pub GivesExactly : List EntryView → StreamsRelation
 GivesExactly added io wanted = map (stream_of (origin added)) io ≡ wanted
 
 -- an entry matches the item at its place, and its streams have exactly the origins that they should

@@ -6,35 +6,35 @@ use Rattle.duct_system.specs.declared.spec.Stream.{Stream}
 use Rattle.duct_system.specs.declared.spec.Stream.TheVariants.{In, Out, Err}
 use Rattle.duct_start.specs.Surroundings.{Surroundings, Target, Parents, VariableChange}
 use Rattle.duct_start.specs.Path.{Path, segment_place, step_of}
-use Rattle.duct_start.specs.Step.{Turn, Decides, Follows}
+use Rattle.duct_start.specs.Step.{Turn, Decides, DefersTo}
 
 -- where a stream goes, by the turn of a node and by where the streams go further out
 abbrev pub resolved_turn : {E : Type 0} → Turn E → (Stream → Target E) → Target E
 resolved_turn (Decides target) outer = target
-resolved_turn (Follows stream) outer = outer stream
+resolved_turn (DefersTo stream) outer = outer stream
 
 -- where a stream goes: the nearest node that decides the stream says where; a node that lets it
 -- follow another stream only changes which stream is looked up further out
 abbrev pub stream_goes : {E H : Type 0} → Path E H → Stream → Target E
 stream_goes [] stream = Parents stream
-stream_goes (crumb ∷ up) stream =
-    resolved_turn ((step_of crumb).turn (segment_place crumb) stream)
+stream_goes (segment ∷ up) stream =
+    resolved_turn ((step_of segment).turn (segment_place segment) stream)
     (λ outer. stream_goes up outer)
 
 -- the folder of the nearest node that sets one
 abbrev pub folder_on : {E H : Type 0} → Path E H → Option (List ℕ)
 folder_on [] = None
-folder_on (crumb ∷ up) = option_or (step_of crumb).folder (folder_on up)
+folder_on (segment ∷ up) = option_or (step_of segment).folder (folder_on up)
 
 -- the changes of variables, the nearest first
 abbrev pub changes_on : {E H : Type 0} → Path E H → List VariableChange
 changes_on [] = []
-changes_on (crumb ∷ up) = (step_of crumb).changes ++ changes_on up
+changes_on (segment ∷ up) = (step_of segment).changes ++ changes_on up
 
 -- the hooks, the outermost first, each with its ends
 abbrev pub hooks_on : {E H : Type 0} → Path E H → List (H × List E)
 hooks_on [] = []
-hooks_on (crumb ∷ up) = hooks_on up ++ (step_of crumb).hooks
+hooks_on (segment ∷ up) = hooks_on up ++ (step_of segment).hooks
 
 -- the surroundings of a command on this path
 abbrev pub surroundings_on : {E H : Type 0} → Path E H → Surroundings E H

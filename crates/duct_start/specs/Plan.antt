@@ -6,7 +6,6 @@ use Rattle.duct_system.specs.declared.system.Side.{Side}
 use Rattle.duct_status.specs.PerSide.{at_side, with_side}
 use Rattle.duct_status.specs.declared.per_side.PerSide.{PerSide}
 use Rattle.duct_start.specs.Surroundings.{Surroundings}
-use Rattle.duct_start.specs.ResourcesView.{no_pipes}
 use Rattle.duct_start.specs.Lookup.{surroundings_on}
 use Rattle.duct_start.specs.Path.{Path, left_of, right_of, within}
 use Rattle.duct_start.specs.Step.{Item, AskEnvironment, AskPipe, AskCanonicalize, AskSpawn, AskDrain, AskReader, Opening, OpensNothing, Opens, Captures, step}
@@ -16,6 +15,10 @@ use Rattle.duct_start.specs.TreeView.{TreeView, command, pipe, around, stdout_ca
 pub record Plan (E H : Type 0) : Type 0 where
   pub items : List (Item E H)
   pub pipes : PerSide (Option ℕ)
+
+-- the place of the capture pipe of this side, if it is open
+abbrev pub capture_place : {E H : Type 0} → Side → Plan E H → Option ℕ
+capture_place which plan = at_side plan.pipes which
 
 -- a plan with one more item at its end
 abbrev pub with_item : {E H : Type 0} → Item E H → Plan E H → Plan E H
@@ -70,6 +73,10 @@ plan_of_subtree up (around modifier inner) plan =
     let place = place_for (step modifier).opening plan in
     with_closing ((step modifier).closing place)
     (plan_of_subtree (within place modifier ∷ up) inner (with_opening (step modifier).opening plan))
+
+-- no capture pipe is open
+abbrev pub no_pipes : {A : Type 0} → PerSide (Option A)
+no_pipes = record { out = None; err = None }
 
 -- the plan before its tree: the environment is requested first
 abbrev pub initial_plan : {E H : Type 0} → Plan E H

@@ -1,10 +1,10 @@
 -- What contracts see of a running start, and which children and workers of the journal it holds.
-use Rattle.std.specs.Prelude.{Bool, List, ◌++◌, ◌≡◌, map, is_some, All}
+use Rattle.std.specs.Prelude.{Bool, List, ◌++◌, ◌≡◌, map, is_some, All, ℕ, [], ◌∷◌}
 use Rattle.std.specs.Option.{option_to_list}
 use Rattle.std.specs.declared.option.Option.{Option}
 use Rattle.duct_system.specs.Child.{ChildView, IsUnasked}
 use Rattle.duct_system.specs.Job.{JobView, unpolled_job}
-use Rattle.duct_system.specs.EntryView.{EntryView}
+use Rattle.duct_system.specs.EntryView.{EntryView, Reader}
 use Rattle.duct_status.specs.ShapeView.{shape_view}
 use Rattle.duct_system.specs.Started.{children_in, feeds_in, drains_in}
 use Rattle.duct_status.specs.declared.status.Shape.{Shape}
@@ -35,3 +35,9 @@ pub record IsRunning {E H C F D V W : Type 0} (child : C → ChildView) (feed : 
       ≡ map (λ number. unpolled_job number) (drains_in added)
   pub output_is : is_some running.output ≡ output
   pub error_is : is_some running.error ≡ error
+
+-- the last of these entries made this reader
+abbrev pub MadeReader : {R : Type 0} → (ℕ → R → Type 0) → List EntryView → R → Type 0
+MadeReader may entries reader =
+    (front : List EntryView) × (number : ℕ) × (entries ≡ front ++ Reader number ∷ [])
+    × may number reader

@@ -6,7 +6,7 @@ use Rattle.duct_system.specs.Ledger.{IsBalanced, count_of, opened_numbers, open_
 use Rattle.duct_system.specs.EntryView.{EntryView}
 use Rattle.duct_system.specs.Trace.{IsClean, StopsAtFault, segment, trace}
 use Rattle.duct_system.specs.declared.error.Error.{Error}
-use Rattle.duct_start.specs.Causes.{HasCause, MayFailWith, ReturnsLastFault}
+use Rattle.duct_start.specs.Causes.{IsCausedOrMemory, MayFailWith, ReturnsLastFault}
 use Rattle.duct_start.specs.Chain.{Allows, Refuses}
 use Rattle.duct_start.specs.Follows.{AsksPlan, Follows, FollowsWhole}
 use Rattle.duct_start.specs.Kinds.{entry_kind, item_kind}
@@ -47,15 +47,6 @@ ends_in (around modifier inner) = modifier_ends modifier ++ ends_in inner
 -- that it gives
 abbrev pub AreEarlier : {E H : Type 0} → (E → ℕ) → JournalView → TreeView E H → Type 0
 AreEarlier number_of old tree = All (λ end. number_of end < old.next) (ends_in tree)
-
--- the least number above the numbers of some ends
-abbrev pub least_above : {E : Type 0} → (E → ℕ) → List E → ℕ
-least_above number_of [] = 0
-least_above number_of (end ∷ ends) = max (number_of end + 1) (least_above number_of ends)
-
--- the least number above the numbers of all caller's ends that a tree holds
-abbrev pub ceiling : {E H : Type 0} → (E → ℕ) → TreeView E H → ℕ
-ceiling number_of tree = least_above number_of (ends_in tree)
 
 -- what a node adds to the depth of a tree by what it opens: 1 for an input or a path
 abbrev pub opens_depth : RowOpening → ℕ
@@ -128,7 +119,7 @@ pub record StartRefused {E H : Type 0} (allows : Allows H) (refuses : Refuses H)
   pub asks : AsksPlan allows number_of plan (segment old.entries new.entries)
   pub follows : AreEarlier number_of old tree
       → Follows allows number_of plan (segment old.entries new.entries)
-  pub cause : HasCause allows refuses number_of plan (segment old.entries new.entries) error
+  pub cause : IsCausedOrMemory allows refuses number_of plan (segment old.entries new.entries) error
   pub last_fault : ReturnsLastFault (segment old.entries new.entries) error
   pub balanced : IsBalanced (segment old.entries new.entries)
   pub got_new : GotNew old (segment old.entries new.entries)

@@ -35,7 +35,7 @@ pub data Opening (E H : Type 0) : Type 0 where
 -- further out
 pub data Turn (E : Type 0) : Type 0 where
   Decides : Target E → Turn E
-  Follows : Stream → Turn E
+  DefersTo : Stream → Turn E
 
 -- what a node does; its place is that of the item that it adds or, for a capture, that of its
 -- stream's one capture pipe
@@ -50,21 +50,21 @@ pub record NodeStep (E H : Type 0) : Type 0 where
 -- the turns of a node that redirects stdin and leaves the other streams as they are
 abbrev pub at_stdin : {E : Type 0} → Turn E → Stream → Turn E
 at_stdin turn In = turn
-at_stdin turn Out = Follows Out
-at_stdin turn Err = Follows Err
+at_stdin turn Out = DefersTo Out
+at_stdin turn Err = DefersTo Err
 
 -- the same for stdout
 abbrev pub at_stdout : {E : Type 0} → Turn E → Stream → Turn E
-at_stdout turn In = Follows In
+at_stdout turn In = DefersTo In
 at_stdout turn Out = turn
-at_stdout turn Err = Follows Err
+at_stdout turn Err = DefersTo Err
 
 -- a node that does nothing
 abbrev pub idle_step : {E H : Type 0} → NodeStep E H
 idle_step = record {
   opening = OpensNothing;
   closing = λ place. [];
-  turn = λ place stream. Follows stream;
+  turn = λ place stream. DefersTo stream;
   folder = None;
   changes = [];
   hooks = [];
@@ -108,7 +108,7 @@ stream_on side.Err = Err
 
 -- what a node does to a stream that has this route, where K names streams in this way
 abbrev pub turn_of : {K E : Type 0} → (K → Stream) → RowOpening → ℕ → Route K E → Turn E
-turn_of outer opens place (as_outside stream) = Follows (outer stream)
+turn_of outer opens place (as_outside stream) = DefersTo (outer stream)
 turn_of outer opens place to_nothing = Decides Nothing
 turn_of outer opens place (to_lent end) = Decides (Lends end)
 turn_of outer opens place to_opened = Decides (opened_target opens place)

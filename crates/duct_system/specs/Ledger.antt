@@ -13,21 +13,21 @@ opened_by (Parent side (Ok number)) = number ∷ []
 opened_by _ = []
 
 -- the numbers of the ends that an entry's request took, whatever its result is
-abbrev pub closed_by : EntryView → List ℕ
-closed_by (Spawn spec io answer) = ends_of io
-closed_by (Feed number bytes answer) = number ∷ []
-closed_by (Drain number answer) = number ∷ []
-closed_by (Reader number) = number ∷ []
-closed_by (Close number) = number ∷ []
-closed_by _ = []
+abbrev pub spent_by : EntryView → List ℕ
+spent_by (Spawn spec io answer) = ends_of io
+spent_by (Feed number bytes answer) = number ∷ []
+spent_by (Drain number answer) = number ∷ []
+spent_by (Reader number) = number ∷ []
+spent_by (Close number) = number ∷ []
+spent_by _ = []
 
 -- all numbers got, in order
 abbrev pub opened_numbers : List EntryView → List ℕ
 opened_numbers entries = flat_map opened_by entries
 
 -- all numbers spent, in order
-abbrev pub closed_numbers : List EntryView → List ℕ
-closed_numbers entries = flat_map closed_by entries
+abbrev pub spent_numbers : List EntryView → List ℕ
+spent_numbers entries = flat_map spent_by entries
 
 -- how often a number occurs in a list
 abbrev pub count_of : ℕ → List ℕ → ℕ
@@ -37,9 +37,9 @@ count_of number numbers = count_by (λ other. other == number) numbers
 abbrev pub IsBalanced : List EntryView → Type 0
 IsBalanced entries =
     (number : ℕ)
-    → (count_of number (closed_numbers entries) ≡ count_of number (opened_numbers entries))
+    → (count_of number (spent_numbers entries) ≡ count_of number (opened_numbers entries))
     × (count_of number (opened_numbers entries) ≤ 1)
 
 -- how many ends were got and are not yet spent
 abbrev pub open_count : List EntryView → ℕ
-open_count entries = length (opened_numbers entries) - length (closed_numbers entries)
+open_count entries = length (opened_numbers entries) - length (spent_numbers entries)

@@ -7,10 +7,10 @@ use Rattle.duct_system.specs.declared.spec.Stream.{Stream}
 use Rattle.duct_system.specs.declared.spec.Stream.TheVariants.{In, Out, Err}
 use Rattle.duct_system.specs.declared.system.Side.{Side}
 use Rattle.duct_status.specs.ShapeView.{ShapeView, command_count, input_count}
-use Rattle.duct_start.specs.Actions as action
-use Rattle.duct_start.specs.Actions.{ActionOf, PerStream, captures_in, is_capture}
-use Rattle.duct_start.specs.ActionList.{list_of, list_of_subtree, next_index, scope_index}
-use Rattle.duct_start.specs.Flat.{StreamSource, parents, nothing, slot, captured, lent, command_actions, depth_inside, ports_at, root_sources, source_actions, sources_inside, actions_around, with_input, with_output}
+use Rattle.duct_run.specs.Actions as action
+use Rattle.duct_run.specs.Actions.{ActionOf, PerStream, captures_in, is_capture}
+use Rattle.duct_run.specs.ActionList.{list_of, list_of_subtree, next_index, scope_index}
+use Rattle.duct_run.specs.Flat.{StreamSource, parents, nothing, slot, captured, lent, command_actions, depth_inside, ports_at, root_sources, source_actions, sources_inside, actions_around, with_input, with_output}
 use Rattle.duct_start.specs.Row.{RowOpening, opens_nothing, opens_input, opens_read, opens_create, opens_capture, row}
 use Rattle.duct_start.specs.ShapeOfTree.{shape_around, shape_of_tree}
 use Rattle.duct_start.specs.TreeView.{ModifierView, TreeView, command, pipe, around, stdin_bytes, unchecked}

@@ -2,9 +2,9 @@
 use Rattle.std.proofs.Common.{◌≡◌, ℕ, ◌+◌, List, [], ◌∷◌, ◌++◌, length, refl, ap, subst, ◌∙◌, append_assoc, arith, length-append}
 use Rattle.std.specs.Prelude.{Some, None}
 use Rattle.std.specs.declared.option.Option.{Option}
-use Rattle.duct_start.specs.Actions.{ActionOf}
-use Rattle.duct_start.specs.Flat.{depth_inside, sources_inside, actions_around}
-use Rattle.duct_start.specs.ActionList.{ActionListView, ScopeEntry, list_of_subtree, next_index, scope_index, with_scope_entry}
+use Rattle.duct_run.specs.Actions.{ActionOf}
+use Rattle.duct_run.specs.Flat.{depth_inside, sources_inside, actions_around}
+use Rattle.duct_run.specs.ActionList.{ActionListView, ScopeEntry, list_of_subtree, next_index, scope_index, with_scope_entry}
 use Rattle.duct_start.specs.Row.{RowOpening, Row, SettingView, opens_nothing, opens_input, opens_read, opens_create, opens_capture, row}
 use Rattle.duct_start.specs.TreeView.{ModifierView, TreeView, around}
 use Rattle.duct_tree.specs.NodeContextView.{sources_view}

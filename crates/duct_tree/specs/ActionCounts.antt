@@ -1,6 +1,6 @@
 -- What is counted of the actions of a start before they run.
 use Rattle.std.specs.Prelude.{ℕ, Bool, true, false, List, count_by}
-use Rattle.duct_start.specs.Actions.{ActionOf, open_read, create, pipe, input, capture, duplicate, duplicate_capture, duplicate_caller_end, parent, close, spawn, feed, finish}
+use Rattle.duct_run.specs.Actions.{ActionOf, open_read, create, pipe, input, capture, duplicate, duplicate_capture, duplicate_caller_end, parent, close, spawn, feed, finish}
 
 -- the action starts a command
 abbrev pub is_spawn : {E K : Type 0} → ActionOf E K → Bool

@@ -1,9 +1,9 @@
 -- The list that the first pass of a start makes, as contracts see it, and how it grows.
 use Rattle.std.specs.Prelude.{ℕ, ◌+◌, List, [], ◌∷◌, ◌++◌, length, Some, None}
 use Rattle.std.specs.declared.option.Option.{Option}
-use Rattle.duct_start.specs.Actions as action
-use Rattle.duct_start.specs.Actions.{ActionOf}
-use Rattle.duct_start.specs.ActionList.{ActionListView, ScopeEntry, list_of_subtree}
+use Rattle.duct_run.specs.Actions as action
+use Rattle.duct_run.specs.Actions.{ActionOf}
+use Rattle.duct_run.specs.ActionList.{ActionListView, ScopeEntry, list_of_subtree}
 use Rattle.duct_start.specs.Row.{RowOpening, SettingView, opens_nothing, opens_input, opens_read, opens_create, opens_capture, row}
 use Rattle.duct_start.specs.TreeView.{ModifierView, TreeView}
 use Rattle.duct_run.specs.ActionView.{actions_view}

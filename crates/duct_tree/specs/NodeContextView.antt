@@ -1,6 +1,6 @@
 -- The context of a node, as contracts see it.
-use Rattle.duct_start.specs.Actions.{PerStream}
-use Rattle.duct_start.specs.Flat as flat
+use Rattle.duct_run.specs.Actions.{PerStream}
+use Rattle.duct_run.specs.Flat as flat
 use Rattle.duct_tree.specs.declared.compile.context.StreamSource.{StreamSource}
 use Rattle.duct_tree.specs.declared.compile.context.StreamSource.TheVariants.{Parents, Nothing, Slot, Captured, Lent}
 use Rattle.duct_tree.specs.declared.compile.context.NodeContext.{NodeContext}

@@ -29,19 +29,19 @@ Writes old new bytes None = Appends old new bytes
 Writes old new bytes (Some kind) = AppendsFront old new bytes × (kind ≢ error.Interrupted)
 
 -- the fault of what stopped a writer or a reader
-abbrev pub fault_of : ErrorKind → Fault
-fault_of kind = record { kind = kind_of kind }
+abbrev pub stop_fault : ErrorKind → Fault
+stop_fault kind = record { kind = kind_of kind }
 
 -- what a feed returns at what stopped its writer: a broken pipe is no fault
 abbrev pub fed : Option ErrorKind → Result (Unit {0}) Fault
 fed None = Ok tt
 fed (Some error.BrokenPipe) = Ok tt
-fed (Some kind) = Err (fault_of kind)
+fed (Some kind) = Err (stop_fault kind)
 
 -- the fault of a drain is that of what stopped its reader; if nothing did, the list couldn't grow
 abbrev pub IsDrainFault : Option ErrorKind → Fault → Type 0
 IsDrainFault None fault = fault.kind ≡ OutOfMemory
-IsDrainFault (Some kind) fault = fault ≡ fault_of kind
+IsDrainFault (Some kind) fault = fault ≡ stop_fault kind
 
 -- what a reader has left, where that is known, lost a prefix, which may be empty
 abbrev pub ConsumesFront : Option (List ℕ) → Option (List ℕ) → Type 0

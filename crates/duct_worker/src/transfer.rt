@@ -5,7 +5,7 @@ ghost use Rattle.std.specs.Io.KnownBytes.{Appends, Consumes, IsAtEnd, Keeps};
 ghost use Rattle.std.specs.declared.option.Option.{Option};
 ghost use Rattle.std.specs.IoError.{error_kind};
 ghost use Rattle.duct_system.specs.declared.system.Kind.TheVariants.{OutOfMemory};
-ghost use Rattle.duct_worker.specs.Transfer.{ConsumesFront, IsDrainFault, Writes, fault_of, fed, stop_of};
+ghost use Rattle.duct_worker.specs.Transfer.{ConsumesFront, IsDrainFault, Writes, stop_fault, fed, stop_of};
 
 use crate::watched::Watched;
 use duct_system::system::{Fault, Kind};
@@ -85,7 +85,7 @@ pub fn feed_watched<W: Write>(writer: &mut Watched<'_, W>, bytes: &[u8]) -> Resu
     write_whole(writer, bytes);
     match writer.stopped() {
         None | Some(ErrorKind::BrokenPipe) => Ok(()),
-        Some(kind) => Err(fault_of(kind)),
+        Some(kind) => Err(stop_fault(kind)),
     }
 }
 
@@ -106,8 +106,8 @@ pub fn feed<W: Write>(writer: &mut W, bytes: &[u8]) -> Result<(), Fault>
 }
 
 /// Returns the fault of the error kind that stopped a writer or a reader.
-fn fault_of(kind: ErrorKind) -> Fault
-    ensures { result ≡ fault_of kind }
+fn stop_fault(kind: ErrorKind) -> Fault
+    ensures { result ≡ stop_fault kind }
 {
     Fault::from(io::Error::from(kind))
 }

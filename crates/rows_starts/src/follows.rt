@@ -12,7 +12,7 @@
 //! - `cause`: whether the error has a cause in the journal. `last`: whether it is the last fault
 //!   there, or there is none.
 use duct::{Entry, Error};
-use duct_follows::causes::{answers_last_fault, has_cause};
+use duct_follows::causes::{answers_last_fault, is_caused_or_memory};
 use duct_follows::follows::{asks_plan, follows, follows_whole};
 use duct_follows::stops::{is_clean, stops_at_fault};
 use duct_follows::untold::Untold;
@@ -67,7 +67,9 @@ impl<'t> Follows<'t> {
         let told = match key {
             "follows" => followed(alloc, &plan, entries),
             "requests" => requested(alloc, &plan, entries),
-            "cause" => has_cause(alloc, &plan, entries, &error(self.error)?).map(yes_or_no),
+            "cause" => is_caused_or_memory(alloc, &plan, entries, &error(self.error)?).map(
+                yes_or_no,
+            ),
             "last" => Ok(yes_or_no(answers_last_fault(entries, &error(self.error)?))),
             _ => return Err(TableError::Text("no such key")),
         };

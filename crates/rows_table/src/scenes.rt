@@ -3,7 +3,7 @@ use crate::stop::TableError;
 use crate::words::{fault, first_word, pairs};
 use crate::workers::{set_drains, set_feeds, set_reader};
 use duct::{ExitStatus, Fault, Pool};
-use duct_base::pool::{place_new, pool_take, seat_new};
+use duct_base::pool::{place_new, pool_take, reservation_new};
 use duct_script::answers::Answers;
 use duct_script::calls::CallLog;
 use duct_script::child::{ChildScript, PollAnswer, ScriptChild};
@@ -199,7 +199,7 @@ fn keep_children(alloc: Global, bench: &mut Bench, children: &str) -> Result<(),
         number = number.saturating_add(1);
         let calls = Arc::try_clone(&bench.calls)?;
         let child = ScriptChild::new(alloc, number, child_script(alloc, answers)?, Some(calls));
-        pool_take(&mut bench.pool, place_new(child, seat_new(alloc)?));
+        pool_take(&mut bench.pool, place_new(child, reservation_new(alloc)?));
     }
     Ok(())
 }

@@ -2,7 +2,7 @@
 use crate::scenes::{Bench, FIRST};
 use crate::streams::push_origin;
 use duct::{CommandSpec, Entry, Error, Pool, Stdio, System};
-use duct_plan::checker::{closed_numbers, fault_of, opened_numbers, origin, trace};
+use duct_plan::checker::{fault_of, opened_numbers, origin, spent_numbers, trace};
 use duct_script::calls::{Call, CallLog};
 use duct_script::requests::Sort;
 use std::alloc::{AllocError, Global};
@@ -145,7 +145,7 @@ pub fn most_held(alloc: Global, entries: &[Entry]) -> Result<usize, AllocError> 
     let (mut most, mut held) = (0_usize, 0_usize);
     for entry in entries {
         let entry = slice::from_ref(entry);
-        let spent = closed_numbers(alloc, entry)?.len();
+        let spent = spent_numbers(alloc, entry)?.len();
         held = held.saturating_add(opened_numbers(alloc, entry)?.len());
         held = held.saturating_sub(spent);
         most = most.max(held);

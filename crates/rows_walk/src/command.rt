@@ -5,7 +5,7 @@ use crate::made::Made;
 use crate::requests::spawn;
 use duct_base::error::Error;
 use duct_base::exe::asks_canonical;
-use duct_base::pool::{Pool, Seat, place_new, seat_new};
+use duct_base::pool::{Pool, Reservation, place_new, reservation_new};
 use duct_base::spec::{CommandSpec, Port, Stream, spec_of};
 use duct_base::system::{Side, System};
 use duct_script::child::ScriptChild;
@@ -24,9 +24,9 @@ pub(crate) fn command(
 ) -> Result<(), Error> {
     pool.sweep();
     match ready(words, &mut context, sys, made) {
-        Ok((seat, spec)) => {
+        Ok((reservation, spec)) => {
             let child = spawn(sys, spec, context)?;
-            made.children.push(place_new(child, seat))?; // there is room for it
+            made.children.push(place_new(child, reservation))?; // there is room for it
             Ok(())
         }
         Err(error) => {
@@ -43,10 +43,10 @@ fn ready(
     context: &mut Context<'_>,
     sys: &mut Script,
     made: &mut Made,
-) -> Result<(Seat<ScriptChild>, CommandSpec), Error> {
+) -> Result<(Reservation<ScriptChild>, CommandSpec), Error> {
     let alloc = *context.hooks.allocator();
     made.children.reserve(1)?;
-    let seat = seat_new(alloc)?;
+    let reservation = reservation_new(alloc)?;
     let words = named(alloc, words, context.folder, sys)?;
     find(&mut context.output, Stream::Out, sys)?;
     find(&mut context.error, Stream::Err, sys)?;
@@ -55,7 +55,7 @@ fn ready(
     for (hook, ends) in hooks.iter() {
         change(hook, ends, sys, &mut spec, context)?;
     }
-    Ok((seat, spec))
+    Ok((reservation, spec))
 }
 
 // Returns the words of a command, with the canonical path of its program if that must be requested.

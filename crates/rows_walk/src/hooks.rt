@@ -21,7 +21,7 @@ pub(crate) fn change(
         is_there(spec.port(stream), ends)?;
     }
     for stream in [Stream::In, Stream::Out, Stream::Err] {
-        settle(stream, ends, sys, spec, context)?;
+        redirect(stream, ends, sys, spec, context)?;
     }
     Ok(())
 }
@@ -35,7 +35,7 @@ fn is_there(port: Port, ends: &[ScriptEnd]) -> Result<(), Error> {
 }
 
 // Sends a stream where the spec says.
-fn settle(
+fn redirect(
     stream: Stream,
     ends: &[ScriptEnd],
     sys: &mut Script,

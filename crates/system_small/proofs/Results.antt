@@ -36,7 +36,7 @@ use Rattle.duct_status.specs.ReplyView.{ReplyView, answered, failed, faulted, no
 use Rattle.duct_status.specs.ShapeView.{ShapeView, command, pipe, unchecked}
 use Rattle.duct_status.specs.Winner.{IsWinner, LeftBeats}
 use Rattle.duct_running.specs.Allowed.{AnswersAllowed, WorkerResultAllowed}
-use Rattle.duct_running.specs.Answered.{Concluded, IsEnding, WasConcluded}
+use Rattle.duct_running.specs.Answered.{Concluded, IsConcludedPoll, WasConcluded}
 use Rattle.duct_running.specs.NumbersView.{NumbersView}
 use Rattle.duct_running.specs.Polled.{Gives, WhileRuns}
 use Rattle.duct_running.specs.Stored.{Bytes, stored_latest}
@@ -304,7 +304,7 @@ gives_failure no_memory text gives = absurd (cc)
 -- what a wait promises over the small system
 abbrev pub Waits : ShapeView → NumbersView → Result (Arc Output Global) Error → Type 0
 Waits shape numbers result =
-    IsEnding MayAnswer MayFeed MayDrain shape numbers (at_end result)
+    IsConcludedPoll MayAnswer MayFeed MayDrain shape numbers (at_end result)
     ⊎ (at_end result ≡ Err (error.System (record { kind = Other })))
 
 -- the output was concluded

@@ -1,7 +1,7 @@
 //! The list that the first pass of a start makes.
 ghost use Rattle.std.specs.Prelude.{◌≡◌, ◌+◌, ◌++◌, ◌||◌, [], ◌∷◌, length, IfOk, OnOk, IsOkUnless};
 ghost use Rattle.duct_system.specs.declared.system.Side.TheVariants as side;
-ghost use Rattle.duct_start.specs.Actions.{captures_in, is_capture};
+ghost use Rattle.duct_run.specs.Actions.{captures_in, is_capture};
 ghost use Rattle.duct_run.specs.ActionView.{action_view, actions_view};
 ghost use Rattle.duct_run.specs.ScopeView.{scopes_view, setting_view};
 ghost use Rattle.duct_tree.specs.ActionCounts.{feed_count, spawn_count};

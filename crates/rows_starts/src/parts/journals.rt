@@ -2,7 +2,7 @@
 use crate::parts::Parts;
 use duct::{CommandSpec, Entry, Error, Hook, Stream};
 use duct_base::spec::give;
-use duct_plan::checker::{closed_numbers, is_balanced, open_count, opened_numbers, origin, trace};
+use duct_plan::checker::{is_balanced, open_count, opened_numbers, origin, spent_numbers, trace};
 use duct_script::text::Words;
 use rows_table::entries::spec_text;
 use rows_table::hooks::hook;
@@ -24,7 +24,7 @@ pub fn checked(row: &Parts, call: &str, end: &str) -> Result<String, TableError>
             text,
             "got {:?} spent {:?} balanced {} held {} trace {}",
             opened_numbers(alloc, entries)?,
-            closed_numbers(alloc, entries)?,
+            spent_numbers(alloc, entries)?,
             is_balanced(alloc, entries)?,
             open_count(alloc, entries)?,
             trace(alloc, entries)?.len(),

@@ -6,7 +6,7 @@ use Rattle.std.proofs.Common.{ap, inl, inr, refl, subst, ◌∙◌}
 use Rattle.duct_system.specs.declared.error.Error.{Error}
 use Rattle.duct_system.specs.declared.system.Output.{Output}
 use Rattle.duct_run.proofs.Seeing.{views_of}
-use Rattle.duct_running.specs.Answered.{EndsAs}
+use Rattle.duct_running.specs.Answered.{ReturnsConclusion}
 use Rattle.duct_running.specs.Polled.{Polled}
 use Rattle.duct_running.specs.PolledOnce.{PolledOnce}
 use Rattle.duct_deadline.specs.Moment.{HasNotEnded}
@@ -53,7 +53,7 @@ returns-then-is_over-clause-runs g c =
     let now : HasNotEnded views c.polled.new.running =
     elim c.match-polled.branch [
       | in-Ok-None w ↦ inl (c.polled.ensures.runs (w.in-Ok-None.is ∙ ap (λ (f : Option (Arc Output Global)). Ok f) w.in-Ok-None.field-0-is))
-      | in-Err-System w ↦ inr (w.in-Err-System.field-0-0, subst (λ (p : Polled). EndsAs views c.polled.new.running p) (w.in-Err-System.is ∙ ap (λ (e : Error). Err e) w.in-Err-System.field-0-is) c.polled.ensures.ending)
+      | in-Err-System w ↦ inr (w.in-Err-System.field-0-0, subst (λ (p : Polled). ReturnsConclusion views c.polled.new.running p) (w.in-Err-System.is ∙ ap (λ (e : Error). Err e) w.in-Err-System.field-0-is) c.polled.ensures.ending)
     ] in
     still_running views c.args.running.now c.polled.new.running kept now
 

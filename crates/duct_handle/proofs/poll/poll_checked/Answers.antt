@@ -5,7 +5,7 @@ use Rattle.duct_system.specs.declared.error.Error.TheVariants as error
 use Rattle.duct_status.specs.ShapeView.{shape_view}
 use Rattle.duct_run.proofs.Seeing.{views_of}
 use Rattle.duct_running.specs.Allowed.{OneRuns}
-use Rattle.duct_running.specs.Answered.{IsEnding}
+use Rattle.duct_running.specs.Answered.{IsConcludedPoll}
 use Rattle.duct_running.specs.NumbersView.{numbers_of, numbers_view}
 use Rattle.duct_handle.proofs.Polling.{failure_concluded, output_concluded}
 use Rattle.duct_handle.proofs.poll.poll_checked.Goals as goal
@@ -30,8 +30,8 @@ returns-in-Ok-None-clause-waits g c =
     let after = c.polled-ended.new.running in
     let shapes : shape_view after.shape ≡ shape_view c.args.shape.now = search rules in
     let numbers : numbers_of views after ≡ numbers_view c.args.numbers.now = search rules in
-    let ending : IsEnding may feed drain (shape_view c.args.shape.now) (numbers_view c.args.numbers.now) (Ok None) =
-    subst (λ (X : Type 0). X) (λ i. IsEnding may feed drain (shapes i) (numbers i) ((c.in-Ok-None.is ∙ ap (λ x. Ok x) c.in-Ok-None.field-0-is) i)) c.polled-ended.ensures.ending in
+    let ending : IsConcludedPoll may feed drain (shape_view c.args.shape.now) (numbers_view c.args.numbers.now) (Ok None) =
+    subst (λ (X : Type 0). X) (λ i. IsConcludedPoll may feed drain (shapes i) (numbers i) ((c.in-Ok-None.is ∙ ap (λ x. Ok x) c.in-Ok-None.field-0-is) i)) c.polled-ended.ensures.ending in
     λ is. inl ending
 
 pub returns-in-Ok-Some-clause-answer : goal.returns-in-Ok-Some-clause-answer
@@ -43,8 +43,8 @@ returns-in-Ok-Some-clause-answer g c =
     let after = c.polled-ended.new.running in
     let shapes : shape_view after.shape ≡ shape_view c.args.shape.now = search rules in
     let numbers : numbers_of views after ≡ numbers_view c.args.numbers.now = search rules in
-    let ending : IsEnding may feed drain (shape_view c.args.shape.now) (numbers_view c.args.numbers.now) (Ok (Some c.in-Ok-Some.output)) =
-    subst (λ (X : Type 0). X) (λ i. IsEnding may feed drain (shapes i) (numbers i) ((c.in-Ok-Some.is ∙ ap (λ x. Ok x) c.in-Ok-Some.field-0-is) i)) c.polled-ended.ensures.ending in
+    let ending : IsConcludedPoll may feed drain (shape_view c.args.shape.now) (numbers_view c.args.numbers.now) (Ok (Some c.in-Ok-Some.output)) =
+    subst (λ (X : Type 0). X) (λ i. IsConcludedPoll may feed drain (shapes i) (numbers i) ((c.in-Ok-Some.is ∙ ap (λ x. Ok x) c.in-Ok-Some.field-0-is) i)) c.polled-ended.ensures.ending in
     output_concluded may feed drain (shape_view c.args.shape.now) (numbers_view c.args.numbers.now) c.in-Ok-Some.output ending
 
 pub returns-in-Err-Checked-clause-answer : goal.returns-in-Err-Checked-clause-answer
@@ -56,8 +56,8 @@ returns-in-Err-Checked-clause-answer g c =
     let after = c.polled-ended.new.running in
     let shapes : shape_view after.shape ≡ shape_view c.args.shape.now = search rules in
     let numbers : numbers_of views after ≡ numbers_view c.args.numbers.now = search rules in
-    let ending : IsEnding may feed drain (shape_view c.args.shape.now) (numbers_view c.args.numbers.now) (Err (error.Checked c.in-Err-Checked.text)) =
-    subst (λ (X : Type 0). X) (λ i. IsEnding may feed drain (shapes i) (numbers i) ((c.in-Err-Checked.is ∙ ap (λ x. Err x) c.in-Err-Checked.field-0-is) i)) c.polled-ended.ensures.ending in
+    let ending : IsConcludedPoll may feed drain (shape_view c.args.shape.now) (numbers_view c.args.numbers.now) (Err (error.Checked c.in-Err-Checked.text)) =
+    subst (λ (X : Type 0). X) (λ i. IsConcludedPoll may feed drain (shapes i) (numbers i) ((c.in-Err-Checked.is ∙ ap (λ x. Err x) c.in-Err-Checked.field-0-is) i)) c.polled-ended.ensures.ending in
     failure_concluded may feed drain (shape_view c.args.shape.now) (numbers_view c.args.numbers.now) c.in-Err-Checked.text ending
 
 pub returns-in-Err : goal.returns-in-Err
@@ -69,8 +69,8 @@ returns-in-Err g c =
     let after = c.polled-ended.new.running in
     let shapes : shape_view after.shape ≡ shape_view c.args.shape.now = search rules in
     let numbers : numbers_of views after ≡ numbers_view c.args.numbers.now = search rules in
-    let ending : IsEnding may feed drain (shape_view c.args.shape.now) (numbers_view c.args.numbers.now) (Err c.in-Err.error) =
-    subst (λ (X : Type 0). X) (λ i. IsEnding may feed drain (shapes i) (numbers i) (c.in-Err.is i)) c.polled-ended.ensures.ending in
+    let ending : IsConcludedPoll may feed drain (shape_view c.args.shape.now) (numbers_view c.args.numbers.now) (Err c.in-Err.error) =
+    subst (λ (X : Type 0). X) (λ i. IsConcludedPoll may feed drain (shapes i) (numbers i) (c.in-Err.is i)) c.polled-ended.ensures.ending in
     record {
       polls = c.polled-ended.ensures.polls;
       stays = c.polled-ended.ensures.stays;

@@ -1,6 +1,6 @@
 -- The scope reached so far has the folder of the scope that was passed in.
 use Rattle.std.proofs.Common.{◌≡◌, ◌≤◌, length}
-use Rattle.duct_start.specs.ActionList.{scope_in}
+use Rattle.duct_run.specs.ActionList.{scope_in}
 use Rattle.duct_run.specs.ScopeView.{scopes_view}
 use Rattle.duct_run.proofs.asked.folder_in.Given as goal
 

@@ -2,8 +2,8 @@
 use Rattle.std.proofs.Common.{◌≤◌, ◌∷◌, [], ◌++◌, ◌∙◌, ap, sym, arith, refl}
 use Rattle.std.proofs.lemmas.List.{append-nil}
 use Rattle.std.proofs.lemmas.Result.{err_from_is_err_and, IfErr-weaker, on_ok_weaker}
-use Rattle.duct_start.specs.ActionList.{scope_in}
-use Rattle.duct_start.proofs.Changing.{alters_append, alters_as, alters_none, breaks_as, breaks_first, breaks_more}
+use Rattle.duct_run.specs.ActionList.{scope_in}
+use Rattle.duct_run.proofs.Changing.{alters_append, alters_as, alters_none, breaks_as, breaks_first, breaks_more}
 use Rattle.duct_run.specs.ScopeView.{scopes_view}
 use Rattle.duct_run.specs.StreamsView.{streams_view}
 use Rattle.duct_run.proofs.Outwards.{IsRead, hooks_are, outer_below, outer_within, root_is}

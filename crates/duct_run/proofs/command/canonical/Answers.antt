@@ -3,9 +3,9 @@ use Rattle.std.proofs.Common.{◌≡◌, ap, sym, ◌∙◌, subst, map, string_
 use Rattle.duct_base.specs.Executable.{asks_canonical}
 use Rattle.duct_system.specs.EntryView.{Canonicalize}
 use Rattle.duct_system.specs.Journal.{Asks}
-use Rattle.duct_start.specs.Commands.{asks_canonical_path}
-use Rattle.duct_start.specs.ActionList.{scope_in}
-use Rattle.duct_start.proofs.Commanding.{names_some}
+use Rattle.duct_run.specs.Commands.{asks_canonical_path}
+use Rattle.duct_run.specs.ActionList.{scope_in}
+use Rattle.duct_run.proofs.Commanding.{names_some}
 use Rattle.duct_run.specs.ScopeView.{scopes_view}
 use Rattle.std.specs.Option.{option_copied}
 use Rattle.std.specs.declared.option.Option.{Option}

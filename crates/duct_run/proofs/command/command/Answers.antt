@@ -4,23 +4,22 @@ use Rattle.std.proofs.lemmas.Result.{err_from_is_err_and}
 use Rattle.std.proofs.Common.{◌≡◌, ◌+◌, ◌≤◌, ap, sym, ◌∙◌, subst, arith, rules, length, map, string_bytes, length-append, ◌++◌, ◌∷◌, []}
 use Rattle.duct_system.specs.Child.{IsUnasked}
 use Rattle.duct_system.specs.SpecView.{pair_text}
-use Rattle.duct_start.specs.Actions.{port_end_count}
-use Rattle.duct_start.specs.Commands.{HooksSucceed, HooksFail}
-use Rattle.duct_start.specs.ResourcesView.{ends_of_pipes}
-use Rattle.duct_start.specs.ActionList.{scope_in}
-use Rattle.duct_start.proofs.Commanding.{hooks_refused, spawn_refused, spawned}
+use Rattle.duct_run.specs.Actions.{port_end_count}
+use Rattle.duct_run.specs.Commands.{HooksSucceed, HooksFail}
+use Rattle.duct_run.specs.ResourcesView.{ends_of_pipes, resources_view}
+use Rattle.duct_run.specs.ActionList.{scope_in}
+use Rattle.duct_run.proofs.Commanding.{hooks_refused, spawn_refused, spawned}
 use Rattle.duct_run.specs.ActionView.{ports_view}
-use Rattle.duct_run.specs.ResourcesView.{resources_view}
 use Rattle.duct_run.specs.ScopeView.{scopes_view}
 use Rattle.duct_run.specs.StreamsView.{many_ends, streams_view}
 use Rattle.duct_run.proofs.Made.{made_is_asked}
 use Rattle.duct_run.proofs.Pushed.{all_pushed, hand_fits, length_stack, many_given, many_spent, min_fits, pushed_number}
 use Rattle.duct_run.proofs.command.command.Goals as goal
 
-pub returns-in_err-seat-clause-err : goal.returns-in_err-seat-clause-err
-returns-in_err-seat-clause-err g c =
+pub returns-in_err-reservation-clause-err : goal.returns-in_err-reservation-clause-err
+returns-in_err-reservation-clause-err g c =
     let p = err_from_is_err_and c.from_residual.result c.from_residual.ensures.1 in
-    rw (p.1, p.2) (c.in_err-seat.ensures.err (resources_view g.S.End.Numbered.number_of g.S.Child.Child.child_view g.S.Feed.Job.job_view g.S.Drain.Job.job_view c.args.held.now))
+    rw (p.1, p.2) (c.in_err-reservation.ensures.err (resources_view g.S.End.Numbered.number_of g.S.Child.Child.child_view g.S.Feed.Job.job_view g.S.Drain.Job.job_view c.args.held.now))
 
 pub change_all-requires-clause-room : goal.change_all-requires-clause-room
 change_all-requires-clause-room g c =
@@ -36,7 +35,7 @@ change_all-requires-clause-room g c =
     let items : port_end_count ports.input + (port_end_count ports.output + port_end_count ports.error) ≤ length c.args.held.now.stack.items = search rules in
     let full : port_end_count ports.input + (port_end_count ports.output + port_end_count ports.error) ≤ length h.stack = omega (arith, items, long) in
     let fits = hand_fits num c.take_all-streams.result ports h.stack full c.take_all-streams.ensures.streams in
-    omega (arith, fits, c.requires.room, c.in_ok-seat.ensures.left, length-append h.stack (ends_of_pipes h.pipes))
+    omega (arith, fits, c.requires.room, c.in_ok-reservation.ensures.left, length-append h.stack (ends_of_pipes h.pipes))
 
 pub returns-in-Err-clause-err : goal.returns-in-Err-clause-err
 returns-in-Err-clause-err g c =
@@ -49,8 +48,8 @@ returns-in-Err-clause-err g c =
     let ports = ports_view c.args.ports in
     let start = g.S.System.journal_view c.args.sys.now in
     let one = g.S.System.journal_view c.prepared.new.sys in
-    let asked = c.in_ok-seat.spec in
-    let ready = c.in_ok-seat.ensures.ok in
+    let asked = c.in_ok-reservation.spec in
+    let ready = c.in_ok-reservation.ensures.ok in
     let made = made_is_asked pairs ready.program scope texts ports asked ready.made in
     let breaks = subst (λ s. HooksFail allows g.H.Hook.refuses num scope.hooks one (g.S.System.journal_view c.change_all.new.sys) asked s (streams_view num c.change_all.new.streams) c.in-Err.error) c.take_all-streams.ensures.streams c.in-Err.ensures.err in
     rw (c.put_all.ensures, c.take_all-streams.ensures.left) (hooks_refused allows num scope texts g.H.Hook.refuses pairs ports start h one ready.program ready.names asked made
@@ -65,7 +64,7 @@ spawn-requires g c =
     let full : port_end_count ports.input + (port_end_count ports.output + port_end_count ports.error) ≤ length h.stack = omega (arith, items, length_stack num c.args.held.now.stack.items) in
     let fits = hand_fits num c.take_all-streams.result ports h.stack full c.take_all-streams.ensures.streams in
     let room : many_ends c.change_all.new.streams ≤ (g.S.System.journal_view c.change_all.new.sys).room =
-    omega (arith, fits, c.requires.room, c.in_ok-seat.ensures.left, c.in_default.ensures.left, length-append h.stack (ends_of_pipes h.pipes)) in
+    omega (arith, fits, c.requires.room, c.in_ok-reservation.ensures.left, c.in_default.ensures.left, length-append h.stack (ends_of_pipes h.pipes)) in
     (g.met.S.System.streams_fit, min_fits _ _ (omega (arith, many_given num c.change_all.new.streams, room)))
 
 pub returns-in_err-child-clause-err : goal.returns-in_err-child-clause-err
@@ -80,8 +79,8 @@ returns-in_err-child-clause-err g c =
     let ports = ports_view c.args.ports in
     let start = g.S.System.journal_view c.args.sys.now in
     let one = g.S.System.journal_view c.prepared.new.sys in
-    let asked = c.in_ok-seat.spec in
-    let ready = c.in_ok-seat.ensures.ok in
+    let asked = c.in_ok-reservation.spec in
+    let ready = c.in_ok-reservation.ensures.ok in
     let made = made_is_asked pairs ready.program scope texts ports asked ready.made in
     let two = g.S.System.journal_view c.change_all.new.sys in
     let t = c.change_all.new.streams in
@@ -100,8 +99,8 @@ returns-clause-ok g c =
     let ports = ports_view c.args.ports in
     let start = g.S.System.journal_view c.args.sys.now in
     let one = g.S.System.journal_view c.prepared.new.sys in
-    let asked = c.in_ok-seat.spec in
-    let ready = c.in_ok-seat.ensures.ok in
+    let asked = c.in_ok-reservation.spec in
+    let ready = c.in_ok-reservation.ensures.ok in
     let made = made_is_asked pairs ready.program scope texts ports asked ready.made in
     let two = g.S.System.journal_view c.change_all.new.sys in
     let t = c.change_all.new.streams in

@@ -3,16 +3,16 @@ use Rattle.std.specs.Arc.{arc_value}
 use Rattle.std.proofs.lemmas.Result.{err_from_is_err_and}
 use Rattle.std.proofs.Common.{subst, map, string_bytes}
 use Rattle.duct_system.specs.SpecView.{pair_text}
-use Rattle.duct_start.specs.ActionList.{scope_in}
-use Rattle.duct_start.proofs.Commanding.{name_refused, spec_refused, unasked_refused}
+use Rattle.duct_run.specs.ActionList.{scope_in}
+use Rattle.duct_run.proofs.Commanding.{name_refused, spec_refused, unasked_refused}
 use Rattle.duct_run.specs.ActionView.{ports_view}
 use Rattle.duct_run.specs.Made.{IsMade, program_text}
 use Rattle.duct_run.specs.ScopeView.{scopes_view}
 use Rattle.duct_run.proofs.Pushed.{still}
 use Rattle.duct_run.proofs.command.prepared.Goals as goal
 
-pub returns-in_err-seat-clause-err : goal.returns-in_err-seat-clause-err
-returns-in_err-seat-clause-err g c =
+pub returns-in_err-reservation-clause-err : goal.returns-in_err-reservation-clause-err
+returns-in_err-reservation-clause-err g c =
     let p = err_from_is_err_and c.from_residual.result c.from_residual.ensures.1 in
     let num = g.S.End.Numbered.number_of in
     let allows = g.H.Hook.allows in

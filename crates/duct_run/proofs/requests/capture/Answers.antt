@@ -3,7 +3,7 @@ use Rattle.duct_run.specs.OutputRead.{pipe_view}
 use Rattle.duct_run.specs.ResourcesView.{resources_view}
 use Rattle.std.specs.Prelude.{Some}
 use Rattle.std.proofs.Common.{ap, refl, sym, ◌∙◌}
-use Rattle.duct_start.proofs.Captured.{capture_succeeds, capture_fails}
+use Rattle.duct_run.proofs.Captured.{capture_succeeds, capture_fails}
 use Rattle.duct_run.proofs.PerSide.{pipe_at, pipes_with}
 use Rattle.duct_run.proofs.Requesting.{goes_on, stops}
 use Rattle.duct_run.proofs.requests.capture.Goals as goal

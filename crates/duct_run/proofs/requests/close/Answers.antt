@@ -1,6 +1,6 @@
 use Rattle.std.proofs.Common.{rules}
 use Rattle.duct_run.specs.ResourcesView.{resources_view, stack_view}
-use Rattle.duct_start.proofs.Going.{close_succeeds}
+use Rattle.duct_run.proofs.Going.{close_succeeds}
 use Rattle.duct_run.proofs.Pushed.{pushed}
 use Rattle.duct_run.proofs.Requesting.{goes_on}
 use Rattle.duct_run.proofs.requests.close.Goals as goal

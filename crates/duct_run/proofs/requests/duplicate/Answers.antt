@@ -1,10 +1,9 @@
 use Rattle.std.proofs.lemmas.Result.{err_from_is_err_and}
 use Rattle.duct_run.specs.ResourcesView.{resources_view}
-use Rattle.duct_start.specs.Actions as action
+use Rattle.duct_run.specs.Actions as action
 use Rattle.std.proofs.Common.{rules, refl}
-use Rattle.duct_run.proofs.Pushed.{item_at_depth}
-use Rattle.duct_start.proofs.Going.{duplicate_succeeds, duplicate_fails}
-use Rattle.duct_run.proofs.Pushed.{pushed, goes_over}
+use Rattle.duct_run.proofs.Pushed.{item_at_depth, pushed, goes_over}
+use Rattle.duct_run.proofs.Going.{duplicate_succeeds, duplicate_fails}
 use Rattle.duct_run.proofs.Requesting.{goes_on, stops}
 use Rattle.duct_run.proofs.requests.duplicate.Goals as goal
 

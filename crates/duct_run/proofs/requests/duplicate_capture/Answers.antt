@@ -1,9 +1,9 @@
 use Rattle.std.proofs.lemmas.Result.{err_from_is_err_and}
 use Rattle.duct_run.specs.OutputRead.{pipe_view}
 use Rattle.duct_run.specs.ResourcesView.{resources_view}
-use Rattle.duct_start.specs.Actions as action
+use Rattle.duct_run.specs.Actions as action
 use Rattle.std.proofs.Common.{ap, refl, rules, sym, ◌∙◌}
-use Rattle.duct_start.proofs.Going.{duplicate_fails, tap_succeeds}
+use Rattle.duct_run.proofs.Going.{duplicate_fails, tap_succeeds}
 use Rattle.duct_run.proofs.PerSide.{pipe_at}
 use Rattle.duct_run.proofs.Pushed.{pushed, goes_over}
 use Rattle.duct_run.proofs.Requesting.{goes_on, stops}

@@ -7,8 +7,8 @@ use Rattle.duct_system.specs.Job.{unpolled_job}
 use Rattle.duct_run.specs.OutputRead.{pipe_view}
 use Rattle.duct_run.specs.ResourcesView.{both, resources_view}
 use Rattle.duct_status.specs.PerSide.{with_side}
-use Rattle.duct_start.proofs.Captured.{finish_succeeds, finish_fails}
-use Rattle.duct_start.proofs.PerSide.{each_with}
+use Rattle.duct_run.proofs.Captured.{finish_succeeds, finish_fails}
+use Rattle.duct_run.proofs.CapturePipes.{each_with}
 use Rattle.duct_run.proofs.PerSide.{last_worker, pipe_at, pipes_with}
 use Rattle.duct_run.proofs.Pushed.{unpolled_same}
 use Rattle.duct_run.proofs.requests.finish.Goals as goal

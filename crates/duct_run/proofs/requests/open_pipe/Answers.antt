@@ -1,8 +1,8 @@
 use Rattle.std.proofs.Common.{rules}
 use Rattle.std.proofs.lemmas.Result.{err_from_is_err_and}
 use Rattle.duct_run.specs.ResourcesView.{resources_view}
-use Rattle.duct_start.specs.Actions as action
-use Rattle.duct_start.proofs.Going.{pipe_succeeds, pipe_fails}
+use Rattle.duct_run.specs.Actions as action
+use Rattle.duct_run.proofs.Going.{pipe_succeeds, pipe_fails}
 use Rattle.duct_run.proofs.Pushed.{pushed_two, goes_over}
 use Rattle.duct_run.proofs.Requesting.{goes_on, stops}
 use Rattle.duct_run.proofs.requests.open_pipe.Goals as goal

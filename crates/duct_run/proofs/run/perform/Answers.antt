@@ -1,5 +1,5 @@
 -- Each kind of action by its request; only a spawn sweeps the pool.
-use Rattle.duct_start.proofs.Leaving.{leaves_same, leaves_swept}
+use Rattle.duct_run.proofs.Leaving.{leaves_same, leaves_swept}
 use Rattle.duct_run.proofs.Saying.{performed}
 use Rattle.duct_run.proofs.run.perform.Goals as goal
 

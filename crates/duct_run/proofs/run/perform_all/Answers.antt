@@ -2,13 +2,13 @@
 use Rattle.std.proofs.Common.{◌≡◌, ◌+◌, ◌∷◌, [], arith, drop, map, refl}
 use Rattle.std.proofs.lemmas.Result.{err_from_is_err_and}
 use Rattle.duct_system.specs.SpecView.{pair_text}
-use Rattle.duct_start.specs.ActionList.{resolved, resolved_all}
-use Rattle.duct_start.proofs.Leaving.{leaves_on, leaves_same}
+use Rattle.duct_run.specs.ActionList.{resolved, resolved_all}
+use Rattle.duct_run.proofs.Leaving.{leaves_on, leaves_same}
 use Rattle.duct_run.specs.ActionView.{action_view, actions_view}
 use Rattle.duct_run.specs.ResourcesView.{resources_view}
 use Rattle.duct_run.specs.ScopeView.{all_scopes}
 use Rattle.duct_run.proofs.Pushed.{length_stack}
-use Rattle.duct_run.proofs.Turns.{can_here, goes_on_saying, memory_refused, new_same, pops_resolved, refused_now, rest_is, rest_none, room_here, stands_done, stood_same, within_at, workers_on, workers_same}
+use Rattle.duct_run.proofs.Turns.{can_here, goes_on_saying, memory_refused, new_same, pops_resolved, refused_now, rest_is, rest_none, room_here, invariant_done, stood_same, within_at, workers_on, workers_same}
 use Rattle.duct_run.proofs.run.perform_all.Goals as goal
 
 pub loop-action-init : goal.loop-action-init
@@ -148,5 +148,5 @@ loop-action-preserved g c =
 
 pub returns-clause-ok : goal.returns-clause-ok
 returns-clause-ok g c = λ context to same first.
-    stands_done g.H.Hook.allows g.H.Hook.refuses g.S.End.Numbered.number_of context to _ _ _ (rest_none (all_scopes c.args.scopes.now) c.args.actions.now c.loop-action.action-index (omega (arith, c.loop-action-test.false)))
+    invariant_done g.H.Hook.allows g.H.Hook.refuses g.S.End.Numbered.number_of context to _ _ _ (rest_none (all_scopes c.args.scopes.now) c.args.actions.now c.loop-action.action-index (omega (arith, c.loop-action-test.false)))
     (c.loop-action.invariant.stood context to same first)

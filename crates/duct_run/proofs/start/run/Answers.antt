@@ -5,10 +5,10 @@ use Rattle.std.specs.Prelude.{is_some}
 use Rattle.std.specs.declared.option.Option.{Option}
 use Rattle.duct_system.specs.declared.system.Side.TheVariants as side
 use Rattle.duct_status.specs.declared.per_side.PerSide.{PerSide}
-use Rattle.duct_start.specs.Actions.{with_capture_finished}
-use Rattle.duct_start.specs.ActionList.{resolved_all}
-use Rattle.duct_start.specs.RunContract.{HavePipes, no_tail}
-use Rattle.duct_start.proofs.RunContract.{finished_more, refused_before, run_succeeds, run_pipes, run_fails, run_room}
+use Rattle.duct_run.specs.Actions.{with_capture_finished}
+use Rattle.duct_run.specs.ActionList.{resolved_all}
+use Rattle.duct_run.specs.RunContract.{HavePipes, no_tail}
+use Rattle.duct_run.proofs.RunContract.{finished_more, refused_before, run_succeeds, run_pipes, run_fails, run_room}
 use Rattle.duct_run.specs.ActionView.{actions_view}
 use Rattle.duct_run.specs.ScopeView.{all_scopes}
 use Rattle.duct_run.proofs.Turns.{some_mapped}

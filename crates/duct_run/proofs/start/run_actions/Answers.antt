@@ -2,12 +2,12 @@
 use Rattle.std.proofs.Common.{refl, map}
 use Rattle.std.proofs.lemmas.Result.{err_from_is_err_and, IfErr-weaker, on_ok_weaker}
 use Rattle.duct_system.specs.SpecView.{pair_text}
-use Rattle.duct_start.specs.Actions.{with_plan}
+use Rattle.duct_run.specs.Actions.{with_plan}
 use Rattle.duct_start.specs.Left.{pool_view}
-use Rattle.duct_start.specs.ActionList.{resolved_all}
-use Rattle.duct_start.specs.RunContract.{context_of}
-use Rattle.duct_start.proofs.Leaving.{leaves_same}
-use Rattle.duct_start.proofs.RunContract.{environment_refused, stood_begun}
+use Rattle.duct_run.specs.ActionList.{resolved_all}
+use Rattle.duct_run.specs.RunContract.{context_of}
+use Rattle.duct_run.proofs.Leaving.{leaves_same}
+use Rattle.duct_run.proofs.RunContract.{environment_refused, stood_begun}
 use Rattle.duct_run.specs.ActionView.{actions_view}
 use Rattle.duct_run.specs.ScopeView.{all_scopes}
 use Rattle.duct_run.proofs.start.run_actions.Goals as goal

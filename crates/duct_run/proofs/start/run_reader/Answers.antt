@@ -2,11 +2,11 @@
 use Rattle.std.proofs.Common.{◌∙◌, ℕ, sym}
 use Rattle.std.proofs.lemmas.Result.{err_from_is_err_and}
 use Rattle.duct_system.specs.declared.system.Side.TheVariants as side
-use Rattle.duct_start.specs.Actions.{with_capture_finished}
-use Rattle.duct_start.specs.ActionList.{resolved_all}
-use Rattle.duct_start.specs.RunContract.{no_tail, reader_tail}
-use Rattle.duct_start.proofs.RunContract.{finished_more, read_more, refused_before, run_succeeds, run_pipes, run_fails, run_room}
-use Rattle.duct_start.proofs.Reading.{reader_last, run_reads}
+use Rattle.duct_run.specs.Actions.{with_capture_finished}
+use Rattle.duct_run.specs.ActionList.{resolved_all}
+use Rattle.duct_run.specs.RunContract.{no_tail, reader_tail}
+use Rattle.duct_run.proofs.RunContract.{finished_more, read_more, refused_before, run_succeeds, run_pipes, run_fails, run_room}
+use Rattle.duct_run.proofs.Reading.{reader_last, run_reads}
 use Rattle.duct_run.specs.ActionView.{actions_view}
 use Rattle.duct_run.specs.ResourcesView.{resources_view}
 use Rattle.duct_run.specs.ScopeView.{all_scopes}
@@ -52,8 +52,8 @@ read_output-requires-clause-open g c =
     let old = g.S.System.journal_view c.args.sys.now in
     let once = run_succeeds allows num acts old no_tail _ _ c.in_ok-run_actions.ensures.ok side.Err _ _ c.in_ok-finish.ensures.ok in
     let l = c.requires.leads in
-    let stands = once.1 l.0 l.1 l.2 l.3 in
-    sym (some_mapped (λ ends. (num ends.0, num ends.1)) c.finish.new.held.pipes.out) ∙ stands.shaped.pipes side.Out ∙ c.requires.opens l.0 l.1 l.2 l.3
+    let invariant = once.1 l.0 l.1 l.2 l.3 in
+    sym (some_mapped (λ ends. (num ends.0, num ends.1)) c.finish.new.held.pipes.out) ∙ invariant.shaped.pipes side.Out ∙ c.requires.opens l.0 l.1 l.2 l.3
 
 pub read_output-requires-clause-room : goal.read_output-requires-clause-room
 read_output-requires-clause-room g c =
@@ -64,8 +64,8 @@ read_output-requires-clause-room g c =
     let once = run_succeeds allows num acts old no_tail _ _ c.in_ok-run_actions.ensures.ok side.Err _ _ c.in_ok-finish.ensures.ok in
     let h = resources_view num g.S.Child.Child.child_view g.S.Feed.Job.job_view g.S.Drain.Job.job_view c.finish.new.held in
     let l = c.requires.leads in
-    let stands = once.1 l.0 l.1 l.2 l.3 in
-    two_spent h (stands.shaped.pipes side.Out ∙ c.requires.opens l.0 l.1 l.2 l.3) _ (run_room allows num acts old (λ plan. with_capture_finished side.Err plan) _ h once l)
+    let invariant = once.1 l.0 l.1 l.2 l.3 in
+    two_spent h (invariant.shaped.pipes side.Out ∙ c.requires.opens l.0 l.1 l.2 l.3) _ (run_room allows num acts old (λ plan. with_capture_finished side.Err plan) _ h once l)
 
 pub returns-clause-ok : goal.returns-clause-ok
 returns-clause-ok g c =

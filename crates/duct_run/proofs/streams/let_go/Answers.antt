@@ -1,4 +1,4 @@
-use Rattle.duct_start.proofs.Settling.{lets_go}
+use Rattle.duct_run.proofs.Redirecting.{lets_go}
 use Rattle.duct_run.proofs.streams.let_go.Goals as goal
 
 pub returns-in-End-clause-goes : goal.returns-in-End-clause-goes

@@ -1,6 +1,6 @@
 -- The changes collected so far, then those of the scope reached so far, are all changes.
 use Rattle.std.proofs.Common.{◌≡◌, ◌≤◌, ◌++◌, length, map}
-use Rattle.duct_start.specs.ActionList.{scope_in}
+use Rattle.duct_run.specs.ActionList.{scope_in}
 use Rattle.duct_run.specs.Changes.{change_of}
 use Rattle.duct_run.specs.ScopeView.{scopes_view}
 use Rattle.duct_run.proofs.variables.changes_in.Given as goal

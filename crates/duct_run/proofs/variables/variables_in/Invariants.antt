@@ -2,7 +2,7 @@
 use Rattle.std.proofs.Common.{◌≡◌, ◌++◌, ◌∷◌, [], ℕ, List, map, vec_len}
 use Rattle.duct_system.specs.SpecView.{AreOrdered, pair_text, var_view}
 use Rattle.duct_start.specs.Surroundings.{Replaces, variable}
-use Rattle.duct_start.specs.ActionList.{scope_in}
+use Rattle.duct_run.specs.ActionList.{scope_in}
 use Rattle.duct_run.specs.Changes.{change_of}
 use Rattle.duct_run.specs.ScopeView.{scopes_view}
 use Rattle.duct_run.proofs.variables.variables_in.Given as goal

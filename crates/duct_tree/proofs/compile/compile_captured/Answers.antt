@@ -2,7 +2,7 @@
 use Rattle.std.proofs.Common.{◌≡◌, ap, sym, ◌∙◌, rules}
 use Rattle.std.specs.Arc.{arc_value}
 use Rattle.duct_status.specs.ShapeView.{command_count, input_count, shape_view}
-use Rattle.duct_start.specs.ActionList.{list_of}
+use Rattle.duct_run.specs.ActionList.{list_of}
 use Rattle.duct_start.specs.ShapeOfTree.{shape_of_tree}
 use Rattle.duct_start.specs.TreeView.{around, stdout_capture}
 use Rattle.duct_run.specs.ActionView.{actions_view}

@@ -1,7 +1,7 @@
 -- A node that is entered by its row is entered.
 use Rattle.std.proofs.Common.{◌≡◌, ◌+◌, length, ap, ◌∙◌}
-use Rattle.duct_start.specs.Flat.{on_side, source_inside}
-use Rattle.duct_start.specs.ActionList.{scope_index}
+use Rattle.duct_run.specs.Flat.{on_side, source_inside}
+use Rattle.duct_run.specs.ActionList.{scope_index}
 use Rattle.duct_run.specs.ActionView.{actions_view}
 use Rattle.duct_run.specs.ScopeView.{scopes_view}
 use Rattle.duct_tree.proofs.Rows.{entered}

@@ -5,7 +5,7 @@ use Rattle.std.specs.Arc.{arc_value}
 use Rattle.duct_status.specs.CoreView.{shape_in}
 use Rattle.duct_status.specs.Latest.{latest_told}
 use Rattle.duct_status.specs.ShapeView.{command_count, input_count}
-use Rattle.duct_start.proofs.Launched.{some_leads}
+use Rattle.duct_run.proofs.Launched.{some_leads}
 use Rattle.duct.specs.Launched.{draining}
 use Rattle.duct.specs.TreeView.{tree_view}
 use Rattle.duct.proofs.Launching.{asked, drains_err, drains_out, left, made, refused, started_children, started_feeds}

@@ -6,7 +6,7 @@ use Rattle.std.specs.Prelude.{is_some}
 use Rattle.duct_status.specs.CoreView.{shape_in}
 use Rattle.duct_status.specs.Latest.{latest_told}
 use Rattle.duct_status.specs.ShapeView.{command_count, input_count}
-use Rattle.duct_start.proofs.Launched.{reads_out, some_leads}
+use Rattle.duct_run.proofs.Launched.{reads_out, some_leads}
 use Rattle.duct.specs.Launched.{reading, tree_for}
 use Rattle.duct.specs.TreeView.{tree_view}
 use Rattle.duct.proofs.Launching.{asked, drains_err, left, made, refused, started_children, started_feeds}

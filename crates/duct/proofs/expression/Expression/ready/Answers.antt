@@ -6,10 +6,10 @@ use Rattle.duct_status.specs.CoreView.{shape_in}
 use Rattle.duct_status.specs.Latest.{latest_told}
 use Rattle.duct_status.specs.ShapeView.{shape_view}
 use Rattle.duct_system.specs.declared.system.Side.TheVariants as side
-use Rattle.duct_start.specs.ActionList.{list_of}
+use Rattle.duct_run.specs.ActionList.{list_of}
 use Rattle.duct_start.specs.Plan.{initial_plan, plan_of, plan_of_subtree}
 use Rattle.duct_start.specs.ShapeOfTree.{shape_of_tree}
-use Rattle.duct_start.proofs.Launched.{drained_pipes}
+use Rattle.duct_run.proofs.Launched.{drained_pipes}
 use Rattle.duct_run.specs.ActionView.{actions_view}
 use Rattle.duct_run.specs.ScopeView.{scopes_view}
 use Rattle.duct.specs.TreeView.{tree_view}

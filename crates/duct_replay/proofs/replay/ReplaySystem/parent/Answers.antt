@@ -7,5 +7,5 @@ use Rattle.duct_replay.proofs.replay.ReplaySystem.parent.Goals as goal
 
 pub note-requires-clause-agrees : goal.note-requires-clause-agrees
 note-requires-clause-agrees c =
-    let later = ap (λ (v : ReplayView). next_of v) c.settle-answer.ensures.rest ∙ sym c.next.ensures in
-    told_right (Parent c.args.side) (FitsNumber c.next-2.result) _ _ c.found_parent-found.result _ _ c.found_parent-found.ensures tt later c.settle-answer.ensures.answer c.is_some.ensures
+    let later = ap (λ (v : ReplayView). next_of v) c.take_answer-answer.ensures.rest ∙ sym c.next.ensures in
+    told_right (Parent c.args.side) (FitsNumber c.next-2.result) _ _ c.found_parent-found.result _ _ c.found_parent-found.ensures tt later c.take_answer-answer.ensures.answer c.is_some.ensures

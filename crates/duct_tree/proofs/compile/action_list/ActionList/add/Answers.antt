@@ -2,7 +2,7 @@
 use Rattle.std.proofs.Common.{◌≡◌, ◌++◌, [], ◌∷◌, ap, ◌∙◌, rules}
 use Rattle.std.proofs.lemmas.List.{map-append}
 use Rattle.duct_system.specs.declared.system.Side.TheVariants as side
-use Rattle.duct_start.specs.Actions.{captures_in}
+use Rattle.duct_run.specs.Actions.{captures_in}
 use Rattle.duct_run.specs.ActionView.{action_view, actions_view}
 use Rattle.duct_tree.specs.ActionCounts.{feed_count, spawn_count}
 use Rattle.duct_tree.proofs.Counts.{captures_noted, feeds_push, spawns_push}

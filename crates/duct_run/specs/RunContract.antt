@@ -1,0 +1,80 @@
+-- What a whole run guarantees, from the request for the environment to the capture pipes.
+use Rattle.std.specs.Prelude.{◌≡◌, Bool, is_some, ℕ, List, [], IsSome, None}
+use Rattle.duct_system.specs.Journal.{JournalView}
+use Rattle.duct_system.specs.SpecView.{Vars}
+use Rattle.duct_system.specs.declared.error.Error.{Error}
+use Rattle.duct_system.specs.declared.system.Side.TheVariants as side
+use Rattle.duct_status.specs.PerSide.{with_side}
+use Rattle.duct_run.specs.Actions.{Action, Leads, with_capture_finished, with_plan}
+use Rattle.duct_start.specs.Chain.{Allows, Refuses}
+use Rattle.duct_run.specs.Commands.{StoppedWithCause}
+use Rattle.duct_run.specs.ResourcesView.{ResourcesView}
+use Rattle.duct_start.specs.Plan.{Plan, initial_plan, with_reader}
+use Rattle.duct_run.specs.RunInvariant.{RunContext, RunInvariant}
+
+-- how the plan goes on once the commands run
+abbrev pub PlanTail : Type 0 → Type 0 → Type 0
+PlanTail E H = Plan E H → Plan E H
+
+-- no further request
+abbrev pub no_tail : {E H : Type 0} → PlanTail E H
+no_tail plan = plan
+
+-- the drain workers of the capture pipes
+abbrev pub drain_tail : {E H : Type 0} → PlanTail E H
+drain_tail plan = with_capture_finished side.Err (with_capture_finished side.Out plan)
+
+-- the reader of stdout's capture pipe
+abbrev pub reader_tail : {E H : Type 0} → PlanTail E H
+reader_tail plan = record {
+  items = (with_reader plan.pipes.out plan).items;
+  pipes = with_side plan.pipes side.Out None;
+}
+
+-- stderr's drain worker, and the reader
+abbrev pub drain_and_reader_tail : {E H : Type 0} → PlanTail E H
+drain_and_reader_tail plan = reader_tail (with_capture_finished side.Err plan)
+
+-- the context of a run that began with this journal
+abbrev pub context_of : JournalView → ℕ → ℕ → Vars → RunContext
+context_of old base bound pairs =
+    record { old = old; base = base; bound = bound; pairs = pairs; front = [] }
+
+-- these actions lead to some plan
+abbrev pub LeadToSomePlan : {E H : Type 0} → (E → ℕ) → List (Action E H) → Type 0
+LeadToSomePlan {E} {H} number_of actions =
+    (base : ℕ) × (bound : ℕ) × (plan : Plan E H)
+    × Leads number_of base bound (with_plan initial_plan) actions (with_plan plan)
+
+-- these actions open stdout's capture pipe, whatever plan they lead to
+abbrev pub OpenOutputCapture : {E H : Type 0} → (E → ℕ) → List (Action E H) → Type 0
+OpenOutputCapture {E} {H} number_of actions =
+    (base bound : ℕ) (plan : Plan E H)
+    → Leads number_of base bound (with_plan initial_plan) actions (with_plan plan) → IsSome plan.pipes.out
+
+-- the actions and the tail succeeded: whatever plan they lead to, its requests were made
+abbrev pub ActionsSucceed : {E H : Type 0} → Allows H → (E → ℕ) → PlanTail E H → List (Action E H)
+    → JournalView → JournalView → ResourcesView → Type 0
+ActionsSucceed {E} {H} allows number_of ending actions old now held =
+    (pairs : Vars) × ((base bound : ℕ) (plan : Plan E H)
+    → Leads number_of base bound (with_plan initial_plan) actions (with_plan plan)
+    → RunInvariant allows number_of (context_of old base bound pairs)
+    (with_plan (ending plan)) now held)
+
+-- the actions or the tail failed with this error
+abbrev pub ActionsFail : {E H : Type 0} → Allows H → Refuses H → (E → ℕ) → PlanTail E H
+    → List (Action E H) → JournalView → JournalView → ResourcesView → Error → Type 0
+ActionsFail {E} {H} allows refuses number_of ending actions old now held error =
+    (pairs : Vars) × ((base bound : ℕ) (plan : Plan E H)
+    → Leads number_of base bound (with_plan initial_plan) actions (with_plan plan)
+    → StoppedWithCause allows refuses number_of (context_of old base bound pairs)
+    (ending plan).items now held
+    error)
+
+-- these booleans tell whether stdout and stderr have a capture pipe, whatever plan the actions lead
+-- to
+abbrev pub HavePipes : {E H : Type 0} → (E → ℕ) → List (Action E H) → Bool → Bool → Type 0
+HavePipes {E} {H} number_of actions output error =
+    (base bound : ℕ) (plan : Plan E H)
+    → Leads number_of base bound (with_plan initial_plan) actions (with_plan plan)
+    → (output ≡ is_some plan.pipes.out) × (error ≡ is_some plan.pipes.err)
