@@ -16,7 +16,7 @@ use Rattle.duct_system.specs.Trace.{segment, trace, is_close, IsClean, fault_of,
 use Rattle.duct_system.specs.declared.error.Error.{Error}
 use Rattle.duct_system.specs.declared.error.Error.TheVariants.{System, Checked, NotUtf8, Hook, HookEnd, Deadline, Memory}
 use Rattle.duct_system.specs.declared.system.Fault.{Fault}
-use Rattle.duct_start.specs.Causes.{IsCausedOrMemory, ReturnsLastFault, StoppedBy, asked_in, last_fault, MayFailWith}
+use Rattle.duct_start.specs.Causes.{IsCausedOrMemory, ReturnsLastFault, StoppedBy, asked_in, last_fault}
 use Rattle.duct_start.specs.Chain.{Allows, Refuses}
 use Rattle.duct_run.specs.Closes.{Closes}
 use Rattle.duct_run.specs.Commands.{StoppedWithCause}
@@ -202,30 +202,6 @@ module _ {E H : Type 0} (allows : Allows H) (refuses : Refuses H) (number_of : E
   cause_ended added error (hooked clean is) same cause = cause_hooked error is cause
   cause_ended added error (refused front entry fault clean is) same cause = inr (same ∙ last_is front entry fault is)
 
-may_answer : (entries added : List EntryView) (error : Error) → StopReason added error
-    → last_fault entries ≡ last_fault added → MayFailWith entries error
-may_answer entries added error (unasked clean un) same = by error un
-  where
-    by : (error : Error) → IsAllocationFailure error → MayFailWith entries error
-    by (System fault) un = inl un
-    by (Checked text) un = absurd un
-    by NotUtf8 un = absurd un
-    by (Hook fault) un = absurd un
-    by (HookEnd place) un = absurd un
-    by Deadline un = absurd un
-    by Memory un = tt
-may_answer entries added error (hooked clean is) same = by error is
-  where
-    by : (error : Error) → IsHookError error → MayFailWith entries error
-    by (System fault) is = absurd is
-    by (Checked text) is = absurd is
-    by NotUtf8 is = absurd is
-    by (Hook fault) is = tt
-    by (HookEnd place) is = tt
-    by Deadline is = absurd is
-    by Memory is = absurd is
-may_answer entries added error (refused front entry fault clean is) same = inr (same ∙ last_is front entry fault is)
-
 -- a start that failed, by its run and the closes after it
 
 module _ {E H : Type 0} (allows : Allows H) (refuses : Refuses H) (number_of : E → ℕ) (tree : TreeView E H) (plan : Plan E H) (context : RunContext) (items : List (Item E H)) (now then : JournalView)
@@ -287,7 +263,6 @@ module _ {E H : Type 0} (allows : Allows H) (refuses : Refuses H) (number_of : E
             (omega (arith, counted, ledger.counted, length-append first (map Close numbers), closes_long numbers))
             (omega (arith, next, ledger.next_grows)) (omega (arith, room, many, ledger.room_is));
         stops = subst StopsAtFault segment_same (ended_stops first error numbers run.stopped.ended);
-        reason = subst (λ (l : List EntryView). MayFailWith l error) segment_same (may_answer all first error run.stopped.ended (closed_fault first numbers));
         asks = subst (λ (l : List EntryView). AsksPlan allows number_of plan l) segment_same all_asked;
         follows = λ earlier. subst (λ (l : List EntryView). Follows allows number_of plan l) segment_same (all_follow earlier);
         cause = subst (λ (l : List EntryView). IsCausedOrMemory allows refuses number_of plan l error) segment_same all_caused;

@@ -24,7 +24,7 @@ use Rattle.duct_run.specs.Flat.{StreamSource, parents, nothing, slot, captured, 
 use Rattle.duct_start.specs.Surroundings.{Surroundings}
 use Rattle.duct_run.specs.ResourcesView.{ResourcesView}
 use Rattle.duct_run.specs.ActionList.{list_of, resolved, resolved_all, scopes_from}
-use Rattle.duct_start.specs.Kinds.{ItemKind, of_spawn, of_feed, of_other, entry_kind, item_kind, spawns, feeds, spawns_asked, feeds_asked}
+use Rattle.duct_run.specs.Kinds.{ItemKind, of_spawn, of_feed, of_other, entry_kind, item_kind, spawns, feeds, spawns_asked, feeds_asked}
 use Rattle.duct_start.specs.Path.{Path, left_of, right_of, within}
 use Rattle.duct_start.specs.ShapeOfTree.{shape_around, shape_of_tree}
 use Rattle.duct_run.specs.RunInvariant.{RunContext, RunInvariant}

@@ -27,7 +27,7 @@ use Rattle.duct_run.specs.Commands.{resources_with_stack}
 use Rattle.duct_start.specs.Sources.{Pairwise}
 use Rattle.duct_start.specs.Surroundings.{Target, Parents, Nothing, ReaderAt, WriterAt, FileAt, Lends}
 use Rattle.duct_run.specs.ResourcesView.{ResourcesView, open_ends, ends_of_pipes, pipe_ends}
-use Rattle.duct_start.specs.Kinds.{entry_kind, item_kind}
+use Rattle.duct_run.specs.Kinds.{entry_kind, item_kind}
 use Rattle.duct_run.specs.RunInvariant.{AnswersUnder, AreFresh, RunContext, IsEarly, IsFrom, IsLater, IsShaped, IsPair, HasOrigins, RunInvariant, IsAllocationFailure, ActionSucceeds, ActionFails}
 use Rattle.duct_start.specs.Step.{Item, AskPipe, AskOpenRead, AskCreate, AskFeed}
 use Rattle.duct_run.proofs.Fresh.{fresh_one, fresh_two, fresh_none, later_more}

@@ -17,7 +17,7 @@ use Rattle.duct_run.specs.Actions.{State}
 use Rattle.duct_start.specs.Chain.{Allows}
 use Rattle.duct_start.specs.Follows.{AnswersFromBy, StreamsRelation, pairs_in}
 use Rattle.duct_run.specs.ResourcesView.{ResourcesView, open_ends, ends_of_pipes, pipe_ends}
-use Rattle.duct_start.specs.Kinds.{ItemKind, entry_kind, item_kind}
+use Rattle.duct_run.specs.Kinds.{ItemKind, entry_kind, item_kind}
 use Rattle.duct_run.specs.RunInvariant.{AnswersUnder, AreFresh, RunContext, OpenEndsWithin, IsEarly, IsLater, IsShaped, LedgerInvariant, GivesUnder, HasOrigins, RunInvariant, StopInvariant, refused, unasked, IsAllocationFailure}
 use Rattle.duct_start.specs.Step.{Item}
 use Rattle.duct_start.proofs.Counts.{once_of}

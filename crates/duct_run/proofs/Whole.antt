@@ -1,5 +1,5 @@
 -- A run that reached its end is a start that succeeds.
-use Rattle.std.proofs.Common.{◌≡◌, ℕ, ◌+◌, ◌*◌, ◌≤◌, List, [], ◌∷◌, ◌++◌, length, map, refl, ap, sym, ◌∙◌, arith, subst}
+use Rattle.std.proofs.Common.{◌≡◌, ℕ, ◌+◌, ◌*◌, ◌≤◌, List, [], ◌∷◌, ◌++◌, length, refl, ap, sym, ◌∙◌, arith, subst}
 use Rattle.std.proofs.lemmas.List.{append-nil}
 use Rattle.duct_system.specs.EntryView.{EntryView}
 use Rattle.duct_system.specs.Journal.{JournalView}
@@ -9,7 +9,6 @@ use Rattle.duct_run.specs.Actions.{State}
 use Rattle.duct_start.specs.Chain.{Allows}
 use Rattle.duct_start.specs.Follows.{AsksPlan, FollowsWhole}
 use Rattle.duct_run.specs.ResourcesView.{ResourcesView, open_ends}
-use Rattle.duct_start.specs.Kinds.{entry_kind, item_kind}
 use Rattle.duct_start.specs.Plan.{Plan}
 use Rattle.duct_run.specs.RunInvariant.{AnswersUnder, RunContext, IsLater, RunInvariant}
 use Rattle.duct_start.specs.Start.{AreEarlier, GotNew, Grows, KeepsFewOpen, StartSucceeds, depth}
@@ -77,7 +76,7 @@ module _ {E H : Type 0} (allows : Allows H) (number_of : E → ℕ) (tree : Tree
       let same = sym (segment_is context.old.entries now.entries invariant.added ledger.entries_are) in record {
         grows = grows_by_added context.old now invariant.added ledger.entries_are ledger.counted ledger.next_grows (omega (arith, ledger.room_is));
         clean = subst IsClean same invariant.clean;
-        kinds = ap (λ (l : List EntryView). map entry_kind (trace l)) (sym same) ∙ invariant.kinds ∙ ap (λ (l : List (Item E H)). map item_kind l) items_are;
+        long = ap (λ (l : List EntryView). length (trace l)) (sym same) ∙ as_many invariant ∙ ap (λ (items : List (Item E H)). length items) items_are;
         asks = subst (λ (l : List EntryView). AsksPlan allows number_of plan l) same asks;
         whole = λ earlier. subst (λ (l : List EntryView). FollowsWhole allows number_of plan l) same (whole earlier);
         balanced = subst IsBalanced same (λ n. (omega (arith, ledger.even n, none_held n), ledger.once n));

@@ -18,3 +18,4 @@ pub mod RunInvariant
 pub mod Commands
 pub mod Closes
 pub mod RunContract
+pub mod Kinds

@@ -23,7 +23,7 @@ use Rattle.duct_start.specs.Chain.{Allows}
 use Rattle.duct_start.specs.Follows.{AnswersFromBy, StreamsRelation, GivesExactly, pairs_in}
 use Rattle.duct_start.specs.Surroundings.{Target}
 use Rattle.duct_run.specs.ResourcesView.{ResourcesView, open_ends}
-use Rattle.duct_start.specs.Kinds.{entry_kind, item_kind}
+use Rattle.duct_run.specs.Kinds.{entry_kind, item_kind}
 use Rattle.duct_start.specs.Sources.{ComesFrom, IsGivenFrom, Pairwise}
 use Rattle.duct_start.specs.Step.{Item}
 

@@ -5,7 +5,7 @@ use Rattle.std.specs.Option.{option_and_then}
 use Rattle.duct_system.specs.EntryView.{EntryView}
 use Rattle.duct_system.specs.Trace.{trace, is_close, fault_of}
 use Rattle.duct_system.specs.declared.error.Error.{Error}
-use Rattle.duct_system.specs.declared.error.Error.TheVariants.{System, Checked, NotUtf8, Hook, HookEnd, Deadline, Memory}
+use Rattle.duct_system.specs.declared.error.Error.TheVariants.{System, Hook, HookEnd, Memory}
 use Rattle.duct_system.specs.declared.system.Fault.{Fault}
 use Rattle.duct_system.specs.declared.system.Kind.TheVariants.{OutOfMemory}
 use Rattle.duct_start.specs.Chain.{SpecWithOrigins, Allows, Refuses, HooksStop, hooks_by_origin}
@@ -37,24 +37,13 @@ StoppedNext allows refuses number_of plan added error =
     let place = length (trace added) in
     StoppedBy allows refuses number_of (trace added) place (slice_get plan.items place) error
 
--- a start may fail with this error: an allocation failure, the fault of the last entry that is not
--- a close, a hook's fault, or a place at which a hook has no end
-abbrev pub MayFailWith : List EntryView → Error → Type 0
-MayFailWith added (System fault) = (fault.kind ≡ OutOfMemory) ⊎ (last_fault added ≡ Some fault)
-MayFailWith added (Checked text) = ⊥
-MayFailWith added NotUtf8 = ⊥
-MayFailWith added (Hook fault) = Unit {0}
-MayFailWith added (HookEnd place) = Unit {0}
-MayFailWith added Deadline = ⊥
-MayFailWith added Memory = Unit {0}
-
--- the error has a cause: a system's fault is an allocation failure or that of the last entry that
--- is not a close; a hook's error comes from the next command; the only other error is an allocation
--- failure
+-- the error has a cause, or is `Memory`: a system's fault is an allocation failure or that of the
+-- last entry that is not a close; a hook's error comes from the next command; the only other error
+-- is `Memory`
 abbrev pub IsCausedOrMemory : {E H : Type 0} → Allows H → Refuses H → (E → ℕ) → Plan E H
     → List EntryView → Error → Type 0
 IsCausedOrMemory allows refuses number_of plan added (System fault) =
-    MayFailWith added (System fault)
+    (fault.kind ≡ OutOfMemory) ⊎ (last_fault added ≡ Some fault)
 IsCausedOrMemory allows refuses number_of plan added (Hook fault) =
     StoppedNext allows refuses number_of plan added (Hook fault)
 IsCausedOrMemory allows refuses number_of plan added (HookEnd place) =

@@ -3,7 +3,6 @@ pub mod Causes
 pub mod Chain
 pub mod Follows
 pub mod Surroundings
-pub mod Kinds
 pub mod Left
 pub mod Lookup
 pub mod Path

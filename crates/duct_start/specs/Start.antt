@@ -1,15 +1,14 @@
 -- What a start guarantees about the journal.
-use Rattle.std.specs.Prelude.{ℕ, ◌+◌, ◌*◌, ◌<◌, ◌≤◌, max, List, [], ◌∷◌, ◌++◌, ◌≡◌, length, map, take, All, Some, None}
+use Rattle.std.specs.Prelude.{ℕ, ◌+◌, ◌*◌, ◌<◌, ◌≤◌, max, List, [], ◌∷◌, ◌++◌, ◌≡◌, length, take, All, Some, None}
 use Rattle.std.specs.declared.option.Option.{Option}
 use Rattle.duct_system.specs.Journal.{JournalView}
 use Rattle.duct_system.specs.Ledger.{IsBalanced, count_of, opened_numbers, open_count}
 use Rattle.duct_system.specs.EntryView.{EntryView}
 use Rattle.duct_system.specs.Trace.{IsClean, StopsAtFault, segment, trace}
 use Rattle.duct_system.specs.declared.error.Error.{Error}
-use Rattle.duct_start.specs.Causes.{IsCausedOrMemory, MayFailWith, ReturnsLastFault}
+use Rattle.duct_start.specs.Causes.{IsCausedOrMemory, ReturnsLastFault}
 use Rattle.duct_start.specs.Chain.{Allows, Refuses}
 use Rattle.duct_start.specs.Follows.{AsksPlan, Follows, FollowsWhole}
-use Rattle.duct_start.specs.Kinds.{entry_kind, item_kind}
 use Rattle.duct_start.specs.Plan.{Plan}
 use Rattle.duct_start.specs.Row.{RowOpening, Row, SettingView, Route, opens_nothing, opens_input, opens_read, opens_create, opens_capture, as_outside, to_nothing, to_lent, to_opened, says_folder, says_change, says_hook, row}
 use Rattle.duct_start.specs.TreeView.{ModifierView, TreeView, command, pipe, around}
@@ -98,8 +97,7 @@ pub record StartSucceeds {E H : Type 0} (allows : Allows H) (number_of : E → �
     (tree : TreeView E H) (plan : Plan E H) (old new : JournalView) : Type 0 where
   pub grows : Grows old new
   pub clean : IsClean (segment old.entries new.entries)
-  pub kinds : map entry_kind (trace (segment old.entries new.entries))
-      ≡ map item_kind plan.items
+  pub long : length (trace (segment old.entries new.entries)) ≡ length plan.items
   pub asks : AsksPlan allows number_of plan (segment old.entries new.entries)
   pub whole : AreEarlier number_of old tree
       → FollowsWhole allows number_of plan (segment old.entries new.entries)
@@ -115,7 +113,6 @@ pub record StartRefused {E H : Type 0} (allows : Allows H) (refuses : Refuses H)
     (old new : JournalView) (error : Error) : Type 0 where
   pub grows : Grows old new
   pub stops : StopsAtFault (segment old.entries new.entries)
-  pub reason : MayFailWith (segment old.entries new.entries) error
   pub asks : AsksPlan allows number_of plan (segment old.entries new.entries)
   pub follows : AreEarlier number_of old tree
       → Follows allows number_of plan (segment old.entries new.entries)

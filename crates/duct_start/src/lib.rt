@@ -1,3 +1,3 @@
-//! The definitions that the contracts of a start cite: the requests that a start makes, its
-//! resources, and what it leaves.
+//! The definitions that the contracts of a start cite: the requests that a start makes, what it
+//! makes, and what it leaves.
 #![tactic(auto)]

@@ -4,4 +4,4 @@ use Rattle.duct_report.proofs.request.failed_starts.Goals as goal
 
 pub returns : goal.returns
 returns g c = λ number_of tree plan old new error refused.
-    explains (segment old.entries new.entries) error refused.reason refused.last_fault
+    explains g.H.Hook.allows g.H.Hook.refuses number_of plan (segment old.entries new.entries) error refused.cause refused.last_fault
