@@ -4,9 +4,26 @@ use Rattle.std.proofs.lemmas.List.{append-nil, take_all, drop_all}
 use Rattle.std.specs.Prelude.{map, Some, None, Ok, Err}
 use Rattle.std.specs.declared.option.Option.{Option}
 use Rattle.duct_system.specs.Child.{Answer, ChildView, PollsChild}
-use Rattle.duct_base.specs.Pool.{PoolView, in_nodes, counted, Sieves, AsksAll, Sweeps, IsSwept, Takes}
+use Rattle.duct_base.specs.Pool.{PoolView, in_nodes, counted, PollsAll, Sieves}
 use Rattle.duct_system.specs.declared.system.ExitStatus.{ExitStatus}
 use Rattle.duct_system.specs.declared.system.Fault.{Fault}
+
+-- some children, polled once each: those that run are left, and nothing else of them has changed
+abbrev pub AsksAll : {C : Type 0} → (ℕ → Answer → Type 0) → (C → ChildView) → List C → List C → ℕ → ℕ → Type 0
+AsksAll may view =
+    Sieves (λ child. may (view child).number) (λ child kept. PollsChild may (view child) (Ok None) (view kept))
+
+-- the pool after its first children were polled: those that run come after the others
+abbrev pub Sweeps : {C : Type 0} → (ℕ → Answer → Type 0) → (C → ChildView) → ℕ → PoolView C → PoolView C → Type 0
+Sweeps may view many before after = PollsAll may view (take many before.children) (drop many before.children) 0 before after
+
+-- the pool after each of its children was polled
+abbrev pub IsSwept : {C : Type 0} → (ℕ → Answer → Type 0) → (C → ChildView) → PoolView C → PoolView C → Type 0
+IsSwept may view before after = PollsAll may view before.children [] 0 before after
+
+-- the pool after these children were given to it and polled
+abbrev pub Takes : {C : Type 0} → (ℕ → Answer → Type 0) → (C → ChildView) → List C → PoolView C → PoolView C → Type 0
+Takes may view taken before after = PollsAll may view taken before.children (length taken) before after
 
 -- two lists of children, one after the other
 pub sieves-append : {A B : Type 0} (may : A → Answer → Type 0) (keeps : A → B → Type 0)
@@ -213,10 +230,11 @@ pub sweep_ends : {C : Type 0} (may : ℕ → Answer → Type 0) (view : C → Ch
     (before now : PoolView C) →
     Sweeps may view i before now → length before.children ≤ i → IsSwept may view before now
 sweep_ends {C} may view i before now s done = record {
+  kept = s.kept;
   reaped = s.reaped;
   lost = s.lost;
-  asked = rw (s.children_are, drop_all i before.children done)
-      (subst (λ (l : List C). AsksAll may view l s.kept s.reaped s.lost) (take_all i before.children done) s.asked);
+  asked = subst (λ (l : List C). AsksAll may view l s.kept s.reaped s.lost) (take_all i before.children done) s.asked;
+  children_are = s.children_are ∙ ap (λ (l : List C). l ++ s.kept) (drop_all i before.children done);
   given_is = s.given_is;
   reaped_is = s.reaped_is;
   lost_is = s.lost_is;

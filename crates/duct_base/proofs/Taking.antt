@@ -3,8 +3,8 @@ use Rattle.std.proofs.Common.{ℕ, ◌≡◌, ◌+◌, ◌^◌, ◌<◌, List, [
 use Rattle.std.proofs.lemmas.List.{append-nil}
 use Rattle.std.specs.Prelude.{Ok, None}
 use Rattle.duct_system.specs.Child.{Answer, ChildView, PollsChild}
-use Rattle.duct_base.specs.Pool.{PoolView, Takes, IsGiven, counted}
-use Rattle.duct_base.proofs.Sieving.{counted_more, sieves-append, sieves_fewer}
+use Rattle.duct_base.specs.Pool.{PoolView, IsGiven, counted}
+use Rattle.duct_base.proofs.Sieving.{Takes, counted_more, sieves-append, sieves_fewer}
 
 module _ {C : Type 0} (may : ℕ → Answer → Type 0) (view : C → ChildView) where
   -- some children, and then others

@@ -1,6 +1,6 @@
 -- What contracts see of a pool of abandoned children, and how a sweep and further children change
 -- it.
-use Rattle.std.specs.Prelude.{ℕ, zero, suc, ◌+◌, ◌-◌, ◌^◌, ◌<◌, ◌≡◌, ◌⊎◌, min, List, [], ◌∷◌, ◌++◌, flat_map, length, take, drop, Ok, Err, Some, None}
+use Rattle.std.specs.Prelude.{ℕ, zero, suc, ◌+◌, ◌-◌, ◌^◌, ◌<◌, ◌≡◌, ◌⊎◌, min, List, [], ◌∷◌, ◌++◌, flat_map, length, Ok, Err, Some, None}
 use Rattle.std.specs.declared.option.Option.{Option}
 use Rattle.std.specs.Option.{option_to_list}
 use Rattle.duct_system.specs.Child.{Answer, ChildView, PollsChild}
@@ -45,53 +45,26 @@ Sieves {A} {B} may keeps (child ∷ children) left reaped lost =
     ⊎ ((fault : Fault) × (fewer : ℕ) × may child (Err fault) × (lost ≡ fewer + 1)
     × Sieves may keeps children left reaped fewer)
 
--- some children, polled once each: those that run are left, and nothing else of them has changed
-abbrev pub AsksAll : {C : Type 0} → (ℕ → Answer → Type 0) → (C → ChildView) → List C → List C → ℕ
-    → ℕ → Type 0
-AsksAll may view =
-    Sieves (λ child. may (view child).number)
-    (λ child kept. PollsChild may (view child) (Ok None) (view kept))
-
--- the pool after its first children were polled: those that run come after the others
-pub record Sweeps {C : Type 0} (may : ℕ → Answer → Type 0) (view : C → ChildView) (many : ℕ)
-    (before after : PoolView C) : Type 0 where
+-- these children were polled once each, where the pool keeps these others and was given this many:
+-- those that run come after the others, in order, and nothing else of them has changed; each other
+-- one was counted as reaped or lost
+pub record PollsAll {C : Type 0} (may : ℕ → Answer → Type 0) (view : C → ChildView)
+    (polled others : List C) (given : ℕ) (before after : PoolView C) : Type 0 where
   pub kept : List C
   pub reaped : ℕ
   pub lost : ℕ
-  pub asked : AsksAll may view (take many before.children) kept reaped lost
-  pub children_are : after.children ≡ drop many before.children ++ kept
-  pub given_is : after.given ≡ before.given
-  pub reaped_is : after.reaped ≡ counted before.reaped reaped
-  pub lost_is : after.lost ≡ counted before.lost lost
-
--- the pool after each of its children was polled: those that run stay, in order
-pub record IsSwept {C : Type 0} (may : ℕ → Answer → Type 0) (view : C → ChildView)
-    (before after : PoolView C) : Type 0 where
-  pub reaped : ℕ
-  pub lost : ℕ
-  pub asked : AsksAll may view before.children after.children reaped lost
-  pub given_is : after.given ≡ before.given
-  pub reaped_is : after.reaped ≡ counted before.reaped reaped
-  pub lost_is : after.lost ≡ counted before.lost lost
-
--- the pool after these children were given to it and polled: those that run come after the old
--- ones, in order
-pub record Takes {C : Type 0} (may : ℕ → Answer → Type 0) (view : C → ChildView) (taken : List C)
-    (before after : PoolView C) : Type 0 where
-  pub kept : List C
-  pub reaped : ℕ
-  pub lost : ℕ
-  pub asked : AsksAll may view taken kept reaped lost
-  pub children_are : after.children ≡ before.children ++ kept
-  pub given_is : after.given ≡ counted before.given (length taken)
+  pub asked : Sieves (λ child. may (view child).number)
+      (λ child kept. PollsChild may (view child) (Ok None) (view kept)) polled kept reaped lost
+  pub children_are : after.children ≡ others ++ kept
+  pub given_is : after.given ≡ counted before.given given
   pub reaped_is : after.reaped ≡ counted before.reaped reaped
   pub lost_is : after.lost ≡ counted before.lost lost
 
 -- these children were given to a pool: each is counted, its old children stay in front, and all are
--- taken if the list of the pool has room for all of them
+-- polled and kept or counted if the list of the pool has room for all of them
 pub record IsGiven {C : Type 0} (may : ℕ → Answer → Type 0) (view : C → ChildView)
     (children : List C) (before after : PoolView C) : Type 0 where
   pub counts : after.given ≡ counted before.given (length children)
   pub stays : (more : List C) × (after.children ≡ before.children ++ more)
   pub takes : length before.children + length children < 2 ^ 63
-      → Takes may view children before after
+      → PollsAll may view children before.children (length children) before after

@@ -1,8 +1,8 @@
 //! Children that a start or a handle gave up while they ran. A pool keeps them, so that they can be
 //! polled and reaped.
-ghost use Rattle.std.specs.Prelude.{◌≡◌, ◌+◌, ◌<◌, ◌^◌, ◌∷◌, ◌++◌, List, [], length, Some, None};
+ghost use Rattle.std.specs.Prelude.{◌≡◌, ◌+◌, ◌<◌, ◌^◌, ◌∷◌, ◌++◌, List, [], drop, length, take, Some, None};
 ghost use Rattle.duct_system.specs.Child.{one_more};
-ghost use Rattle.duct_base.specs.Pool.{AddsUp, Sweeps, IsSwept, IsGiven};
+ghost use Rattle.duct_base.specs.Pool.{AddsUp, IsGiven, PollsAll};
 
 use duct_system::system::{Child, ExitStatus, Fault, Numbered};
 use std::alloc::{AllocError, Global};
@@ -215,7 +215,7 @@ impl<C: Child> Pool<C> {
     /// and one whose poll returns a fault counts as lost; the fault is not returned. It doesn't
     /// block and doesn't allocate.
     pub fn sweep(&mut self)
-        ensures { IsSwept C.may_answer C.child_view self.old self.new }
+        ensures { PollsAll C.may_answer C.child_view self.old.children [] 0 self.old self.new }
     {
         let count = self.len();
         for _done in 0..count {
@@ -227,7 +227,8 @@ impl<C: Child> Pool<C> {
     // returns a fault, is removed and counted.
     fn sweep_first(&mut self)
         requires { 0 < length self.old.children }
-        ensures { Sweeps C.may_answer C.child_view 1 self.old self.new }
+        ensures { PollsAll C.may_answer C.child_view (take 1 self.old.children)
+            (drop 1 self.old.children) 0 self.old self.new }
     {
         let mut rest = others(&mut self.nodes);
         let mut child = vacate(&mut self.nodes);

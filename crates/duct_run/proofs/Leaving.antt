@@ -5,9 +5,9 @@ use Rattle.std.proofs.lemmas.List.{append-nil, map-append, length-map}
 use Rattle.std.specs.List.{All}
 use Rattle.std.proofs.lemmas.List.Elements.{All-cons, All-nil, All-head, All-tail}
 use Rattle.std.specs.Prelude.{map, Ok, Err, Some, None}
-use Rattle.duct_base.proofs.Sieving.{counted_more, sieves_fewer}
+use Rattle.duct_base.proofs.Sieving.{AsksAll, IsSwept, Takes, counted_more, sieves_fewer}
 use Rattle.duct_base.proofs.Taking.{given_none}
-use Rattle.duct_base.specs.Pool.{PoolView, AsksAll, IsSwept, IsGiven, Sieves, Takes, counted}
+use Rattle.duct_base.specs.Pool.{PoolView, IsGiven, Sieves, counted}
 use Rattle.duct_system.specs.Child.{Answer, ChildView, PollsChild, IsUnasked}
 use Rattle.duct_system.specs.EntryView.{EntryView}
 use Rattle.duct_system.specs.Started.{children_in}
@@ -140,14 +140,14 @@ module _ (may : ℕ → Answer → Type 0) where
         let reaped : swept.reaped ≡ swept.reaped + 0 = omega arith in
         let lost : swept.lost ≡ swept.lost + 0 = omega arith in
         record {
-          old = map view after.children;
+          old = map view swept.kept;
           new = [];
           reaped = swept.reaped;
           lost = swept.lost;
           reaped_new = 0;
           lost_new = 0;
-          children_are = sym (append-nil (map view after.children));
-          old_are = asked_seen StaysInPool stays_polled before.children after.children swept.reaped swept.lost swept.asked;
+          children_are = ap (λ (l : List C). map view l) swept.children_are ∙ sym (append-nil (map view swept.kept));
+          old_are = asked_seen StaysInPool stays_polled before.children swept.kept swept.reaped swept.lost swept.asked;
           new_are = (refl, refl, refl);
           given_is = swept.given_is;
           reaped_is = swept.reaped_is ∙ ap (λ (n : ℕ). counted before.reaped n) reaped;
@@ -186,16 +186,14 @@ module _ (may : ℕ → Answer → Type 0) where
         let kept : map view mid.children ≡ swept.old = swept.children_are ∙ ap (λ (l : List ChildView). swept.old ++ l) swept.new_are.0 ∙ append-nil swept.old in
         let fewer = leaves_fewer (pool_view view before) (pool_view view mid) swept in
         record {
-          old = record {
-            old = swept.old;
-            more = map view given.stays.0;
-            reaped = swept.reaped;
-            lost = swept.lost;
-            children_are = ap (λ (l : List C). map view l) given.stays.1 ∙ map-append view mid.children given.stays.0
-                ∙ ap (λ (l : List ChildView). l ++ map view given.stays.0) kept;
-            old_are = swept.old_are;
-            given_is = given.counts ∙ ap (λ (n : ℕ). counted mid.given n) (sym seen) ∙ ap (λ (n : ℕ). counted n (length (map view children))) swept.given_is;
-          };
+          old = swept.old;
+          more = map view given.stays.0;
+          reaped = swept.reaped;
+          lost = swept.lost;
+          children_are = ap (λ (l : List C). map view l) given.stays.1 ∙ map-append view mid.children given.stays.0
+              ∙ ap (λ (l : List ChildView). l ++ map view given.stays.0) kept;
+          old_are = swept.old_are;
+          given_is = given.counts ∙ ap (λ (n : ℕ). counted mid.given n) (sym seen) ∙ ap (λ (n : ℕ). counted n (length (map view children))) swept.given_is;
           all = λ fits.
               let low : length mid.children + length children < 2 ^ 63 = omega (arith, fits, seen, fewer, length-map mid.children view) in
               leaves_on (map view children) (pool_view view before) (pool_view view mid) (pool_view view after) swept (leaves_taken children mid after (given.takes low));

@@ -1,11 +1,9 @@
--- What polls leave unchanged in a running expression, and the children that were waited for.
+-- What polls leave unchanged in a running expression.
 use Rattle.std.specs.Prelude.{◌≡◌, map}
-use Rattle.duct_base.specs.Pool.{PoolView}
 use Rattle.duct_system.specs.Child.{ChildView}
 use Rattle.duct_system.specs.Job.{JobView}
 use Rattle.duct_status.specs.ShapeView.{shape_view}
 use Rattle.duct_start.specs.Running.{RunningView}
-use Rattle.duct_run.specs.Requested.{PoolGets}
 use Rattle.duct_run.specs.SystemViews.{SystemViews}
 use Rattle.duct_running.specs.NumbersView.{numbers_in}
 
@@ -21,9 +19,3 @@ module _ {S E C F D V W : Type 0} (views : SystemViews S E C F D V W) where
   -- the shape, the numbers, and the orders that the children were given are as before
   abbrev pub StaysSame : RunningView C F D → RunningView C F D → Type 0
   StaysSame before after = Stays views.child views.feed views.drain before after
-
-  -- the pool was given the children of a running expression that stayed the same until then
-  abbrev pub PoolGetsWaited : RunningView C F D → PoolView C → PoolView C → Type 0
-  PoolGetsWaited running before after =
-      (waited : RunningView C F D) × StaysSame running waited
-      × PoolGets views waited.children before after

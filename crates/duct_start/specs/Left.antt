@@ -40,9 +40,10 @@ pool_view view pool =
       lost = pool.lost;
     }
 
--- what a pool keeps, whatever room its list has: each given child is counted, and the old children
--- that are left stay in front, in order
-pub record LeavesOld (may : ℕ → Answer → Type 0) (given : List ChildView)
+-- the pool takes these children in: each is counted, and the old children that are left stay in
+-- front, in order. It keeps or counts each of them if its list has room for all, below the bound of
+-- the standard library's lists
+pub record TakesIn (may : ℕ → Answer → Type 0) (given : List ChildView)
     (before after : PoolView ChildView) : Type 0 where
   pub old : List ChildView
   pub more : List ChildView
@@ -51,12 +52,6 @@ pub record LeavesOld (may : ℕ → Answer → Type 0) (given : List ChildView)
   pub children_are : after.children ≡ old ++ more
   pub old_are : Sieves (λ child. may child.number) StaysInPool before.children old reaped lost
   pub given_is : after.given ≡ counted before.given (length given)
-
--- the pool takes these children in: it keeps or counts each of them if its list has room for all,
--- below the bound of the standard library's lists
-pub record TakesIn (may : ℕ → Answer → Type 0) (given : List ChildView)
-    (before after : PoolView ChildView) : Type 0 where
-  pub old : LeavesOld may given before after
   pub all : length before.children + length given < 2 ^ 63 → Leaves may given before after
 
 -- a failed start: the pool takes in the children that the start had started, in order; none of them

@@ -1,4 +1,4 @@
-use Rattle.duct_base.specs.Pool.{Sweeps}
+use Rattle.duct_base.proofs.Sieving.{Sweeps}
 use Rattle.duct_base.proofs.pool.Pool.sweep.Given as goal
 
 abbrev pub invariant-loop-done : goal.invariant-loop-done
