@@ -58,6 +58,7 @@ answered order (number ∷ numbers) (Err f ∷ answers) all e is =
 pub unnoted : (order : Order) (numbers : List ℕ) (result : Result (Unit {0}) Error)
     → IsObeyed small order numbers result → IfErr result IsUnnoted
 unnoted order numbers (Ok done) obeyed = tt
-unnoted order numbers (Err e) (inl other) = ∣ inr cc ∣₁
+unnoted order numbers (Err e) (inl other) =
+    let same : e ≡ error.System (record { kind = Other }) = cc in ∣ inr same ∣₁
 unnoted order numbers (Err e) (inr told) =
     ∥∥₁_map told (λ all. inl (answered order numbers all.0 all.1 e all.2))
