@@ -34,8 +34,8 @@ impl<E: Drop, H: Hook> Expression<E, H> {
     ) -> Result<ReaderHandle<S, R>, Error>
         ensures launched { IfOk result (λ handle. Launched ⟦<S as Viewed>⟧.views H.allows reading
             self.now sys.old sys.new pool.old pool.new (Handles ⟦<S as Viewed>⟧.views handle)) }
-        ensures refused { IfErr result (LaunchRefused ⟦<S as Viewed>⟧.views H.allows H.refuses reading
-            self.now sys.old sys.new pool.old pool.new) }
+        ensures refused { IfErr result (LaunchRefused ⟦<S as Viewed>⟧.views H.allows H.refuses
+            reading self.now sys.old sys.new pool.old pool.new) }
     {
         let alloc = self.allocator();
         let ready = self.ready_captured()?;

@@ -148,8 +148,8 @@ impl<E: Drop, H: Hook> Expression<E, H> {
         ensures launched { IfOk result (λ made. Launched ⟦<S as Viewed>⟧.views H.allows reading
             self.now sys.old sys.new pool.old pool.new (RunsRead ⟦<S as Viewed>⟧.views S.may_read
             made.0 made.1)) }
-        ensures refused { IfErr result (LaunchRefused ⟦<S as Viewed>⟧.views H.allows H.refuses reading
-            self.now sys.old sys.new pool.old pool.new) }
+        ensures refused { IfErr result (LaunchRefused ⟦<S as Viewed>⟧.views H.allows H.refuses
+            reading self.now sys.old sys.new pool.old pool.new) }
     {
         let ready = self.ready_captured()?;
         self.launch_ready_reader(sys, pool, ready)
@@ -243,8 +243,8 @@ impl<E: Drop, H: Hook> Expression<E, H> {
         ensures launched { IfOk result (λ made. Launched ⟦<S as Viewed>⟧.views H.allows reading
             self.now sys.old sys.new pool.old pool.new (RunsRead ⟦<S as Viewed>⟧.views S.may_read
             made.0 made.1)) }
-        ensures refused { IfErr result (LaunchRefused ⟦<S as Viewed>⟧.views H.allows H.refuses reading
-            self.now sys.old sys.new pool.old pool.new) }
+        ensures refused { IfErr result (LaunchRefused ⟦<S as Viewed>⟧.views H.allows H.refuses
+            reading self.now sys.old sys.new pool.old pool.new) }
     {
         let Ready {
             compiled,

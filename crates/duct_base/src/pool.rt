@@ -12,7 +12,7 @@ use std::marker::Model;
 /// Room for one child in any pool, allocated before there is a child.
 #[derive(Drop)]
 pub struct Reservation<C> {
-    reservation: LinkedList<Option<C>>,
+    node: LinkedList<Option<C>>,
 }
 
 impl<C> Model for Reservation<C> {
@@ -22,14 +22,14 @@ impl<C> Model for Reservation<C> {
 
     ghost view = { λ s. tt };
 
-    ghost invariant = { λ s. s.reservation ≡ None ∷ [] };
+    ghost invariant = { λ s. s.node ≡ None ∷ [] };
 }
 
 /// Allocates room for a child. Fails only at an allocation failure.
 pub fn reservation_new<C: Drop>(alloc: Global) -> Result<Reservation<C>, AllocError> {
-    let mut reservation = LinkedList::new(alloc);
-    reservation.push_back(None)?;
-    Ok(Reservation { reservation })
+    let mut node = LinkedList::new(alloc);
+    node.push_back(None)?;
+    Ok(Reservation { node })
 }
 
 /// A child with its room in any pool. Polls of it and orders to it go to the child.
@@ -179,9 +179,9 @@ impl<C: Drop> Pool<C> {
           given = one_more self.old.given;
         } }
     {
-        let Reservation { mut reservation } = reservation;
-        fill(&mut reservation, child);
-        if self.nodes.append(&mut reservation).is_err() {
+        let Reservation { mut node } = reservation;
+        fill(&mut node, child);
+        if self.nodes.append(&mut node).is_err() {
             raise(&mut self.lost);
         }
         raise(&mut self.given);
@@ -277,22 +277,22 @@ fn raise(count: &mut u64)
 }
 
 // Puts a child into the one empty node of this list.
-fn fill<C: Drop>(reservation: &mut LinkedList<Option<C>>, child: C)
-    requires { reservation.old ≡ None ∷ [] }
-    ensures { reservation.new ≡ Some child ∷ [] }
+fn fill<C: Drop>(node: &mut LinkedList<Option<C>>, child: C)
+    requires { node.old ≡ None ∷ [] }
+    ensures { node.new ≡ Some child ∷ [] }
 {
-    if let Some(slot) = reservation.front_mut() {
+    if let Some(slot) = node.front_mut() {
         *slot = Some(child);
     }
 }
 
 // Takes the child out of the one node of this list.
-fn vacate<C: Drop>(reservation: &mut LinkedList<Option<C>>) -> C
-    requires { (child : C) × (reservation.old ≡ Some child ∷ []) }
-    ensures was { reservation.old ≡ Some result ∷ [] }
-    ensures empty { reservation.new ≡ None ∷ [] }
+fn vacate<C: Drop>(node: &mut LinkedList<Option<C>>) -> C
+    requires { (child : C) × (node.old ≡ Some child ∷ []) }
+    ensures was { node.old ≡ Some result ∷ [] }
+    ensures empty { node.new ≡ None ∷ [] }
 {
-    let child = match reservation.front_mut() {
+    let child = match node.front_mut() {
         Some(slot) => slot.take(),
         None => None,
     };

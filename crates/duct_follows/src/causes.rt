@@ -40,7 +40,8 @@ pub fn is_caused_or_memory<E: Numbered>(
 ) -> Result<bool, Untold>
     ensures { IfOk result
         (λ yes. IsTrue yes ↔ IsCausedOrMemory ⟦<ScriptHook as Hook>⟧.allows
-        ⟦<ScriptHook as Hook>⟧.refuses E.number_of (plan_view plan.now) (map entry_view added.now) error.now) }
+        ⟦<ScriptHook as Hook>⟧.refuses E.number_of (plan_view plan.now)
+        (map entry_view added.now) error.now) }
 {
     match error {
         Error::System(fault) => Ok(is_last_fault(added, *fault)),

@@ -14,8 +14,8 @@ use duct_running::numbers::Numbers;
 use duct_running::running::Running;
 use std::sync::Wait;
 
-// Gives the order to what runs, once. Where the shape or the numbers differ from these, it fails and
-// gives nothing.
+// Gives the order to what runs, once. Where the shape or the numbers differ from these, it fails
+// and gives nothing.
 pub(crate) fn ordered<S: System>(
     running: &mut Running<S>,
     shape: &Shape,

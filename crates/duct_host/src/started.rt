@@ -52,7 +52,8 @@ pub(crate) fn status_of<P: OpenProcess>(process: &mut Child<P>) -> Result<Option
     Err(Fault::new(Kind::Other))
 }
 
-/// Waits until a process has ended, and returns its status. A wait that a signal interrupts goes on.
+/// Waits until a process has ended, and returns its status. A wait that a signal interrupts goes
+/// on.
 pub(crate) fn wait_for<P: OpenProcess>(process: &mut Child<P>) -> Result<ExitStatus, Fault>
     ensures { IfOk result (λ status. child_status process.new ≡ Some status) }
 {

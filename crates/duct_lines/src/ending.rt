@@ -14,9 +14,9 @@ use std::sync::{Arc, Wait};
 ///
 /// Where the read failed with `Other`, which a read at EOF makes of a failure of the commands, it
 /// fails with that failure, whose message names the command. Any other error of the read stays what
-/// it is: `Error::NotUtf8` for `InvalidData`, `Error::Memory` for `OutOfMemory`, and `Error::System`
-/// of its kind for all others. It fails with `Error::System` of kind `Other` where the read returned
-/// Ok before EOF and the expression still runs.
+/// it is: `Error::NotUtf8` for `InvalidData`, `Error::Memory` for `OutOfMemory`, and
+/// `Error::System` of its kind for all others. It fails with `Error::System` of kind `Other` where
+/// the read returned Ok before EOF and the expression still runs.
 ///
 /// Example: `ended(&handle, each_line(alloc, &handle, each))?.status`
 pub fn ended<S: System, R: Wait>(

@@ -1,4 +1,5 @@
-//! What a running expression prints, read while it runs: line by line, and with a copy for a writer.
+//! What a running expression prints, read while it runs: line by line, and with a copy for a
+//! writer.
 #![tactic(auto)]
 
 mod ending;

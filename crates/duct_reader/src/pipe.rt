@@ -24,7 +24,8 @@ impl<S: System> Pipe<S> {
         }
     }
 
-    /// Reads once, under the lock. Where the buffer has no room, it takes no lock and reads nothing.
+    /// Reads once, under the lock. Where the buffer has no room, it takes no lock and reads
+    /// nothing.
     pub(crate) fn read(&self, rt: &impl Wait, buf: &mut [u8]) -> Result<usize, Error>
         ensures bound { IfOk result (λ read. read ≤ length buf.new) }
         ensures room { length buf.new ≡ length buf.old }

@@ -1,5 +1,5 @@
-//! A log to which a scripted system, its children and workers, and the hooks of a test write, so that
-//! a test sees the order of their calls. Threads may share it, and no call of it blocks.
+//! A log to which a scripted system, its children and workers, and the hooks of a test write, so
+//! that a test sees the order of their calls. Threads may share it, and no call of it blocks.
 
 use crate::requests::Sort;
 use std::alloc::{AllocError, Global};

@@ -117,8 +117,8 @@ impl ScriptDrain {
     ghost use Rattle.duct_script.specs.Views.{drain_view};
 
     /// Returns the drain of the end with this number, before any poll. If `script` is empty, its
-    /// polls return `empty`, which should hold no bytes. It notes its polls in this log, if there is
-    /// one.
+    /// polls return `empty`, which should hold no bytes. It notes its polls in this log, if there
+    /// is one.
     pub fn new(
         number: u64,
         script: DrainScript,

@@ -23,8 +23,8 @@ fn is_interrupted(error: &io::Error) -> bool
     error.kind() == ErrorKind::Interrupted
 }
 
-/// Writes once, and retries a write that is interrupted. Returns how many of the bytes were written.
-/// It blocks while the writer does.
+/// Writes once, and retries a write that is interrupted. Returns how many of the bytes were
+/// written. It blocks while the writer does.
 ///
 /// Fails with `WriteZero` if the write takes none of the bytes, with any other error of the writer,
 /// and with `Other` after `u64::MAX` interrupted writes. Nothing was then written.
@@ -90,8 +90,8 @@ pub fn feed_watched<W: Write>(writer: &mut Watched<'_, W>, bytes: &[u8]) -> Resu
 }
 
 /// Writes all of the bytes to the writer, in order, as `feed_watched` does. An interrupted write is
-/// retried. If there are no bytes, the writer isn't called. A broken pipe is a success, though there
-/// may be bytes left that nobody reads. It blocks while the writer does.
+/// retried. If there are no bytes, the writer isn't called. A broken pipe is a success, though
+/// there may be bytes left that nobody reads. It blocks while the writer does.
 ///
 /// Fails with `WriteZero` if a write takes none of the bytes, with the fault of any other error of
 /// the writer, and with `Other` after `u64::MAX` interrupted writes in a row. A prefix of the bytes

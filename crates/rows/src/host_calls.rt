@@ -18,9 +18,8 @@
 //! - `opened` and `children`: how many more file descriptors and children there are than when the
 //!   row began.
 //! - `file: f "text"`: the text of this file, which is removed.
-//! - `asked`: the paths whose canonical paths were requested.
-//! - `questions`: as in `host_tables`, if the results of the machine are scripted. Such a row begins
-//!   with `returns`.
+//! - `asked`: the paths whose canonical paths were requested. - `questions`: as in `host_tables`,
+//!   if the results of the machine are scripted. Such a row begins with `returns`.
 //! - `clock` and `slept`: two numbers. How often the clock of the waits was read, or how many
 //!   voluntary context switches this thread has made, has to be between them. A read that blocks
 //!   counts as such a switch, too. `within`: the greatest number of milliseconds since the row

@@ -4,11 +4,11 @@
 //! differs or stops, if a file can't be read, and if nothing is compared in a file.
 //!
 //! Options are for the files after them. With `--quiet` only the rows that differ are printed. With
-//! `--tell` nothing is compared: each text that is found is printed after its line's number and key,
-//! and so is the reason why a row stops. The line `spent 7` before them says that seven allocations
-//! were made before the first row, as many as `--spend=7` asks for. The line `left 9` after them
-//! says that nine more succeeded before one failed, of ten thousand at most. So if the Nth
-//! allocation of the process fails, `--spend` chooses which one of a row that is.
+//! `--tell` nothing is compared: each text that is found is printed after its line's number and
+//! key, and so is the reason why a row stops. The line `spent 7` before them says that seven
+//! allocations were made before the first row, as many as `--spend=7` asks for. The line `left 9`
+//! after them says that nine more succeeded before one failed, of ten thousand at most. So if the
+//! Nth allocation of the process fails, `--spend` chooses which one of a row that is.
 #![tactic(auto)]
 
 mod host_calls;

@@ -27,7 +27,8 @@
 //! - `run` and `read` start the expression and wait. `repeat: 9` runs it 9 times. Each result that
 //!   differs from the one before is added, so there is one if all are the same.
 //! - `run_until` and `read_until` do the same until a moment. `run_until: 5s 2s` stops the
-//!   expression five seconds after the moment that the clock shows first, with two seconds of grace.
+//!   expression five seconds after the moment that the clock shows first, with two seconds of
+//!   grace.
 //! - `perform` does what the program does with the arguments. `perform: unwritten` does it where
 //!   nothing can be written.
 //! - `sweep: once` sweeps the pool once, and `sweep: empty` sweeps it until it is empty. `clear`

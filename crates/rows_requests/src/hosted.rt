@@ -42,8 +42,8 @@ fn fresh<R: Real>(rt: &R) -> Result<Requests<Host<R>>, TableError> {
 }
 
 impl<R: Real> Hosted<R> {
-    /// Returns a table over this runtime, at the beginning of a row. Fails if the runtime can't count
-    /// file descriptors, or on an allocation failure.
+    /// Returns a table over this runtime, at the beginning of a row. Fails if the runtime can't
+    /// count file descriptors, or on an allocation failure.
     pub fn new(rt: R, script: Option<Script>) -> Result<Hosted<R>, TableError> {
         let opened = open_descriptors(&rt)?;
         let requests = fresh(&rt)?;

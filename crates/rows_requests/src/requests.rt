@@ -2,8 +2,8 @@
 //! after another, and the kinds of faults.
 //!
 //! - `environment` says how many variables there are. `pipe`, `open_read: f`, `create: f`,
-//!   `duplicate: 3` and `parent: out` say the numbers of the ends, and `canonicalize: ./x` the path.
-//!   `close: 1` says nothing, and `clear` clears the journal.
+//!   `duplicate: 3` and `parent: out` say the numbers of the ends, and `canonicalize: ./x` the
+//!   path. `close: 1` says nothing, and `clear` clears the journal.
 //! - `lend: 1` is a duplicate of an adopted end, and `drop: 1` drops one.
 //! - `feed: 2` starts a worker that writes `xyz`, and `drain: 1` one that reads. Both wait for the
 //!   worker and say its result.
@@ -11,9 +11,8 @@
 //!   lengths, of eight bytes at most, and says what each read returns.
 //! - `spawn: null 2 inherit (/bin/echo,a b)` has the words of a command in parentheses. Without
 //!   them, the command has no words. `folder: /in` and `variables: A=1,B=2` apply to the commands
-//!   that follow.
-//! - `poll`, `kill` and `signal: 15` are calls on the last child. `ending` waits until it has ended,
-//!   and says its status.
+//!   that follow. - `poll`, `kill` and `signal: 15` are calls on the last child. `ending` waits
+//!   until it has ended, and says its status.
 //!
 //! These lines are compared: `says` with what was said after the last such line, and `journal` with
 //! the journal.

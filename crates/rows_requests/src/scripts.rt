@@ -10,8 +10,8 @@
 //!
 //! These lines are compared besides those of the requests.
 //! - `held`: the ends that aren't spent, the number of requests, and the room.
-//! - `kept`: the orders that the last child keeps, its polls, and its id.
-//! - `fed`, `drained`: the results of three polls of a new feed or drain, its number, and its polls.
+//! - `kept`: the orders that the last child keeps, its polls, and its id. - `fed`, `drained`: the
+//!   results of three polls of a new feed or drain, its number, and its polls.
 use crate::requests::Requests;
 use duct_base::system::{Child, Job, Numbered, Said, System};
 use duct_script::calls::CallLog;

@@ -35,8 +35,8 @@ impl<'t> Case<'t> {
         Case { scene, ..self }
     }
 
-    /// Returns the system and the pool, where these requests are refused: the first with `NotFound`,
-    /// the others with `PermissionDenied`.
+    /// Returns the system and the pool, where these requests are refused: the first with
+    /// `NotFound`, the others with `PermissionDenied`.
     pub(crate) fn bench(self, alloc: Global, refused: &[Request]) -> Result<Bench, TableError> {
         let mut bench = bench_of(alloc, self.scene)?;
         let mut kind = Kind::NotFound;

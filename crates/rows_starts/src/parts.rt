@@ -13,9 +13,9 @@
 //!   failure with its message. The reply in one run of all events follows, where it differs.
 //! - `due` is compared: those of the commands 0 to 7 that are due after the events.
 //!
-//! Feeds and drains over a writer and a reader that follow a script.
-//! - `bytes` is the number of bytes to move. Without it they are `abc`. After `room`, the writer has
-//!   room for so many bytes, for which no feed needs memory.
+//! Feeds and drains over a writer and a reader that follow a script. - `bytes` is the number of
+//! bytes to move. Without it they are `abc`. After `room`, the writer has room for so many bytes,
+//! for which no feed needs memory.
 //! - `fed SCRIPT` is compared: `Ok` or the kind of the fault, and the bytes that were written, or
 //!   their number if there are more than ten. So is `drained SCRIPT` for the bytes that were read.
 //!
@@ -36,8 +36,8 @@
 //! Names and programs. Each of these lines is compared.
 //! - `names a A`: the spellings that names of variables keep, and how many names they are.
 //! - `order a A`: the names in order, each in its first spelling, with its last index.
-//! - `compared a A`: the debug texts of two names, and the results of `==` and `!=`.
-//! - `command x,y`: the debug texts of commands of this program and argument. Some have no argument.
+//! - `compared a A`: the debug texts of two names, and the results of `==` and `!=`. - `command
+//!   x,y`: the debug texts of commands of this program and argument. Some have no argument.
 //! - `canonical ./x`: whether a start makes the path of this program canonical where no folder is
 //!   set. `canonical_in_folder ./x` is the same where a folder is set.
 mod journals;

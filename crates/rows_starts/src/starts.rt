@@ -80,8 +80,8 @@ impl<'t, 'r, R: Wait> Starts<'t, 'r, R> {
         self.try_case(check, case, Some(seed))
     }
 
-    /// Makes a check of a case, which is random if there is a seed. Fails with its expression if the
-    /// check fails.
+    /// Makes a check of a case, which is random if there is a seed. Fails with its expression if
+    /// the check fails.
     fn try_case(&self, check: &str, case: Case, seed: Option<u64>) -> Result<(), TableError> {
         let mut case = case;
         let checked = match (check, seed) {

@@ -134,8 +134,8 @@ impl OpenProcess for Script {
 }
 
 /// A runtime with these results, and with the entries of an environment, each followed by a NUL:
-/// those in `entries` where it is read one by one, and those in `shown` where it is read at once. It
-/// doesn't start a shell that would get the parent's variables, or one whose streams aren't all
+/// those in `entries` where it is read one by one, and those in `shown` where it is read at once.
+/// It doesn't start a shell that would get the parent's variables, or one whose streams aren't all
 /// null.
 #[derive(Clone, Drop)]
 pub struct Odd<R> {

@@ -106,7 +106,8 @@ pub fn bench_of(alloc: Global, scene: Scene) -> Result<Bench, TableError> {
 }
 
 /// Sets up a system and a pool by the line of this key: one of a scene, or one of `set_system`.
-/// Returns whether there is such a key. Fails if the text is malformed, or on an allocation failure.
+/// Returns whether there is such a key. Fails if the text is malformed, or on an allocation
+/// failure.
 pub fn set(alloc: Global, bench: &mut Bench, key: &str, text: &str) -> Result<bool, TableError> {
     if key != "kept" {
         return set_system(alloc, &mut bench.sys, key, text);
@@ -175,7 +176,8 @@ fn sort(name: &str) -> Result<Sort, TableError> {
 
 /// Sets the poll results of the children, in the order of their spawns: `running, code 0; Other`.
 /// After a slash, a child has the results of its kills, which are also those of its signals:
-/// `running / done, Other`. After a second slash, the results of its signals are others. Fails if the text is malformed, or on an allocation failure.
+/// `running / done, Other`. After a second slash, the results of its signals are others. Fails if
+/// the text is malformed, or on an allocation failure.
 pub fn set_children(alloc: Global, sys: &mut Script, children: &str) -> Result<(), TableError> {
     for child in children.split_terminator(';') {
         sys.child(child_script(alloc, child)?)?;
@@ -212,8 +214,8 @@ fn poll_answers(alloc: Global, answers: &str) -> Result<Vec<PollAnswer>, TableEr
     Ok(made)
 }
 
-/// Reads a poll result: `running`, `code 0`, `signal 9`, or the kind of a fault. Fails for any other
-/// word.
+/// Reads a poll result: `running`, `code 0`, `signal 9`, or the kind of a fault. Fails for any
+/// other word.
 pub fn poll_answer(answer: &str) -> Result<PollAnswer, TableError> {
     match first_word(answer) {
         ("running", _) => Ok(PollAnswer::Running),

@@ -1,8 +1,8 @@
 //! Callers over the small system, whose children return only that they run, or one exit status
 //! each. So the clauses of `run`, `wait` and `read` say there which status comes back and which
-//! bytes are captured, and that a command without `unchecked` returns no output. Each function makes
-//! one call, and its clauses follow from those of the call: where the call promises less, they are
-//! refused.
+//! bytes are captured, and that a command without `unchecked` returns no output. Each function
+//! makes one call, and its clauses follow from those of the call: where the call promises less,
+//! they are refused.
 ghost use Rattle.std.specs.Prelude.{ℕ, List, [], ◌∷◌, ◌≡◌, IfOk, IfErr, OnOk, true, is_some, string_bytes};
 ghost use Rattle.std.specs.Arc.{arc_value};
 ghost use Rattle.duct_system.specs.Started.{children_in};

@@ -28,8 +28,8 @@ fn environment<R: Real>(host: &mut Host<R>) -> Result<String, Fail> {
     }
 }
 
-/// Returns the environment of a host over a runtime that returns the entries in `shown` at once, and
-/// those in `entries` one by one.
+/// Returns the environment of a host over a runtime that returns the entries in `shown` at once,
+/// and those in `entries` one by one.
 fn read<R: Real>(rt: &R, shown: &str, entries: &str) -> Result<String, Fail> {
     let alloc = rt.alloc();
     let mut odd = Odd::new(alloc, rt.clone()?, Script::new(alloc, "")?);

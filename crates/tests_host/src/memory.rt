@@ -1,6 +1,7 @@
 //! Tests of allocation failures. Whichever single allocation of the process fails, the test
-//! `memory_..` checks that the results are the same as with ample memory, or the fault `OutOfMemory`.
-//! After that fault a file is as it was, a child still runs, and no descriptor stays open.
+//! `memory_..` checks that the results are the same as with ample memory, or the fault
+//! `OutOfMemory`. After that fault a file is as it was, a child still runs, and no descriptor stays
+//! open.
 use duct::{Error, Worker};
 use duct_base::spec::{CommandSpec, Port, spec_of};
 use duct_base::system::{Child, ExitStatus, Fault, Job, Kind, Stdio, System};
@@ -17,8 +18,8 @@ use std::rt::{Clock, Files};
 use std::sync::Arc;
 use std::{fs, io};
 
-/// Writes a text to this file, and creates it. Returns whether it is then empty. Fails with the fault
-/// of the create if the file has its text, and returns false if it hasn't.
+/// Writes a text to this file, and creates it. Returns whether it is then empty. Fails with the
+/// fault of the create if the file has its text, and returns false if it hasn't.
 fn created<R: Real>(rt: &R, path: &str) -> Result<bool, Error> {
     fs::write(rt, path, "text").map_err(Fault::from)?;
     let refused = Host::new(rt.clone()?, rt.alloc()).create(path).err();

@@ -153,8 +153,8 @@ fn copying<E: Drop>(alloc: Global) -> Result<Expression<E>, Error> {
         .stdout_capture()
 }
 
-/// Starts a command that sleeps for 8 seconds, gives up its handle, and then waits for commands that
-/// copy an input. Returns whether they did within 5 seconds.
+/// Starts a command that sleeps for 8 seconds, gives up its handle, and then waits for commands
+/// that copy an input. Returns whether they did within 5 seconds.
 fn is_copied<S: System, R: Ticks + Wait>(
     rt: &R,
     alloc: Global,

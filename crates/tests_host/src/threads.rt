@@ -324,7 +324,8 @@ fn eight_agree<H: Played + Sync, R: Wait + Threads + rt::Clock + Sync>(
 }
 
 /// A command that prints and then sleeps, for 20 seconds in the second of each three rounds,
-/// otherwise for a few hundredths of a second, with a pipe to another one, whose output is captured.
+/// otherwise for a few hundredths of a second, with a pipe to another one, whose output is
+/// captured.
 fn captured_nap<E: Drop>(alloc: Global, round: u32) -> Result<Expression<E>, Error> {
     let whole = if round % 3 == 1 { 20 } else { 0 };
     let script = format!(in alloc; "echo hi; exec sleep {}.0{}", whole, round % 7)?;

@@ -325,8 +325,8 @@ fn are_steps(log: &CallLog) -> bool {
     begun.is_none()
 }
 
-/// Lets eight threads share a handle. Returns whether all was as it should be, and whether the calls
-/// on the children were whole steps.
+/// Lets eight threads share a handle. Returns whether all was as it should be, and whether the
+/// calls on the children were whole steps.
 fn eight_play<R: Wait + Threads + Sync>(rt: &R, alloc: Global) -> Result<(bool, bool), TableError> {
     let play = play_of(alloc, Cast::Eight)?;
     let mut bench = greeting_bench(alloc, 30, &play.second)?;

@@ -1,4 +1,5 @@
-//! Commands and pipelines: their arguments, their streams and surroundings, and what a hook changes.
+//! Commands and pipelines: their arguments, their streams and surroundings, and what a hook
+//! changes.
 use duct::{CommandSpec, Error, Expression, Fault, Hook, HookBox, Kind, Pool, Port, System, cmd};
 use std::alloc::Global;
 use std::path::Path;

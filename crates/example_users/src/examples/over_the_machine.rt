@@ -1,4 +1,5 @@
-//! A test of the examples over the real machine: each adds to a text what it prints, or why it fails.
+//! A test of the examples over the real machine: each adds to a text what it prints, or why it
+//! fails.
 use super::commands::{
     by_paths, excused, failed, fed, filtered, listed, logged, merged, placed, silenced, swapped,
 };
@@ -68,7 +69,8 @@ fn worked<S: System>(rt: &impl Wait, alloc: Global, system: &mut S) -> Result<bo
     Ok(output.status.success() && done > 0)
 }
 
-/// Adds how a service is stopped, how many bytes a command prints, and whether one was worked beside.
+/// Adds how a service is stopped, how many bytes a command prints, and whether one was worked
+/// beside.
 fn push_handles<S: System>(
     text: &mut String,
     rt: &impl Wait,
@@ -182,8 +184,8 @@ fn push_failing<S: System>(
     }
 }
 
-/// Adds what all examples print. A log is too short, and another one isn't; a service may run for 20
-/// milliseconds.
+/// Adds what all examples print. A log is too short, and another one isn't; a service may run for
+/// 20 milliseconds.
 fn push_all<S: System>(
     text: &mut String,
     rt: &impl Wait,

@@ -55,8 +55,8 @@ fn compared(alloc: Global, texts: &str) -> Result<String, AllocError> {
     format!(in alloc; "{one:?} {other:?} {} {}", one == other, one != other)
 }
 
-/// The commands of a program in each form of `cmd!`, and by the function `cmd`, as a `&str`; then as
-/// each other type.
+/// The commands of a program in each form of `cmd!`, and by the function `cmd`, as a `&str`; then
+/// as each other type.
 fn commands(alloc: Global, words: &str) -> Result<String, Error> {
     let (program, argument) = words.split_once(',').unwrap_or((words, ""));
     let text = String::from_str(alloc, program)?;

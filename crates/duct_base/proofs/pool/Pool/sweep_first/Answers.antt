@@ -10,7 +10,7 @@ vacate-child-requires g c = one_node _ _ _ c.self.invariant.0 c.others-rest.ensu
 pub returns-in-Ok-None : goal.returns-in-Ok-None
 returns-in-Ok-None g c =
     let polls = rw c.in-Ok-None.field-0-is at c.in-Ok-None.ensures in
-    let whole : c.append.new.self ≡ c.others-rest.result ++ c.fill.new.reservation = grind (arith, common_steps, c.append.ensures.items, c.append.ensures.succeeds, c.others-rest.ensures.fits) in
+    let whole : c.append.new.self ≡ c.others-rest.result ++ c.fill.new.node = grind (arith, common_steps, c.append.ensures.items, c.append.ensures.succeeds, c.others-rest.ensures.fits) in
     sweeps_kept g.C.Child.may_answer g.C.Child.child_view _ _ _ _ _ _ _ c.self.view_is refl c.others-rest.ensures.whole c.vacate-child.ensures.was _ _ polls c.fill.ensures (ap (λ nodes. record { children = in_nodes nodes; given = c.self.inside.given; reaped = c.self.inside.reaped; lost = c.self.inside.lost }) whole)
 
 pub returns-in-Ok-Some : goal.returns-in-Ok-Some
