@@ -1,3 +1,4 @@
+pub mod Alike
 pub mod Opened
 pub mod Ordered
 pub mod Streams

@@ -9,7 +9,7 @@ use Rattle.duct_start.specs.Lookup.{surroundings_on}
 use Rattle.duct_start.specs.Path.{Path, left_of, right_of, within}
 use Rattle.duct_start.specs.Plan.{Plan, with_item, with_opening, place_for, plan_of_subtree}
 use Rattle.duct_start.specs.Step.{Item, Opening, OpensNothing, Opens, Captures, AskPipe, step}
-use Rattle.duct_start.specs.TreeView.{ModifierView, TreeView, command, pipe, around}
+use Rattle.duct_start.specs.TreeView.{TreeView, command, pipe, around}
 use Rattle.duct_start.proofs.Commanded.{items_of, commanded_is}
 use Rattle.duct_laws.specs.Laws.{OverriddenStillOpens}
 

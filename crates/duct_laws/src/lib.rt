@@ -2,19 +2,24 @@
 //! contract is the law. Ends are of type `E`, hooks of `H`.
 #![tactic(auto)]
 
-ghost use Rattle.std.specs.Prelude.{ℕ, List, ◌≡◌, ◌≤◌, true, is_some, map};
+ghost use Rattle.std.specs.Prelude.{ℕ, List, ◌≡◌, ◌≤◌, true, is_some, length, map};
 ghost use Rattle.std.specs.Cmp.{IsEquivalence, IsTotalOrder};
 ghost use Rattle.std.specs.Ordering.{is_eq};
 ghost use Rattle.duct_system.specs.EntryView.{EntryView};
 ghost use Rattle.duct_system.specs.Ledger.{count_of, opened_numbers};
 ghost use Rattle.duct_system.specs.Name.{is_same_name, name_cmp, name_hash_input};
 ghost use Rattle.duct_system.specs.Origin.{Lent, origin};
+ghost use Rattle.duct_system.specs.Trace.{trace};
 ghost use Rattle.duct_system.specs.declared.system.Side.{Side};
-ghost use Rattle.duct_start.specs.Plan.{capture_place, plan_of, plan_of_reader};
+ghost use Rattle.duct_start.specs.Follows.{AsksPlan};
+ghost use Rattle.duct_start.specs.Plan.{Plan, capture_place, plan_of, plan_of_reader};
 ghost use Rattle.duct_start.specs.Sources.{IsDuplicate};
 ghost use Rattle.duct_start.specs.TreeView.{TreeView};
+ghost use Rattle.duct_run.specs.Kinds.{entry_kind, item_kind};
 ghost use Rattle.duct_laws.specs.Laws.{InnerRedirectionCounts, OverriddenStillOpens, SwapsCancel, InnerFolderReplaces, NearestVariableCounts, InnerVariableHides, InnerEnvironmentHides};
 ghost use Rattle.duct_laws.specs.Order.{captured, capture_place_in, has_capture, order_of, request_of, requests_of, requests_of_reader};
+
+use duct_base::spec::Hook;
 
 /// Of two redirections of one stream, one directly around the other, the inner one counts alone,
 /// and what the outer one opens is still opened. Two swaps of stdout and stderr, one directly
@@ -57,6 +62,14 @@ pub fn reader_plans<E, H>()
     ensures capture { (tree : TreeView E H) (stream : Side)
         → is_some (capture_place stream (plan_of_reader tree))
         ≡ has_capture (order_of (captured tree)) stream }
+{}
+
+/// Entries that make the requests of a whole plan start a child, or a feed worker, or neither, each
+/// where the plan does.
+pub fn starts<E, H: Hook>()
+    ensures { (number_of : E → ℕ) (plan : Plan E H) (added : List EntryView)
+        → AsksPlan H.allows number_of plan added → length (trace added) ≡ length plan.items
+        → map (λ entry. entry_kind entry) (trace added) ≡ map (λ item. item_kind item) plan.items }
 {}
 
 /// The duplicate of a caller's end comes from exactly that end, where no request got the number of

@@ -1,17 +1,16 @@
 //! The first pass of a start: it compiles a tree to a flat list of actions, the scopes that they
 //! name, and the shape of the tree. It makes no request to a system.
 ghost use Rattle.std.specs.Arc.{arc_value};
-ghost use Rattle.std.specs.Prelude.{ℕ, List, ◌≡◌, ◌+◌, ◌++◌, length, map, string_bytes, IfOk, OnOk, IsOkUnless};
-ghost use Rattle.std.specs.Option.{option_map, option_to_list};
+ghost use Rattle.std.specs.Prelude.{◌≡◌, ◌+◌, ◌++◌, ◌∷◌, [], length, map, string_bytes, IfOk, OnOk, IsOkUnless};
 ghost use Rattle.duct_status.specs.ShapeView.{command_count, input_count, shape_view};
-ghost use Rattle.duct_run.specs.Actions.{ActionOf};
-ghost use Rattle.duct_run.specs.Flat.{command_actions, depth_inside, on_side, opened_source, port_at, source_actions, source_inside};
+ghost use Rattle.duct_run.specs.Flat.{command_actions, depth_inside, on_side, opened_source, port_at, slot, source_actions, source_inside};
 ghost use Rattle.duct_run.specs.ActionList.{list_of, scope_index};
 ghost use Rattle.duct_start.specs.ShapeOfTree.{shape_of_tree};
-ghost use Rattle.duct_start.specs.TreeView.{TreeView, around, stdout_capture};
+ghost use Rattle.duct_start.specs.Row.{row};
+ghost use Rattle.duct_start.specs.TreeView.{ModifierView, TreeView, around, stdout_capture};
 ghost use Rattle.duct_run.specs.ActionView.{action_view, actions_view};
 ghost use Rattle.duct_run.specs.ScopeView.{scopes_view};
-ghost use Rattle.duct_tree.specs.EffectView.{input_route_view, opening_view, output_route_view, says_view};
+ghost use Rattle.duct_tree.specs.EffectView.{effect_view, input_route_view, opening_view, output_route_view, says_view};
 ghost use Rattle.duct_tree.specs.NodeContextView.{source_view, sources_view};
 ghost use Rattle.duct_tree.specs.ActionListView.{closings, action_list_view, openings, with_ending, with_scope, with_tree};
 ghost use Rattle.duct_tree.specs.NodeView.{modifier_view, node_view};
@@ -21,8 +20,8 @@ mod context;
 
 use crate::compile::action_list::more;
 use crate::compile::context::{NodeContext, StreamSource};
-use crate::effect::{InputRoute, Opening, OutputRoute, effect_of};
-use crate::shape::{piped, shape_around};
+use crate::effect::{Effect, InputRoute, Opening, OutputRoute, effect_of};
+use crate::shape::{marked, piped};
 use crate::tree::{Modifier, Node};
 pub use action_list::ActionList;
 use duct_base::error::Error;
@@ -115,29 +114,29 @@ fn walk<'a, E, H>(
             Ok(shape)
         }
         Node::Io(modifier, inner) => {
-            let within = enter(modifier, inside, list)?;
+            let effect = effect_of(modifier);
+            let within = enter(effect, inside, list)?;
             let inner = walk(alloc, inner, within, list)?;
-            let shape = shape_around(alloc, modifier, inner)?;
-            leave(modifier, list)?;
+            let shape = marked(alloc, effect.mark, inner)?;
+            close(effect.opening, list)?;
             Ok(shape)
         }
     }
 }
 
-// Adds the scope of a modifier, and its actions that come before those of the inner expression.
-// Returns the context of the inner expression.
+// Adds the scope of a node, and its actions that come before those of the inner expression. Returns
+// the context of the inner expression.
 fn enter<'a, E, H>(
-    modifier: &'a Modifier<E, H>,
+    effect: Effect<'a, E, H>,
     inside: NodeContext<'a, E>,
     list: &mut ActionList<'a, E, H>,
 ) -> Result<NodeContext<'a, E>, Error>
-    ensures list { IfOk result (λ within. (tree : TreeView E H) →
-        with_ending (modifier_view modifier.now) (with_tree within tree (action_list_view list.new))
-        ≡ with_tree inside.entry (around (modifier_view modifier.now) tree)
-        (action_list_view list.old)) }
+    ensures list { IfOk result (λ within. (modifier : ModifierView E H) (tree : TreeView E H)
+        → effect_view effect.entry ≡ row modifier
+        → with_ending modifier (with_tree within tree (action_list_view list.new))
+        ≡ with_tree inside.entry (around modifier tree) (action_list_view list.old)) }
     ensures memory { IsOkUnless result Error.Memory }
 {
-    let effect = effect_of(modifier);
     let opened = open(effect.opening, inside.depth, list)?;
     let scope = scoped(effect.setting, inside.scope, list)?;
     Ok(NodeContext {
@@ -171,53 +170,43 @@ fn open<'a, E, H>(
     ensures scopes { list.new.scopes ≡ list.old.scopes }
     ensures memory { IsOkUnless result Error.Memory }
 {
-    let deep = more(depth, pushed(opening))?;
-    if let Some(action) = first(opening) {
-        list.add(action)?;
+    match opening {
+        Opening::Nothing => Ok(Opened {
+            source: StreamSource::Nothing,
+            depth,
+        }),
+        Opening::Capture(which) => {
+            list.add(Action::Capture(which))?;
+            Ok(Opened {
+                source: StreamSource::Captured(which),
+                depth,
+            })
+        }
+        Opening::Input(_) => pushed(Action::Input, more(depth, 1)?, list),
+        Opening::Read(path) => pushed(Action::OpenRead(path), depth, list),
+        Opening::Create(path) => pushed(Action::Create(path), depth, list),
     }
+}
+
+// Adds an action after which the end on top of the stack is at this depth.
+fn pushed<'a, E, H>(
+    action: Action<'a, E>,
+    top: usize,
+    list: &mut ActionList<'a, E, H>,
+) -> Result<Opened<'a, E>, Error>
+    ensures source { IfOk result (λ opened. source_view opened.source ≡ slot top) }
+    ensures depth { IfOk result (λ opened. opened.depth ≡ top + 1) }
+    ensures actions { OnOk result (actions_view list.new.actions.items
+        ≡ actions_view list.old.actions.items ++ action_view action.entry ∷ []) }
+    ensures scopes { list.new.scopes ≡ list.old.scopes }
+    ensures memory { IsOkUnless result Error.Memory }
+{
+    let depth = more(top, 1)?;
+    list.add(action)?;
     Ok(Opened {
-        source: top(opening, deep),
-        depth: deep,
+        source: StreamSource::Slot(top),
+        depth,
     })
-}
-
-// Returns how many ends an opening leaves on the stack.
-fn pushed(opening: Opening<'_>) -> usize
-    ensures { (depth : ℕ) → depth + result ≡ depth_inside (opening_view opening.entry) depth }
-{
-    match opening {
-        Opening::Nothing | Opening::Capture(_) => 0,
-        Opening::Read(_) | Opening::Create(_) => 1,
-        Opening::Input(_) => 2,
-    }
-}
-
-// Returns the action of an opening, if it has one.
-fn first<'a, E>(opening: Opening<'a>) -> Option<Action<'a, E>>
-    ensures { (actions : List (ActionOf E ℕ)) → actions ++ option_to_list
-        (option_map action_view result) ≡ openings (opening_view opening.entry) actions }
-{
-    match opening {
-        Opening::Nothing => None,
-        Opening::Input(_) => Some(Action::Input),
-        Opening::Read(path) => Some(Action::OpenRead(path)),
-        Opening::Create(path) => Some(Action::Create(path)),
-        Opening::Capture(which) => Some(Action::Capture(which)),
-    }
-}
-
-// Returns the source of what was opened. `deep` is the depth of the stack after the opening.
-fn top<'a, E>(opening: Opening<'a>, deep: usize) -> StreamSource<'a, E>
-    ensures { (depth : ℕ) → deep ≡ depth_inside (opening_view opening.entry) depth
-        → source_view result ≡ opened_source (opening_view opening.entry) depth }
-{
-    match opening {
-        Opening::Nothing => StreamSource::Nothing,
-        Opening::Capture(which) => StreamSource::Captured(which),
-        Opening::Input(_) | Opening::Read(_) | Opening::Create(_) => StreamSource::Slot(
-            deep.saturating_sub(1),
-        ),
-    }
 }
 
 // Adds the scope of a setting inside the scope `outer`, if there is a setting. Returns the index of
@@ -273,18 +262,6 @@ fn output_source<'a, E>(
         OutputRoute::Lent(end) => StreamSource::Lent(end),
         OutputRoute::Opened => opened,
     }
-}
-
-// Adds the actions of a modifier that come after those of the inner expression.
-fn leave<'a, E, H>(
-    modifier: &'a Modifier<E, H>,
-    list: &mut ActionList<'a, E, H>,
-) -> Result<(), Error>
-    ensures list { OnOk result (action_list_view list.new
-        ≡ with_ending (modifier_view modifier.now) (action_list_view list.old)) }
-    ensures memory { IsOkUnless result Error.Memory }
-{
-    close(effect_of(modifier).opening, list)
 }
 
 // Adds the actions of an opening that come after those of the inner expression.

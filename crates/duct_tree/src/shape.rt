@@ -2,12 +2,10 @@
 //! words, the pipes, and the input and unchecked nodes.
 ghost use Rattle.std.specs.Prelude.{◌≡◌, IfOk, IsOkUnless};
 ghost use Rattle.duct_status.specs.ShapeView.{pipe, shape_view};
-ghost use Rattle.duct_start.specs.ShapeOfTree.{marked, shape_around};
+ghost use Rattle.duct_start.specs.ShapeOfTree.{marked};
 ghost use Rattle.duct_tree.specs.EffectView.{mark_view};
-ghost use Rattle.duct_tree.specs.NodeView.{modifier_view};
 
-use crate::effect::{Mark, effect_of};
-use crate::tree::Modifier;
+use crate::effect::Mark;
 use duct_base::error::Error;
 use duct_base::status::Shape;
 use std::alloc::Global;
@@ -23,21 +21,8 @@ pub(crate) fn piped(alloc: Global, left: Shape, right: Shape) -> Result<Shape, E
     Ok(Shape::Pipe(left, right))
 }
 
-/// Returns the shape of a modifier around an expression of shape `inner`.
-pub(crate) fn shape_around<E, H>(
-    alloc: Global,
-    modifier: &Modifier<E, H>,
-    inner: Shape,
-) -> Result<Shape, Error>
-    ensures shape { IfOk result
-        (λ shape. shape_view shape ≡ shape_around (modifier_view modifier.now) (shape_view inner)) }
-    ensures memory { IsOkUnless result Error.Memory }
-{
-    marking(alloc, effect_of(modifier).mark, inner)
-}
-
-// Returns the shape of a node with this mark around an expression of shape `inner`.
-fn marking(alloc: Global, mark: Mark, inner: Shape) -> Result<Shape, Error>
+/// Returns the shape of a node with this mark around an expression of shape `inner`.
+pub(crate) fn marked(alloc: Global, mark: Mark, inner: Shape) -> Result<Shape, Error>
     ensures shape { IfOk result (λ shape. shape_view shape ≡ marked (mark_view mark)
         (shape_view inner)) }
     ensures memory { IsOkUnless result Error.Memory }

@@ -8,19 +8,18 @@ use Rattle.duct_tree.proofs.Rows.{entered}
 use Rattle.duct_tree.specs.EffectView.{effect_view}
 use Rattle.duct_tree.specs.NodeContextView.{sources_view}
 use Rattle.duct_tree.specs.ActionListView.{action_list_view, with_scope}
-use Rattle.duct_tree.specs.NodeView.{modifier_view}
 use Rattle.duct_tree.proofs.compile.enter.Goals as goal
 
 pub returns-clause-list : goal.returns-clause-list
-returns-clause-list g c =
-    let r = effect_view c.effect_of-effect.result in
+returns-clause-list g c = λ modifier tree is.
+    let r = effect_view c.args.effect in
     let outer = c.args.inside.scope in
     let around = sources_view c.args.inside in
     let source = c.in_ok-opened.ensures.source in
     let actions : actions_view c.scoped.new.list.actions.items ≡ actions_view c.open.new.list.actions.items = cc in
     let scopes : scopes_view c.open.new.list.scopes.items ≡ scopes_view c.args.list.now.scopes.items = cc in
-    entered r (modifier_view c.args.modifier.now) c.args.inside _
-    (action_list_view c.args.list.now) (action_list_view c.scoped.new.list) c.effect_of-effect.ensures
+    entered r modifier c.args.inside _
+    (action_list_view c.args.list.now) (action_list_view c.scoped.new.list) is
     (record {
       actions_are = actions ∙ c.in_ok-opened.ensures.actions;
       scopes_are = c.in_ok-scope.ensures.scopes ∙ ap (λ s. with_scope r.says outer s) scopes;
@@ -31,4 +30,4 @@ returns-clause-list g c =
         error = (c.output_source-2.ensures ∙ ap (λ w. source_inside (on_side around) r.error w) source) j;
       };
       depth_is = c.in_ok-opened.ensures.depth;
-    })
+    }) tree
