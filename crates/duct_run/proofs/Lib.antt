@@ -10,6 +10,7 @@ pub mod Pushed
 pub mod Requesting
 pub mod Saying
 pub mod Seeing
+pub mod Setting
 pub mod Turns
 pub mod Fresh
 pub mod Captured

@@ -12,7 +12,7 @@ use Rattle.duct_run.specs.Made.{IsMade}
 
 pub made_is_asked : {E H : Type 0} (pairs : Vars) (program : List ℕ) (scope : Scope E H)
     (words : List (List ℕ)) (ports : PerStream Port) (spec : SpecView)
-    → IsMade pairs program scope words ports spec → (stack : List (Target E))
+    → IsMade pairs program scope.folder scope.changes words ports spec → (stack : List (Target E))
     → ((stream : Stream)
     → port_in ports stream ≡ port_to stream (target_of (surroundings_by scope ports stack) stream))
     → IsAsked pairs program (surroundings_by scope ports stack) words spec

@@ -9,6 +9,7 @@ pub mod OutputRead
 pub mod Places
 pub mod Requested
 pub mod ScopeView
+pub mod Settings
 pub mod StreamsView
 pub mod SystemViews
 pub mod Actions

@@ -10,7 +10,7 @@ use Rattle.duct_run.specs.Actions.{Scope, PerStream, port_in}
 use Rattle.duct_start.specs.Asked.{with_program}
 use Rattle.duct_start.specs.Chain.{Allows}
 use Rattle.duct_run.specs.Commands.{NameSucceeds}
-use Rattle.duct_start.specs.Surroundings.{variable}
+use Rattle.duct_start.specs.Surroundings.{VariableChange, variable}
 use Rattle.duct_start.specs.Plan.{program_of}
 
 -- the program of some words: its canonical path where that was asked for, else the first word
@@ -18,13 +18,14 @@ abbrev pub program_text : {Z : Type 0} → Option (String Z) → List (List ℕ)
 program_text None words = program_of words
 program_text (Some program) words = string_bytes program
 
--- the spec has these words with this program, the folder and the variables of the scope, each name
--- once and in order, and these ports
-pub record IsMade {E H : Type 0} (pairs : Vars) (program : List ℕ) (scope : Scope E H)
-    (words : List (List ℕ)) (ports : PerStream Port) (spec : SpecView) : Type 0 where
+-- the spec has these words with this program, this folder, the variables with these changes, each
+-- name once and in order, and these ports
+pub record IsMade (pairs : Vars) (program : List ℕ) (folder : Option (List ℕ))
+    (changes : List VariableChange) (words : List (List ℕ)) (ports : PerStream Port)
+    (spec : SpecView) : Type 0 where
   pub words_are : spec.words ≡ with_program program words
-  pub folder_is : spec.folder ≡ scope.folder
-  pub vars_are : (name : List ℕ) → variable_in name spec.vars ≡ variable pairs scope.changes name
+  pub folder_is : spec.folder ≡ folder
+  pub vars_are : (name : List ℕ) → variable_in name spec.vars ≡ variable pairs changes name
   pub vars_ordered : AreOrdered spec.vars
   pub ports_are : (stream : Stream) → port_of stream spec ≡ port_in ports stream
 
@@ -34,4 +35,4 @@ pub record IsPrepared {E H : Type 0} (allows : Allows H) (number_of : E → ℕ)
     (spec : SpecView) : Type 0 where
   pub program : List ℕ
   pub names : NameSucceeds {E = E} {H = H} allows number_of scope words now next program
-  pub made : IsMade pairs program scope words ports spec
+  pub made : IsMade pairs program scope.folder scope.changes words ports spec

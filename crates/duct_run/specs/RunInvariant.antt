@@ -14,7 +14,6 @@ use Rattle.duct_system.specs.declared.error.Error.TheVariants.{System, Memory, H
 use Rattle.duct_system.specs.declared.system.Fault.{Fault}
 use Rattle.duct_system.specs.declared.system.Kind.TheVariants.{OutOfMemory}
 use Rattle.duct_system.specs.declared.system.Side.{Side}
-use Rattle.duct_system.specs.declared.system.Side.TheVariants as side
 use Rattle.duct_status.specs.PerSide.{at_side}
 use Rattle.duct_run.specs.Actions as action
 use Rattle.duct_run.specs.Actions.{Action, State, IsReady, AreReady, advance, after_actions}

@@ -1,14 +1,10 @@
 //! Runs the hooks of a command, one after the other.
-ghost use Rattle.std.specs.Prelude.{◌≡◌, ◌≤◌, ◌+◌, ◌∷◌, [], length, map, OnOk, IfErr};
-ghost use Rattle.std.specs.Option.{option_to_list};
-ghost use Rattle.duct_run.specs.ActionList.{AreOutwards, scope_in};
-ghost use Rattle.duct_start.specs.Step.{step_of_setting};
+ghost use Rattle.std.specs.Prelude.{◌≤◌, ◌+◌, ◌∷◌, [], OnOk, IfErr};
 ghost use Rattle.duct_run.specs.Requested.{ChangeFails, ChangeSucceeds};
-ghost use Rattle.duct_run.specs.ScopeView.{scopes_view, setting_view};
+ghost use Rattle.duct_run.specs.Settings.{hooks_of};
 ghost use Rattle.duct_run.specs.StreamsView.{many_ends};
 
 use crate::places::{find, missing_place};
-use crate::scope::{Scope, Setting};
 use crate::streams::{Streams, redirect};
 use crate::views::Viewed;
 use duct_base::error::Error;
@@ -45,42 +41,23 @@ fn change<S: System, H: Hook>(
     Ok(())
 }
 
-// Runs the hooks of a command in the scope of this index, the outermost first.
+// Runs these hooks of a command, the last one first.
 pub(crate) fn change_all<S: System, H: Hook>(
     sys: &mut S,
-    scopes: &[Scope<'_, S::End, H>],
-    scope: usize,
+    mut hooks: Vec<(&H, &[S::End])>,
     spec: &mut CommandSpec,
     streams: &mut Streams<S::End>,
 ) -> Result<(), Error>
-    requires within { scope ≤ length scopes.now }
-    requires outwards { AreOutwards (scopes_view scopes.now) }
     requires room { many_ends streams.old ≤ (S.journal_view sys.old).room }
-    ensures ok { OnOk result (ChangeSucceeds ⟦<S as Viewed>⟧.views H.allows (scope_in (scopes_view
-        scopes.now) scope).hooks sys.old sys.new spec.old spec.new streams.old streams.new) }
-    ensures err { IfErr result (ChangeFails ⟦<S as Viewed>⟧.views H.allows H.refuses (scope_in
-        (scopes_view scopes.now) scope).hooks sys.old sys.new spec.old streams.old streams.new) }
+    ensures ok { OnOk result (ChangeSucceeds ⟦<S as Viewed>⟧.views H.allows (hooks_of hooks.entry.items)
+        sys.old sys.new spec.old spec.new streams.old streams.new) }
+    ensures err { IfErr result (ChangeFails ⟦<S as Viewed>⟧.views H.allows H.refuses
+        (hooks_of hooks.entry.items) sys.old sys.new spec.old streams.old streams.new) }
     ensures left { OnOk result (many_ends streams.new + (S.journal_view sys.old).room
         ≤ (S.journal_view sys.new).room + many_ends streams.old) }
 {
-    if scope == 0 {
-        return Ok(());
+    while let Some((hook, ends)) = hooks.pop() {
+        change(sys, hook, ends, spec, streams)?;
     }
-    let here = scopes[scope - 1];
-    change_all(sys, scopes, here.outer, spec, streams)?;
-    match hook_of(here.setting) {
-        Some((hook, ends)) => change(sys, hook, ends, spec, streams),
-        None => Ok(()),
-    }
-}
-
-// Returns the hook of a setting and the hook's ends, if the setting is a hook.
-fn hook_of<'a, E, H>(setting: Setting<'a, E, H>) -> Option<(&'a H, &'a [E])>
-    ensures { (step_of_setting (setting_view setting.entry)).hooks
-        ≡ map (λ pair. (pair.0.now, pair.1.now)) (option_to_list result) }
-{
-    match setting {
-        Setting::BeforeSpawn(hook, ends) => Some((hook, ends)),
-        Setting::Dir(_) | Setting::Env(_, _) | Setting::EnvRemove(_) | Setting::FullEnv(_) => None,
-    }
+    Ok(())
 }

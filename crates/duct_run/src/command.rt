@@ -3,8 +3,10 @@
 
 ghost use Rattle.std.specs.Arc.{arc_value};
 ghost use Rattle.std.specs.Prelude.{◌≡◌, ◌≤◌, ◌+◌, ◌++◌, length, map, string_bytes, IfOk, IfErr, OnOk, vec_len, vec_capacity};
+ghost use Rattle.std.specs.Option.{option_copied};
 ghost use Rattle.duct_system.specs.SpecView.{pair_text};
 ghost use Rattle.duct_system.specs.Streams.{end_of, stream_of};
+ghost use Rattle.duct_run.specs.Actions as plan;
 ghost use Rattle.duct_run.specs.Actions.{stack_after_ports, stack_after_port, port_end_count};
 ghost use Rattle.duct_run.specs.Commands.{NameSucceeds, ActionFailsWith, stack_with_streams, port_stream, port_streams};
 ghost use Rattle.duct_run.specs.ResourcesView.{ResourcesView, open_ends, HasRoom, HasSameWorkers, stack_view};
@@ -15,13 +17,15 @@ ghost use Rattle.duct_run.specs.Made.{IsPrepared, program_text};
 ghost use Rattle.duct_run.specs.NameRefused.{NameRefused};
 ghost use Rattle.duct_run.specs.Requested.{CommandSucceeds, CommandFails, HoldsUnasked, resources_of};
 ghost use Rattle.duct_run.specs.ScopeView.{scopes_view};
+ghost use Rattle.duct_run.specs.Settings.{hooks_of};
 ghost use Rattle.duct_run.specs.StreamsView.{streams_view};
 
 use crate::action::Ports;
-use crate::asked::{asked_spec, folder_in};
+use crate::asked::asked_spec;
 use crate::change::change_all;
 use crate::resources::{Resources, top};
 use crate::scope::Scope;
+use crate::settings::{Settings, settings_in};
 use crate::streams::Streams;
 use crate::views::Viewed;
 use duct_base::error::Error;
@@ -41,26 +45,24 @@ fn program_of(words: &Arc<Vec<String>>) -> &str
     }
 }
 
-// Asks for the canonical path of a command's program, if the command needs it.
+// Asks for the canonical path of a command's program, if a command in this folder needs it.
 fn canonical<S: System, H: Hook>(
     sys: &mut S,
-    scopes: &[Scope<'_, S::End, H>],
-    scope: usize,
+    folder: Option<&str>,
     words: &Arc<Vec<String>>,
 ) -> Result<Option<String>, Error>
-    requires within { scope ≤ length scopes.now }
-    requires outwards { AreOutwards (scopes_view scopes.now) }
     ensures ok { IfOk result (λ name. let texts = map string_bytes (arc_value words.now).items in
-        NameSucceeds {E = S.End} {H = H} H.allows S.End.number_of
-        (scope_in (scopes_view scopes.now) scope) texts
+        (scope : plan.Scope S.End H) → option_copied folder.entry ≡ scope.folder
+        → NameSucceeds {E = S.End} {H = H} H.allows S.End.number_of scope texts
         (S.journal_view sys.old) (S.journal_view sys.new) (program_text name texts)) }
-    ensures err { IfErr result (NameRefused (scope_in (scopes_view scopes.now) scope)
-        (map string_bytes (arc_value words.now).items)
-        (S.journal_view sys.old) (S.journal_view sys.new)) }
+    ensures err { IfErr result (λ e. (scope : plan.Scope S.End H)
+        → option_copied folder.entry ≡ scope.folder
+        → NameRefused scope (map string_bytes (arc_value words.now).items)
+        (S.journal_view sys.old) (S.journal_view sys.new) e) }
     ensures left { OnOk result ((S.journal_view sys.old).room ≤ (S.journal_view sys.new).room) }
 {
     let program = program_of(words);
-    if !asks_canonical(program, folder_in(scopes, scope).is_some()) {
+    if !asks_canonical(program, folder.is_some()) {
         return Ok(None);
     }
     Ok(Some(sys.canonicalize(program)?))
@@ -129,22 +131,33 @@ fn put_all<E: Numbered>(stack: &mut Vec<E>, streams: Streams<E>)
     put(stack, streams.error);
 }
 
+// What a command needs before its hooks run.
+#[derive(Drop)]
+struct BeforeHooks<'a, C, E, H> {
+    reservation: Reservation<C>,
+    spec: CommandSpec,
+    // Its hooks, the innermost first.
+    hooks: Vec<(&'a H, &'a [E])>,
+}
+
 // Makes the reservation of a command's child and the spec of the command before its hooks, with the
 // canonical path of its program where it needs one.
-fn prepared<S: System, H: Hook>(
+fn prepared<'a, S: System, H: Hook>(
     sys: &mut S,
     pairs: &Vec<(String, String)>,
-    scopes: &[Scope<'_, S::End, H>],
+    scopes: &[Scope<'a, S::End, H>],
     scope: usize,
     words: &Arc<Vec<String>>,
     ports: Ports,
-) -> Result<(Reservation<S::Child>, CommandSpec), Error>
+) -> Result<BeforeHooks<'a, S::Child, S::End, H>, Error>
     requires within { scope ≤ length scopes.now }
     requires outwards { AreOutwards (scopes_view scopes.now) }
     ensures ok { IfOk result (λ made. IsPrepared {E = S.End} {H = H} H.allows S.End.number_of (map
         pair_text pairs.now.items) (scope_in (scopes_view scopes.now) scope) (map string_bytes
         (arc_value words.now).items) (ports_view ports) (S.journal_view sys.old)
-        (S.journal_view sys.new) made.1) }
+        (S.journal_view sys.new) made.spec) }
+    ensures hooks { IfOk result (λ made.
+        hooks_of made.hooks.items ≡ (scope_in (scopes_view scopes.now) scope).hooks) }
     ensures err { IfErr result (λ error. (held : ResourcesView) → ActionFailsWith H.allows H.refuses
         S.End.number_of (map pair_text pairs.now.items)
         (spawn_in scopes.now scope (arc_value words.now).items ports)
@@ -153,9 +166,18 @@ fn prepared<S: System, H: Hook>(
 {
     let alloc = *pairs.allocator();
     let reservation = reservation_new(alloc)?;
-    let name = canonical(sys, scopes, scope, words)?;
-    let spec = asked_spec(alloc, pairs, scopes, scope, name, words, ports)?;
-    Ok((reservation, spec))
+    let Settings {
+        folder,
+        changes,
+        hooks,
+    } = settings_in(alloc, scopes, scope)?;
+    let program = canonical::<S, H>(sys, folder, words)?;
+    let spec = asked_spec(alloc, pairs, folder, changes, program, words, ports)?;
+    Ok(BeforeHooks {
+        reservation,
+        spec,
+        hooks,
+    })
 }
 
 // Starts the command with these words in the scope of this index, with the ends that its ports pop
@@ -186,9 +208,13 @@ pub(crate) fn command<S: System, H: Hook>(
         → HoldsUnasked ⟦<S as Viewed>⟧.views held.new }
     ensures workers { HasSameWorkers held.old held.new }
 {
-    let (reservation, mut spec) = prepared(sys, pairs, scopes, scope, words, ports)?;
+    let BeforeHooks {
+        reservation,
+        mut spec,
+        hooks,
+    } = prepared(sys, pairs, scopes, scope, words, ports)?;
     let mut streams = take_all(&mut held.stack, ports);
-    if let Err(error) = change_all(sys, scopes, scope, &mut spec, &mut streams) {
+    if let Err(error) = change_all(sys, hooks, &mut spec, &mut streams) {
         put_all(&mut held.stack, streams);
         return Err(error);
     }

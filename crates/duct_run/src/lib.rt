@@ -11,6 +11,7 @@ pub mod requests;
 pub mod resources;
 pub mod run;
 pub mod scope;
+mod settings;
 pub mod start;
 pub mod streams;
 pub mod variables;

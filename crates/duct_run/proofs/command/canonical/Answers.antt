@@ -4,9 +4,7 @@ use Rattle.duct_base.specs.Executable.{asks_canonical}
 use Rattle.duct_system.specs.EntryView.{Canonicalize}
 use Rattle.duct_system.specs.Journal.{Asks}
 use Rattle.duct_run.specs.Commands.{asks_canonical_path}
-use Rattle.duct_run.specs.ActionList.{scope_in}
 use Rattle.duct_run.proofs.Commanding.{names_some}
-use Rattle.duct_run.specs.ScopeView.{scopes_view}
 use Rattle.std.specs.Option.{option_copied}
 use Rattle.std.specs.declared.option.Option.{Option}
 use Rattle.duct_run.proofs.command.canonical.Goals as goal
@@ -16,10 +14,9 @@ some_copied None = refl
 some_copied (Some x) = refl
 
 pub returns-clause-ok : goal.returns-clause-ok
-returns-clause-ok g c =
+returns-clause-ok g c = λ scope folder.
     let texts = map string_bytes (arc_value c.args.words.now).items in
-    let scope = scope_in (scopes_view c.args.scopes.now) c.args.scope in
-    let some : c.is_some.result ≡ is_some scope.folder = c.is_some.ensures ∙ some_copied c.folder_in.result ∙ ap (λ o. is_some o) c.folder_in.ensures in
+    let some : c.is_some.result ≡ is_some scope.folder = c.is_some.ensures ∙ some_copied c.args.folder ∙ ap (λ o. is_some o) folder in
     let is : asks_canonical_path scope texts ≡ true = sym (λ i. asks_canonical (c.program_of-program.ensures i) (some i)) ∙ sym c.asks_canonical.ensures ∙ c.if-not-asks_canonical.false in
     names_some g.H.Hook.allows g.S.End.Numbered.number_of scope texts _ _ _ is
     (subst (λ p. Asks (Canonicalize p (Ok (string_bytes c.in_ok-canonicalize.field-0))) (g.S.System.journal_view c.args.sys.now) (g.S.System.journal_view c.canonicalize.new.self)) c.program_of-program.ensures c.in_ok-canonicalize.ensures.ok)

@@ -21,8 +21,8 @@ returns-in_err-reservation-clause-err g c =
     let p = err_from_is_err_and c.from_residual.result c.from_residual.ensures.1 in
     rw (p.1, p.2) (c.in_err-reservation.ensures.err (resources_view g.S.End.Numbered.number_of g.S.Child.Child.child_view g.S.Feed.Job.job_view g.S.Drain.Job.job_view c.args.held.now))
 
-pub change_all-requires-clause-room : goal.change_all-requires-clause-room
-change_all-requires-clause-room g c =
+pub change_all-requires : goal.change_all-requires
+change_all-requires g c =
     let num = g.S.End.Numbered.number_of in
     let allows = g.H.Hook.allows in
     let h = resources_view num g.S.Child.Child.child_view g.S.Feed.Job.job_view g.S.Drain.Job.job_view c.args.held.now in
@@ -48,10 +48,11 @@ returns-in-Err-clause-err g c =
     let ports = ports_view c.args.ports in
     let start = g.S.System.journal_view c.args.sys.now in
     let one = g.S.System.journal_view c.prepared.new.sys in
-    let asked = c.in_ok-reservation.spec in
+    let asked = c.in_ok-reservation.field-0.spec in
     let ready = c.in_ok-reservation.ensures.ok in
     let made = made_is_asked pairs ready.program scope texts ports asked ready.made in
-    let breaks = subst (λ s. HooksFail allows g.H.Hook.refuses num scope.hooks one (g.S.System.journal_view c.change_all.new.sys) asked s (streams_view num c.change_all.new.streams) c.in-Err.error) c.take_all-streams.ensures.streams c.in-Err.ensures.err in
+    let breaks = subst (λ s. HooksFail allows g.H.Hook.refuses num scope.hooks one (g.S.System.journal_view c.change_all.new.sys) asked s (streams_view num c.change_all.new.streams) c.in-Err.error) c.take_all-streams.ensures.streams
+    (subst (λ hs. HooksFail allows g.H.Hook.refuses num hs one (g.S.System.journal_view c.change_all.new.sys) asked (streams_view num c.take_all-streams.result) (streams_view num c.change_all.new.streams) c.in-Err.error) c.in_ok-reservation.ensures.hooks c.in-Err.ensures.err) in
     rw (c.put_all.ensures, c.take_all-streams.ensures.left) (hooks_refused allows num scope texts g.H.Hook.refuses pairs ports start h one ready.program ready.names asked made
     (g.S.System.journal_view c.change_all.new.sys) (streams_view num c.change_all.new.streams) c.in-Err.error breaks)
 
@@ -79,12 +80,13 @@ returns-in_err-child-clause-err g c =
     let ports = ports_view c.args.ports in
     let start = g.S.System.journal_view c.args.sys.now in
     let one = g.S.System.journal_view c.prepared.new.sys in
-    let asked = c.in_ok-reservation.spec in
+    let asked = c.in_ok-reservation.field-0.spec in
     let ready = c.in_ok-reservation.ensures.ok in
     let made = made_is_asked pairs ready.program scope texts ports asked ready.made in
     let two = g.S.System.journal_view c.change_all.new.sys in
     let t = c.change_all.new.streams in
-    let alters = subst (λ s. HooksSucceed allows num scope.hooks one two asked c.change_all.new.spec s (streams_view num t)) c.take_all-streams.ensures.streams c.in_default.ensures.ok in
+    let alters = subst (λ s. HooksSucceed allows num scope.hooks one two asked c.change_all.new.spec s (streams_view num t)) c.take_all-streams.ensures.streams
+    (subst (λ hs. HooksSucceed allows num hs one two asked c.change_all.new.spec (streams_view num c.take_all-streams.result) (streams_view num t)) c.in_ok-reservation.ensures.hooks c.in_default.ensures.ok) in
     rw (p.1, p.2, c.take_all-streams.ensures.left) (spawn_refused allows num scope texts g.H.Hook.refuses pairs ports start h one ready.program ready.names asked made
     (g.S.System.journal_view c.spawn.new.self) c.change_all.new.spec (streams_view num t) two _ _ alters c.in_err-child.ensures.err (many_spent num t))
 
@@ -99,12 +101,13 @@ returns-clause-ok g c =
     let ports = ports_view c.args.ports in
     let start = g.S.System.journal_view c.args.sys.now in
     let one = g.S.System.journal_view c.prepared.new.sys in
-    let asked = c.in_ok-reservation.spec in
+    let asked = c.in_ok-reservation.field-0.spec in
     let ready = c.in_ok-reservation.ensures.ok in
     let made = made_is_asked pairs ready.program scope texts ports asked ready.made in
     let two = g.S.System.journal_view c.change_all.new.sys in
     let t = c.change_all.new.streams in
-    let alters = subst (λ s. HooksSucceed allows num scope.hooks one two asked c.change_all.new.spec s (streams_view num t)) c.take_all-streams.ensures.streams c.in_default.ensures.ok in
+    let alters = subst (λ s. HooksSucceed allows num scope.hooks one two asked c.change_all.new.spec s (streams_view num t)) c.take_all-streams.ensures.streams
+    (subst (λ hs. HooksSucceed allows num hs one two asked c.change_all.new.spec (streams_view num c.take_all-streams.result) (streams_view num t)) c.in_ok-reservation.ensures.hooks c.in_default.ensures.ok) in
     let view = g.S.Child.Child.child_view in
     let child = c.in_ok-child.child in
     let number : (view c.place_new.result).number ≡ g.S.Child.Numbered.number_of child = ap (λ x. (view x).number) c.place_new.ensures ∙ g.met.S.Child.Child.has_number child in
