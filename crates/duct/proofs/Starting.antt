@@ -21,12 +21,12 @@ use Rattle.duct_run.specs.declared.scope.Scope as declared
 -- these scopes and actions are the lists that were made for this tree
 module _ {E H : Type 0} (tree : TreeView E H) {scopes listed : List (declared.Scope E H)} {actions made : List (Action E)}
     (scopes_is : scopes ≡ listed) (actions_is : actions ≡ made)
-    (listed_are : scopes_view listed ≡ (list_of tree).scopes) (made_are : actions_view made ≡ (list_of tree).actions) where
+    (list_is : record { actions = actions_view made; scopes = scopes_view listed } ≡ list_of tree) where
   scopes_are : scopes_view scopes ≡ (list_of tree).scopes
-  scopes_are = ap (λ l. scopes_view l) scopes_is ∙ listed_are
+  scopes_are = ap (λ l. scopes_view l) scopes_is ∙ ap (λ l. l.scopes) list_is
 
   actions_are : actions_view actions ≡ (list_of tree).actions
-  actions_are = ap (λ l. actions_view l) actions_is ∙ made_are
+  actions_are = ap (λ l. actions_view l) actions_is ∙ ap (λ l. l.actions) list_is
 
   pub runs_flat : resolved_all (all_scopes scopes) (actions_view actions) ≡ actions_of tree
   runs_flat = (λ i. resolved_all (scopes_from (root_scope ∷ []) (scopes_are i)) (actions_are i)) ∙ list_resolves tree

@@ -1,5 +1,5 @@
 -- What a start promises: of the journal, of what it makes, and of the pool.
-use Rattle.std.specs.Prelude.{ℕ, Bool, List, ◌⊎◌, false, is_some, map, []}
+use Rattle.std.specs.Prelude.{ℕ, Bool, List, ◌⊎◌, is_some, map, []}
 use Rattle.std.specs.declared.alloc.Global.{Global}
 use Rattle.std.specs.declared.option.Option.{Option}
 use Rattle.std.specs.declared.string.String.{String}
@@ -14,8 +14,11 @@ use Rattle.duct_start.specs.Left.{LeavesStarted, TakesIn, pool_view, Leaves}
 use Rattle.duct_start.specs.Plan.{Plan, plan_of, plan_of_reader}
 use Rattle.duct_start.specs.Running.{MadeReader, IsRunning, RunningView}
 use Rattle.duct_start.specs.Start.{StartSucceeds, StartRefused}
-use Rattle.duct_start.specs.TreeView.{TreeView, around, stdout_capture}
+use Rattle.duct_start.specs.TreeView.{TreeView}
+use Rattle.duct_run.specs.RunContract.{IsReaderOf, drains_if_open}
 use Rattle.duct_run.specs.SystemViews.{SystemViews}
+pub use Rattle.duct_run.specs.declared.start.StartKind.{StartKind}
+pub use Rattle.duct_run.specs.declared.start.StartKind.TheVariants.{Draining as draining, Reading as reading}
 use Rattle.duct_running.specs.Stored.{Bytes}
 use Rattle.duct_handle.specs.Finished.{StoresError, StoresReply}
 use Rattle.duct_handle.specs.HandleView.{HandleView}
@@ -24,25 +27,14 @@ use Rattle.duct.specs.TreeView.{tree_view}
 use Rattle.duct.specs.declared.expression.Expression.{Expression}
 use Rattle.duct.specs.RunResults.{RanTree, ReadStopsBy, ReadsBy}
 
--- a start that ends with the workers of the capture pipes, or with the reader of stdout's
-pub data StartKind : Type 0 where
-  draining : StartKind
-  reading : StartKind
-
 -- the plan of such a start of a tree
 abbrev pub plan_for : {E H : Type 0} → StartKind → TreeView E H → Plan E H
 plan_for draining tree = plan_of tree
 plan_for reading tree = plan_of_reader tree
 
--- the tree that is listed for such a start: a reader's is inside one more capture of stdout
-abbrev pub tree_for : {E H : Type 0} → StartKind → TreeView E H → TreeView E H
-tree_for draining tree = tree
-tree_for reading tree = around stdout_capture tree
-
 -- stdout gets a capture worker
 abbrev pub drains_output : {E H : Type 0} → StartKind → TreeView E H → Bool
-drains_output draining tree = is_some (plan_of tree).pipes.out
-drains_output reading tree = false
+drains_output kind tree = drains_if_open kind (is_some (plan_for kind tree).pipes.out)
 
 -- stderr gets a capture worker
 abbrev pub drains_error : {E H : Type 0} → StartKind → TreeView E H → Bool
@@ -68,6 +60,11 @@ module _ {S E C F D V W : Type 0} (views : SystemViews S E C F D V W) where
   Handles handle kind tree added =
       IsHandle tree (drains_output kind tree) (drains_error kind tree) added handle
       × AreIds views.child added handle.ids
+
+  -- this runs the tree, and this is the reader of its start
+  abbrev pub RunsWith : {H R : Type 0} → (ℕ → R → Type 0) → RunningView C F D → Option R → MadeBy E H
+  RunsWith may running reader kind tree added =
+      Runs running kind tree added × IsReaderOf may kind added reader
 
   -- this runs the tree, and this is the reader of its stdout
   abbrev pub RunsRead : {H R : Type 0} → (ℕ → R → Type 0) → RunningView C F D → R → MadeBy E H

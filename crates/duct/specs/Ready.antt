@@ -9,12 +9,12 @@ use Rattle.duct_status.specs.declared.status.Drains.{Drains}
 use Rattle.duct_run.specs.ActionList.{list_of}
 use Rattle.duct_start.specs.ShapeOfTree.{shape_of_tree}
 use Rattle.duct_start.specs.TreeView.{TreeView}
-use Rattle.duct_run.specs.ActionView.{actions_view}
 use Rattle.duct_run.specs.ResourcesView.{IsEmpty}
-use Rattle.duct_run.specs.ScopeView.{scopes_view}
+use Rattle.duct_run.specs.RunContract.{tree_for}
 use Rattle.duct_run.specs.declared.resources.Resources.{Resources}
 use Rattle.duct_running.specs.declared.running.RunningBuffers.{RunningBuffers}
-use Rattle.duct.specs.Launched.{StartKind, drains_error, drains_output, tree_for}
+use Rattle.duct_tree.specs.ActionListView.{action_list_view}
+use Rattle.duct.specs.Launched.{StartKind, drains_error, drains_output}
 use Rattle.duct.specs.declared.start.Ready.{Ready}
 
 -- the room is empty, and is enough for the ids of the commands of this shape and for two capture
@@ -36,10 +36,7 @@ pub record IsPreparedStart {A C F D : Type 0} (shape : ShapeView) (drains : Drai
 -- the list for this kind of start of a tree, the tree's shape, and what the start needs besides
 pub record IsReadyStart {E H C F D : Type 0} (kind : StartKind) (tree : TreeView E H)
     (ready : Ready E H C F D) : Type 0 where
-  pub actions : actions_view ready.compiled.list.actions.items
-      ≡ (list_of (tree_for kind tree)).actions
-  pub scopes : scopes_view ready.compiled.list.scopes.items
-      ≡ (list_of (tree_for kind tree)).scopes
+  pub list : action_list_view ready.compiled.list ≡ list_of (tree_for kind tree)
   pub shape : shape_view (arc_value ready.compiled.shape) ≡ shape_of_tree tree
   pub prepared : IsPreparedStart (shape_of_tree tree)
       (record { out = drains_output kind tree; err = drains_error kind tree }) ready.core

@@ -12,6 +12,7 @@ use duct_handle::buffers::{handle_buffers, handle_of};
 use duct_handle::finish::finish;
 use duct_reader::read::read_text;
 use duct_reader::reader::{ReaderHandle, reader_handle_of};
+use duct_run::start::StartKind;
 use duct_run::views::Viewed;
 use std::io::Read;
 use std::sync::Wait;
@@ -38,10 +39,11 @@ impl<E: Drop, H: Hook> Expression<E, H> {
             reading self.now sys.old sys.new pool.old pool.new) }
     {
         let alloc = self.allocator();
-        let ready = self.ready_captured()?;
+        let ready = self.ready(StartKind::Reading)?;
         let list = &ready.compiled.list;
         let room = handle_buffers(alloc, &ready.compiled.shape, list.commands, list.inputs)?;
-        let (running, reader) = self.launch_ready_reader(sys, pool, ready)?;
+        let (running, reader) = self.launch_ready(sys, pool, StartKind::Reading, ready)?;
+        let Some(reader) = reader else { unreachable!() };
         Ok(reader_handle_of(rt, handle_of(alloc, running, room), reader))
     }
 

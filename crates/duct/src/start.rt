@@ -6,7 +6,8 @@ ghost use Rattle.duct_status.specs.CoreView.{latest_in, shape_in};
 ghost use Rattle.duct_status.specs.Latest.{latest_told};
 ghost use Rattle.duct_status.specs.ShapeView.{command_count, input_count, shape_view};
 ghost use Rattle.duct_run.specs.ResourcesView.{AreNew};
-ghost use Rattle.duct.specs.Launched.{Handles, LaunchRefused, Launched, Runs, RunsRead, draining, reading};
+ghost use Rattle.duct_run.specs.RunContract.{drains_if_open};
+ghost use Rattle.duct.specs.Launched.{Handles, LaunchRefused, Launched, Runs, RunsRead, RunsWith, draining, reading};
 ghost use Rattle.duct.specs.Ready.{FitsShape, IsPreparedStart, IsReadyStart};
 ghost use Rattle.duct.specs.TreeView.{tree_view};
 
@@ -19,10 +20,10 @@ use duct_base::system::System;
 use duct_handle::buffers::{handle_buffers, handle_of};
 use duct_handle::handle::Handle;
 use duct_run::resources::{Resources, no_resources};
-use duct_run::start::{start, start_reader};
+use duct_run::start::{StartKind, start};
 use duct_run::views::Viewed;
 use duct_running::running::{Running, RunningBuffers, running_of};
-use duct_tree::compile::{Compiled, compile, compile_captured};
+use duct_tree::compile::{Compiled, compile};
 use std::alloc::Global;
 
 // What a start allocates before its first request: what its tree was compiled to, a core for its
@@ -63,6 +64,19 @@ fn prepare<'a, E: Drop, H, C: Drop, F: Drop, D: Drop>(
         room,
         held,
     })
+}
+
+// Returns which of these capture pipes get a worker at a start of this kind.
+fn drained(kind: StartKind, captures: Drains) -> Drains
+    ensures { result ≡ record captures { out = drains_if_open kind captures.out } }
+{
+    match kind {
+        StartKind::Draining => captures,
+        StartKind::Reading => Drains {
+            out: false,
+            ..captures
+        },
+    }
 }
 
 // Makes what runs from what a run of the list left.
@@ -131,8 +145,9 @@ impl<E: Drop, H: Hook> Expression<E, H> {
         ensures refused { IfErr result (LaunchRefused ⟦<S as Viewed>⟧.views H.allows H.refuses
             draining self.now sys.old sys.new pool.old pool.new) }
     {
-        let ready = self.ready()?;
-        self.launch_ready(sys, pool, ready)
+        let ready = self.ready(StartKind::Draining)?;
+        let (running, _) = self.launch_ready(sys, pool, StartKind::Draining, ready)?;
+        Ok(running)
     }
 
     /// Starts the expression as `launch` does, inside one more `stdout_capture`, and returns what
@@ -151,8 +166,10 @@ impl<E: Drop, H: Hook> Expression<E, H> {
         ensures refused { IfErr result (LaunchRefused ⟦<S as Viewed>⟧.views H.allows H.refuses
             reading self.now sys.old sys.new pool.old pool.new) }
     {
-        let ready = self.ready_captured()?;
-        self.launch_ready_reader(sys, pool, ready)
+        let ready = self.ready(StartKind::Reading)?;
+        let (running, reader) = self.launch_ready(sys, pool, StartKind::Reading, ready)?;
+        let Some(reader) = reader else { unreachable!() };
+        Ok((running, reader))
     }
 
     /// Starts the expression as `launch` does, and returns a handle of what runs, which threads can
@@ -173,78 +190,44 @@ impl<E: Drop, H: Hook> Expression<E, H> {
             draining self.now sys.old sys.new pool.old pool.new) }
     {
         let alloc = self.allocator();
-        let ready = self.ready()?;
+        let ready = self.ready(StartKind::Draining)?;
         let list = &ready.compiled.list;
         let room = handle_buffers(alloc, &ready.compiled.shape, list.commands, list.inputs)?;
-        let running = self.launch_ready(sys, pool, ready)?;
+        let (running, _) = self.launch_ready(sys, pool, StartKind::Draining, ready)?;
         Ok(handle_of(alloc, running, room))
     }
 }
 
 // The parts of a launch: what it allocates before the first request, and its requests.
 impl<E: Drop, H: Hook> Expression<E, H> {
-    // Allocates what `launch` needs.
-    pub(crate) fn ready<C: Drop, F: Drop, D: Drop>(&self) -> Result<Ready<'_, E, H, C, F, D>, Error>
-        ensures ready { IfOk result (IsReadyStart draining (tree_view self.now)) }
-        ensures memory { IsOkUnless result Error.Memory }
-    {
-        let compiled = compile(self.allocator(), self.root())?;
-        let drains = compiled.list.captures;
-        prepare(self.allocator(), compiled, drains)
-    }
-
-    // Allocates what `launch_reader` needs. Stdout's capture pipe has no worker.
-    pub(crate) fn ready_captured<C: Drop, F: Drop, D: Drop>(
+    // Allocates what a start of this kind needs.
+    pub(crate) fn ready<C: Drop, F: Drop, D: Drop>(
         &self,
+        kind: StartKind,
     ) -> Result<Ready<'_, E, H, C, F, D>, Error>
-        ensures ready { IfOk result (IsReadyStart reading (tree_view self.now)) }
+        ensures ready { IfOk result (IsReadyStart kind (tree_view self.now)) }
         ensures memory { IsOkUnless result Error.Memory }
     {
-        let compiled = compile_captured(self.allocator(), self.root())?;
-        let drains = Drains {
-            out: false,
-            ..compiled.list.captures
-        };
+        let compiled = compile(self.allocator(), self.root(), kind)?;
+        let drains = drained(kind, compiled.list.captures);
         prepare(self.allocator(), compiled, drains)
     }
 
-    // Starts what `ready` returned.
+    // Starts what `ready` returned for a start of this kind. Returns what runs, and for a start
+    // that reads the reader of stdout.
     pub(crate) fn launch_ready<S: System<End = E>>(
         &self,
         sys: &mut S,
         pool: &mut Pool<S::Child>,
+        kind: StartKind,
         ready: Ready<'_, E, H, Place<S::Child>, S::Feed, S::Drain>,
-    ) -> Result<Running<S>, Error>
-        requires { IsReadyStart draining (tree_view self.now) ready }
-        ensures launched { IfOk result (λ running. Launched ⟦<S as Viewed>⟧.views H.allows draining
-            self.now sys.old sys.new pool.old pool.new (Runs ⟦<S as Viewed>⟧.views running)) }
-        ensures refused { IfErr result (LaunchRefused ⟦<S as Viewed>⟧.views H.allows H.refuses
-            draining self.now sys.old sys.new pool.old pool.new) }
-    {
-        let Ready {
-            compiled,
-            core,
-            room,
-            held,
-        } = ready;
-        let list = &compiled.list;
-        let kept = start(sys, pool, &list.scopes, &list.actions, held)?;
-        Ok(running(core, kept, room))
-    }
-
-    // Starts what `ready_captured` returned, with the reader of stdout.
-    pub(crate) fn launch_ready_reader<S: System<End = E>>(
-        &self,
-        sys: &mut S,
-        pool: &mut Pool<S::Child>,
-        ready: Ready<'_, E, H, Place<S::Child>, S::Feed, S::Drain>,
-    ) -> Result<(Running<S>, S::Reader), Error>
-        requires { IsReadyStart reading (tree_view self.now) ready }
-        ensures launched { IfOk result (λ made. Launched ⟦<S as Viewed>⟧.views H.allows reading
-            self.now sys.old sys.new pool.old pool.new (RunsRead ⟦<S as Viewed>⟧.views S.may_read
+    ) -> Result<(Running<S>, Option<S::Reader>), Error>
+        requires { IsReadyStart kind (tree_view self.now) ready }
+        ensures launched { IfOk result (λ made. Launched ⟦<S as Viewed>⟧.views H.allows kind
+            self.now sys.old sys.new pool.old pool.new (RunsWith ⟦<S as Viewed>⟧.views S.may_read
             made.0 made.1)) }
         ensures refused { IfErr result (LaunchRefused ⟦<S as Viewed>⟧.views H.allows H.refuses
-            reading self.now sys.old sys.new pool.old pool.new) }
+            kind self.now sys.old sys.new pool.old pool.new) }
     {
         let Ready {
             compiled,
@@ -253,7 +236,7 @@ impl<E: Drop, H: Hook> Expression<E, H> {
             held,
         } = ready;
         let list = &compiled.list;
-        let (kept, reader) = start_reader(sys, pool, &list.scopes, &list.actions, held)?;
+        let (kept, reader) = start(sys, pool, &list.scopes, &list.actions, kind, held)?;
         Ok((running(core, kept, room), reader))
     }
 }

@@ -17,8 +17,11 @@ use Rattle.duct_system.specs.declared.system.Side.TheVariants as side
 use Rattle.duct_status.specs.ShapeView.{ShapeView, command_count, input_count}
 use Rattle.duct_status.specs.PerSide.{at_side}
 use Rattle.duct_run.specs.Actions as action
-use Rattle.duct_run.specs.Actions.{Action, ActionOf, NoneFinishes, Scope, State, PerStream, advance, after_actions, captures_in, surroundings_by, is_capture, with_plan}
-use Rattle.duct_start.specs.Plan.{capture_place, Plan, with_item, initial_plan, with_command, with_drain, is_canonical, with_opening, place_for, plan_of_subtree, plan_of, plan_of_reader, with_reader}
+use Rattle.duct_run.specs.Actions.{Action, ActionOf, NoneFinishes, Scope, State, PerStream, advance, after_actions, captures_in, surroundings_by, is_capture, with_capture_finished, with_plan}
+use Rattle.duct_run.specs.RunContract.{tail_for, tree_for}
+use Rattle.duct_run.specs.declared.start.StartKind.{StartKind}
+use Rattle.duct_run.specs.declared.start.StartKind.TheVariants.{Draining, Reading}
+use Rattle.duct_start.specs.Plan.{capture_place, Plan, with_item, initial_plan, with_command, with_drain, is_canonical, with_opening, place_for, plan_of_subtree, with_reader}
 use Rattle.duct_start.specs.Chain.{Allows}
 use Rattle.duct_run.specs.Flat.{StreamSource, parents, nothing, slot, captured, lent, source_actions, with_input, with_output, actions_of_subtree, actions_of, depth_inside, ports_at, root_scope, root_sources, scope_if, sources_inside, actions_around}
 use Rattle.duct_start.specs.Surroundings.{Surroundings}
@@ -32,7 +35,7 @@ use Rattle.duct_start.specs.Lookup.{surroundings_on}
 use Rattle.duct_run.proofs.Ceiling.{ceiling, ends_below}
 use Rattle.duct_start.specs.Row.{RowOpening, opens_nothing, opens_input, opens_read, opens_create, opens_capture, row}
 use Rattle.duct_start.specs.Step.{Item, AskPipe, opening_of, step}
-use Rattle.duct_start.specs.TreeView.{ModifierView, TreeView, command, pipe, around, stdin_bytes, unchecked, stdout_capture}
+use Rattle.duct_start.specs.TreeView.{ModifierView, TreeView, command, pipe, around, stdin_bytes, unchecked}
 use Rattle.duct_start.proofs.Commanded.{items_if, items_of, commanded_is, with_items}
 use Rattle.duct_run.proofs.Joined.{tree_leads}
 use Rattle.duct_run.proofs.Resolved.{list_resolves}
@@ -174,40 +177,35 @@ module _ {E H : Type 0} where
   adds_reads (Some place) plan = adds_items plan.items _
 
   -- the plan after a tree starts a child for each command, and a feed worker for each input
-  pub planned_counts : (tree : TreeView E H)
+  planned_counts : (tree : TreeView E H)
       → (spawns_asked (plan_of_subtree [] tree initial_plan).items ≡ command_count (shape_of_tree tree))
       × (feeds_asked (plan_of_subtree [] tree initial_plan).items ≡ input_count (shape_of_tree tree))
   planned_counts tree = let adds = adds_tree [] tree initial_plan in (omega (arith, adds.spawns), omega (arith, adds.feeds))
 
-  -- a run that has made all requests of a tree's plan holds a child for each command and a feed
-  -- worker for each input
-  pub started_counts : (allows : Allows H) (number_of : E → ℕ) (context : RunContext) (state : State E H)
-      (now : JournalView) (held : ResourcesView) (tree : TreeView E H)
-      → RunInvariant allows number_of context state now held → state.plan.items ≡ (plan_of tree).items
-      → (length held.children ≡ command_count (shape_of_tree tree))
-      × (length held.feeds ≡ input_count (shape_of_tree tree))
-  started_counts allows number_of context state now held tree invariant is =
-      let plan = plan_of_subtree [] tree initial_plan in
-      let all = counted allows number_of context state now held invariant in
-      let out = adds_drains plan.pipes.out plan in
-      let err = adds_drains plan.pipes.err (with_drain plan.pipes.out plan) in
-      let here = planned_counts tree in
-      (omega (arith, all.0, ap (λ l. spawns_asked l) is, out.spawns, err.spawns, here.0), omega (arith, all.1, ap (λ l. feeds_asked l) is, out.feeds, err.feeds, here.1))
+  -- how a start ends starts no child and no feed worker
+  adds_tail : (kind : StartKind) (plan : Plan E H) → AddsKinds 0 0 plan.items (tail_for kind plan).items
+  adds_tail Draining plan = adds_on (adds_drains plan.pipes.out plan) (adds_drains plan.pipes.err (with_capture_finished side.Out plan))
+  adds_tail Reading plan = adds_on (adds_drains plan.pipes.err plan) (adds_reads plan.pipes.out (with_capture_finished side.Err plan))
 
-  -- so does a run that has made all requests of the plan of a reader's start
-  pub reader_counts : (allows : Allows H) (number_of : E → ℕ) (context : RunContext) (state : State E H)
-      (now : JournalView) (held : ResourcesView) (tree : TreeView E H)
-      → RunInvariant allows number_of context state now held
-      → state.plan.items ≡ (plan_of_reader tree).items
+  -- the tree that is listed for a start has the shape of its tree
+  pub same_shape : (kind : StartKind) (tree : TreeView E H) → shape_of_tree (tree_for kind tree) ≡ shape_of_tree tree
+  same_shape Draining tree = refl
+  same_shape Reading tree = refl
+
+  -- a run that has made all requests of such a start of a tree holds a child for each command and a
+  -- feed worker for each input
+  pub started_counts : (allows : Allows H) (number_of : E → ℕ) (context : RunContext) (now : JournalView)
+      (held : ResourcesView) (kind : StartKind) (tree : TreeView E H)
+      → RunInvariant allows number_of context (with_plan (tail_for kind (plan_of_subtree [] (tree_for kind tree) initial_plan))) now held
       → (length held.children ≡ command_count (shape_of_tree tree))
       × (length held.feeds ≡ input_count (shape_of_tree tree))
-  reader_counts allows number_of context state now held tree invariant is =
-      let plan = plan_of_subtree [] (around stdout_capture tree) initial_plan in
-      let all = counted allows number_of context state now held invariant in
-      let err = adds_drains plan.pipes.err plan in
-      let out = adds_reads plan.pipes.out (with_drain plan.pipes.err plan) in
-      let here = planned_counts (around stdout_capture tree) in
-      (omega (arith, all.0, ap (λ l. spawns_asked l) is, out.spawns, err.spawns, here.0), omega (arith, all.1, ap (λ l. feeds_asked l) is, out.feeds, err.feeds, here.1))
+  started_counts allows number_of context now held kind tree invariant =
+      let plan = plan_of_subtree [] (tree_for kind tree) initial_plan in
+      let all = counted allows number_of context (with_plan (tail_for kind plan)) now held invariant in
+      let tail = adds_tail kind plan in
+      let here = planned_counts (tree_for kind tree) in
+      let shape = same_shape kind tree in
+      (omega (arith, all.0, tail.spawns, here.0, ap (λ s. command_count s) shape), omega (arith, all.1, tail.feeds, here.1, ap (λ s. input_count s) shape))
 
   if_of : {X : Type 0} (f : Plan E H → X) (b : Bool) (p q : Plan E H) → f p ≡ f q
       → f (if b then p else q) ≡ f q

@@ -1,8 +1,8 @@
--- A run of the actions of a whole tree is its start.
+-- A run of the actions of a whole tree is its start, of either kind.
 use Rattle.std.proofs.Common.{◌≡◌, ℕ, ◌+◌, ◌*◌, List, [], ◌++◌, ap, refl, sym, ◌∙◌, arith, subst}
 use Rattle.std.proofs.lemmas.List.{nil_from_length}
 use Rattle.std.specs.declared.option.Option.{Option}
-use Rattle.std.specs.Prelude.{false, None, Some, is_some}
+use Rattle.std.specs.Prelude.{false, None, Some, is_some, true}
 use Rattle.duct_system.specs.Journal.{JournalView}
 use Rattle.duct_system.specs.declared.error.Error.{Error}
 use Rattle.duct_system.specs.declared.error.Error.TheVariants.{Memory}
@@ -11,13 +11,15 @@ use Rattle.duct_run.specs.Actions.{Action, Leads, State, with_plan}
 use Rattle.duct_start.specs.Chain.{Allows, Refuses}
 use Rattle.duct_run.specs.Commands.{StoppedWithCause}
 use Rattle.duct_run.specs.Flat.{actions_of}
-use Rattle.duct_run.specs.ResourcesView.{ResourcesView, empty_resources, open_ends, pipe_ends}
-use Rattle.duct_start.specs.Plan.{Plan, initial_plan, with_drain, plan_of, plan_of_reader, plan_of_subtree, with_reader}
-use Rattle.duct_run.specs.RunContract.{PlanTail, OpenOutputCapture, LeadToSomePlan, ActionsSucceed, ActionsFail, context_of, drain_tail, drain_and_reader_tail}
+use Rattle.duct_run.specs.ResourcesView.{ResourcesView, empty_resources, pipe_ends}
+use Rattle.duct_start.specs.Plan.{Plan, initial_plan, with_drain, plan_of_subtree, with_reader}
+use Rattle.duct_run.specs.RunContract.{OpenOutputCapture, LeadToSomePlan, ActionsSucceed, ActionsFail, context_of, tail_for, tree_for}
+use Rattle.duct_run.specs.declared.start.StartKind.{StartKind}
+use Rattle.duct_run.specs.declared.start.StartKind.TheVariants.{Draining, Reading}
 use Rattle.duct_run.specs.RunInvariant.{RunInvariant}
 use Rattle.duct_start.specs.Start.{StartRefused, StartSucceeds, depth}
 use Rattle.duct_run.proofs.Ceiling.{ceiling, ends_below}
-use Rattle.duct_start.specs.TreeView.{TreeView, around, stdout_capture}
+use Rattle.duct_start.specs.TreeView.{TreeView}
 use Rattle.duct_run.proofs.Closes.{closes_none}
 use Rattle.duct_run.proofs.Counted.{list_captures}
 use Rattle.duct_run.proofs.Closing.{refused_closed}
@@ -32,7 +34,7 @@ no_pair (Some pair) is = absurd (cc)
 
 -- the drain workers of the open capture pipes are requested as the plan says
 pub drained_items : {E H : Type 0} (plan : Plan E H)
-    → (drain_tail plan).items ≡ (with_drain plan.pipes.err (with_drain plan.pipes.out plan)).items
+    → (tail_for Draining plan).items ≡ (with_drain plan.pipes.err (with_drain plan.pipes.out plan)).items
 drained_items plan = by plan.pipes.out plan.pipes.err
   where
     by : (out err : Option ℕ)
@@ -43,7 +45,7 @@ drained_items plan = by plan.pipes.out plan.pipes.err
     by (Some place) (Some other) = refl
 
 pub read_items : {E H : Type 0} (plan : Plan E H)
-    → (drain_and_reader_tail plan).items ≡ (with_reader plan.pipes.out (with_drain plan.pipes.err plan)).items
+    → (tail_for Reading plan).items ≡ (with_reader plan.pipes.out (with_drain plan.pipes.err plan)).items
 read_items plan = by plan.pipes.out plan.pipes.err
   where
     by : (out err : Option ℕ)
@@ -76,73 +78,69 @@ read_pipe plan = by plan.pipes.out plan.pipes.err
     by (Some place) None = refl
     by (Some place) (Some other) = refl
 
-module _ {E H : Type 0} (allows : Allows H) (number_of : E → ℕ) (tree : TreeView E H) (actions : List (Action E H)) (same : actions ≡ actions_of tree) where
-  abbrev goal : Plan E H
-  goal = plan_of_subtree [] tree initial_plan
+-- no capture pipe is open at the end of a start
+pipes_closed : {E H : Type 0} (kind : StartKind) (plan : Plan E H)
+    → ((tail_for kind plan).pipes.out ≡ None) × ((tail_for kind plan).pipes.err ≡ None)
+pipes_closed Draining plan = (refl, refl)
+pipes_closed Reading plan = (refl, refl)
 
-  -- the actions lead to the plan of the tree
+module _ {E H : Type 0} (allows : Allows H) (number_of : E → ℕ) (kind : StartKind) (tree : TreeView E H) (actions : List (Action E H)) (same : actions ≡ actions_of (tree_for kind tree)) where
+  abbrev goal : Plan E H
+  goal = plan_of_subtree [] (tree_for kind tree) initial_plan
+
+  -- the actions lead to the plan of the tree that is listed
   pub list_leads : Leads number_of (ceiling number_of tree) (2 * depth tree + 4) (with_plan initial_plan)
-      actions (with_plan (plan_of_subtree [] tree initial_plan))
-  list_leads =
-      subst (λ (l : List (Action E H)). Leads number_of (ceiling number_of tree) (2 * depth tree + 4) (with_plan initial_plan) l (with_plan goal)) (sym same)
-      (tree_leads number_of (ceiling number_of tree) tree (ends_below number_of tree))
+      actions (with_plan (plan_of_subtree [] (tree_for kind tree) initial_plan))
+  list_leads = subst (λ (l : List (Action E H)). Leads number_of (ceiling number_of tree) (2 * depth tree + 4) (with_plan initial_plan) l (with_plan goal)) (sym same) (by kind)
+    where
+      by : (kind : StartKind) → Leads number_of (ceiling number_of tree) (2 * depth tree + 4) (with_plan initial_plan)
+          (actions_of (tree_for kind tree)) (with_plan (plan_of_subtree [] (tree_for kind tree) initial_plan))
+      by Draining = tree_leads number_of (ceiling number_of tree) tree (ends_below number_of tree)
+      by Reading =
+          let listed = tree_for Reading tree in
+          let same_bound : 2 * depth listed + 4 ≡ 2 * depth tree + 4 = omega arith in
+          subst (λ (bound : ℕ). Leads number_of (ceiling number_of tree) bound (with_plan initial_plan) (actions_of listed) (with_plan (plan_of_subtree [] listed initial_plan)))
+          same_bound (tree_leads number_of (ceiling number_of tree) listed (ends_below number_of listed))
 
   pub some_leads : LeadToSomePlan number_of actions
-  some_leads = (ceiling number_of tree, 2 * depth tree + 4, plan_of_subtree [] tree initial_plan, list_leads)
+  some_leads = (ceiling number_of tree, 2 * depth tree + 4, goal, list_leads)
 
-  -- what holds if the actions and the ending ran
-  pub invariant_launched : (ending : PlanTail E H) (old now : JournalView) (held : ResourcesView)
-      (runs : ActionsSucceed allows number_of ending actions old now held)
+  -- what holds if the actions and the tail ran
+  pub invariant_launched : (old now : JournalView) (held : ResourcesView)
+      (runs : ActionsSucceed allows number_of (tail_for kind) actions old now held)
       → RunInvariant allows number_of (context_of old (ceiling number_of tree) (2 * depth tree + 4) runs.0)
-      (with_plan (ending (plan_of_subtree [] tree initial_plan))) now held
-  invariant_launched ending old now held runs = runs.1 (ceiling number_of tree) (2 * depth tree + 4) goal list_leads
+      (with_plan (tail_for kind (plan_of_subtree [] (tree_for kind tree) initial_plan))) now held
+  invariant_launched old now held runs = runs.1 (ceiling number_of tree) (2 * depth tree + 4) goal list_leads
 
   -- what holds if they failed
-  pub refused_launched : (ending : PlanTail E H) (refuses : Refuses H) (old now : JournalView)
-      (held : ResourcesView) (e : Error)
-      (refused : ActionsFail allows refuses number_of ending actions old now held e)
+  pub refused_launched : (refuses : Refuses H) (old now : JournalView) (held : ResourcesView) (e : Error)
+      (refused : ActionsFail allows refuses number_of (tail_for kind) actions old now held e)
       → StoppedWithCause allows refuses number_of
       (context_of old (ceiling number_of tree) (2 * depth tree + 4) refused.0)
-      (ending (plan_of_subtree [] tree initial_plan)).items now held e
-  refused_launched ending refuses old now held e refused = refused.1 (ceiling number_of tree) (2 * depth tree + 4) goal list_leads
+      (tail_for kind (plan_of_subtree [] (tree_for kind tree) initial_plan)).items now held e
+  refused_launched refuses old now held e refused = refused.1 (ceiling number_of tree) (2 * depth tree + 4) goal list_leads
 
-  -- if no capture pipe is left open, no end is held
-  nothing_left : (ending : PlanTail E H) → (ending goal).pipes.out ≡ None → (ending goal).pipes.err ≡ None
+  -- the start succeeds, and no end is held
+  pub launched : (plan : Plan E H)
+      → (tail_for kind (plan_of_subtree [] (tree_for kind tree) initial_plan)).items ≡ plan.items
       → (old now : JournalView) (held : ResourcesView)
-      → ActionsSucceed allows number_of ending actions old now held → open_ends held ≡ []
-  nothing_left ending no_out no_err old now held runs =
-      let invariant = invariant_launched ending old now held runs in
-      let stack = nil_from_length held.stack invariant.shaped.stack in
-      let out = no_pair held.pipes.out (invariant.shaped.pipes side.Out ∙ ap (λ (o : Option ℕ). is_some o) no_out) in
-      let err = no_pair held.pipes.err (invariant.shaped.pipes side.Err ∙ ap (λ (o : Option ℕ). is_some o) no_err) in
-      λ i. stack i ++ (out i ++ err i)
-
-  -- the start succeeds
-  pub launched : (old now : JournalView) (held : ResourcesView)
-      → ActionsSucceed allows number_of drain_tail actions old now held
-      → StartSucceeds allows number_of tree (plan_of tree) old now
-  launched old now held runs =
+      → ActionsSucceed allows number_of (tail_for kind) actions old now held
+      → StartSucceeds allows number_of tree plan old now
+  launched plan items old now held runs =
       let context = context_of old (ceiling number_of tree) (2 * depth tree + 4) runs.0 in
-      succeeded allows number_of tree (plan_of tree) context (with_plan (drain_tail goal)) old now held (invariant_launched drain_tail old now held runs) refl refl refl
-      (drained_items goal) (nothing_left drain_tail refl refl old now held runs)
+      let invariant = invariant_launched old now held runs in
+      let closed = pipes_closed kind goal in
+      let stack = nil_from_length held.stack invariant.shaped.stack in
+      let out = no_pair held.pipes.out (invariant.shaped.pipes side.Out ∙ ap (λ (o : Option ℕ). is_some o) closed.0) in
+      let err = no_pair held.pipes.err (invariant.shaped.pipes side.Err ∙ ap (λ (o : Option ℕ). is_some o) closed.1) in
+      succeeded allows number_of tree plan context (with_plan (tail_for kind goal)) old now held invariant refl refl refl items (λ i. stack i ++ (out i ++ err i))
 
--- so does a reader's start, whose actions open stdout's capture pipe
-module _ {E H : Type 0} (allows : Allows H) (number_of : E → ℕ) (tree : TreeView E H) (actions : List (Action E H)) (same : actions ≡ actions_of (around stdout_capture tree)) where
-  pub read_launched : (old now : JournalView) (held : ResourcesView)
-      → ActionsSucceed allows number_of drain_and_reader_tail actions old now held
-      → StartSucceeds allows number_of tree (plan_of_reader tree) old now
-  read_launched old now held runs =
-      let captured = around stdout_capture tree in
-      let goal = plan_of_subtree [] captured initial_plan in
-      let context = context_of old (ceiling number_of captured) (2 * depth captured + 4) runs.0 in
-      succeeded allows number_of tree (plan_of_reader tree) context (with_plan (drain_and_reader_tail goal)) old now held (invariant_launched allows number_of captured actions same drain_and_reader_tail old now held runs)
-      refl refl (omega arith) (read_items goal) (nothing_left allows number_of captured actions same drain_and_reader_tail refl refl old now held runs)
-
-  pub reads_out : OpenOutputCapture number_of actions
-  reads_out base bound plan leads =
-      let captured = around stdout_capture tree in
-      let is : plan ≡ plan_of_subtree [] captured initial_plan = ap (λ (s : State E H). s.plan) (sym leads.is ∙ (list_leads allows number_of captured actions same).is) in
-      ap (λ (p : Plan E H). is_some p.pipes.out) is ∙ list_captures side.Out captured
+  -- the actions of a start that reads open stdout's capture pipe
+  pub reads_out : kind ≡ Reading → OpenOutputCapture number_of actions
+  reads_out reads base bound plan leads =
+      let is : plan ≡ goal = ap (λ (s : State E H). s.plan) (sym leads.is ∙ list_leads.is) in
+      ap (λ (p : Plan E H). is_some p.pipes.out) is
+      ∙ subst (λ k. is_some (plan_of_subtree [] (tree_for k tree) initial_plan).pipes.out ≡ true) (sym reads) (list_captures side.Out (tree_for Reading tree))
 
 -- an allocation failed before any request was made
 pub unasked_launch : {E H : Type 0} (allows : Allows H) (refuses : Refuses H) (number_of : E → ℕ)

@@ -21,7 +21,7 @@ use Rattle.duct_run.proofs.Going.{pop_changes}
 use Rattle.duct_run.proofs.RunInvariant.{Changes, few_of, sources_now, invariant_more}
 use Rattle.duct_run.proofs.Whole.{segment-added}
 
-module _ {E H : Type 0} (allows : Allows H) (number_of : E → ℕ) (r w : ℕ) (now mid next : JournalView) (held : ResourcesView) (is : held.pipes.out ≡ Some (r, w))
+module _ {E H : Type 0} {allows : Allows H} {number_of : E → ℕ} {r w : ℕ} {now mid next : JournalView} {held : ResourcesView} (is : held.pipes.out ≡ Some (r, w))
     (closed : GivesEnds (Close w) 1 now mid) (made : GivesEnds (Reader r) 1 mid next) where
   reads_on : (context : RunContext) (st : State E H) → length st.stack ≤ context.bound
       → RunInvariant allows number_of context st now held
@@ -43,15 +43,15 @@ module _ {E H : Type 0} (allows : Allows H) (number_of : E → ℕ) (r w : ℕ) 
       (λ more later. ((from more later).stack.0.0, tt))
       (λ more later. let z = from more later in record { stack = z.stack.1; pipes = z.pipes }))
 
-  module _ (ending : PlanTail E H) (actions : List (Action E H)) (old : JournalView) (runs : ActionsSucceed allows number_of ending actions old now held) where
+  module _ {ending : PlanTail E H} {actions : List (Action E H)} {old : JournalView} (runs : ActionsSucceed allows number_of ending actions old now held) where
     pub run_reads : ActionsSucceed allows number_of (λ plan. reader_tail (ending plan)) actions old next
         (without side.Out [] held)
     run_reads = (runs.0, λ base bound plan leads. reads_on (context_of old base bound runs.0) (with_plan (ending plan)) (omega arith) (runs.1 base bound plan leads))
 
     -- the request for the reader is the last one
-    pub reader_last : {R : Type 0} (may : ℕ → R → Type 0) (reader : R) → may r reader
+    pub reader_last : {R : Type 0} (may : ℕ → R → Type 0) {reader : R} → may r reader
         → LeadToSomePlan number_of actions → MadeReader may (segment old.entries next.entries) reader
-    reader_last may reader told leads =
+    reader_last may told leads =
         let invariant = runs.1 leads.0 leads.1 leads.2 leads.3 in
         let added = invariant.added ++ Close w ∷ [] in
         let all : next.entries ≡ old.entries ++ (added ++ Reader r ∷ []) =

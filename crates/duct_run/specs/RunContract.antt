@@ -1,5 +1,7 @@
 -- What a whole run guarantees, from the request for the environment to the capture pipes.
-use Rattle.std.specs.Prelude.{◌≡◌, Bool, is_some, ℕ, List, [], IsSome, None}
+use Rattle.std.specs.Prelude.{◌≡◌, Bool, false, is_some, ℕ, List, [], IsSome, None, Some}
+use Rattle.std.specs.declared.option.Option.{Option}
+use Rattle.duct_system.specs.EntryView.{EntryView}
 use Rattle.duct_system.specs.Journal.{JournalView}
 use Rattle.duct_system.specs.SpecView.{Vars}
 use Rattle.duct_system.specs.declared.error.Error.{Error}
@@ -11,6 +13,10 @@ use Rattle.duct_run.specs.Commands.{StoppedWithCause}
 use Rattle.duct_run.specs.ResourcesView.{ResourcesView}
 use Rattle.duct_start.specs.Plan.{Plan, initial_plan, with_reader}
 use Rattle.duct_run.specs.RunInvariant.{RunContext, RunInvariant}
+use Rattle.duct_run.specs.declared.start.StartKind.{StartKind}
+use Rattle.duct_run.specs.declared.start.StartKind.TheVariants.{Draining, Reading}
+use Rattle.duct_start.specs.Running.{MadeReader}
+use Rattle.duct_start.specs.TreeView.{TreeView, around, stdout_capture}
 
 -- how the plan goes on once the commands run
 abbrev pub PlanTail : Type 0 → Type 0 → Type 0
@@ -20,10 +26,6 @@ PlanTail E H = Plan E H → Plan E H
 abbrev pub no_tail : {E H : Type 0} → PlanTail E H
 no_tail plan = plan
 
--- the drain workers of the capture pipes
-abbrev pub drain_tail : {E H : Type 0} → PlanTail E H
-drain_tail plan = with_capture_finished side.Err (with_capture_finished side.Out plan)
-
 -- the reader of stdout's capture pipe
 abbrev pub reader_tail : {E H : Type 0} → PlanTail E H
 reader_tail plan = record {
@@ -31,9 +33,16 @@ reader_tail plan = record {
   pipes = with_side plan.pipes side.Out None;
 }
 
--- stderr's drain worker, and the reader
-abbrev pub drain_and_reader_tail : {E H : Type 0} → PlanTail E H
-drain_and_reader_tail plan = reader_tail (with_capture_finished side.Err plan)
+-- how it goes on at such a start: with the drain workers of the capture pipes, or with stderr's and
+-- the reader
+abbrev pub tail_for : {E H : Type 0} → StartKind → PlanTail E H
+tail_for Draining plan = with_capture_finished side.Err (with_capture_finished side.Out plan)
+tail_for Reading plan = reader_tail (with_capture_finished side.Err plan)
+
+-- the tree that is listed for such a start: a reader's is inside one more capture of stdout
+abbrev pub tree_for : {E H : Type 0} → StartKind → TreeView E H → TreeView E H
+tree_for Draining tree = tree
+tree_for Reading tree = around stdout_capture tree
 
 -- the context of a run that began with this journal
 abbrev pub context_of : JournalView → ℕ → ℕ → Vars → RunContext
@@ -71,10 +80,24 @@ ActionsFail {E} {H} allows refuses number_of ending actions old now held error =
     (ending plan).items now held
     error)
 
--- these booleans tell whether stdout and stderr have a capture pipe, whatever plan the actions lead
--- to
-abbrev pub HavePipes : {E H : Type 0} → (E → ℕ) → List (Action E H) → Bool → Bool → Type 0
-HavePipes {E} {H} number_of actions output error =
+-- whether stdout's capture pipe gets a worker at such a start, by whether it is open
+abbrev pub drains_if_open : StartKind → Bool → Bool
+drains_if_open Draining is_open = is_open
+drains_if_open Reading is_open = false
+
+-- these booleans tell whether stdout and stderr get a capture worker at such a start, whatever plan
+-- the actions lead to
+abbrev pub HaveWorkers : {E H : Type 0} → StartKind → (E → ℕ) → List (Action E H) → Bool → Bool
+    → Type 0
+HaveWorkers {E} {H} kind number_of actions output error =
     (base bound : ℕ) (plan : Plan E H)
     → Leads number_of base bound (with_plan initial_plan) actions (with_plan plan)
-    → (output ≡ is_some plan.pipes.out) × (error ≡ is_some plan.pipes.err)
+    → (output ≡ drains_if_open kind (is_some plan.pipes.out)) × (error ≡ is_some plan.pipes.err)
+
+-- the reader of such a start, by the entries that it added: a start that reads made it last, and
+-- another start made none
+abbrev pub IsReaderOf : {R : Type 0} → (ℕ → R → Type 0) → StartKind → List EntryView → Option R
+    → Type 0
+IsReaderOf may Draining added reader = reader ≡ None
+IsReaderOf may Reading added None = ⊥
+IsReaderOf may Reading added (Some reader) = MadeReader may added reader

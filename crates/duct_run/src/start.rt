@@ -1,10 +1,10 @@
 //! A start: it runs its actions, and where one of them fails it gives up its resources.
-ghost use Rattle.std.specs.Prelude.{◌≡◌, ◌≤◌, All, length, is_some, true, None, OnOk, IfOk, IfErr, IsSome, []};
+ghost use Rattle.std.specs.Prelude.{◌≡◌, ◌≤◌, All, length, is_some, None, OnOk, IfOk, IfErr, IsSome, []};
 ghost use Rattle.duct_system.specs.Trace.{segment};
 ghost use Rattle.duct_run.specs.ResourcesView.{empty_resources, HasSameWorkers};
 ghost use Rattle.duct_run.specs.ActionList.{AreOutwards, IsWithin};
-ghost use Rattle.duct_run.specs.RunContract.{HavePipes, OpenOutputCapture, LeadToSomePlan, drain_tail, drain_and_reader_tail, no_tail};
-ghost use Rattle.duct_start.specs.Running.{MadeReader};
+ghost use Rattle.duct_run.specs.RunContract.{HaveWorkers, IsReaderOf, LeadToSomePlan, OpenOutputCapture, no_tail, tail_for};
+ghost use Rattle.duct_run.specs.declared.start.StartKind.TheVariants.{Reading};
 ghost use Rattle.duct_run.specs.ActionView.{actions_view, resolved_in};
 ghost use Rattle.duct_run.specs.OutputRead.{IsRead, pipe_view};
 ghost use Rattle.duct_run.specs.Requested.{RunGivesUp, HoldsUnasked, RunFails, RunSucceeds, resources_of};
@@ -22,6 +22,15 @@ use duct_base::error::Error;
 use duct_base::pool::{Place, Pool};
 use duct_base::spec::Hook;
 use duct_base::system::{Side, System};
+
+/// How a start ends.
+#[derive(Clone, Copy)]
+pub enum StartKind {
+    /// With the workers of the capture pipes.
+    Draining,
+    /// With the worker of stderr's capture pipe and the reader of stdout's.
+    Reading,
+}
 
 // Asks for the environment, then performs the actions.
 fn run_actions<S: System, H: Hook>(
@@ -50,35 +59,6 @@ fn run_actions<S: System, H: Hook>(
     perform_all(sys, pool, &pairs, scopes, actions, held)
 }
 
-// Asks for the environment, performs the actions, and starts the workers of the capture pipes.
-fn run<S: System, H: Hook>(
-    sys: &mut S,
-    pool: &mut Pool<S::Child>,
-    scopes: &[Scope<'_, S::End, H>],
-    actions: &[Action<'_, S::End>],
-    held: &mut Resources<S::End, Place<S::Child>, S::Feed, S::Drain>,
-) -> Result<(), Error>
-    requires outwards { AreOutwards (scopes_view scopes.now) }
-    requires within { All (IsWithin (length scopes.now)) (actions_view actions.now) }
-    requires begun { resources_of ⟦<S as Viewed>⟧.views held.old ≡ empty_resources }
-    requires leads { LeadToSomePlan S.End.number_of (resolved_in scopes.now actions.now) }
-    ensures ok { OnOk result (RunSucceeds ⟦<S as Viewed>⟧.views H.allows drain_tail (resolved_in
-        scopes.now actions.now) sys.old sys.new held.new) }
-    ensures err { IfErr result (RunFails ⟦<S as Viewed>⟧.views H.allows H.refuses drain_tail
-        (resolved_in scopes.now actions.now) sys.old sys.new held.new) }
-    ensures workers { OnOk result (HavePipes S.End.number_of (resolved_in scopes.now actions.now)
-        (is_some held.new.drains.out) (is_some held.new.drains.err)) }
-    ensures new { HoldsUnasked ⟦<S as Viewed>⟧.views held.old
-        → HoldsUnasked ⟦<S as Viewed>⟧.views held.new }
-    ensures pool { Leaves ⟦<S as Viewed>⟧.views.may_answer []
-        (pool_view ⟦<S as Viewed>⟧.views.child pool.old)
-        (pool_view ⟦<S as Viewed>⟧.views.child pool.new) }
-{
-    run_actions(sys, pool, scopes, actions, held)?;
-    finish::<S, H>(sys, Side::Out, held)?;
-    finish::<S, H>(sys, Side::Err, held)
-}
-
 // Closes the write end of stdout's capture pipe and returns a reader of its read end.
 fn read_output<S: System>(sys: &mut S, output: &mut Option<(S::End, S::End)>) -> S::Reader
     requires open { IsSome output.old }
@@ -96,29 +76,30 @@ fn read_output<S: System>(sys: &mut S, output: &mut Option<(S::End, S::End)>) ->
     }
 }
 
-// Asks for the environment, performs the actions, starts stderr's capture worker, and returns the
-// reader of stdout's capture pipe.
-fn run_reader<S: System, H: Hook>(
+// Asks for the environment, performs the actions, and ends as a start of this kind: with the workers
+// of the capture pipes, or with the reader of stdout's.
+fn run<S: System, H: Hook>(
     sys: &mut S,
     pool: &mut Pool<S::Child>,
     scopes: &[Scope<'_, S::End, H>],
     actions: &[Action<'_, S::End>],
+    kind: StartKind,
     held: &mut Resources<S::End, Place<S::Child>, S::Feed, S::Drain>,
-) -> Result<S::Reader, Error>
+) -> Result<Option<S::Reader>, Error>
     requires outwards { AreOutwards (scopes_view scopes.now) }
     requires within { All (IsWithin (length scopes.now)) (actions_view actions.now) }
     requires begun { resources_of ⟦<S as Viewed>⟧.views held.old ≡ empty_resources }
     requires leads { LeadToSomePlan S.End.number_of (resolved_in scopes.now actions.now) }
-    requires opens { OpenOutputCapture S.End.number_of (resolved_in scopes.now actions.now) }
-    ensures ok { OnOk result (RunSucceeds ⟦<S as Viewed>⟧.views H.allows drain_and_reader_tail
+    requires opens { kind ≡ Reading
+        → OpenOutputCapture S.End.number_of (resolved_in scopes.now actions.now) }
+    ensures ok { OnOk result (RunSucceeds ⟦<S as Viewed>⟧.views H.allows (tail_for kind)
         (resolved_in scopes.now actions.now) sys.old sys.new held.new) }
-    ensures reader { IfOk result (MadeReader S.may_read (segment (S.journal_view sys.old).entries
-        (S.journal_view sys.new).entries)) }
-    ensures err { IfErr result (RunFails ⟦<S as Viewed>⟧.views H.allows H.refuses
-        drain_and_reader_tail (resolved_in scopes.now actions.now) sys.old sys.new held.new) }
-    ensures output { OnOk result (held.new.drains.out ≡ None) }
-    ensures workers { OnOk result (HavePipes S.End.number_of (resolved_in scopes.now actions.now)
-        true (is_some held.new.drains.err)) }
+    ensures reader { IfOk result (IsReaderOf S.may_read kind (segment
+        (S.journal_view sys.old).entries (S.journal_view sys.new).entries)) }
+    ensures err { IfErr result (RunFails ⟦<S as Viewed>⟧.views H.allows H.refuses (tail_for kind)
+        (resolved_in scopes.now actions.now) sys.old sys.new held.new) }
+    ensures workers { OnOk result (HaveWorkers kind S.End.number_of (resolved_in scopes.now
+        actions.now) (is_some held.new.drains.out) (is_some held.new.drains.err)) }
     ensures new { HoldsUnasked ⟦<S as Viewed>⟧.views held.old
         → HoldsUnasked ⟦<S as Viewed>⟧.views held.new }
     ensures pool { Leaves ⟦<S as Viewed>⟧.views.may_answer []
@@ -126,12 +107,22 @@ fn run_reader<S: System, H: Hook>(
         (pool_view ⟦<S as Viewed>⟧.views.child pool.new) }
 {
     run_actions(sys, pool, scopes, actions, held)?;
-    finish::<S, H>(sys, Side::Err, held)?;
-    Ok(read_output(sys, &mut held.pipes.out))
+    match kind {
+        StartKind::Draining => {
+            finish::<S, H>(sys, Side::Out, held)?;
+            finish::<S, H>(sys, Side::Err, held)?;
+            Ok(None)
+        }
+        StartKind::Reading => {
+            finish::<S, H>(sys, Side::Err, held)?;
+            Ok(Some(read_output(sys, &mut held.pipes.out)))
+        }
+    }
 }
 
-/// Runs the actions of a start and returns the resources that they leave. `held` has to be empty.
-/// The pool is swept before each command. It doesn't wait for the commands.
+/// Runs the actions of a start and returns the resources that they leave, and for a start that
+/// reads the reader of stdout's capture pipe, which the actions have to open. `held` has to be
+/// empty. The pool is swept before each command. It doesn't wait for the commands.
 ///
 /// Fails with `Error::System` where the system refuses a request, with `Error::Hook` or
 /// `Error::HookEnd` where a hook stops a command, and with `Error::Memory`. Then each open end is
@@ -142,49 +133,12 @@ pub fn start<S: System, H: Hook>(
     pool: &mut Pool<S::Child>,
     scopes: &[Scope<'_, S::End, H>],
     actions: &[Action<'_, S::End>],
-    held: Resources<S::End, Place<S::Child>, S::Feed, S::Drain>,
-) -> Result<Resources<S::End, Place<S::Child>, S::Feed, S::Drain>, Error>
-    requires outwards { AreOutwards (scopes_view scopes.now) }
-    requires within { All (IsWithin (length scopes.now)) (actions_view actions.now) }
-    requires begun { resources_of ⟦<S as Viewed>⟧.views held ≡ empty_resources }
-    requires new { HoldsUnasked ⟦<S as Viewed>⟧.views held }
-    requires leads { LeadToSomePlan S.End.number_of (resolved_in scopes.now actions.now) }
-    ensures ok { IfOk result (λ kept. RunSucceeds ⟦<S as Viewed>⟧.views H.allows drain_tail
-        (resolved_in scopes.now actions.now) sys.old sys.new kept) }
-    ensures kept { IfOk result (λ kept. HoldsUnasked ⟦<S as Viewed>⟧.views kept) }
-    ensures workers { IfOk result (λ kept. HavePipes S.End.number_of (resolved_in scopes.now
-        actions.now) (is_some kept.drains.out) (is_some kept.drains.err)) }
-    ensures swept { OnOk result (Leaves ⟦<S as Viewed>⟧.views.may_answer []
-        (pool_view ⟦<S as Viewed>⟧.views.child pool.old)
-        (pool_view ⟦<S as Viewed>⟧.views.child pool.new)) }
-    ensures err { IfErr result (RunGivesUp ⟦<S as Viewed>⟧.views H.allows H.refuses drain_tail
-        (resolved_in scopes.now actions.now) sys.old sys.new pool.old pool.new) }
-{
-    let mut held = held;
-    match run(sys, pool, scopes, actions, &mut held) {
-        Ok(()) => Ok(held),
-        Err(error) => {
-            give_up(sys, pool, held);
-            Err(error)
-        }
-    }
-}
-
-/// Runs the actions of a reader's start, which open stdout's capture pipe. Returns the resources
-/// that they leave, and the reader of that pipe, which has no worker. `held` has to be empty. The
-/// pool is swept before each command. It doesn't wait for the commands.
-///
-/// Fails as `start` does, and leaves the same.
-pub fn start_reader<S: System, H: Hook>(
-    sys: &mut S,
-    pool: &mut Pool<S::Child>,
-    scopes: &[Scope<'_, S::End, H>],
-    actions: &[Action<'_, S::End>],
+    kind: StartKind,
     held: Resources<S::End, Place<S::Child>, S::Feed, S::Drain>,
 ) -> Result<
     (
         Resources<S::End, Place<S::Child>, S::Feed, S::Drain>,
-        S::Reader,
+        Option<S::Reader>,
     ),
     Error,
 >
@@ -193,24 +147,23 @@ pub fn start_reader<S: System, H: Hook>(
     requires begun { resources_of ⟦<S as Viewed>⟧.views held ≡ empty_resources }
     requires new { HoldsUnasked ⟦<S as Viewed>⟧.views held }
     requires leads { LeadToSomePlan S.End.number_of (resolved_in scopes.now actions.now) }
-    requires opens { OpenOutputCapture S.End.number_of (resolved_in scopes.now actions.now) }
-    ensures ok { IfOk result (λ made. RunSucceeds ⟦<S as Viewed>⟧.views H.allows
-        drain_and_reader_tail (resolved_in scopes.now actions.now) sys.old sys.new made.0) }
-    ensures reader { IfOk result (λ made. MadeReader S.may_read
-        (segment (S.journal_view sys.old).entries (S.journal_view sys.new).entries) made.1) }
+    requires opens { kind ≡ Reading
+        → OpenOutputCapture S.End.number_of (resolved_in scopes.now actions.now) }
+    ensures ok { IfOk result (λ made. RunSucceeds ⟦<S as Viewed>⟧.views H.allows (tail_for kind)
+        (resolved_in scopes.now actions.now) sys.old sys.new made.0) }
+    ensures reader { IfOk result (λ made. IsReaderOf S.may_read kind (segment
+        (S.journal_view sys.old).entries (S.journal_view sys.new).entries) made.1) }
     ensures kept { IfOk result (λ made. HoldsUnasked ⟦<S as Viewed>⟧.views made.0) }
-    ensures output { IfOk result (λ made. made.0.drains.out ≡ None) }
-    ensures workers { IfOk result (λ made. HavePipes S.End.number_of (resolved_in scopes.now
-        actions.now) true (is_some made.0.drains.err)) }
+    ensures workers { IfOk result (λ made. HaveWorkers kind S.End.number_of (resolved_in scopes.now
+        actions.now) (is_some made.0.drains.out) (is_some made.0.drains.err)) }
     ensures swept { OnOk result (Leaves ⟦<S as Viewed>⟧.views.may_answer []
         (pool_view ⟦<S as Viewed>⟧.views.child pool.old)
         (pool_view ⟦<S as Viewed>⟧.views.child pool.new)) }
-    ensures err { IfErr result (RunGivesUp ⟦<S as Viewed>⟧.views H.allows H.refuses
-        drain_and_reader_tail (resolved_in scopes.now actions.now)
-        sys.old sys.new pool.old pool.new) }
+    ensures err { IfErr result (RunGivesUp ⟦<S as Viewed>⟧.views H.allows H.refuses (tail_for kind)
+        (resolved_in scopes.now actions.now) sys.old sys.new pool.old pool.new) }
 {
     let mut held = held;
-    match run_reader(sys, pool, scopes, actions, &mut held) {
+    match run(sys, pool, scopes, actions, kind, &mut held) {
         Ok(reader) => Ok((held, reader)),
         Err(error) => {
             give_up(sys, pool, held);

@@ -10,6 +10,9 @@ use Rattle.duct_status.specs.ShapeView.{ShapeView, command_count, input_count}
 use Rattle.duct_run.specs.Actions as action
 use Rattle.duct_run.specs.Actions.{ActionOf, PerStream, captures_in, is_capture}
 use Rattle.duct_run.specs.ActionList.{list_of, list_of_subtree, next_index, scope_index}
+use Rattle.duct_run.specs.RunContract.{tree_for}
+use Rattle.duct_run.specs.declared.start.StartKind.{StartKind}
+use Rattle.duct_run.specs.declared.start.StartKind.TheVariants.{Draining, Reading}
 use Rattle.duct_run.specs.Flat.{StreamSource, parents, nothing, slot, captured, lent, command_actions, depth_inside, ports_at, root_sources, source_actions, sources_inside, actions_around, with_input, with_output}
 use Rattle.duct_start.specs.Row.{RowOpening, opens_nothing, opens_input, opens_read, opens_create, opens_capture, row}
 use Rattle.duct_start.specs.ShapeOfTree.{shape_around, shape_of_tree}
@@ -51,7 +54,7 @@ feeds_push before one after actions more last was starts sum pushed =
     omega (arith, was, starts, sum, sum_by-append (λ x. cond (is_feed x) 1 0) actions (last ∷ []), ap (λ l. feed_count l) pushed)
 
 -- this many commands and input workers are started by these actions
-record Starts {E K : Type 0} (commands inputs : ℕ) (actions : List (ActionOf E K)) : Type 0 where
+pub record Starts {E K : Type 0} (commands inputs : ℕ) (actions : List (ActionOf E K)) : Type 0 where
   pub spawns : spawn_count actions ≡ commands
   pub feeds : feed_count actions ≡ inputs
 
@@ -153,11 +156,8 @@ module _ {E H : Type 0} where
       let inside = starts_subtree inner (scope_index r.says i next) (sources_inside r n w) (depth_inside r.opens n) (next_index r.says next) in
       starts_as _ (commands_around modifier (shape_of_tree inner)) (inputs_around modifier (shape_of_tree inner)) (starts_around r.opens _ inside)
 
-  -- the list of a tree starts as many commands and input workers as its shape has
-  pub list_spawns : (tree : TreeView E H)
-      → spawn_count (list_of tree).actions ≡ command_count (shape_of_tree tree)
-  list_spawns tree = (starts_subtree tree 0 root_sources 0 1).spawns
-
-  pub list_feeds : (tree : TreeView E H)
-      → feed_count (list_of tree).actions ≡ input_count (shape_of_tree tree)
-  list_feeds tree = (starts_subtree tree 0 root_sources 0 1).feeds
+  -- the list for such a start of a tree starts what the shape of the tree counts
+  pub list_starts : (kind : StartKind) (tree : TreeView E H)
+      → Starts (command_count (shape_of_tree tree)) (input_count (shape_of_tree tree)) (list_of (tree_for kind tree)).actions
+  list_starts Draining tree = starts_subtree tree 0 root_sources 0 1
+  list_starts Reading tree = starts_subtree (tree_for Reading tree) 0 root_sources 0 1

@@ -7,7 +7,8 @@ ghost use Rattle.duct_run.specs.Flat.{command_actions, depth_inside, on_side, op
 ghost use Rattle.duct_run.specs.ActionList.{list_of, scope_index};
 ghost use Rattle.duct_start.specs.ShapeOfTree.{shape_of_tree};
 ghost use Rattle.duct_start.specs.Row.{row};
-ghost use Rattle.duct_start.specs.TreeView.{ModifierView, TreeView, around, stdout_capture};
+ghost use Rattle.duct_start.specs.TreeView.{ModifierView, TreeView, around};
+ghost use Rattle.duct_run.specs.RunContract.{tree_for};
 ghost use Rattle.duct_run.specs.ActionView.{action_view, actions_view};
 ghost use Rattle.duct_run.specs.ScopeView.{scopes_view};
 ghost use Rattle.duct_tree.specs.EffectView.{effect_view, input_route_view, opening_view, output_route_view, says_view};
@@ -30,6 +31,7 @@ use duct_base::status::Shape;
 use duct_base::system::Side;
 use duct_run::action::{Action, Ports};
 use duct_run::scope::Setting;
+use duct_run::start::StartKind;
 use std::alloc::Global;
 use std::sync::Arc;
 
@@ -44,43 +46,45 @@ pub struct Compiled<'a, E, H> {
     pub ghost inputs_counted: { list.inputs ≡ input_count (shape_view (arc_value shape)) },
 }
 
-/// Compiles a node's tree, in one pass. Fails only with `Error::Memory`, on allocation failure,
-/// where a count does not fit in a `usize`, or where the words of a command have too many owners.
-pub fn compile<'a, E, H>(alloc: Global, root: &'a Node<E, H>) -> Result<Compiled<'a, E, H>, Error>
-    ensures actions { IfOk result (λ compiled. actions_view compiled.list.actions.items
-        ≡ (list_of (node_view root.now)).actions) }
-    ensures scopes { IfOk result (λ compiled. scopes_view compiled.list.scopes.items
-        ≡ (list_of (node_view root.now)).scopes) }
+/// Compiles a node's tree for a start of this kind, in one pass. A start that reads has one more
+/// capture of stdout around its tree, which leaves the shape as it is. Fails only with
+/// `Error::Memory`, on allocation failure, where a count does not fit in a `usize`, or where the
+/// words of a command have too many owners.
+pub fn compile<'a, E, H>(
+    alloc: Global,
+    root: &'a Node<E, H>,
+    kind: StartKind,
+) -> Result<Compiled<'a, E, H>, Error>
+    ensures list { IfOk result (λ compiled.
+        action_list_view compiled.list ≡ list_of (tree_for kind (node_view root.now))) }
     ensures shape { IfOk result (λ compiled.
         shape_view (arc_value compiled.shape) ≡ shape_of_tree (node_view root.now)) }
     ensures memory { IsOkUnless result Error.Memory }
 {
-    let mut list = ActionList::new(alloc);
-    let shape = walk(alloc, root, NodeContext::root(), &mut list)?;
+    let (mut list, inside) = begin(alloc, kind)?;
+    let shape = walk(alloc, root, inside, &mut list)?;
     let shape = Arc::new(alloc, shape)?;
     Ok(Compiled { list, shape })
 }
 
-/// Compiles a node's tree as if there were a capture of stdout around it, which leaves the shape as
-/// it is. Fails as `compile` does.
-pub fn compile_captured<'a, E, H>(
+// Returns a list of what a start of this kind has before its tree, and the context of the tree.
+fn begin<'a, E, H>(
     alloc: Global,
-    root: &'a Node<E, H>,
-) -> Result<Compiled<'a, E, H>, Error>
-    ensures actions { IfOk result (λ compiled. actions_view compiled.list.actions.items
-        ≡ (list_of (around stdout_capture (node_view root.now))).actions) }
-    ensures scopes { IfOk result (λ compiled. scopes_view compiled.list.scopes.items
-        ≡ (list_of (around stdout_capture (node_view root.now))).scopes) }
-    ensures shape { IfOk result (λ compiled.
-        shape_view (arc_value compiled.shape) ≡ shape_of_tree (node_view root.now)) }
+    kind: StartKind,
+) -> Result<(ActionList<'a, E, H>, NodeContext<'a, E>), Error>
+    ensures list { IfOk result (λ begun. (tree : TreeView E H) →
+        with_tree begun.1 tree (action_list_view begun.0) ≡ list_of (tree_for kind tree)) }
     ensures memory { IsOkUnless result Error.Memory }
 {
     let mut list = ActionList::new(alloc);
-    list.add(Action::Capture(Side::Out))?;
-    let inside = NodeContext::root().with_output(StreamSource::Captured(Side::Out));
-    let shape = walk(alloc, root, inside, &mut list)?;
-    let shape = Arc::new(alloc, shape)?;
-    Ok(Compiled { list, shape })
+    let root = NodeContext::root();
+    match kind {
+        StartKind::Draining => Ok((list, root)),
+        StartKind::Reading => {
+            list.add(Action::Capture(Side::Out))?;
+            Ok((list, root.with_output(StreamSource::Captured(Side::Out))))
+        }
+    }
 }
 
 // Adds the actions and the scopes of a tree in this context. Returns the shape of the tree.

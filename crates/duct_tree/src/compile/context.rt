@@ -69,13 +69,6 @@ impl<'a, E> NodeContext<'a, E> {
         }
     }
 
-    /// Returns the same context with another scope.
-    pub(crate) fn with_scope(self, scope: usize) -> NodeContext<'a, E>
-        ensures { result ≡ record self.entry { scope = scope } }
-    {
-        NodeContext { scope, ..self }
-    }
-
     /// Returns the same context with another source of stdin.
     pub(crate) fn with_input(self, input: StreamSource<'a, E>) -> NodeContext<'a, E>
         ensures { result ≡ record self.entry { input = input.entry } }
@@ -88,13 +81,6 @@ impl<'a, E> NodeContext<'a, E> {
         ensures { result ≡ record self.entry { output = output.entry } }
     {
         NodeContext { output, ..self }
-    }
-
-    /// Returns the same context with another source of stderr.
-    pub(crate) fn with_error(self, error: StreamSource<'a, E>) -> NodeContext<'a, E>
-        ensures { result ≡ record self.entry { error = error.entry } }
-    {
-        NodeContext { error, ..self }
     }
 
     /// Returns the same context with `by` more ends on the stack. Fails with `Error::Memory` where

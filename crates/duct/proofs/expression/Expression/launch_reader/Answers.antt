@@ -11,8 +11,12 @@ returns-in_err-ready-clause-refused g c =
     rw (p.1, p.2, c.in_err-ready.ensures.memory) (refused_unasked (views_of g.S.System g.E.Numbered g.S.Child.Child g.S.Feed.Job g.S.Drain.Job)
     g.H.Hook.allows g.H.Hook.refuses reading c.args.self.now c.args.sys.now c.args.pool.now)
 
-pub returns-clause-launched : goal.returns-clause-launched
-returns-clause-launched g c = c.launch_ready_reader.ensures.launched
+pub returns-in_err-running-clause-refused : goal.returns-in_err-running-clause-refused
+returns-in_err-running-clause-refused g c =
+    let p = err_from_is_err_and c.from_residual-in_err-running.result c.from_residual-in_err-running.ensures.1 in
+    rw (p.1, p.2) c.in_err-running.ensures.refused
 
-pub returns-clause-refused : goal.returns-clause-refused
-returns-clause-refused g c = c.launch_ready_reader.ensures.refused
+pub returns-clause-launched : goal.returns-clause-launched
+returns-clause-launched g c =
+    let l = c.in_ok-running.ensures.launched in
+    record { asked = l.asked; makes = (l.makes.0, rw c.in-Some.is at l.makes.1); swept = l.swept }

@@ -31,7 +31,7 @@ returns-in_err-running-clause-refused g c =
 pub returns-clause-launched : goal.returns-clause-launched
 returns-clause-launched g c =
     let tree = tree_view c.args.self.now in
-    let added = segment (g.S.System.journal_view c.args.sys.now).entries (g.S.System.journal_view c.launch_ready_reader.new.sys).entries in
+    let added = segment (g.S.System.journal_view c.args.sys.now).entries (g.S.System.journal_view c.launch_ready.new.sys).entries in
     let l = c.in_ok-running.ensures.launched in
     let views = views_of g.S.System g.E.Numbered g.S.Child.Child g.S.Feed.Job g.S.Drain.Job in
     record {
@@ -51,5 +51,5 @@ handle_of-requires-clause-unasked g c =
 
 pub reader_handle_of-requires : goal.reader_handle_of-requires
 reader_handle_of-requires g c =
-    let made = c.in_ok-running.ensures.launched.makes.1 in
+    let made = rw c.in-Some.is at c.in_ok-running.ensures.launched.makes.1 in
     (made.1, made.3)

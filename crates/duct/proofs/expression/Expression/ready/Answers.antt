@@ -1,40 +1,38 @@
--- What a launch needs.
+-- What a start of this kind needs.
 use Rattle.std.proofs.Common.{◌≡◌, ◌∙◌, [], ap}
 use Rattle.std.specs.Arc.{arc_value}
-use Rattle.std.specs.Prelude.{is_some}
 use Rattle.duct_status.specs.CoreView.{shape_in}
 use Rattle.duct_status.specs.Latest.{latest_told}
 use Rattle.duct_status.specs.ShapeView.{shape_view}
 use Rattle.duct_system.specs.declared.system.Side.TheVariants as side
 use Rattle.duct_run.specs.ActionList.{list_of}
-use Rattle.duct_start.specs.Plan.{initial_plan, plan_of, plan_of_subtree}
+use Rattle.duct_run.specs.RunContract.{drains_if_open, tree_for}
 use Rattle.duct_start.specs.ShapeOfTree.{shape_of_tree}
-use Rattle.duct_run.proofs.Launched.{drained_pipes}
-use Rattle.duct_run.specs.ActionView.{actions_view}
-use Rattle.duct_run.specs.ScopeView.{scopes_view}
+use Rattle.duct_tree.specs.ActionListView.{action_list_view}
+use Rattle.duct.specs.Launched.{drains_error, drains_output}
 use Rattle.duct.specs.TreeView.{tree_view}
 use Rattle.duct.proofs.Finished.{if_ok_two}
+use Rattle.duct.proofs.Launching.{same_pipes}
 use Rattle.duct.proofs.Starting.{captured}
 use Rattle.duct.proofs.expression.Expression.ready.Goals as goal
 
 pub returns-clause-ready : goal.returns-clause-ready
 returns-clause-ready g c =
+    let kind = c.args.kind in
     let tree = tree_view c.args.self.now in
     let compiled = c.in_ok-compiled.compiled in
-    let list = compiled.list in
-    let actions_are : actions_view list.actions.items ≡ (list_of tree).actions = c.in_ok-compiled.ensures.actions ∙ ap (λ t. (list_of t).actions) c.root.ensures in
-    let scopes_are : scopes_view list.scopes.items ≡ (list_of tree).scopes = c.in_ok-compiled.ensures.scopes ∙ ap (λ t. (list_of t).scopes) c.root.ensures in
+    let list_is : action_list_view compiled.list ≡ list_of (tree_for kind tree) = c.in_ok-compiled.ensures.list ∙ ap (λ t. list_of (tree_for kind t)) c.root.ensures in
     let shape_is : shape_view (arc_value compiled.shape) ≡ shape_of_tree tree = c.in_ok-compiled.ensures.shape ∙ ap (λ t. shape_of_tree t) c.root.ensures in
-    let pipes = drained_pipes (plan_of_subtree [] tree initial_plan) in
-    let out : list.captures.out ≡ is_some (plan_of tree).pipes.out = list.output_noted ∙ captured tree list.actions.items actions_are side.Out ∙ pipes.0 in
-    let err : list.captures.err ≡ is_some (plan_of tree).pipes.err = list.error_noted ∙ captured tree list.actions.items actions_are side.Err ∙ pipes.1 in
+    let opens = captured (tree_for kind tree) compiled.list.actions.items (ap (λ l. l.actions) list_is) in
+    let pipes = same_pipes tree kind in
+    let out : drains_if_open kind compiled.list.captures.out ≡ drains_output kind tree = ap (λ b. drains_if_open kind b) (compiled.list.output_noted ∙ opens side.Out) ∙ pipes.0 in
+    let err : compiled.list.captures.err ≡ drains_error kind tree = compiled.list.error_noted ∙ opens side.Err ∙ pipes.1 in
     if_ok_two c.prepare.result (λ ready same made. record {
-      actions = ap (λ k. actions_view k.list.actions.items) same ∙ actions_are;
-      scopes = ap (λ k. scopes_view k.list.scopes.items) same ∙ scopes_are;
+      list = ap (λ k. action_list_view k.list) same ∙ list_is;
       shape = ap (λ k. shape_view (arc_value k.shape)) same ∙ shape_is;
       prepared = record {
         shape_is = made.shape_is ∙ shape_is;
-        silent = made.silent ∙ (λ i. latest_told (shape_in ready.core) (record { out = out i; err = err i }) []);
+        silent = made.silent ∙ ap (λ d. latest_told (shape_in ready.core) d []) c.drained-drains.ensures ∙ (λ i. latest_told (shape_in ready.core) (record { out = out i; err = err i }) []);
         fits = made.fits;
         nothing = made.nothing;
       };

@@ -35,13 +35,13 @@ returns-clause-launched g c =
       asked = l.asked;
       makes = (
         is_handle g.S.Child.Child.child_view g.S.Feed.Job.job_view g.S.Drain.Job.job_view tree (drains_output draining tree) (drains_error draining tree) added
-            c.in_ok-running.running c.handle_of.result l.makes c.handle_of.ensures.shape c.handle_of.ensures.numbers,
+            c.in_ok-running.running c.handle_of.result l.makes.0 c.handle_of.ensures.shape c.handle_of.ensures.numbers,
         are_ids g.S.Child.Child.child_view g.S.Feed.Job.job_view g.S.Drain.Job.job_view tree (drains_output draining tree) (drains_error draining tree) added
-            c.in_ok-running.running c.handle_of.result.ids l.makes c.handle_of.ensures.ids,
+            c.in_ok-running.running c.handle_of.result.ids l.makes.0 c.handle_of.ensures.ids,
       );
       swept = l.swept;
     }
 
 pub handle_of-requires-clause-unasked : goal.handle_of-requires-clause-unasked
 handle_of-requires-clause-unasked g c =
-    launched_unasked (views_of g.S.System g.E.Numbered g.S.Child.Child g.S.Feed.Job g.S.Drain.Job) c.in_ok-running.ensures.launched.makes
+    launched_unasked (views_of g.S.System g.E.Numbered g.S.Child.Child g.S.Feed.Job g.S.Drain.Job) c.in_ok-running.ensures.launched.makes.0
