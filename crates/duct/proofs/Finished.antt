@@ -94,11 +94,6 @@ module _ {S E C F D : Type 0} (views : SystemViews S E C F D (Unit {0}) Bytes) {
     read_failed (inr ran) = wait_failed _ Stops (λ waited holds. (reader, made, inr holds)) ran
 
 -- two properties of a value, or of an error, give a third
-pub if_ok_two : {T F : Type 0} (r : Result T F) {P Q R : T → Type 0}
-    → ((value : T) → P value → Q value → R value) → IfOk r P → IfOk r Q → IfOk r R
-if_ok_two (Ok value) step holds other = step value holds other
-if_ok_two (Err error) step holds other = tt
-
 pub if_ok_both : {T F Q : Type 0} (r : Result T F) {P R : T → Type 0}
     → ((value : T) → P value → Q → R value) → IfOk r P → OnOk r Q → IfOk r R
 if_ok_both (Ok value) step holds other = step value holds other

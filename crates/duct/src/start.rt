@@ -1,14 +1,9 @@
 //! The start of an expression: the requests that it makes to the system, and what it keeps of their
 //! results.
-ghost use Rattle.std.specs.Arc.{arc_value};
-ghost use Rattle.std.specs.Prelude.{◌≡◌, [], length, is_some, IfOk, IfErr, IsOkUnless};
-ghost use Rattle.duct_status.specs.CoreView.{latest_in, shape_in};
-ghost use Rattle.duct_status.specs.Latest.{latest_told};
-ghost use Rattle.duct_status.specs.ShapeView.{command_count, input_count, shape_view};
-ghost use Rattle.duct_run.specs.ResourcesView.{AreNew};
+ghost use Rattle.std.specs.Prelude.{◌≡◌, IfOk, IfErr, IsOkUnless};
 ghost use Rattle.duct_run.specs.RunContract.{drains_if_open};
 ghost use Rattle.duct.specs.Launched.{Handles, LaunchRefused, Launched, Runs, RunsRead, RunsWith, draining, reading};
-ghost use Rattle.duct.specs.Ready.{FitsShape, IsPreparedStart, IsReadyStart};
+ghost use Rattle.duct.specs.Ready.{IsReadyStart};
 ghost use Rattle.duct.specs.TreeView.{tree_view};
 
 use crate::expression::Expression;
@@ -24,7 +19,6 @@ use duct_run::start::{StartKind, start};
 use duct_run::views::Viewed;
 use duct_running::running::{Running, RunningBuffers, running_of};
 use duct_tree::compile::{Compiled, compile};
-use std::alloc::Global;
 
 // What a start allocates before its first request: what its tree was compiled to, a core for its
 // tree, room for what runs, and nothing held, with room for what the list gets.
@@ -34,36 +28,6 @@ pub(crate) struct Ready<'a, E, H, C, F, D> {
     core: Core,
     room: RunningBuffers<D>,
     held: Resources<E, C, F, D>,
-}
-
-// Allocates what the start of a compiled tree needs, where these capture pipes have a worker.
-fn prepare<'a, E: Drop, H, C: Drop, F: Drop, D: Drop>(
-    alloc: Global,
-    compiled: Compiled<'a, E, H>,
-    drains: Drains,
-) -> Result<Ready<'a, E, H, C, F, D>, Error>
-    ensures compiled { IfOk result (λ ready. ready.compiled ≡ compiled.entry) }
-    ensures prepared { IfOk result (λ ready. IsPreparedStart
-        (shape_view (arc_value compiled.entry.shape)) drains ready.core ready.room ready.held) }
-    ensures memory { IsOkUnless result Error.Memory }
-{
-    let core = Core::sharing(alloc, compiled.shape.clone()?, drains)?;
-    let room = RunningBuffers {
-        ids: Vec::with_capacity(alloc, compiled.list.commands)?,
-        drains: Vec::with_capacity(alloc, 2)?,
-    };
-    let held = no_resources(
-        alloc,
-        compiled.list.deepest.saturating_add(3),
-        compiled.list.commands.saturating_add(1),
-        compiled.list.inputs.saturating_add(1),
-    )?;
-    Ok(Ready {
-        compiled,
-        core,
-        room,
-        held,
-    })
 }
 
 // Returns which of these capture pipes get a worker at a start of this kind.
@@ -77,37 +41,6 @@ fn drained(kind: StartKind, captures: Drains) -> Drains
             ..captures
         },
     }
-}
-
-// Makes what runs from what a run of the list left.
-fn running<S: System>(
-    core: Core,
-    kept: Resources<S::End, Place<S::Child>, S::Feed, S::Drain>,
-    room: RunningBuffers<S::Drain>,
-) -> Running<S>
-    requires silent { latest_in core ≡ latest_told (shape_in core)
-        (record { out = is_some kept.drains.out; err = is_some kept.drains.err }) [] }
-    requires commands { length kept.children.items ≡ command_count (shape_in core) }
-    requires inputs { length kept.feeds.items ≡ input_count (shape_in core) }
-    requires new { AreNew S.Child.child_view S.Feed.job_view S.Drain.job_view kept }
-    requires room { FitsShape (shape_in core) room }
-    ensures { result ≡ record {
-      shape = arc_value core.shape;
-      children = kept.children.items;
-      feeds = kept.feeds.items;
-      output = kept.drains.out;
-      error = kept.drains.err;
-    } }
-{
-    let Resources {
-        stack,
-        pipes,
-        children,
-        feeds,
-        drains,
-    } = kept;
-    drop((stack, pipes));
-    running_of(core, children, feeds, drains.out, drains.err, room)
 }
 
 impl<E: Drop, H: Hook> Expression<E, H> {
@@ -208,9 +141,27 @@ impl<E: Drop, H: Hook> Expression<E, H> {
         ensures ready { IfOk result (IsReadyStart kind (tree_view self.now)) }
         ensures memory { IsOkUnless result Error.Memory }
     {
-        let compiled = compile(self.allocator(), self.root(), kind)?;
-        let drains = drained(kind, compiled.list.captures);
-        prepare(self.allocator(), compiled, drains)
+        let alloc = self.allocator();
+        let compiled = compile(alloc, self.root(), kind)?;
+        let list = &compiled.list;
+        let drains = drained(kind, list.captures);
+        let core = Core::sharing(alloc, compiled.shape.clone()?, drains)?;
+        let room = RunningBuffers {
+            ids: Vec::with_capacity(alloc, list.commands)?,
+            drains: Vec::with_capacity(alloc, 2)?,
+        };
+        let held = no_resources(
+            alloc,
+            list.deepest.saturating_add(3),
+            list.commands.saturating_add(1),
+            list.inputs.saturating_add(1),
+        )?;
+        Ok(Ready {
+            compiled,
+            core,
+            room,
+            held,
+        })
     }
 
     // Starts what `ready` returned for a start of this kind. Returns what runs, and for a start
@@ -237,6 +188,6 @@ impl<E: Drop, H: Hook> Expression<E, H> {
         } = ready;
         let list = &compiled.list;
         let (kept, reader) = start(sys, pool, &list.scopes, &list.actions, kind, held)?;
-        Ok((running(core, kept, room), reader))
+        Ok((running_of(core, kept, room), reader))
     }
 }

@@ -1,4 +1,5 @@
 pub mod Answered
+pub mod FitsShape
 pub mod RunningInvariant
 pub mod NumbersView
 pub mod Ordered

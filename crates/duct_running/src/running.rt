@@ -9,7 +9,9 @@ ghost use Rattle.duct_status.specs.ReplyView.{reply_view};
 ghost use Rattle.duct_status.specs.ShapeView.{command_count, input_count, shape_view};
 ghost use Rattle.duct_running.specs.Polled.{IsConclusion, Gives, ReturnsOutcome, ChildAskedAt, ChildrenAsked, FeedPolledAt, FeedsPolled, StreamPolled, is_awaited};
 ghost use Rattle.duct_running.specs.PolledOnce.{PolledOnce};
-ghost use Rattle.duct_running.specs.Stored.{AreUnasked, answer_word};
+ghost use Rattle.duct_running.specs.Stored.{answer_word};
+ghost use Rattle.duct_running.specs.FitsShape.{FitsShape};
+ghost use Rattle.duct_run.specs.Requested.{HoldsUnasked};
 ghost use Rattle.duct_running.specs.NumbersView.{numbers_of};
 ghost use Rattle.duct_running.specs.Allowed.{OneRuns, StoresAllowed};
 
@@ -20,6 +22,7 @@ use duct_base::per_side::PerSide;
 use duct_base::pool::Place;
 use duct_base::status::{Core, Event, Reply, Word};
 use duct_base::system::{Child, ExitStatus, Fault, Job, Output, Side, System};
+use duct_run::resources::Resources;
 use duct_run::views::Viewed;
 use std::marker::Model;
 use std::sync::Arc;
@@ -106,50 +109,48 @@ pub struct RunningBuffers<D> {
     pub drains: Vec<D>,
 }
 
-/// Makes a `Running` of what a start leaves: a core that was given no result yet, and children and
-/// workers that were never polled. There are as many children and input workers as the shape has
-/// commands and inputs, and the capture workers that the core expects. `room` has room for the ids
-/// and the capture workers, so it allocates nothing. Only a start calls it.
+/// Makes a `Running` of what a start leaves: a core that was given no result yet, and resources
+/// whose children and workers were never polled. There are as many children and input workers as
+/// the shape has commands and inputs, and the capture workers that the core expects. The room fits
+/// the shape, so it allocates nothing. Only a start calls it.
 pub fn running_of<S: System>(
     core: Core,
-    children: Vec<Place<S::Child>>,
-    feeds: Vec<S::Feed>,
-    output: Option<S::Drain>,
-    error: Option<S::Drain>,
+    kept: Resources<S::End, Place<S::Child>, S::Feed, S::Drain>,
     room: RunningBuffers<S::Drain>,
 ) -> Running<S>
-    requires silent { latest_in core
-        ≡ latest_told (shape_in core) (record { out = is_some output; err = is_some error }) [] }
-    requires commands { length children.items ≡ command_count (shape_in core) }
-    requires inputs { length feeds.items ≡ input_count (shape_in core) }
-    requires unasked { AreUnasked ⟦<S as Viewed>⟧.views children.items feeds.items output error }
-    requires empty { room.drains.items ≡ [] }
-    requires unnamed { room.ids.items ≡ [] }
-    requires named { length children.items ≤ vec_capacity room.ids }
-    requires drained { length (option_to_list output ++ option_to_list error)
-        ≤ vec_capacity room.drains }
+    requires silent { latest_in core ≡ latest_told (shape_in core)
+        (record { out = is_some kept.drains.out; err = is_some kept.drains.err }) [] }
+    requires commands { length kept.children.items ≡ command_count (shape_in core) }
+    requires inputs { length kept.feeds.items ≡ input_count (shape_in core) }
+    requires new { HoldsUnasked ⟦<S as Viewed>⟧.views kept }
+    requires room { FitsShape (shape_in core) room }
     ensures { result ≡ record {
       shape = arc_value core.shape;
-      children = children.items;
-      feeds = feeds.items;
-      output = output;
-      error = error;
+      children = kept.children.items;
+      feeds = kept.feeds.items;
+      output = kept.drains.out;
+      error = kept.drains.err;
     } }
 {
+    let Resources {
+        stack,
+        pipes,
+        children,
+        feeds,
+        drains,
+    } = kept;
     let RunningBuffers {
         mut ids,
         drains: room,
     } = room;
+    drop((stack, pipes));
     note_ids(&mut ids, &children);
     Running {
         core,
         ids,
         children,
         feeds,
-        drains: PerSide {
-            out: output,
-            err: error,
-        },
+        drains,
         busy: true,
         room,
     }

@@ -38,24 +38,24 @@ returns-in_err-kept-clause-refused g c =
     let same = runs_flat (tree_for c.args.kind (tree_view c.args.self.now)) c.deref.ensures.value c.deref-2.ensures.value c.requires.list in
     rw (p.1, p.2) (gave_up views c.args.kind c.args.self.now same c.in_err-kept.ensures.err)
 
-pub running-requires-clause-silent : goal.running-requires-clause-silent
-running-requires-clause-silent g c =
+pub running_of-requires-clause-silent : goal.running_of-requires-clause-silent
+running_of-requires-clause-silent g c =
     let views = views_of g.S.System g.E.Numbered g.S.Child.Child g.S.Feed.Job g.S.Drain.Job in
     let same = runs_flat (tree_for c.args.kind (tree_view c.args.self.now)) c.deref.ensures.value c.deref-2.ensures.value c.requires.list in
     let pipes = workers views c.args.kind c.args.self.now same g.H.Hook.allows c.in_ok-kept.ensures.workers in
-    c.requires.prepared.silent ∙ (λ i. latest_told (shape_in c.args.ready.core) (record { out = sym pipes.0 i; err = sym pipes.1 i }) [])
+    c.requires.silent ∙ (λ i. latest_told (shape_in c.args.ready.core) (record { out = sym pipes.0 i; err = sym pipes.1 i }) [])
 
-pub running-requires-clause-commands : goal.running-requires-clause-commands
-running-requires-clause-commands g c =
+pub running_of-requires-clause-commands : goal.running_of-requires-clause-commands
+running_of-requires-clause-commands g c =
     let views = views_of g.S.System g.E.Numbered g.S.Child.Child g.S.Feed.Job g.S.Drain.Job in
     let same = runs_flat (tree_for c.args.kind (tree_view c.args.self.now)) c.deref.ensures.value c.deref-2.ensures.value c.requires.list in
-    started_children views c.args.kind c.args.self.now same c.in_ok-kept.kept c.in_ok-kept.ensures.ok ∙ ap (λ s. command_count s) (sym c.requires.prepared.shape_is)
+    started_children views c.args.kind c.args.self.now same c.in_ok-kept.kept c.in_ok-kept.ensures.ok ∙ ap (λ s. command_count s) (sym c.requires.shape_is)
 
-pub running-requires-clause-inputs : goal.running-requires-clause-inputs
-running-requires-clause-inputs g c =
+pub running_of-requires-clause-inputs : goal.running_of-requires-clause-inputs
+running_of-requires-clause-inputs g c =
     let views = views_of g.S.System g.E.Numbered g.S.Child.Child g.S.Feed.Job g.S.Drain.Job in
     let same = runs_flat (tree_for c.args.kind (tree_view c.args.self.now)) c.deref.ensures.value c.deref-2.ensures.value c.requires.list in
-    started_feeds views c.args.kind c.args.self.now same c.in_ok-kept.kept c.in_ok-kept.ensures.ok ∙ ap (λ s. input_count s) (sym c.requires.prepared.shape_is)
+    started_feeds views c.args.kind c.args.self.now same c.in_ok-kept.kept c.in_ok-kept.ensures.ok ∙ ap (λ s. input_count s) (sym c.requires.shape_is)
 
 pub returns-clause-launched : goal.returns-clause-launched
 returns-clause-launched g c =
@@ -64,6 +64,6 @@ returns-clause-launched g c =
     let kept = c.in_ok-kept.ensures in
     record {
       asked = asked views c.args.kind c.args.self.now same c.in_ok-kept.kept kept.ok;
-      makes = (rw c.running.ensures (made views c.args.kind c.args.self.now same c.in_ok-kept.kept kept.ok kept.kept (arc_value c.args.ready.core.shape) c.requires.prepared.shape_is kept.workers), kept.reader);
+      makes = (rw c.running_of.ensures (made views c.args.kind c.args.self.now same c.in_ok-kept.kept kept.ok kept.kept (arc_value c.args.ready.core.shape) c.requires.shape_is kept.workers), kept.reader);
       swept = kept.swept;
     }

@@ -1,7 +1,7 @@
 -- What a start of this kind needs.
-use Rattle.std.proofs.Common.{◌≡◌, ◌∙◌, [], ap}
+use Rattle.std.proofs.Common.{◌≡◌, ◌∙◌, [], ap, rules}
 use Rattle.std.specs.Arc.{arc_value}
-use Rattle.duct_status.specs.CoreView.{shape_in}
+use Rattle.duct_status.specs.CoreView.{latest_in, shape_in}
 use Rattle.duct_status.specs.Latest.{latest_told}
 use Rattle.duct_status.specs.ShapeView.{shape_view}
 use Rattle.duct_system.specs.declared.system.Side.TheVariants as side
@@ -11,7 +11,6 @@ use Rattle.duct_start.specs.ShapeOfTree.{shape_of_tree}
 use Rattle.duct_tree.specs.ActionListView.{action_list_view}
 use Rattle.duct.specs.Launched.{drains_error, drains_output}
 use Rattle.duct.specs.TreeView.{tree_view}
-use Rattle.duct.proofs.Finished.{if_ok_two}
 use Rattle.duct.proofs.Launching.{same_pipes}
 use Rattle.duct.proofs.Starting.{captured}
 use Rattle.duct.proofs.expression.Expression.ready.Goals as goal
@@ -27,13 +26,12 @@ returns-clause-ready g c =
     let pipes = same_pipes tree kind in
     let out : drains_if_open kind compiled.list.captures.out ≡ drains_output kind tree = ap (λ b. drains_if_open kind b) (compiled.list.output_noted ∙ opens side.Out) ∙ pipes.0 in
     let err : compiled.list.captures.err ≡ drains_error kind tree = compiled.list.error_noted ∙ opens side.Err ∙ pipes.1 in
-    if_ok_two c.prepare.result (λ ready same made. record {
-      list = ap (λ k. action_list_view k.list) same ∙ list_is;
-      shape = ap (λ k. shape_view (arc_value k.shape)) same ∙ shape_is;
-      prepared = record {
-        shape_is = made.shape_is ∙ shape_is;
-        silent = made.silent ∙ ap (λ d. latest_told (shape_in ready.core) d []) c.drained-drains.ensures ∙ (λ i. latest_told (shape_in ready.core) (record { out = out i; err = err i }) []);
-        fits = made.fits;
-        nothing = made.nothing;
-      };
-    }) c.prepare.ensures.compiled c.prepare.ensures.prepared
+    let silent : latest_in c.in_ok-core.core ≡ latest_told (shape_in c.in_ok-core.core) c.drained-drains.result [] = search rules in
+    record {
+      list = list_is;
+      shape = shape_is;
+      shape_is = search (rules, shape_is);
+      silent = silent ∙ ap (λ d. latest_told (shape_in c.in_ok-core.core) d []) c.drained-drains.ensures ∙ (λ i. latest_told (shape_in c.in_ok-core.core) (record { out = out i; err = err i }) []);
+      fits = search rules;
+      nothing = search rules;
+    }
