@@ -8,7 +8,8 @@ FUNCTION = re.compile(r"(\s*)(pub |pub\([^)]*\) )?(?:const )?fn \w+")
 BLOCK = re.compile(r"(\s*)(pub |pub\([^)]*\) )?(trait|impl)\b(.*)")
 GHOST = re.compile(r"\s*ghost (?!use\b)")
 WORD = re.compile(r"[A-Za-z_][A-Za-z_0-9']*(?:\.[A-Za-z_][A-Za-z_0-9']*)*")
-IMPORT = re.compile(r"^\s*(?:ghost )?use Rattle\.(\w+)\.specs\.([\w.]+?)(?:\.\{([^}]*)\}| as (\w+));?$", re.MULTILINE)
+NAMED = re.compile(rf"({WORD.pattern})(?: as (\w+))?")
+IMPORT = re.compile(r"^\s*(?:ghost |pub )?use Rattle\.(\w+)\.specs\.([\w.]+?)(?:\.\{([^}]*)\}| as (\w+));?$", re.MULTILINE)
 EXPORT = re.compile(r"^\s*pub use (\w+)((?:::\w+)*?)::(?:(\w+)|\{([^}]*)\});$", re.MULTILINE)
 
 
@@ -22,7 +23,7 @@ def imports(text):
     name of a whole module has no name there."""
     found = {}
     for crate, module, names, short in IMPORT.findall(text):
-        found |= {word: (crate, module, word) for word in WORD.findall(names)}
+        found |= {other or word: (crate, module, word) for word, other in NAMED.findall(names)}
         found |= {short: (crate, module, None)} if short else {}
     return found
 

@@ -1,5 +1,5 @@
 -- What a start promises: of the journal, of what it makes, and of the pool.
-use Rattle.std.specs.Prelude.{ℕ, Bool, List, ◌⊎◌, is_some, map, []}
+use Rattle.std.specs.Prelude.{ℕ, Bool, List, ◌⊎◌, false, is_some, map, []}
 use Rattle.std.specs.declared.alloc.Global.{Global}
 use Rattle.std.specs.declared.option.Option.{Option}
 use Rattle.std.specs.declared.string.String.{String}
@@ -15,7 +15,7 @@ use Rattle.duct_start.specs.Plan.{Plan, plan_of, plan_of_reader}
 use Rattle.duct_start.specs.Running.{MadeReader, IsRunning, RunningView}
 use Rattle.duct_start.specs.Start.{StartSucceeds, StartRefused}
 use Rattle.duct_start.specs.TreeView.{TreeView}
-use Rattle.duct_run.specs.RunContract.{IsReaderOf, drains_if_open}
+use Rattle.duct_run.specs.RunContract.{IsReaderOf}
 use Rattle.duct_run.specs.SystemViews.{SystemViews}
 pub use Rattle.duct_run.specs.declared.start.StartKind.{StartKind}
 pub use Rattle.duct_run.specs.declared.start.StartKind.TheVariants.{Draining as draining, Reading as reading}
@@ -27,14 +27,15 @@ use Rattle.duct.specs.TreeView.{tree_view}
 use Rattle.duct.specs.declared.expression.Expression.{Expression}
 use Rattle.duct.specs.RunResults.{RanTree, ReadStopsBy, ReadsBy}
 
--- the plan of such a start of a tree
+-- the plan of a start of this kind, of a tree
 abbrev pub plan_for : {E H : Type 0} → StartKind → TreeView E H → Plan E H
 plan_for draining tree = plan_of tree
 plan_for reading tree = plan_of_reader tree
 
 -- stdout gets a capture worker
 abbrev pub drains_output : {E H : Type 0} → StartKind → TreeView E H → Bool
-drains_output kind tree = drains_if_open kind (is_some (plan_for kind tree).pipes.out)
+drains_output draining tree = is_some (plan_of tree).pipes.out
+drains_output reading tree = false
 
 -- stderr gets a capture worker
 abbrev pub drains_error : {E H : Type 0} → StartKind → TreeView E H → Bool
@@ -62,7 +63,8 @@ module _ {S E C F D V W : Type 0} (views : SystemViews S E C F D V W) where
       × AreIds views.child added handle.ids
 
   -- this runs the tree, and this is the reader of its start
-  abbrev pub RunsWith : {H R : Type 0} → (ℕ → R → Type 0) → RunningView C F D → Option R → MadeBy E H
+  abbrev pub RunsWith : {H R : Type 0} → (ℕ → R → Type 0) → RunningView C F D → Option R
+      → MadeBy E H
   RunsWith may running reader kind tree added =
       Runs running kind tree added × IsReaderOf may kind added reader
 

@@ -33,13 +33,13 @@ reader_tail plan = record {
   pipes = with_side plan.pipes side.Out None;
 }
 
--- how it goes on at such a start: with the drain workers of the capture pipes, or with stderr's and
--- the reader
+-- how it goes on at a start of this kind: with the drain workers of the capture pipes, or with
+-- stderr's and the reader
 abbrev pub tail_for : {E H : Type 0} → StartKind → PlanTail E H
 tail_for Draining plan = with_capture_finished side.Err (with_capture_finished side.Out plan)
 tail_for Reading plan = reader_tail (with_capture_finished side.Err plan)
 
--- the tree that is listed for such a start: a reader's is inside one more capture of stdout
+-- the tree that is listed for a start of this kind: a reader's is inside one more capture of stdout
 abbrev pub tree_for : {E H : Type 0} → StartKind → TreeView E H → TreeView E H
 tree_for Draining tree = tree
 tree_for Reading tree = around stdout_capture tree
@@ -80,13 +80,13 @@ ActionsFail {E} {H} allows refuses number_of ending actions old now held error =
     (ending plan).items now held
     error)
 
--- whether stdout's capture pipe gets a worker at such a start, by whether it is open
+-- whether stdout's capture pipe gets a worker at a start of this kind, by whether it is open
 abbrev pub drains_if_open : StartKind → Bool → Bool
 drains_if_open Draining is_open = is_open
 drains_if_open Reading is_open = false
 
--- these booleans tell whether stdout and stderr get a capture worker at such a start, whatever plan
--- the actions lead to
+-- these booleans tell whether stdout and stderr get a capture worker at a start of this kind,
+-- whatever plan the actions lead to
 abbrev pub HaveWorkers : {E H : Type 0} → StartKind → (E → ℕ) → List (Action E H) → Bool → Bool
     → Type 0
 HaveWorkers {E} {H} kind number_of actions output error =
@@ -94,8 +94,8 @@ HaveWorkers {E} {H} kind number_of actions output error =
     → Leads number_of base bound (with_plan initial_plan) actions (with_plan plan)
     → (output ≡ drains_if_open kind (is_some plan.pipes.out)) × (error ≡ is_some plan.pipes.err)
 
--- the reader of such a start, by the entries that it added: a start that reads made it last, and
--- another start made none
+-- the reader of a start of this kind, by the entries that it added: a start that reads made it
+-- last, and another start made none
 abbrev pub IsReaderOf : {R : Type 0} → (ℕ → R → Type 0) → StartKind → List EntryView → Option R
     → Type 0
 IsReaderOf may Draining added reader = reader ≡ None

@@ -76,8 +76,8 @@ fn read_output<S: System>(sys: &mut S, output: &mut Option<(S::End, S::End)>) ->
     }
 }
 
-// Asks for the environment, performs the actions, and ends as a start of this kind: with the workers
-// of the capture pipes, or with the reader of stdout's.
+// Asks for the environment, performs the actions, and ends as a start of this kind does: with the
+// workers of the capture pipes, or with the reader of stdout's, which it returns.
 fn run<S: System, H: Hook>(
     sys: &mut S,
     pool: &mut Pool<S::Child>,
