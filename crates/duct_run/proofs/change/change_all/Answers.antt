@@ -23,8 +23,11 @@ loop-hook-preserved g c =
     let left = hooks_of c.pop.new.self.items in
     let next : hooks_of c.loop-hook.hooks.items ≡ one ++ left = ap (λ pairs. hooks_of pairs) c.in-Some.ensures.items ∙ hooks_of-more c.pop.new.self.items (c.in-Some.hook, c.in-Some.ends) in
     record {
-      ran = (some ++ one, append_assoc some one left ∙ ap (λ hooks. some ++ hooks) (sym next) ∙ c.loop-hook.invariant.ran.1,
-        alters_append g.H.Hook.allows g.H.Hook.refuses num _ _ _ some one _ _ _ _ _ _ c.loop-hook.invariant.ran.2 c.in_ok-change.ensures.ok);
+      ran = (
+        some ++ one,
+        append_assoc some one left ∙ ap (λ hooks. some ++ hooks) (sym next) ∙ c.loop-hook.invariant.ran.1,
+        alters_append g.H.Hook.allows g.H.Hook.refuses num _ _ _ some one _ _ _ _ _ _ c.loop-hook.invariant.ran.2 c.in_ok-change.ensures.ok,
+      );
       room = omega (arith, c.loop-hook.invariant.room, c.in_ok-change.ensures.left);
     }
 
