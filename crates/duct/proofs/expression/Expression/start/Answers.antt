@@ -1,11 +1,9 @@
 -- A start of a whole tree with a handle.
 use Rattle.std.proofs.lemmas.Result.{err_from_is_err_and}
-use Rattle.duct_system.specs.Trace.{segment}
 use Rattle.duct_run.proofs.Seeing.{views_of}
 use Rattle.duct_running.proofs.Launched.{launched_unasked}
-use Rattle.duct.specs.TreeView.{tree_view}
 use Rattle.duct_handle.proofs.Beginning.{are_ids, is_handle}
-use Rattle.duct.specs.Launched.{draining, drains_error, drains_output}
+use Rattle.duct.specs.Launched.{draining}
 use Rattle.duct.proofs.Launching.{refused_unasked}
 use Rattle.duct.proofs.expression.Expression.start.Goals as goal
 
@@ -28,17 +26,11 @@ returns-in_err-running-clause-refused g c =
 
 pub returns-clause-launched : goal.returns-clause-launched
 returns-clause-launched g c =
-    let tree = tree_view c.args.self.now in
-    let added = segment (g.S.System.journal_view c.args.sys.now).entries (g.S.System.journal_view c.launch_ready.new.sys).entries in
     let l = c.in_ok-running.ensures.launched in
+    let handle = c.handle_of.ensures in
     record {
       asked = l.asked;
-      makes = (
-        is_handle g.S.Child.Child.child_view g.S.Feed.Job.job_view g.S.Drain.Job.job_view tree (drains_output draining tree) (drains_error draining tree) added
-            c.in_ok-running.running c.handle_of.result l.makes.0 c.handle_of.ensures.shape c.handle_of.ensures.numbers,
-        are_ids g.S.Child.Child.child_view g.S.Feed.Job.job_view g.S.Drain.Job.job_view tree (drains_output draining tree) (drains_error draining tree) added
-            c.in_ok-running.running c.handle_of.result.ids l.makes.0 c.handle_of.ensures.ids,
-      );
+      makes = (is_handle _ _ _ _ _ _ _ _ c.handle_of.result l.makes.0 handle.shape handle.numbers, are_ids _ _ _ _ _ _ _ _ _ l.makes.0 handle.ids);
       swept = l.swept;
     }
 
