@@ -91,10 +91,10 @@ module _ {S E H C F D V W : Type 0} (views : SystemViews S E C F D V W) (kind : 
 
 -- a start that failed on an allocation before its first request: it asked for nothing, and the pool
 -- is as before
-pub refused_unasked : {S E H C F D V W : Type 0} (views : SystemViews S E C F D V W) (allows : Allows H)
-    (refuses : Refuses H) (kind : StartKind) (root : Expression E H) (sys : S) (pool : PoolView C)
+pub refused_unasked : {S E H C F D V W : Type 0} {views : SystemViews S E C F D V W} {allows : Allows H}
+    {refuses : Refuses H} {kind : StartKind} {root : Expression E H} {sys : S} {pool : PoolView C}
     → LaunchRefused views allows refuses kind root sys sys pool pool Memory
-refused_unasked views allows refuses kind root sys pool = record {
+refused_unasked {views = views} {allows = allows} {refuses = refuses} {kind = kind} {root = root} {sys = sys} {pool = pool} = record {
   asked = unasked_launch allows refuses views.number_of (tree_view root) (plan_for kind (tree_view root)) (views.journal sys);
   given = leaves_unasked views.may_answer views.child (views.journal sys).entries pool;
 }

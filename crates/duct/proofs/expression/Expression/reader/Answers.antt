@@ -3,21 +3,18 @@ use Rattle.std.proofs.lemmas.Result.{err_from_is_err_and}
 use Rattle.duct_run.proofs.Seeing.{views_of}
 use Rattle.duct_running.proofs.Launched.{launched_unasked}
 use Rattle.duct_handle.proofs.Beginning.{are_ids, is_handle}
-use Rattle.duct.specs.Launched.{reading}
 use Rattle.duct.proofs.Launching.{refused_unasked}
 use Rattle.duct.proofs.expression.Expression.reader.Goals as goal
 
 pub returns-in_err-ready-clause-refused : goal.returns-in_err-ready-clause-refused
 returns-in_err-ready-clause-refused g c =
     let p = err_from_is_err_and c.from_residual.result c.from_residual.ensures.1 in
-    rw (p.1, p.2, c.in_err-ready.ensures.memory) (refused_unasked (views_of g.S.System g.E.Numbered g.S.Child.Child g.S.Feed.Job g.S.Drain.Job)
-    g.H.Hook.allows g.H.Hook.refuses reading c.args.self.now c.args.sys.now c.args.pool.now)
+    rw (p.1, p.2, c.in_err-ready.ensures.memory) refused_unasked
 
 pub returns-in_err-room-clause-refused : goal.returns-in_err-room-clause-refused
 returns-in_err-room-clause-refused g c =
     let p = err_from_is_err_and c.from_residual-in_err-room.result c.from_residual-in_err-room.ensures.1 in
-    rw (p.1, p.2, c.in_err-room.ensures.memory) (refused_unasked (views_of g.S.System g.E.Numbered g.S.Child.Child g.S.Feed.Job g.S.Drain.Job)
-    g.H.Hook.allows g.H.Hook.refuses reading c.args.self.now c.args.sys.now c.args.pool.now)
+    rw (p.1, p.2, c.in_err-room.ensures.memory) refused_unasked
 
 pub returns-in_err-running-clause-refused : goal.returns-in_err-running-clause-refused
 returns-in_err-running-clause-refused g c =
