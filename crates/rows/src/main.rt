@@ -17,10 +17,9 @@ mod host_tables;
 use rows_calls::calls::Calls;
 use rows_calls::scripted::Scripted;
 use rows_requests::scripts::Scripts;
-use rows_starts::follows::Follows;
-use rows_starts::parts::Parts;
-use rows_starts::starts::Starts;
-use rows_starts::texts::Texts;
+use rows_parts::follows::Follows;
+use rows_parts::parts::Parts;
+use rows_parts::texts::Texts;
 use rows_table::real::Real;
 use rows_table::stop::TableError;
 use rows_table::table::{Counts, File, Mode, compare, untried};
@@ -41,7 +40,6 @@ fn tried<R: Real + Wait, W: Write>(rt: &R, file: File, out: &mut W) -> io::Resul
         },
         "follows" => compare(&mut Follows::new(alloc), file, out),
         "parts" => compare(&mut Parts::new(alloc), file, out),
-        "starts" => compare(&mut Starts::new(rt, alloc), file, out),
         "texts" => compare(&mut Texts::new(alloc), file, out),
         "scripts" => match Scripts::new(rt, alloc) {
             Ok(mut scripts) => compare(&mut scripts, file, out),

@@ -4,7 +4,6 @@
 //! Test support: the code is proved safe, and each function that can't block is proved to return.
 #![tactic(auto)]
 
-pub mod dice;
 pub mod entries;
 pub mod expressions;
 pub mod hooks;
