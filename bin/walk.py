@@ -271,7 +271,7 @@ class Start:
 
     def wait(self):
         """Polls the children that have not ended until none of them runs. Returns the answer."""
-        while not self.children[0].polls or any(it.last == "running" for it in self.children):
+        while any(child.last == "running" for child in self.children):
             for child in self.children:
                 if not child.has_ended():
                     child.poll()
@@ -322,7 +322,7 @@ def row(case):
     """The text of the row of a case."""
     start, is_launch = Start(case), "launch" in case.call
     answer = start.answer()
-    lines = {
+    scene = {
         "parent": case.parent,
         "canonical": case.canonical,
         "refuse": "; ".join(f"{sort} {number} {kind}" for (sort, number), kind in case.refused),
@@ -330,16 +330,15 @@ def row(case):
         "kept": case.kept,
         "drains": "" if is_launch else "; ".join(f"done {text}" for text in DRAINED),
         "reads": READ if case.call == "read" else "",
-        "expression": case.expression,
     }
-    wanted = {"answers": answer + ".", "trace": ", ".join(start.trace), "pool": start.pool}
-    if not is_launch:
-        wanted["times"] = f"polls {sum(child.polls for child in start.children)}, orders 0"
+    lines = {key: text for key, text in scene.items() if text}
+    lines |= {"expression": case.expression, case.call: "parts" if is_launch else ""}
+    lines |= {"answers": answer + ".", "trace": ", ".join(start.trace), "pool": start.pool}
+    if is_launch:
+        lines["during"] = ", ".join(start.calls)
     else:
-        wanted["during"] = ", ".join(start.calls)
+        lines["times"] = f"polls {sum(child.polls for child in start.children)}, orders 0"
     if answer == "started":
         workers = ["feed 0"] * start.asked["Feed"] + ["drain 0"] * start.asked["Drain"]
-        wanted["parts"] = ", ".join([*(f"{child.name} 0" for child in start.children), *workers])
-    lines = {key: text for key, text in lines.items() if text}
-    lines |= {case.call: "parts" if is_launch else "", **wanted}
+        lines["parts"] = ", ".join([*(f"{child.name} 0" for child in start.children), *workers])
     return "".join(f"{key}: {text}".strip() + "\n" for key, text in lines.items())
