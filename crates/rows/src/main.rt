@@ -16,10 +16,10 @@ mod host_tables;
 
 use rows_calls::calls::Calls;
 use rows_calls::scripted::Scripted;
-use rows_requests::scripts::Scripts;
 use rows_parts::follows::Follows;
 use rows_parts::parts::Parts;
 use rows_parts::texts::Texts;
+use rows_requests::scripts::Scripts;
 use rows_table::real::Real;
 use rows_table::stop::TableError;
 use rows_table::table::{Counts, File, Mode, compare, untried};
