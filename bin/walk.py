@@ -136,8 +136,9 @@ class Start:
         self.trace, self.calls = [], []
         self.captures, self.children, self.pool = {}, [], Pool()
         self.scripts = iter(scripts(case.children))
-        for number, script in enumerate(scripts(case.kept), 1):
-            self.pool.take(Child(number, script))
+        self.kept = [Child(number, script) for number, script in enumerate(scripts(case.kept), 1)]
+        for child in self.kept:
+            self.pool.take(child)
 
     def ask(self, sort, told=""):
         """Makes a request. Returns its place, if it is one of the trace."""
@@ -337,7 +338,8 @@ def row(case):
     if is_launch:
         lines["during"] = ", ".join(start.calls)
     else:
-        lines["times"] = f"polls {sum(child.polls for child in start.children)}, orders 0"
+        polls = sum(child.polls for child in [*start.kept, *start.children])
+        lines["times"] = f"polls {polls}, orders 0"
     if answer == "started":
         workers = ["feed 0"] * start.asked["Feed"] + ["drain 0"] * start.asked["Drain"]
         lines["parts"] = ", ".join([*(f"{child.name} 0" for child in start.children), *workers])
