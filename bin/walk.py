@@ -18,6 +18,8 @@ STATUS = re.compile(r"code \d+|signal \d+")
 UNTRACED = ("Duplicate", "Parent")
 # What the workers of captures and the reader return.
 DRAINED, READ = "xy", "z"
+# How many calls a row shows at most: its log holds 8192, with those that it doesn't show.
+SHOWN = 1000
 
 
 @dataclasses.dataclass(frozen=True)
@@ -335,9 +337,9 @@ def row(case):
     lines = {key: text for key, text in scene.items() if text}
     lines |= {"expression": case.expression, case.call: "parts" if is_launch else ""}
     lines |= {"answers": answer + ".", "trace": ", ".join(start.trace), "pool": start.pool}
-    if is_launch:
+    if is_launch and len(start.calls) <= SHOWN:
         lines["during"] = ", ".join(start.calls)
-    else:
+    if not is_launch:
         polls = sum(child.polls for child in [*start.kept, *start.children])
         lines["times"] = f"polls {polls}, orders 0"
     if answer == "started":
