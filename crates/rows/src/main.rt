@@ -11,16 +11,20 @@
 //! Nth allocation of the process fails, `--spend` chooses which one of a row that is.
 #![tactic(auto)]
 
-mod host_calls;
-mod host_tables;
+mod host;
+mod requests;
+mod scripts;
 
+use crate::host::HostMachine;
+use crate::scripts::Scripts;
 use rows_calls::calls::Calls;
+use rows_calls::machine::Machine;
 use rows_calls::scripted::Scripted;
 use rows_parts::follows::Follows;
 use rows_parts::parts::Parts;
 use rows_parts::texts::Texts;
-use rows_requests::scripts::Scripts;
-use rows_table::real::Real;
+use rows_table::odd::{Odd, Script};
+use rows_table::real::{Real, filled};
 use rows_table::stop::TableError;
 use rows_table::table::{Counts, File, Mode, compare, untried};
 use std::alloc::Global;
@@ -34,19 +38,69 @@ fn tried<R: Real + Wait, W: Write>(rt: &R, file: File, out: &mut W) -> io::Resul
     let alloc = rt.alloc();
     let first = file.text.lines().next().unwrap_or("");
     match first.strip_prefix("table: ").unwrap_or("") {
-        "calls" => match Scripted::new(alloc) {
-            Ok(machine) => compare(&mut Calls::new(rt, alloc, machine), file, out),
-            Err(stop) => untried(file, &stop, out),
-        },
-        "follows" => compare(&mut Follows::new(alloc), file, out),
-        "parts" => compare(&mut Parts::new(alloc), file, out),
-        "texts" => compare(&mut Texts::new(alloc), file, out),
+        "calls" => calls(rt, Scripted::new(alloc), file, out),
         "scripts" => match Scripts::new(rt, alloc) {
-            Ok(mut scripts) => compare(&mut scripts, file, out),
-            Err(stop) => untried(file, &stop, out),
+            Ok(mut scripts) => compare(alloc, &mut scripts, file, out),
+            Err(stop) => untried(file, stop, out),
         },
-        table if table.starts_with("host ") => host_tables::tried(rt, table, file, out),
-        _ => untried(file, &TableError::Text("no such table"), out),
+        "follows" => compare(alloc, &mut Follows::new(alloc), file, out),
+        "parts" => compare(alloc, &mut Parts::new(alloc), file, out),
+        "texts" => compare(alloc, &mut Texts::new(alloc), file, out),
+        table if table.starts_with("host ") => on_host(rt, table, file, out),
+        _ => untried(file, TableError::Text("no such table"), out),
+    }
+}
+
+/// Tries the rows of a file of a table over the real machine. Fails as well if the runtime doesn't
+/// return the folder for temporary files or the id of this process.
+fn on_host<R: Real + Wait, W: Write>(
+    rt: &R,
+    table: &str,
+    file: File,
+    out: &mut W,
+) -> io::Result<Counts> {
+    let alloc = rt.alloc();
+    let text = filled(rt, file.text)?;
+    let script = Script::new(alloc, file.text)?;
+    let odd = Odd::new(rt.clone()?, script.clone()?);
+    let file = File {
+        name: file.name,
+        text: text.as_str(),
+        mode: file.mode,
+    };
+    match table {
+        "host calls" => calls(rt, HostMachine::new(rt, None), file, out),
+        "host rare calls" => calls(rt, HostMachine::new(&odd, Some(script)), file, out),
+        "host requests" => host_requests(HostMachine::new(rt, None), file, out),
+        _ => host_requests(HostMachine::new(&odd, Some(script)), file, out),
+    }
+}
+
+fn calls<R: Real + Wait, M: Machine, W: Write>(
+    rt: &R,
+    machine: Result<M, TableError>,
+    file: File,
+    out: &mut W,
+) -> io::Result<Counts> {
+    match machine {
+        Ok(machine) => compare(
+            rt.alloc(),
+            &mut Calls::new(rt, rt.alloc(), machine),
+            file,
+            out,
+        ),
+        Err(stop) => untried(file, stop, out),
+    }
+}
+
+fn host_requests<R: Real, W: Write>(
+    machine: Result<HostMachine<R>, TableError>,
+    file: File,
+    out: &mut W,
+) -> io::Result<Counts> {
+    match machine {
+        Ok(mut machine) => compare(machine.allocator(), &mut machine, file, out),
+        Err(stop) => untried(file, stop, out),
     }
 }
 
@@ -97,7 +151,8 @@ fn file<R: Real + Wait, W: Write>(
         let left = allocations(rt.alloc(), LEFT);
         writeln!(out, "left {left}")?;
     } else if !options.is_quiet {
-        counts.tell(file, out)?;
+        let (compared, differing) = (counts.compared, counts.differing);
+        writeln!(out, "{name}: {compared} compared, {differing} differ")?;
     }
     Ok(counts.differing == 0 && counts.compared > 0)
 }

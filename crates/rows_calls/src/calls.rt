@@ -1,84 +1,50 @@
 //! The table `calls`: expressions that are started, and the results of the calls on what was
-//! started.
-//!
-//! These lines set up what later lines use.
-//! - `expression` has the expression that is started next. `arguments` has the arguments of the
-//!   program, separated by spaces. In them `_` is a space, and `~` is an empty argument.
-//! - The lines about the machine are described in the file of that machine.
-//!
-//! These lines make calls. The first four have calls, separated by commas, on what the line itself
-//! starts. The last call spends it.
-//! - `launch`: `poll`, `finish` (polls until there is a result), `kill` and `signal 15`. The last
-//!   call is `parts`, or `give`, which gives up the children.
-//! - `launch_reader` has the same calls. The reader is dropped before them.
-//! - `handle`: `try`, `wait`, `deadline 5s`, `timeout 5s`, `kill` and `signal 15`. A wait with
-//!   ` as` after it uses the token of the line, and one with ` new` a new token. The last call is
-//!   `give`; `leave`, which differs from it only for the line `calls`; `into` for `into_output`;
-//!   `share` for `into_output` while somebody else keeps the output of a wait; or `lend` while
-//!   another thread keeps it, whose result follows.
-//! - `reader`: `try`, `kill`, and reads. `read 4` reads at most 4 bytes with a new token. The
-//!   others are reads of std: `std 4` and `exact 4` by reference, `own 4` and `own_exact 4` by the
-//!   handle itself, and `all`. The last call is `give`. The byte count of a read is followed by the
-//!   bytes.
-//! - All four have `pids`, which counts the ids, and the calls of the machine. The prefix `sure`
-//!   marks a call that needs no memory: if it fails with an allocation failure, the row fails. The
-//!   prefix `needed` marks a call whose allocation failure changes the results of later calls: if
-//!   it fails with one, the row ends.
-//! - `run` and `read` start the expression and wait. `repeat: 9` runs it 9 times. Each result that
-//!   differs from the one before is added, so there is one if all are the same.
-//! - `run_until` and `read_until` do the same until a moment. `run_until: 5s 2s` stops the
-//!   expression five seconds after the moment that the clock shows first, with two seconds of
-//!   grace.
-//! - `perform` does what the program does with the arguments. `perform: unwritten` does it where
-//!   nothing can be written.
-//! - `sweep: once` sweeps the pool once, and `sweep: empty` sweeps it until it is empty. `clear`
-//!   clears the journal.
-//!
-//! Every other line is compared.
-//! - `answers`: the results of the calls of the last line that made calls, `started` if none of
-//!   them has a result, or the error of the start.
-//! - `pool`: how many children it holds, was given, reaped and lost.
-//! - `trace` and `journal`: the requests that were made. `spec`: the spec of the journal's last
-//!   entry, which has to be a spawn.
-//! - `line`: the debug text of the expression that the arguments mean. `status`, `out` and `err`
-//!   are those of the program, and `writes` is how often it wrote to `out` and `err`.
-//!
-//! At the end of a row each end that the row got has to be spent. For each line that started
-//! children, the pool has to have been given as many, or none if the call keeps them.
-use crate::machine::{Line, Machine};
-use crate::programs::{Performed, line_text};
-use crate::texts::{push_error, push_read, push_run};
-use duct::{Error, System};
+//! started (`docs/ROWS.md`).
+use crate::machine::Machine;
+use crate::programs::{Performed, push_line};
+use crate::started::{Started, polled, start};
+use crate::texts::{push_done, push_error, push_polled, push_read, push_run};
+use duct::{Clock, Error, Handle, System};
+use duct_deadline::late::Until;
+use duct_deadline::read::read_until;
+use duct_deadline::run::run_until;
 use duct_plan::checker::is_balanced;
-use rows_table::entries::{journal_text, last_spec};
 use rows_table::expressions::{Tree, written_with};
 use rows_table::stop::TableError;
 use rows_table::table::Table;
-use rows_table::told::{children_started, pool_text, trace_text};
-use rows_table::words::first_word;
-use std::alloc::Global;
-use std::mem::swap;
+use rows_table::told::{children_started, push_journal, push_last_spec, push_pool, push_trace};
+use rows_table::words::{duration, first_word};
+use std::alloc::{AllocError, Global};
 use std::sync::Wait;
+use std::thread;
 use std::thread::Threads;
+use std::time::Duration;
 
 /// The greatest number of polls or sweeps while something still runs.
 pub const TURNS: u32 = 30_000;
 
+/// The room for what a program writes to a stream, in bytes.
+const ROOM: usize = 4096;
+
+type Made<'r, R, M> = Started<'r, R, <M as Machine>::System>;
+
 /// The table of calls over a machine.
 #[derive(Drop)]
 pub struct Calls<'t, 'r, R, M> {
-    pub(crate) rt: &'r R,
-    pub(crate) alloc: Global,
-    pub(crate) machine: M,
+    rt: &'r R,
+    alloc: Global,
+    machine: M,
     expression: &'t str,
     arguments: &'t str,
-    pub(crate) answers: String,
-    performed: Option<Performed>,
+    answers: String,
+    performed: Performed,
+    /// How many calls the log had when the last start began, when it had returned, and when the
+    /// calls since then were made.
+    places: [u64; 3],
     /// Whether the call of the line gives no child that it started to the pool.
-    pub(crate) is_kept: bool,
+    is_kept: bool,
     /// Whether the pool was given another number of children than it had to be.
     is_lost: bool,
-    is_begun: bool,
 }
 
 impl<'t, 'r, R: Wait + Threads, M: Machine> Calls<'t, 'r, R, M> {
@@ -91,34 +57,21 @@ impl<'t, 'r, R: Wait + Threads, M: Machine> Calls<'t, 'r, R, M> {
             expression: "",
             arguments: "",
             answers: String::new(alloc),
-            performed: None,
+            performed: Performed::new(alloc),
+            places: [0; 3],
             is_kept: false,
             is_lost: false,
-            is_begun: false,
         }
     }
 
-    fn begin(&mut self) -> Result<(), TableError> {
-        if self.is_begun {
-            return Ok(());
-        }
-        self.machine.begin()?;
-        self.expression = "";
-        self.arguments = "";
-        self.is_lost = false;
-        self.is_begun = true;
-        Ok(())
-    }
-
-    /// Returns the tree of the row's expression.
-    pub(crate) fn tree(&mut self) -> Result<Tree<M::End>, TableError> {
+    fn tree(&mut self) -> Result<Tree<M::End>, TableError> {
         let log = self.machine.log()?;
         written_with(self.alloc, &mut self.machine, log.as_ref(), self.expression)
     }
 
     /// Returns how many children the journal shows as started, and how many the pool was given.
     fn counts(&mut self) -> (u64, u64) {
-        let (system, pool) = self.machine.stage();
+        let (system, pool, _) = self.machine.stage();
         (children_started(system.journal()), pool.given())
     }
 
@@ -128,8 +81,13 @@ impl<'t, 'r, R: Wait + Threads, M: Machine> Calls<'t, 'r, R, M> {
         self.answers.clear();
         self.is_kept = false;
         let before = self.counts();
-        self.machine.note_begin();
-        let made = self.make(key, text);
+        self.places = [self.machine.noted(); 3];
+        let made = match key {
+            "run" | "run_until" => self.run(text),
+            "read" | "read_until" => self.read(text),
+            "perform" => self.perform(text),
+            _ => self.start(key, text),
+        };
         let after = self.counts();
         let started = after.0.saturating_sub(before.0);
         let owed = if self.is_kept { 0 } else { started };
@@ -137,88 +95,198 @@ impl<'t, 'r, R: Wait + Threads, M: Machine> Calls<'t, 'r, R, M> {
         made
     }
 
-    fn make(&mut self, key: &str, text: &str) -> Result<(), TableError> {
-        match key {
-            "launch" => self.launch(text, false),
-            "launch_reader" => self.launch(text, true),
-            "handle" => self.handle(text),
-            "reader" => self.reader(text),
-            "run" => self.run(),
-            "read" => self.read(),
-            "run_until" => self.run_until(text),
-            "read_until" => self.read_until(text),
-            _ => self.perform(text),
+    /// Starts the expression of the row, and makes these calls on what was started. The last one
+    /// spends it.
+    fn start(&mut self, key: &str, calls: &str) -> Result<(), TableError> {
+        let (calls, end) = calls.rsplit_once(',').unwrap_or(("", calls));
+        let tree = self.tree()?;
+        let (system, pool, _) = self.machine.stage();
+        let started = start(&tree, self.rt, key, system, pool);
+        drop(tree);
+        self.note(1);
+        match started {
+            Ok(mut started) => {
+                let made = self.each(&mut started, calls);
+                self.note(2);
+                let spent = self.spend(started, end);
+                made.and(spent)
+            }
+            Err(error) => Ok(push_error(&mut self.answers, &error)?),
         }
     }
 
-    /// Adds the error of a start.
-    pub(crate) fn refused(&mut self, error: &Error) -> Result<(), TableError> {
-        self.machine.note_start();
-        Ok(push_error(&mut self.answers, error)?)
+    /// Notes that the calls up to now were made during the start, or since then.
+    fn note(&mut self, place: usize) {
+        let [begun, started, _] = self.places;
+        let noted = self.machine.noted();
+        self.places = [begun, if place == 1 { noted } else { started }, noted];
     }
 
-    /// Adds the result of a call with this mark. Fails if it is an allocation failure after which
-    /// the row doesn't go on.
-    pub(crate) fn add(&mut self, mark: &str, answer: &str) -> Result<(), TableError> {
-        self.answers.push_str(answer)?;
+    fn each(&mut self, started: &mut Made<'r, R, M>, calls: &str) -> Result<(), TableError> {
+        for call in calls.split(',') {
+            let (mark, call) = marked(call);
+            let from = self.answers.len();
+            self.made(started, call)?;
+            self.check_mark(mark, from)?;
+        }
+        Ok(())
+    }
+
+    fn made(&mut self, started: &mut Made<'r, R, M>, call: &str) -> Result<(), TableError> {
+        let answers = &mut self.answers;
+        match first_word(call) {
+            ("", _) => Ok(()),
+            ("pids", _) => Ok(write!(answers, "{} ids. ", started.pids().len())?),
+            ("kill" | "signal", signal) => {
+                Ok(push_done(answers, &started.order(self.rt, signal))?)
+            }
+            ("poll" | "finish" | "try" | "wait" | "timeout" | "deadline", _) => {
+                let polled = polled(started, self.rt, &mut self.machine, call)?;
+                Ok(push_polled(answers, &polled)?)
+            }
+            ("read" | "std" | "exact" | "own" | "own_exact" | "all", _) => {
+                started.push_read(self.alloc, call, answers)
+            }
+            _ => self.machine.call(call, started.pids(), answers),
+        }
+    }
+
+    /// Fails if a call with this mark had an allocation failure, after which the row doesn't go on.
+    /// Its result begins at this index of the answers.
+    fn check_mark(&self, mark: &str, from: usize) -> Result<(), TableError> {
+        let answer = self.answers.as_str().get(from..).unwrap_or("");
         let is_refused = answer.contains("out of memory") || answer.contains("OutOfMemory");
         match mark {
             "sure" if is_refused => Err(TableError::Text("a call that needs none was refused")),
-            "needed" if is_refused => Err(TableError::Error(Error::Memory)),
+            "needed" if is_refused => Err(TableError::Memory(AllocError)),
             _ => Ok(()),
         }
     }
 
-    fn run(&mut self) -> Result<(), TableError> {
-        let tree = self.tree()?;
-        let (system, pool) = self.machine.stage();
-        let answer = tree.run(self.rt, system, pool);
-        self.is_kept = answer.is_ok();
-        Ok(push_run(&mut self.answers, &answer)?)
+    fn spend(&mut self, started: Made<'r, R, M>, end: &str) -> Result<(), TableError> {
+        let (mark, end) = marked(end);
+        match (started, end) {
+            (Started::Running(running), "parts") => {
+                self.is_kept = true;
+                self.machine.spend(running.into_parts())
+            }
+            (Started::Handle(watched), "into" | "share" | "lend") => {
+                self.into_output(watched.into_handle(), end, mark)
+            }
+            (started, _) => {
+                started.give_up(self.machine.stage().1);
+                match end {
+                    "give" => {}
+                    "leave" => self.note(2),
+                    _ => return Err(TableError::Text("no call that spends this")),
+                }
+                Ok(())
+            }
+        }
     }
 
-    fn read(&mut self) -> Result<(), TableError> {
+    /// Calls `into_output`, alone or while this thread or another one keeps the output of a wait.
+    /// Adds what the other thread has afterwards.
+    fn into_output(
+        &mut self,
+        handle: Handle<M::System>,
+        end: &str,
+        mark: &str,
+    ) -> Result<(), TableError> {
+        if end == "into" {
+            return self.push_output(handle, mark);
+        }
+        let kept = handle.wait(self.rt);
+        if end == "share" {
+            let pushed = self.push_output(handle, mark);
+            drop(kept);
+            return pushed;
+        }
+        let keeper = thread::spawn(self.rt, move || kept);
+        let pushed = self.push_output(handle, mark);
+        match keeper {
+            Ok(keeper) => push_polled(&mut self.answers, &keeper.join(self.rt).map(Some))?,
+            Err(error) => return Err(TableError::Memory(AllocError::from(error))),
+        }
+        pushed
+    }
+
+    fn push_output(&mut self, handle: Handle<M::System>, mark: &str) -> Result<(), TableError> {
+        let from = self.answers.len();
+        let output = handle.into_output(self.rt, self.machine.stage().1);
+        self.is_kept = output.is_ok();
+        self.note(2);
+        push_run(&mut self.answers, &output.map(Until::Done))?;
+        self.check_mark(mark, from)
+    }
+
+    /// Runs the expression of the row, until a moment if one is given with a grace.
+    fn run(&mut self, limits: &str) -> Result<(), TableError> {
+        let limits = lengths(limits)?;
         let tree = self.tree()?;
-        let (system, pool) = self.machine.stage();
-        let answer = tree.read(self.rt, system, pool);
-        self.is_kept = answer.is_ok();
-        Ok(push_read(&mut self.answers, &answer)?)
+        let (system, pool, clock) = self.machine.stage();
+        let ran = match limits {
+            None => tree.run(self.rt, system, pool).map(Until::Done),
+            Some((length, grace)) => {
+                let moment = clock.now().saturating_add(length);
+                run_until(
+                    &tree, self.alloc, self.rt, clock, moment, grace, system, pool,
+                )
+            }
+        };
+        self.is_kept = matches!(ran, Ok(Until::Done(_)));
+        Ok(push_run(&mut self.answers, &ran)?)
+    }
+
+    /// Reads the expression of the row, until a moment if one is given with a grace.
+    fn read(&mut self, limits: &str) -> Result<(), TableError> {
+        let limits = lengths(limits)?;
+        let tree = self.tree()?;
+        let (system, pool, clock) = self.machine.stage();
+        let read = match limits {
+            None => tree.read(self.rt, system, pool).map(Until::Done),
+            Some((length, grace)) => {
+                let moment = clock.now().saturating_add(length);
+                read_until(
+                    &tree, self.alloc, self.rt, clock, moment, grace, system, pool,
+                )
+            }
+        };
+        self.is_kept = match &read {
+            Ok(ended) => matches!(ended, Until::Done(_)),
+            Err(error) => limits.is_some() && *error == Error::NotUtf8,
+        };
+        Ok(push_read(&mut self.answers, &read)?)
     }
 
     /// Runs the expression of the row `times` times. Adds each result that differs from the one
     /// before.
     fn repeat(&mut self, times: u64) -> Result<(), TableError> {
         let mut all = String::new(self.alloc);
-        let mut last = String::new(self.alloc);
         for _ in 0..times {
             self.call("run", "")?;
-            if self.answers.as_str() != last.as_str() {
+            if !all.ends_with(self.answers.as_str()) {
                 all.push_str(self.answers.as_str())?;
             }
-            swap(&mut last, &mut self.answers);
         }
         self.answers = all;
         Ok(())
     }
 
     fn perform(&mut self, text: &str) -> Result<(), TableError> {
-        let (system, _) = self.machine.stage();
-        let is_unwritten = text == "unwritten";
-        let performed = Performed::new(self.rt, self.alloc, system, self.arguments, is_unwritten)?;
-        self.performed = Some(performed);
+        let room = if text == "unwritten" { 0 } else { ROOM };
+        let (rt, args) = (self.rt, self.arguments);
+        let (system, _, _) = self.machine.stage();
         self.is_kept = true;
-        Ok(())
+        self.performed = Performed::new(self.alloc);
+        Ok(self.performed.perform(rt, self.alloc, system, args, room)?)
     }
 
     fn sweep(&mut self, text: &str) -> Result<(), TableError> {
-        if text == "once" {
-            self.machine.stage().1.sweep();
-            return Ok(());
-        }
         for _ in 0..TURNS {
-            let (_, pool) = self.machine.stage();
+            let (_, pool, _) = self.machine.stage();
             pool.sweep();
-            if pool.len() == 0 {
+            if text == "once" || pool.len() == 0 {
                 return Ok(());
             }
             self.machine.pause();
@@ -226,35 +294,30 @@ impl<'t, 'r, R: Wait + Threads, M: Machine> Calls<'t, 'r, R, M> {
         Err(TableError::Text("the children go on"))
     }
 
-    /// Returns what the line of this key is compared with.
-    fn found(&mut self, key: &str, text: &str) -> Result<Option<String>, TableError> {
-        let alloc = self.alloc;
-        let found = match key {
-            "answers" if self.answers.is_empty() => String::from_str(alloc, "started.")?,
-            "answers" => self.answers.clone()?,
-            "line" => line_text(alloc, self.arguments)?,
-            "status" | "out" | "err" | "writes" => match &self.performed {
-                Some(performed) => performed.text(alloc, key)?,
-                None => return Err(TableError::Text("the program has not run")),
-            },
-            "pool" => pool_text(alloc, self.machine.stage().1)?,
-            "trace" => trace_text(alloc, self.machine.stage().0.journal())?,
-            "journal" => journal_text(alloc, self.machine.stage().0.journal())?,
-            "spec" => last_spec(alloc, self.machine.stage().0.journal())?,
-            _ => match self.machine.line(key, text)? {
-                Line::Unknown => return Err(TableError::Text("no such key")),
-                Line::Set => return Ok(None),
-                Line::Found(found) => found,
-            },
-        };
-        Ok(Some(found))
+    /// Adds what the line of this key is compared with. Returns whether it is compared.
+    fn found(&mut self, key: &str, text: &str, out: &mut String) -> Result<bool, TableError> {
+        let [begun, started, called] = self.places;
+        let (system, pool, _) = self.machine.stage();
+        match key {
+            "answers" if self.answers.is_empty() => out.push_str("started.")?,
+            "answers" => out.push_str(self.answers.as_str())?,
+            "line" => push_line(out, self.alloc, self.arguments)?,
+            "status" | "out" | "err" | "writes" => self.performed.push(out, key)?,
+            "pool" => push_pool(out, pool)?,
+            "trace" => push_trace(out, self.alloc, system.journal())?,
+            "journal" => push_journal(out, system.journal())?,
+            "spec" => push_last_spec(out, system.journal())?,
+            "during" => self.machine.push_noted(begun, started, out)?,
+            "calls" => self.machine.push_noted(started, called, out)?,
+            _ => return self.machine.line(key, text, out),
+        }
+        Ok(true)
     }
 
     /// Fails if an end is not spent, or if the pool was given another number of children than it
     /// had to be.
     fn check(&mut self) -> Result<(), TableError> {
-        let (system, _) = self.machine.stage();
-        if !is_balanced(self.alloc, system.journal())? {
+        if !is_balanced(self.alloc, self.machine.stage().0.journal())? {
             return Err(TableError::Text("an end is not spent"));
         }
         if self.is_lost {
@@ -265,51 +328,49 @@ impl<'t, 'r, R: Wait + Threads, M: Machine> Calls<'t, 'r, R, M> {
 }
 
 impl<'t, R: Wait + Threads, M: Machine> Table<'t> for Calls<'t, '_, R, M> {
-    fn line(&mut self, key: &'t str, text: &'t str) -> Result<Option<String>, TableError> {
-        self.begin()?;
+    fn line(&mut self, key: &'t str, text: &'t str, out: &mut String) -> Result<bool, TableError> {
         match key {
             "expression" => self.expression = text,
             "arguments" => self.arguments = text,
             "repeat" => self.repeat(text.parse()?)?,
             "sweep" => self.sweep(text)?,
             "clear" => self.machine.stage().0.clear_journal(),
-            _ if is_call(key) => self.call(key, text)?,
-            _ => return self.found(key, text),
+            "launch"
+            | "launch_reader"
+            | "handle"
+            | "reader"
+            | "run"
+            | "read"
+            | "run_until"
+            | "read_until"
+            | "perform" => self.call(key, text)?,
+            _ => return self.found(key, text, out),
         }
-        Ok(None)
+        Ok(false)
     }
 
     fn end(&mut self) -> Result<(), TableError> {
-        if !self.is_begun {
-            return Ok(());
-        }
-        self.is_begun = false;
         let checked = self.check();
-        self.machine.end()?;
-        checked
+        (self.expression, self.arguments, self.is_lost) = ("", "", false);
+        let ended = self.machine.end();
+        checked.and(ended)
     }
 }
 
-/// Whether a line with this key makes calls.
-fn is_call(key: &str) -> bool {
-    matches!(
-        key,
-        "launch" | "launch_reader" | "handle" | "reader" | "run" | "read"
-    ) || matches!(key, "run_until" | "read_until" | "perform")
-}
-
-/// Returns the calls before the last one, and the last one.
-pub(crate) fn split_last(calls: &str) -> (&str, &str) {
-    let (calls, end) = calls.rsplit_once(',').unwrap_or(("", calls));
-    (calls, end.trim())
+/// Returns how long an expression may run, and its grace, if the text has them.
+fn lengths(text: &str) -> Result<Option<(Duration, Duration)>, TableError> {
+    if text.is_empty() {
+        return Ok(None);
+    }
+    let (length, grace) = first_word(text);
+    Ok(Some((duration(length)?, duration(grace)?)))
 }
 
 /// Returns the mark of a call, or an empty one, and the call without it.
-pub(crate) fn marked(call: &str) -> (&str, &str) {
+fn marked(call: &str) -> (&str, &str) {
     let call = call.trim();
     match first_word(call) {
-        ("sure", rest) => ("sure", rest),
-        ("needed", rest) => ("needed", rest),
+        (mark @ ("sure" | "needed"), rest) => (mark, rest),
         _ => ("", call),
     }
 }

@@ -4,11 +4,8 @@
 #![tactic(auto)]
 
 pub mod calls;
-mod deadlines;
-mod handles;
-mod launches;
 pub mod machine;
 mod programs;
-mod readers;
 pub mod scripted;
+mod started;
 pub mod texts;

@@ -15,17 +15,6 @@ pub type PartsOf<S> = (
     Vec<<S as System>::Drain>,
 );
 
-/// The result of a line about the machine.
-#[derive(Drop)]
-pub enum Line {
-    /// The machine has no such key.
-    Unknown,
-    /// The line has set something for later lines of the row.
-    Set,
-    /// The text of the line is compared with this text.
-    Found(String),
-}
-
 /// A system with a pool. An expression names the ends that the machine lends by their numbers.
 pub trait Machine: Lender + Drop {
     /// The system over which expressions are started.
@@ -34,36 +23,25 @@ pub trait Machine: Lender + Drop {
     /// The clock of the waits with a deadline or a timeout.
     type Clock: Clock;
 
-    /// Begins a row, with a new system and an empty pool.
-    fn begin(&mut self) -> Result<(), TableError>;
-
-    /// Returns the system and the pool.
-    fn stage(&mut self) -> (&mut Self::System, &mut PoolOf<Self::System>);
-
     /// Returns the system, the pool and the clock.
-    fn timed(&mut self) -> (&mut Self::System, &mut PoolOf<Self::System>, &Self::Clock);
-
-    /// Returns the clock.
-    fn clock(&self) -> &Self::Clock;
+    fn stage(&mut self) -> (&mut Self::System, &mut PoolOf<Self::System>, &Self::Clock);
 
     /// Returns the log in which hooks note their calls, if there is one.
     fn log(&self) -> Result<Option<Arc<CallLog>>, TableError>;
 
-    /// Reads a line about the machine.
-    fn line(&mut self, key: &str, text: &str) -> Result<Line, TableError>;
+    /// Returns how many calls the log has.
+    fn noted(&self) -> u64;
+
+    /// Adds the calls in the log from the first place up to the second one. Fails if there is no
+    /// log, or on an allocation failure.
+    fn push_noted(&self, from: u64, to: u64, out: &mut String) -> Result<(), TableError>;
+
+    /// Reads a line about the machine, as `Table::line` does.
+    fn line(&mut self, key: &str, text: &str, out: &mut String) -> Result<bool, TableError>;
 
     /// Makes a call that only this machine has, and adds its result. What runs has children of
     /// these ids. Fails if there is no such call.
-    fn call(&mut self, answer: &mut String, ids: &[u32], call: &str) -> Result<(), TableError>;
-
-    /// Notes that a line that makes calls begins.
-    fn note_begin(&mut self);
-
-    /// Notes that something was started or that its start failed, and that calls on it follow.
-    fn note_start(&mut self);
-
-    /// Notes that the calls since the start were made.
-    fn note_calls(&mut self);
+    fn call(&mut self, call: &str, ids: &[u32], answer: &mut String) -> Result<(), TableError>;
 
     /// Takes the children and workers of what ran, and keeps of them what later lines of the row
     /// are compared with.
@@ -72,6 +50,7 @@ pub trait Machine: Lender + Drop {
     /// Waits for a short time between two polls of what still runs.
     fn pause(&self);
 
-    /// Ends a row. Fails if something is left.
+    /// Ends a row, and begins the next one with a new system and an empty pool. Fails if something
+    /// is left.
     fn end(&mut self) -> Result<(), TableError>;
 }

@@ -4,13 +4,11 @@ use duct::{Expression, System};
 use duct_program::line::line;
 use duct_program::perform::perform;
 use duct_script::hook::ScriptHook;
-use rows_table::stop::TableError;
 use std::alloc::{AllocError, Global};
 use std::io;
 use std::io::Write;
 use std::sync::Wait;
 
-/// Returns the arguments of a text.
 fn arguments(alloc: Global, text: &str) -> Result<Vec<String>, AllocError> {
     let mut args = Vec::new(alloc);
     for word in text.split_whitespace() {
@@ -20,16 +18,15 @@ fn arguments(alloc: Global, text: &str) -> Result<Vec<String>, AllocError> {
     Ok(args)
 }
 
-/// Returns the debug text of the expression that these arguments mean, or the text of the error if
-/// they mean none. Fails on allocation failure.
-pub fn line_text(alloc: Global, args: &str) -> Result<String, TableError> {
+/// Adds the debug text of the expression that these arguments mean, or the text of the error if
+/// they mean none. Fails on an allocation failure.
+pub fn push_line(text: &mut String, alloc: Global, args: &str) -> Result<(), AllocError> {
     let args = arguments(alloc, args)?;
     let made: Result<Expression<u64, ScriptHook>, _> = line(alloc, args.as_slice());
-    let text = match made {
-        Ok(expression) => format!(in alloc; "{expression:?}")?,
-        Err(usage) => format!(in alloc; "{usage:?}: {usage}")?,
-    };
-    Ok(text)
+    match made {
+        Ok(expression) => write!(text, "{expression:?}"),
+        Err(usage) => write!(text, "{usage:?}: {usage}"),
+    }
 }
 
 /// A stream of the program, which takes each write as one piece, and at most as many bytes as it
@@ -42,15 +39,17 @@ struct Stream {
 }
 
 impl Stream {
-    /// Returns a stream with reserved room for this many bytes. Fails on allocation failure.
-    fn new(alloc: Global, room: usize) -> Result<Stream, AllocError> {
-        let mut taken = Vec::new(alloc);
-        taken.reserve(room)?;
-        Ok(Stream {
-            taken,
-            room,
+    fn new(alloc: Global) -> Stream {
+        Stream {
+            taken: Vec::new(alloc),
+            room: 0,
             writes: 0,
-        })
+        }
+    }
+
+    fn reserve(&mut self, room: usize) -> Result<(), AllocError> {
+        self.room = room;
+        self.taken.reserve(room)
     }
 }
 
@@ -76,38 +75,42 @@ pub struct Performed {
     err: Stream,
 }
 
-/// The room for what a program writes to a stream, in bytes.
-const ROOM: usize = 4096;
-
 impl Performed {
-    /// Does what the program does with these arguments. The room for its output is reserved before,
-    /// or there is none if `is_unwritten` is set. Blocks until it is done. Fails on allocation
-    /// failure.
-    pub fn new<S: System>(
+    /// Returns a program that has done nothing.
+    pub fn new(alloc: Global) -> Performed {
+        Performed {
+            status: 0,
+            out: Stream::new(alloc),
+            err: Stream::new(alloc),
+        }
+    }
+
+    /// Does what the program does with these arguments. The room for its output is reserved before.
+    /// Blocks until it is done. Fails on an allocation failure.
+    pub fn perform<S: System>(
+        &mut self,
         rt: &impl Wait,
         alloc: Global,
         system: &mut S,
         args: &str,
-        is_unwritten: bool,
-    ) -> Result<Performed, AllocError> {
+        room: usize,
+    ) -> Result<(), AllocError> {
         let args = arguments(alloc, args)?;
-        let room = if is_unwritten { 0 } else { ROOM };
-        let mut out = Stream::new(alloc, room)?;
-        let mut err = Stream::new(alloc, room)?;
-        let status = perform(rt, alloc, system, args.as_slice(), &mut out, &mut err);
-        Ok(Performed { status, out, err })
+        self.out.reserve(room)?;
+        self.err.reserve(room)?;
+        let (out, err) = (&mut self.out, &mut self.err);
+        self.status = perform(rt, alloc, system, args.as_slice(), out, err);
+        Ok(())
     }
 
-    /// Returns the status, in how many writes each stream got its bytes, or what was written. Fails
-    /// on allocation failure.
-    pub fn text(&self, alloc: Global, key: &str) -> Result<String, AllocError> {
-        let mut text = String::new(alloc);
+    /// Adds the status, in how many writes each stream got its bytes, or what was written. Fails on
+    /// an allocation failure.
+    pub fn push(&self, text: &mut String, key: &str) -> Result<(), AllocError> {
         match key {
-            "status" => write!(text, "{}", self.status)?,
-            "writes" => write!(text, "out {}, err {}", self.out.writes, self.err.writes)?,
-            "out" => push_bytes(&mut text, self.out.taken.as_slice())?,
-            _ => push_bytes(&mut text, self.err.taken.as_slice())?,
+            "status" => write!(text, "{}", self.status),
+            "writes" => write!(text, "out {}, err {}", self.out.writes, self.err.writes),
+            "out" => push_bytes(text, self.out.taken.as_slice()),
+            _ => push_bytes(text, self.err.taken.as_slice()),
         }
-        Ok(text)
     }
 }

@@ -1,5 +1,6 @@
 //! Texts for the results of calls.
 use duct::{Error, Output};
+use duct_deadline::late::{Late, LateRead, Until};
 use std::alloc::AllocError;
 use std::sync::Arc;
 
@@ -18,14 +19,6 @@ pub fn push_polled(
     }
 }
 
-/// Adds the result of a run: a status with what was captured, or the text of an error.
-pub fn push_run(text: &mut String, answer: &Result<Output, Error>) -> Result<(), AllocError> {
-    match answer {
-        Ok(output) => push_output(text, output),
-        Err(error) => push_error(text, error),
-    }
-}
-
 /// Adds that an order was obeyed, or the text of its error.
 pub fn push_done(text: &mut String, answer: &Result<(), Error>) -> Result<(), AllocError> {
     match answer {
@@ -34,16 +27,57 @@ pub fn push_done(text: &mut String, answer: &Result<(), Error>) -> Result<(), Al
     }
 }
 
-/// Adds a text that was read, in quotes, or of a long one its length, or the text of an error.
-pub fn push_read(text: &mut String, answer: &Result<String, Error>) -> Result<(), AllocError> {
-    match answer {
-        Ok(read) if read.len() > LONG => {
+/// Adds the result of a run: a status with what was captured, how it was late, or the text of an
+/// error.
+pub fn push_run(
+    text: &mut String,
+    ran: &Result<Until<Output, Late>, Error>,
+) -> Result<(), AllocError> {
+    match ran {
+        Ok(Until::Done(output)) => push_output(text, output),
+        Ok(Until::Late(late)) => push_late(text, late),
+        Err(error) => push_error(text, error),
+    }
+}
+
+/// Adds a text that was read, in quotes, or of a long one its length, or how the read was late, or
+/// the text of an error.
+pub fn push_read(
+    text: &mut String,
+    read: &Result<Until<String, LateRead>, Error>,
+) -> Result<(), AllocError> {
+    match read {
+        Ok(Until::Done(read)) if read.len() > LONG => {
             push_long(text, read.as_bytes())?;
             text.push_str(". ")
         }
-        Ok(read) => write!(text, "{read:?}. "),
+        Ok(Until::Done(read)) => write!(text, "{read:?}. "),
+        Ok(Until::Late(late)) => {
+            push_late(text, &late.late)?;
+            push_last_read(text, &late.read)
+        }
         Err(error) => push_error(text, error),
     }
+}
+
+/// Adds how an expression ended that was late, and what its kill returned.
+fn push_late(text: &mut String, late: &Late) -> Result<(), AllocError> {
+    text.push_str("late. ")?;
+    match &late.ended {
+        Some(Ok(output)) => push_output(text, output)?,
+        Some(Err(error)) => push_error(text, error)?,
+        None => text.push_str("not ended. ")?,
+    }
+    push_done(text, &late.killed)
+}
+
+fn push_last_read(text: &mut String, read: &Option<Arc<Vec<u8>>>) -> Result<(), AllocError> {
+    let Some(bytes) = read else {
+        return text.push_str("nothing read. ");
+    };
+    text.push_str("read ")?;
+    push_bytes(text, bytes.as_slice())?;
+    text.push_str(". ")
 }
 
 /// Adds the text of an error.
@@ -52,7 +86,7 @@ pub fn push_error(text: &mut String, error: &Error) -> Result<(), AllocError> {
 }
 
 /// Adds a status with what was captured.
-pub(crate) fn push_output(text: &mut String, output: &Output) -> Result<(), AllocError> {
+pub fn push_output(text: &mut String, output: &Output) -> Result<(), AllocError> {
     write!(text, "{:?} out=", output.status)?;
     push_bytes(text, output.stdout.as_slice())?;
     text.push_str(" err=")?;

@@ -11,6 +11,7 @@
 //!   too.
 //! - `cause`: whether the error has a cause in the journal. `last`: whether it is the last fault
 //!   there, or there is none.
+use crate::journals::journal;
 use duct::{Entry, Error};
 use duct_follows::causes::{answers_last_fault, is_caused_or_memory};
 use duct_follows::follows::{asks_plan, follows, follows_whole};
@@ -22,7 +23,6 @@ use duct_plan::plan::{plan, plan_of_reader};
 use duct_script::hook::ScriptHook;
 use duct_script::system::ScriptEnd;
 use rows_table::expressions::written;
-use rows_table::journals::journal;
 use rows_table::stop::TableError;
 use rows_table::table::Table;
 use rows_table::words::{fault, first_word};
@@ -82,15 +82,18 @@ impl<'t> Follows<'t> {
 }
 
 impl<'t> Table<'t> for Follows<'t> {
-    fn line(&mut self, key: &'t str, text: &'t str) -> Result<Option<String>, TableError> {
+    fn line(&mut self, key: &'t str, text: &'t str, out: &mut String) -> Result<bool, TableError> {
         match key {
             "expression" => self.expression = text,
             "reader" => (self.expression, self.has_reader) = (text, true),
             "journal" => self.journal = text,
             "error" => self.error = text,
-            _ => return Ok(Some(String::from_str(self.alloc, self.found(key)?)?)),
+            _ => {
+                out.push_str(self.found(key)?)?;
+                return Ok(true);
+            }
         }
-        Ok(None)
+        Ok(false)
     }
 
     fn end(&mut self) -> Result<(), TableError> {

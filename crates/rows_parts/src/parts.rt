@@ -24,7 +24,7 @@
 //!   allocation failure, those of the expressions that were built before, and then the error.
 //! - `first` is compared: the debug text of the first one, after the others are dropped.
 //!
-//! A journal in the form of `rows_table::journals` in the line `journal`, and the spec of its last
+//! A journal in the form of `journals` in the line `journal`, and the spec of its last
 //! entry. `writes` has the writes to that spec, separated by spaces: hooks in the form of
 //! `rows_table::hooks`, `args=x,y`, and `give_stdin`.
 //! - `says` is compared: the numbers of the ends that were got and spent, whether they balance, how
@@ -45,7 +45,7 @@ mod names;
 mod statuses;
 mod transfers;
 
-use rows_table::expressions::{Strangers, write_all};
+use rows_table::expressions::{Strangers, Writing};
 use rows_table::stop::TableError;
 use rows_table::table::Table;
 use rows_table::words::first_word;
@@ -93,12 +93,13 @@ impl<'t> Parts<'t> {
 }
 
 impl<'t> Table<'t> for Parts<'t> {
-    fn line(&mut self, key: &'t str, text: &'t str) -> Result<Option<String>, TableError> {
+    fn line(&mut self, key: &'t str, text: &'t str, out: &mut String) -> Result<bool, TableError> {
         if SET.split(' ').any(|set| set == key) {
             self.set.insert(key, text)?;
-            return Ok(None);
+            return Ok(false);
         }
-        Ok(Some(self.found(key)?))
+        out.push_str(self.found(key)?.as_str())?;
+        Ok(true)
     }
 
     fn end(&mut self) -> Result<(), TableError> {
@@ -109,11 +110,11 @@ impl<'t> Table<'t> for Parts<'t> {
 
 /// The debug texts of the first expressions of a text, at most so many.
 fn shown(alloc: Global, text: &str, most: usize) -> Result<String, TableError> {
-    let mut made = Vec::new(alloc);
-    let wrote = write_all(alloc, &mut Strangers { alloc }, None, text, &mut made);
-    made.truncate(most);
+    let mut strangers = Strangers { alloc };
+    let mut writing = Writing::new(alloc, &mut strangers, None);
+    let wrote = writing.write(text);
     let mut found = String::new(alloc);
-    for tree in made.iter() {
+    for tree in writing.built.iter().take(most) {
         write!(found, "{tree:?}; ")?;
     }
     match wrote {

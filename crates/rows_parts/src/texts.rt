@@ -82,7 +82,7 @@ impl<'t> Texts<'t> {
 }
 
 impl<'t> Table<'t> for Texts<'t> {
-    fn line(&mut self, key: &'t str, text: &'t str) -> Result<Option<String>, TableError> {
+    fn line(&mut self, key: &'t str, text: &'t str, out: &mut String) -> Result<bool, TableError> {
         match key {
             "journal" => {
                 self.journal.push_str(text)?;
@@ -90,9 +90,12 @@ impl<'t> Table<'t> for Texts<'t> {
             }
             "arguments" => self.arguments = text,
             "expression" => self.expression = text,
-            _ => return Ok(Some(self.found(key)?)),
+            _ => {
+                out.push_str(self.found(key)?.as_str())?;
+                return Ok(true);
+            }
         }
-        Ok(None)
+        Ok(false)
     }
 
     fn end(&mut self) -> Result<(), TableError> {

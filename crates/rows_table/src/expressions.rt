@@ -1,27 +1,13 @@
-//! Expressions written as texts: `a stdin_null b pipe` is `a.stdin_null().pipe(&b)`.
-//!
-//! - The arguments of a call follow a `=` and are separated by commas: `a env=A,2 dir=/in`. A pair
-//!   has a colon: `full_env=A:1,B:2`.
-//! - A word that is not a call is a command: `echo,hi` is a command of two words.
-//! - The text between two backticks is one word, even with spaces and `=` in it. It is a command if
-//!   it is a step of its own: `` `sh,-c,A=1; echo $A` dir=`/a b` ``.
-//! - A program can be given as a `String`, `string=x`, as a `Path`, `path=x`, or as a `PathBuf`,
-//!   `path_buf=x`. `string_ref=x` and `path_buf_ref=x` are references to owned ones.
-//! - `stdin_many=9,42` is an input of nine bytes of value 42.
-//! - `before_spawn=x,7,8` is a hook that adds the word `x`, with the ends 7 and 8. `hooks`
-//!   describes what else a hook can do.
-//! - `unchecked=9` is nine nodes of that call.
-//! - `again` is the last expression once more: `a again pipe` is `a.pipe(&a)`.
-//! - `pipes=9` is nine pipes with the last expression as their right side. Each one is the left
-//!   side of the next: `a b pipes=2` is `a.pipe(&b).pipe(&b)`.
+//! Expressions written as texts: `a stdin_null b pipe` is `a.stdin_null().pipe(&b)`
+//! (`docs/ROWS.md`).
 use crate::hooks::hook;
 use crate::stop::TableError;
-use crate::words::{pairs, pieces};
+use crate::words::{first_word, pairs, pieces};
 use duct::{Error, Expression, Fault, Numbered};
 use duct_script::calls::CallLog;
 use duct_script::hook::ScriptHook;
 use duct_script::system::{Script, ScriptEnd};
-use std::alloc::{AllocError, Global};
+use std::alloc::Global;
 use std::path::{Path, PathBuf};
 use std::sync::Arc;
 
@@ -74,76 +60,25 @@ pub fn written_with<L: Lender>(
     calls: Log,
     text: &str,
 ) -> Result<Tree<L::End>, TableError> {
-    let mut built = Vec::new(alloc);
-    write_all(alloc, lender, calls, text, &mut built)?;
-    only(built)
+    let mut writing = Writing::new(alloc, lender, calls);
+    writing.write(text)?;
+    writing.only()
 }
 
-/// Adds all expressions that the steps of a text leave, in order. If a step fails, those that the
-/// steps before it left stay. Fails if a step is malformed, if an end can't be lent, or on an
-/// allocation failure.
-pub fn write_all<L: Lender>(
-    alloc: Global,
-    lender: &mut L,
-    calls: Log,
-    text: &str,
-    built: &mut Vec<Tree<L::End>>,
-) -> Result<(), TableError> {
-    let steps = steps(alloc, text)?;
-    let mut writing = Writing {
-        alloc,
-        lender,
-        calls,
-        built,
-    };
-    for step in steps.iter() {
-        writing.step(step.as_str())?;
+/// Returns the name of the first step of a text, its arguments, and the text after the step. A step
+/// that is quoted as a whole has arguments, and no name.
+fn first_step(text: &str) -> (&str, Option<&str>, &str) {
+    let (step, rest) = first_word(text);
+    if let Some((call, _)) = step.split_once('`') {
+        let (_, quoted) = text.split_once('`').unwrap_or((text, ""));
+        let (values, rest) = quoted.split_once('`').unwrap_or((quoted, ""));
+        return (call.strip_suffix('=').unwrap_or(call), Some(values), rest);
     }
-    Ok(())
-}
-
-/// Splits a text into steps at whitespace, but not between two backticks. Between two spaces in a
-/// row there is an empty step.
-fn steps(alloc: Global, text: &str) -> Result<Vec<String>, AllocError> {
-    let mut steps = Vec::new(alloc);
-    steps.push(String::new(alloc))?;
-    let mut is_quoted = false;
-    for c in text.chars() {
-        is_quoted = is_quoted != (c == '`');
-        if c.is_whitespace() && !is_quoted {
-            steps.push(String::new(alloc))?;
-        } else if let Some(step) = steps.last_mut() {
-            step.push(c)?;
-        }
-    }
-    Ok(steps)
-}
-
-/// Removes the two backticks around a text, if it has them.
-fn unquoted(text: &str) -> &str {
-    match text.strip_prefix('`') {
-        Some(rest) => rest.strip_suffix('`').unwrap_or(rest),
-        None => text,
+    match step.split_once('=') {
+        Some((call, values)) if is_call(call) => (call, Some(values), rest),
+        _ => (step, None, rest),
     }
 }
-
-/// Returns the only expression. Fails if there is none, or more than one.
-fn only<E: Drop>(mut built: Vec<Tree<E>>) -> Result<Tree<E>, TableError> {
-    let made = last(&mut built)?;
-    if built.is_empty() {
-        Ok(made)
-    } else {
-        Err(TableError::Text("more than one expression"))
-    }
-}
-
-/// Removes and returns the last expression.
-fn last<E>(built: &mut Vec<Tree<E>>) -> Result<Tree<E>, TableError> {
-    built.pop().ok_or(NONE)
-}
-
-/// Why a step fails that needs an expression before it.
-const NONE: TableError = TableError::Text("no expression");
 
 /// Whether a step is a call with arguments, by its text before the `=`.
 fn is_call(name: &str) -> bool {
@@ -151,75 +86,132 @@ fn is_call(name: &str) -> bool {
         .all(|byte| byte == b'_' || byte.is_ascii_lowercase())
 }
 
-/// The expressions that the steps so far made.
+/// Why a step fails that needs an expression before it.
+const NONE: TableError = TableError::Text("no expression");
+
+/// Expressions that are built, with ends from this lender and hooks that note their calls in this
+/// log.
 #[derive(Drop)]
-struct Writing<'l, 'c, 'b, L: Lender> {
+pub struct Writing<'l, 'c, L: Lender> {
     alloc: Global,
     lender: &'l mut L,
     calls: Log<'c>,
-    built: &'b mut Vec<Tree<L::End>>,
+    /// The expressions that the steps so far left, in order.
+    pub built: Vec<Tree<L::End>>,
 }
 
-impl<L: Lender> Writing<'_, '_, '_, L> {
-    /// Adds what a step makes, unless it is empty.
-    fn step(&mut self, step: &str) -> Result<(), TableError> {
-        if !step.is_empty() {
-            let made = self.made(step)?;
-            self.built.push(made)?;
+impl<'l, 'c, L: Lender> Writing<'l, 'c, L> {
+    /// Returns no expression yet.
+    pub fn new(alloc: Global, lender: &'l mut L, calls: Log<'c>) -> Writing<'l, 'c, L> {
+        Writing {
+            alloc,
+            lender,
+            calls,
+            built: Vec::new(alloc),
+        }
+    }
+
+    /// Adds all expressions that the steps of a text leave. If a step fails, those that the steps
+    /// before it left stay. Fails if a step is malformed, if an end can't be lent, or on an
+    /// allocation failure.
+    pub fn write(&mut self, text: &str) -> Result<(), TableError> {
+        let mut rest = text;
+        for _ in 0..text.len() {
+            let (name, values, others) = first_step(rest);
+            if !name.is_empty() || values.is_some() {
+                self.step(name, values)?;
+            }
+            rest = others;
         }
         Ok(())
     }
 
-    /// Returns what a step makes: a call with arguments, a command, or a call without arguments. A
-    /// quoted step is a command.
-    fn made(&mut self, step: &str) -> Result<Tree<L::End>, TableError> {
-        match step.split_once('=') {
-            Some((call, values)) if is_call(call) => self.with_values(call, unquoted(values)),
-            _ if step.starts_with('`') => command(self.alloc, unquoted(step)),
-            _ => self.bare(step),
+    fn only(&mut self) -> Result<Tree<L::End>, TableError> {
+        match self.built.pop() {
+            Some(made) if self.built.is_empty() => Ok(made),
+            _ => Err(TableError::Text("not exactly one expression")),
         }
     }
 
-    /// Makes a call without arguments, a pipe of the last two expressions, or a command.
-    fn bare(&mut self, step: &str) -> Result<Tree<L::End>, TableError> {
-        match step {
-            "pipe" => {
-                let right = last(self.built)?;
-                Ok(last(self.built)?.pipe(&right)?)
-            }
-            "again" => Ok(self.built.last().ok_or(NONE)?.clone()?),
-            "unchecked" => Ok(last(self.built)?.unchecked()?),
-            _ if step.starts_with("std") => redirected(&last(self.built)?, step),
-            _ => command(self.alloc, step),
-        }
+    /// Adds what a step makes in place of the expressions that it is made of.
+    fn step(&mut self, name: &str, values: Option<&str>) -> Result<(), TableError> {
+        let (made, parts) = match (name, values) {
+            ("", Some(words)) => (command(self.alloc, words)?, 0),
+            ("pipe" | "pipes", _) => (self.repeated(values, true)?, 2),
+            ("unchecked", _) => (self.repeated(values, false)?, 1),
+            ("again", _) => (self.built.last().ok_or(NONE)?.clone()?, 0),
+            (_, None) if name.starts_with("std") => (self.redirected(name)?, 1),
+            (_, None) => (command(self.alloc, name)?, 0),
+            (_, Some(program)) if FORMS.contains(&name) => (of(self.alloc, name, program)?, 0),
+            (_, Some(values)) => (self.with_values(name, values)?, 1),
+        };
+        let length = self.built.len().saturating_sub(parts);
+        self.built.truncate(length);
+        Ok(self.built.push(made)?)
     }
 
-    /// Makes a command of one word in this form, or a call with arguments.
+    /// So many `unchecked` nodes, or pipes with the last expression as their right side.
+    fn repeated(&self, count: Option<&str>, is_pipe: bool) -> Result<Tree<L::End>, TableError> {
+        let (last, others) = self.built.split_last().ok_or(NONE)?;
+        let mut made = if is_pipe {
+            others.last().ok_or(NONE)?.clone()?
+        } else {
+            last.clone()?
+        };
+        for _ in 0..count.unwrap_or("1").parse::<u64>()? {
+            made = if is_pipe {
+                made.pipe(last)?
+            } else {
+                made.unchecked()?
+            };
+        }
+        Ok(made)
+    }
+
+    /// Makes a call on a stream that takes no arguments.
+    fn redirected(&self, call: &str) -> Result<Tree<L::End>, TableError> {
+        let inner = self.built.last().ok_or(NONE)?;
+        let made = match call {
+            "stdin_null" => inner.stdin_null(),
+            "stdout_null" => inner.stdout_null(),
+            "stderr_null" => inner.stderr_null(),
+            "stdout_capture" => inner.stdout_capture(),
+            "stderr_capture" => inner.stderr_capture(),
+            "stdout_to_stderr" => inner.stdout_to_stderr(),
+            "stderr_to_stdout" => inner.stderr_to_stdout(),
+            "stdout_stderr_swap" => inner.stdout_stderr_swap(),
+            _ => return Err(TableError::Text("no such call")),
+        };
+        Ok(made?)
+    }
+
+    /// Makes a call with ends or texts as arguments.
     fn with_values(&mut self, call: &str, values: &str) -> Result<Tree<L::End>, TableError> {
-        if let Some(command) = program(self.alloc, call, values)? {
-            return Ok(command);
-        }
-        let inner = last(self.built)?;
         match call {
-            "stdin_file" => Ok(inner.stdin_file(self.lender.lend(values.parse()?)?)?),
-            "stdout_file" => Ok(inner.stdout_file(self.lender.lend(values.parse()?)?)?),
-            "stderr_file" => Ok(inner.stderr_file(self.lender.lend(values.parse()?)?)?),
-            "before_spawn" => self.hooked(&inner, values),
-            "pipes" => pipes(last(self.built)?, &inner, values),
-            "unchecked" => unchecked(inner, values),
-            _ => with_texts(self.alloc, &inner, call, values),
+            "stdin_file" | "stdout_file" | "stderr_file" => {
+                let end = self.lender.lend(values.parse()?)?;
+                let inner = self.built.last().ok_or(NONE)?;
+                let made = match call {
+                    "stdin_file" => inner.stdin_file(end),
+                    "stdout_file" => inner.stdout_file(end),
+                    _ => inner.stderr_file(end),
+                };
+                Ok(made?)
+            }
+            "before_spawn" => self.hooked(values),
+            _ => with_texts(self.alloc, self.built.last().ok_or(NONE)?, call, values),
         }
     }
 
     /// Adds the hook of a text to an expression, with the ends whose numbers follow the text.
-    fn hooked(&mut self, inner: &Tree<L::End>, values: &str) -> Result<Tree<L::End>, TableError> {
+    fn hooked(&mut self, values: &str) -> Result<Tree<L::End>, TableError> {
         let (text, numbers) = values.split_once(',').unwrap_or((values, ""));
-        let hook = hook(self.alloc, self.calls, text)?;
         let mut ends = Vec::new(self.alloc);
-        for number in pieces(self.alloc, numbers)? {
+        for number in numbers.split_terminator(',') {
             ends.push(self.lender.lend(number.parse()?)?)?;
         }
-        Ok(inner.before_spawn(hook, ends)?)
+        let hook = hook(self.alloc, self.calls, text)?;
+        Ok(self.built.last().ok_or(NONE)?.before_spawn(hook, ends)?)
     }
 }
 
@@ -231,34 +223,18 @@ fn command<E: Drop>(alloc: Global, words: &str) -> Result<Tree<E>, TableError> {
     }
 }
 
-/// The command whose program is given in this form, or `None` if there is no such form.
-fn program<E: Drop>(alloc: Global, form: &str, text: &str) -> Result<Option<Tree<E>>, Error> {
-    let made = match form {
+/// The forms in which a program is given.
+const FORMS: [&str; 5] = ["string", "string_ref", "path", "path_buf", "path_buf_ref"];
+
+/// Returns the command whose program is given in this form.
+fn of<E: Drop>(alloc: Global, form: &str, text: &str) -> Result<Tree<E>, Error> {
+    match form {
         "string" => duct::cmd(alloc, String::from_str(alloc, text)?, &[]),
         "string_ref" => duct::cmd(alloc, &String::from_str(alloc, text)?, &[]),
         "path" => duct::cmd(alloc, Path::new(text), &[]),
         "path_buf" => duct::cmd(alloc, PathBuf::from_str(alloc, text)?, &[]),
-        "path_buf_ref" => duct::cmd(alloc, &PathBuf::from_str(alloc, text)?, &[]),
-        _ => return Ok(None),
-    };
-    Ok(Some(made?))
-}
-
-/// Makes a call on a stream that takes no arguments. Fails if there is no such call, or on an
-/// allocation failure.
-fn redirected<E: Drop>(inner: &Tree<E>, call: &str) -> Result<Tree<E>, TableError> {
-    let made = match call {
-        "stdin_null" => inner.stdin_null(),
-        "stdout_null" => inner.stdout_null(),
-        "stderr_null" => inner.stderr_null(),
-        "stdout_capture" => inner.stdout_capture(),
-        "stderr_capture" => inner.stderr_capture(),
-        "stdout_to_stderr" => inner.stdout_to_stderr(),
-        "stderr_to_stdout" => inner.stderr_to_stdout(),
-        "stdout_stderr_swap" => inner.stdout_stderr_swap(),
-        _ => return Err(TableError::Text("no such call")),
-    };
-    Ok(made?)
+        _ => duct::cmd(alloc, &PathBuf::from_str(alloc, text)?, &[]),
+    }
 }
 
 /// Makes a call with texts as arguments. Fails if there is no such call, if an argument is
@@ -283,22 +259,4 @@ fn with_texts<E: Drop>(
         _ => return Err(TableError::Text("no such call")),
     };
     Ok(made?)
-}
-
-/// This many pipes with the same right side, each one the left side of the next.
-fn pipes<E: Drop>(left: Tree<E>, right: &Tree<E>, count: &str) -> Result<Tree<E>, TableError> {
-    let mut made = left;
-    for _ in 0..count.parse::<u64>()? {
-        made = made.pipe(right)?;
-    }
-    Ok(made)
-}
-
-/// This many `unchecked` nodes.
-fn unchecked<E: Drop>(inner: Tree<E>, count: &str) -> Result<Tree<E>, TableError> {
-    let mut made = inner;
-    for _ in 0..count.parse::<u64>()? {
-        made = made.unchecked()?;
-    }
-    Ok(made)
 }

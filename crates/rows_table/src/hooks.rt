@@ -1,14 +1,4 @@
-//! Hooks written as texts. The parts of a text are separated by `+`: `err>1+x`.
-//!
-//! - `x` adds the word `x`.
-//! - `out>0` sends stdout to the end at index 0 of the hook's ends, `out>inherit` to the parent's
-//!   stream, and `out>null` to nowhere.
-//! - `set:A:1` sets the variable `A` to `1`, `unset:A` removes it, and `unset:` removes all
-//!   variables.
-//! - `dir:/in` sets the folder.
-//! - `refuse:Other` refuses each spec with the fault `Other`, and `refuse_word:b:Other` refuses
-//!   each spec that has the word `b` before the hook changes it.
-//! - `label:1` sets the label under which a log notes the hook.
+//! Hooks written as texts (`docs/ROWS.md`).
 use crate::expressions::Log;
 use crate::stop::TableError;
 use crate::words::{fault, stream};
@@ -32,17 +22,15 @@ pub fn hook(alloc: Global, calls: Log, text: &str) -> Result<ScriptHook, TableEr
 /// Adds one part to a hook.
 fn tell(alloc: Global, hook: &mut ScriptHook, part: &str) -> Result<(), TableError> {
     let (key, text) = part.split_once(':').unwrap_or(("", part));
+    let (name, value) = text.split_once(':').unwrap_or((text, ""));
     match key {
         "refuse" => hook.answer = HookAnswer::Refuse(fault(text)?),
         "refuse_word" => {
-            let (word, kind) = text.split_once(':').ok_or("no kind of fault")?;
-            hook.answer = HookAnswer::RefuseWord(String::from_str(alloc, word)?, fault(kind)?);
+            let fault = fault(value)?;
+            hook.answer = HookAnswer::RefuseWord(String::from_str(alloc, name)?, fault);
         }
         "label" => hook.label = text.parse::<u8>()?,
-        _ => {
-            let change = change(alloc, key, text)?;
-            hook.changes.push(change)?
-        }
+        _ => hook.changes.push(change(alloc, key, text)?)?,
     }
     Ok(())
 }

@@ -4,19 +4,13 @@
 //! Test support: the code is proved safe, and each function that can't block is proved to return.
 #![tactic(auto)]
 
-pub mod entries;
 pub mod expressions;
 pub mod hooks;
-pub mod journals;
-pub mod left;
-pub mod memory;
 pub mod odd;
 pub mod real;
 pub mod scenes;
 pub mod stop;
-pub mod streams;
 pub mod table;
 pub mod told;
 pub mod waits;
 pub mod words;
-pub mod workers;

@@ -1,15 +1,8 @@
 //! A runtime that wraps another one. Its results for processes and the entries of its environment
-//! come from texts. It passes the rest to the other runtime.
-//!
-//! The results are separated by commas, and each of these calls takes the next one: a start, a
-//! poll, a wait and a kill, of children and of the shell alike, a pipe, a duplicate of one of the
-//! parent's streams, and opening or canonicalizing `/dev/zero`. `ok` means that a process starts,
-//! is still running or accepts a kill; a wait fails with `Other`; any other call is passed to the
-//! other runtime. `status 256` is the raw status that a poll or a wait returns. Any other word is
-//! the kind of an error.
+//! come from texts (`docs/ROWS.md`). It passes the rest to the other runtime.
 ghost use Rattle.std.specs.Io.{WritesAtMost};
 
-use crate::words::first_word;
+use crate::words::{ERROR_KINDS, first_word, named};
 use duct_host::parents::Parents;
 use std::alloc::{AllocError, Allocator, Global};
 use std::env::FillError;
@@ -23,8 +16,8 @@ use std::process::{
     Child, ChildStderr, ChildStdin, ChildStdout, Command, ExitStatus, OpenProcess, Processes, Stdio,
 };
 use std::rt::{Clock, Env, Files};
+use std::sync::Arc;
 use std::sync::atomic::{AtomicUsize, Ordering};
-use std::sync::{Arc, Wait};
 use std::thread::Threads;
 use std::time::Duration;
 
@@ -74,15 +67,14 @@ impl Script {
         self.answers.given.load(Ordering::SeqCst)
     }
 
-    /// Returns `all` if as many calls asked for a result in the current row as it has results, or
-    /// else how many did. Fails on an allocation failure.
-    pub fn questions(&self, alloc: Global) -> Result<String, AllocError> {
+    /// Adds `all` if as many calls asked for a result in the current row as it has results, or else
+    /// how many did. Fails on an allocation failure.
+    pub fn push_questions(&self, text: &mut String) -> Result<(), AllocError> {
         let given = self.given();
         if given == self.row().split(", ").count() {
-            String::from_str(alloc, "all")
-        } else {
-            format!(in alloc; "{given}")
+            return text.push_str("all");
         }
+        write!(text, "{given}")
     }
 
     /// Takes the next result. After the last one, each is an error.
@@ -93,19 +85,8 @@ impl Script {
         match (word, raw.parse()) {
             ("ok", _) => Ok(None),
             ("status", Ok(raw)) => Ok(Some(ExitStatus::from_raw(raw))),
-            _ => Err(io::Error::from(kind(answer))),
+            _ => Err(io::Error::from(named(&ERROR_KINDS, answer).unwrap_or(ErrorKind::Other))),
         }
-    }
-}
-
-/// The error kind with this name, or `Other`.
-fn kind(name: &str) -> ErrorKind {
-    match name {
-        "Interrupted" => ErrorKind::Interrupted,
-        "NotFound" => ErrorKind::NotFound,
-        "PermissionDenied" => ErrorKind::PermissionDenied,
-        "WouldBlock" => ErrorKind::WouldBlock,
-        _ => ErrorKind::Other,
     }
 }
 
@@ -141,18 +122,18 @@ impl OpenProcess for Script {
 pub struct Odd<R> {
     real: R,
     script: Script,
-    pub shown: String,
-    pub entries: String,
+    pub shown: &'static str,
+    pub entries: &'static str,
 }
 
 impl<R> Odd<R> {
     /// Returns a runtime whose environment has no entry.
-    pub fn new(alloc: Global, real: R, script: Script) -> Odd<R> {
+    pub fn new(real: R, script: Script) -> Odd<R> {
         Odd {
             real,
             script,
-            shown: String::new(alloc),
-            entries: String::new(alloc),
+            shown: "",
+            entries: "",
         }
     }
 
@@ -201,8 +182,6 @@ impl<R: Processes> Processes for Odd<R> {
     }
 }
 
-impl<R: Wait> Wait for Odd<R> {}
-
 impl<R: Threads> Threads for Odd<R> {}
 
 impl<R: AllocGlobal> Alloc for Odd<R> {
@@ -225,10 +204,7 @@ impl<R: Parents> Parents for Odd<R> {
     }
 
     fn environment(&self, alloc: Global) -> io::Result<Vec<u8>> {
-        match Vec::from_slice(alloc, self.shown.as_bytes()) {
-            Ok(bytes) => Ok(bytes),
-            Err(_) => Err(io::Error::from(ErrorKind::OutOfMemory)),
-        }
+        Ok(Vec::from_slice(alloc, self.shown.as_bytes())?)
     }
 }
 
@@ -264,7 +240,7 @@ impl<R: Env> Env for Odd<R> {
     }
 
     fn var_at(&self, i: usize, buf: &mut [u8]) -> Result<usize, FillError> {
-        match self.entries.as_str().split('\0').nth(i) {
+        match self.entries.split('\0').nth(i) {
             Some(entry) if !entry.is_empty() => fill(buf, entry.as_bytes()),
             _ => Err(FillError::NotPresent),
         }

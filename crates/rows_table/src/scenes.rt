@@ -1,71 +1,17 @@
-//! What a row sets up before a start, over the scripted system.
+//! What a row sets up before a start, over the scripted system (`docs/ROWS.md`).
 use crate::stop::TableError;
-use crate::words::{fault, first_word, pairs};
-use crate::workers::{set_drains, set_feeds, set_reader};
-use duct::{ExitStatus, Fault, Pool};
+use crate::words::{ERROR_KINDS, fault, first_word, named, pairs};
+use duct::{ExitStatus, Fault, Pool, Said};
 use duct_base::pool::{place_new, pool_take, reservation_new};
 use duct_script::answers::Answers;
 use duct_script::calls::CallLog;
 use duct_script::child::{ChildScript, PollAnswer, ScriptChild};
+use duct_script::job::DrainScript;
+use duct_script::reader::{ReadStep, ReaderScript};
 use duct_script::requests::Sort;
 use duct_script::system::Script;
 use std::alloc::Global;
 use std::sync::Arc;
-
-/// The lines of a row about the system and the pool, as they are written.
-#[derive(Clone, Copy)]
-pub struct Scene<'t> {
-    /// The parent's variables: `A:1,B:2`.
-    pub parent: &'t str,
-    /// Paths with their canonical paths: `./x:/real/x`.
-    pub canonical: &'t str,
-    /// The requests that are refused, by their sort, their number among those of that sort, and the
-    /// kind of the fault: `Spawn 2 NotFound; Pipe 1 Other`.
-    pub refuse: &'t str,
-    /// The results of the children, in the form of `set_children`.
-    pub children: &'t str,
-    /// The results of the children that the pool keeps, in the same form. They are numbered from 1,
-    /// and the pool polls each of them once when it takes it.
-    pub kept: &'t str,
-}
-
-impl<'t> Scene<'t> {
-    /// A system with no variables that refuses no request and whose children keep running, and an
-    /// empty pool.
-    pub fn plain() -> Scene<'t> {
-        Scene {
-            parent: "",
-            canonical: "",
-            refuse: "",
-            children: "",
-            kept: "",
-        }
-    }
-
-    /// A plain system whose children return these results. The results of the children in the pool
-    /// follow a `&`.
-    pub fn of(children: &'t str) -> Scene<'t> {
-        let (children, kept) = children.split_once('&').unwrap_or((children, ""));
-        let mut scene = Scene::plain();
-        scene.children = children.trim();
-        scene.kept = kept.trim();
-        scene
-    }
-
-    /// Returns the scene with this line added, or `None` if the key is not one of a scene.
-    pub fn with(self, key: &str, text: &'t str) -> Option<Scene<'t>> {
-        let mut scene = self;
-        match key {
-            "parent" => scene.parent = text,
-            "canonical" => scene.canonical = text,
-            "refuse" => scene.refuse = text,
-            "children" => scene.children = text,
-            "kept" => scene.kept = text,
-            _ => return None,
-        }
-        Some(scene)
-    }
-}
 
 /// A system and a pool for a start, and the log of calls. The numbers below `FIRST` are those of
 /// lent ends and of the children that the pool keeps.
@@ -82,43 +28,46 @@ pub const FIRST: u64 = 100;
 /// How many calls the log keeps.
 const CALLS: usize = 8192;
 
-/// Builds the system and the pool of a scene. Fails if a line of the scene is malformed, or on an
-/// allocation failure.
-pub fn bench_of(alloc: Global, scene: Scene) -> Result<Bench, TableError> {
-    let mut bench = Bench {
-        sys: Script::new(alloc)?,
-        pool: Pool::new(alloc),
-        calls: Arc::new(alloc, CallLog::new(alloc, CALLS)?)?,
-    };
-    bench.sys.skip_numbers_below(FIRST);
-    bench.sys.note_in(Arc::try_clone(&bench.calls)?);
-    let lines = [
-        ("parent", scene.parent),
-        ("canonical", scene.canonical),
-        ("refuse", scene.refuse),
-        ("children", scene.children),
-        ("kept", scene.kept),
-    ];
-    for (key, text) in lines {
-        let _ = set(alloc, &mut bench, key, text)?;
+impl Bench {
+    /// Returns an empty pool, and a system with no variables that refuses no request and whose
+    /// children keep running. Fails on an allocation failure.
+    pub fn new(alloc: Global) -> Result<Bench, TableError> {
+        let calls = Arc::new(alloc, CallLog::new(alloc, CALLS)?)?;
+        let mut sys = Script::new(alloc)?;
+        sys.skip_numbers_below(FIRST);
+        sys.note_in(Arc::try_clone(&calls)?);
+        Ok(Bench {
+            sys,
+            pool: Pool::new(alloc),
+            calls,
+        })
     }
-    Ok(bench)
+
+    /// Sets up the pool or the system by the line of this key. Returns whether there is such a key.
+    /// Fails if the text is malformed, or on an allocation failure.
+    pub fn set(&mut self, alloc: Global, key: &str, text: &str) -> Result<bool, TableError> {
+        if key != "kept" {
+            return set_system(alloc, &mut self.sys, key, text);
+        }
+        let mut number = 0_u64;
+        for child in text.split_terminator(';') {
+            number = number.saturating_add(1);
+            self.keep(alloc, number, child)?;
+        }
+        Ok(true)
+    }
+
+    fn keep(&mut self, alloc: Global, number: u64, child: &str) -> Result<(), TableError> {
+        let reservation = reservation_new(alloc)?;
+        let calls = Arc::try_clone(&self.calls)?;
+        let child = ScriptChild::new(alloc, number, child_script(alloc, child)?, Some(calls));
+        pool_take(&mut self.pool, place_new(child, reservation));
+        Ok(())
+    }
 }
 
-/// Sets up a system and a pool by the line of this key: one of a scene, or one of `set_system`.
-/// Returns whether there is such a key. Fails if the text is malformed, or on an allocation
-/// failure.
-pub fn set(alloc: Global, bench: &mut Bench, key: &str, text: &str) -> Result<bool, TableError> {
-    if key != "kept" {
-        return set_system(alloc, &mut bench.sys, key, text);
-    }
-    keep_children(alloc, bench, text)?;
-    Ok(true)
-}
-
-/// Sets up a system by the line of this key: `parent`, `canonical`, `refuse`, `children`, `feeds`,
-/// `drains`, `reads` or `starve`. Returns whether there is such a key. Fails if the text is
-/// malformed, or on an allocation failure.
+/// Sets up a system by the line of this key. Returns whether there is such a key. Fails if the text
+/// is malformed, or on an allocation failure.
 pub fn set_system(
     alloc: Global,
     sys: &mut Script,
@@ -136,104 +85,147 @@ pub fn set_system(
                 sys.canonical(path, name)?;
             }
         }
-        "refuse" => set_refusals(sys, text)?,
-        "children" => set_children(alloc, sys, text)?,
-        "feeds" => set_feeds(alloc, sys, text)?,
-        "drains" => set_drains(alloc, sys, text)?,
-        "reads" => set_reader(alloc, sys, text)?,
+        "refuse" | "children" | "feeds" | "drains" => {
+            for item in text.split_terminator(';') {
+                set_next(alloc, sys, key, item)?;
+            }
+        }
+        "reads" => sys.bytes(reader_script(alloc, text)?)?,
         "starve" => sys.starve(true),
         _ => return Ok(false),
     }
     Ok(true)
 }
 
-fn set_refusals(sys: &mut Script, refusals: &str) -> Result<(), TableError> {
-    for refusal in refusals.split_terminator(';') {
-        let (name, rest) = first_word(refusal.trim());
-        let (number, kind) = first_word(rest);
-        sys.refuse_sort(sort(name)?, number.parse()?, fault(kind)?)?;
+/// Sets what the next child, feed or drain returns, or a request that is refused.
+fn set_next(alloc: Global, sys: &mut Script, key: &str, text: &str) -> Result<(), TableError> {
+    match key {
+        "refuse" => {
+            let (name, rest) = first_word(text.trim());
+            let (number, kind) = first_word(rest);
+            sys.refuse_sort(named(&SORTS, name)?, number.parse()?, fault(kind)?)?;
+        }
+        "children" => sys.child(child_script(alloc, text)?)?,
+        "feeds" => sys.feed(Answers::of(answers(alloc, text)?))?,
+        _ => sys.drain(DrainScript::from_vec(answers(alloc, text)?))?,
     }
     Ok(())
 }
 
-/// The sort of request with this name.
-fn sort(name: &str) -> Result<Sort, TableError> {
-    match name {
-        "Environment" => Ok(Sort::Environment),
-        "Pipe" => Ok(Sort::Pipe),
-        "OpenRead" => Ok(Sort::OpenRead),
-        "Create" => Ok(Sort::Create),
-        "Duplicate" => Ok(Sort::Duplicate),
-        "Parent" => Ok(Sort::Parent),
-        "Canonicalize" => Ok(Sort::Canonicalize),
-        "Spawn" => Ok(Sort::Spawn),
-        "Feed" => Ok(Sort::Feed),
-        "Drain" => Ok(Sort::Drain),
-        "Close" => Ok(Sort::Close),
-        _ => Err(TableError::Text("no such request")),
-    }
-}
-
-/// Sets the poll results of the children, in the order of their spawns: `running, code 0; Other`.
-/// After a slash, a child has the results of its kills, which are also those of its signals:
-/// `running / done, Other`. After a second slash, the results of its signals are others. Fails if
-/// the text is malformed, or on an allocation failure.
-pub fn set_children(alloc: Global, sys: &mut Script, children: &str) -> Result<(), TableError> {
-    for child in children.split_terminator(';') {
-        sys.child(child_script(alloc, child)?)?;
-    }
-    Ok(())
-}
+/// The sorts of requests by their names.
+const SORTS: [(&str, Sort); 11] = [
+    ("Environment", Sort::Environment),
+    ("Pipe", Sort::Pipe),
+    ("OpenRead", Sort::OpenRead),
+    ("Create", Sort::Create),
+    ("Duplicate", Sort::Duplicate),
+    ("Parent", Sort::Parent),
+    ("Canonicalize", Sort::Canonicalize),
+    ("Spawn", Sort::Spawn),
+    ("Feed", Sort::Feed),
+    ("Drain", Sort::Drain),
+    ("Close", Sort::Close),
+];
 
 fn child_script(alloc: Global, child: &str) -> Result<ChildScript, TableError> {
     let (polls, orders) = child.split_once('/').unwrap_or((child, ""));
-    let mut script = ChildScript::running(alloc);
-    script.polls = Answers::of(poll_answers(alloc, polls)?);
     let (kills, signals) = orders.split_once('/').unwrap_or((orders, orders));
-    script.kills = Answers::of(order_answers(alloc, kills)?);
-    script.signals = Answers::of(order_answers(alloc, signals)?);
+    let mut script = ChildScript::running(alloc);
+    script.polls = Answers::of(answers(alloc, polls)?);
+    script.kills = Answers::of(answers(alloc, kills)?);
+    script.signals = Answers::of(answers(alloc, signals)?);
     Ok(script)
 }
 
-fn keep_children(alloc: Global, bench: &mut Bench, children: &str) -> Result<(), TableError> {
-    let mut number = 0_u64;
-    for answers in children.split_terminator(';') {
-        number = number.saturating_add(1);
-        let calls = Arc::try_clone(&bench.calls)?;
-        let child = ScriptChild::new(alloc, number, child_script(alloc, answers)?, Some(calls));
-        pool_take(&mut bench.pool, place_new(child, reservation_new(alloc)?));
-    }
-    Ok(())
+/// A result that a text names.
+pub trait Answer: Drop {
+    /// Returns the result with this name. Fails if there is none, or on an allocation failure.
+    fn named(alloc: Global, text: &str) -> Result<Self, TableError>
+    where
+        Self: Sized;
 }
 
-fn poll_answers(alloc: Global, answers: &str) -> Result<Vec<PollAnswer>, TableError> {
-    let mut made = Vec::new(alloc);
-    for answer in answers.split(',') {
-        made.push(poll_answer(answer.trim())?)?;
-    }
-    Ok(made)
-}
-
-/// Reads a poll result: `running`, `code 0`, `signal 9`, or the kind of a fault. Fails for any
-/// other word.
-pub fn poll_answer(answer: &str) -> Result<PollAnswer, TableError> {
-    match first_word(answer) {
-        ("running", _) => Ok(PollAnswer::Running),
-        ("code", code) => Ok(PollAnswer::Ended(ExitStatus::Code(code.parse()?))),
-        ("signal", signal) => Ok(PollAnswer::Ended(ExitStatus::Signal(signal.parse()?))),
-        (kind, _) => Ok(PollAnswer::Fault(fault(kind)?)),
+/// `running`, `code 0`, `signal 9`, or the kind of a fault.
+impl Answer for PollAnswer {
+    fn named(_alloc: Global, text: &str) -> Result<PollAnswer, TableError> {
+        match first_word(text) {
+            ("running", _) => Ok(PollAnswer::Running),
+            ("code", code) => Ok(PollAnswer::Ended(ExitStatus::Code(code.parse()?))),
+            ("signal", signal) => Ok(PollAnswer::Ended(ExitStatus::Signal(signal.parse()?))),
+            (kind, _) => Ok(PollAnswer::Fault(fault(kind)?)),
+        }
     }
 }
 
-/// Reads results of orders, separated by commas: `done`, or the kind of a fault. An empty text has
-/// none. Fails if a result is malformed, or on an allocation failure.
-pub fn order_answers(alloc: Global, answers: &str) -> Result<Vec<Result<(), Fault>>, TableError> {
-    let mut made = Vec::new(alloc);
-    for answer in answers.split_terminator(',') {
-        made.push(match answer.trim() {
-            "done" => Ok(()),
-            kind => Err(fault(kind)?),
-        })?;
+/// `done`, or the kind of a fault.
+impl Answer for Result<(), Fault> {
+    fn named(_alloc: Global, text: &str) -> Result<Result<(), Fault>, TableError> {
+        if text == "done" {
+            return Ok(Ok(()));
+        }
+        Ok(Err(fault(text)?))
     }
-    Ok(made)
+}
+
+/// `running`, `done`, or the kind of a fault.
+impl Answer for Said<()> {
+    fn named(_alloc: Global, text: &str) -> Result<Said<()>, TableError> {
+        match text {
+            "running" => Ok(Said::Running),
+            "done" => Ok(Said::Done(())),
+            kind => Ok(Said::Fault(fault(kind)?)),
+        }
+    }
+}
+
+/// `running`, `done abc`, or the kind of a fault.
+impl Answer for Said<Arc<Vec<u8>>> {
+    fn named(alloc: Global, text: &str) -> Result<Said<Arc<Vec<u8>>>, TableError> {
+        match first_word(text) {
+            ("running", _) => Ok(Said::Running),
+            ("done", bytes) => {
+                let bytes = Vec::from_slice(alloc, bytes.as_bytes())?;
+                Ok(Said::Done(Arc::new(alloc, bytes)?))
+            }
+            (kind, _) => Ok(Said::Fault(fault(kind)?)),
+        }
+    }
+}
+
+/// Returns the results of a text, which are separated by commas. Fails if there is no such result,
+/// or on an allocation failure.
+fn answers<A: Answer>(alloc: Global, text: &str) -> Result<Vec<A>, TableError> {
+    let mut answers = Vec::new(alloc);
+    for name in text.split_terminator(',') {
+        answers.push(A::named(alloc, name.trim())?)?;
+    }
+    Ok(answers)
+}
+
+fn reader_script(alloc: Global, pieces: &str) -> Result<ReaderScript, TableError> {
+    let mut script = ReaderScript::empty(alloc);
+    for piece in pieces.split_terminator(',') {
+        let piece = piece.trim();
+        if let Ok(kind) = named(&ERROR_KINDS, piece) {
+            script.steps.push_back(ReadStep::Fault(kind))?;
+            continue;
+        }
+        let (bytes, length) = piece.split_once('=').unwrap_or((piece, ""));
+        for byte in bytes.bytes() {
+            script.bytes.push(byte_of(byte))?;
+        }
+        let length = length.parse().unwrap_or(bytes.len());
+        script.steps.push_back(ReadStep::Piece(length))?;
+    }
+    Ok(script)
+}
+
+fn byte_of(byte: u8) -> u8 {
+    match byte {
+        b'_' => b' ',
+        b'$' => b'\n',
+        b'^' => b'\r',
+        b'?' => 255,
+        byte => byte,
+    }
 }

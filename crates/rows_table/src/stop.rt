@@ -1,87 +1,52 @@
 //! Why a line of a table stops its row.
-use crate::memory::is_memory;
-use duct_base::error::Error;
-use duct_base::system::Fault;
-use std::alloc::{AllocError, AllocFailed};
+use duct_base::error;
+use duct_base::system::{Fault, Kind};
+use std::alloc::AllocError;
+use std::io;
 use std::num::ParseIntError;
-use std::{fmt, io};
+use thiserror::Error;
 
 /// Why a line stops its row.
-#[derive(Debug, Drop)]
+#[derive(Debug, Drop, Error)]
 pub enum TableError {
     /// An error of the library.
-    Error(Error),
+    #[error("{0}")]
+    Error(#[from] error::Error),
+    /// A fault of a system.
+    #[error("system: {:?}", .0.kind)]
+    System(#[from] Fault),
+    /// An allocation failed.
+    #[error("out of memory")]
+    Memory(#[from(alloc)] AllocError),
     /// An error of the test's own files and streams.
-    Io(io::ErrorKind),
+    #[error("{:?}", .0.kind())]
+    Io(#[from] io::Error),
     /// A text that is not a number.
-    Number,
+    #[error("no number")]
+    Number(#[from] ParseIntError),
     /// An unknown word, or a condition that does not hold.
-    Text(&'static str),
-    /// This text was found in place of another one.
-    Found(String),
+    #[error("{0}")]
+    Text(#[from] &'static str),
+}
+
+/// Whether an error is an allocation failure of the library, of the system or of a hook.
+pub fn is_memory(error: &error::Error) -> bool {
+    match error {
+        error::Error::Memory => true,
+        error::Error::System(fault) | error::Error::Hook(fault) => fault.kind == Kind::OutOfMemory,
+        _ => false,
+    }
 }
 
 impl TableError {
-    /// Whether the reason is an allocation failure.
+    /// Whether it is an allocation failure.
     pub fn is_memory(&self) -> bool {
         match self {
             TableError::Error(error) => is_memory(error),
-            TableError::Io(kind) => *kind == io::ErrorKind::OutOfMemory,
-            TableError::Number | TableError::Text(_) | TableError::Found(_) => false,
+            TableError::System(fault) => fault.kind == Kind::OutOfMemory,
+            TableError::Memory(_) => true,
+            TableError::Io(error) => error.kind() == io::ErrorKind::OutOfMemory,
+            _ => false,
         }
-    }
-}
-
-impl fmt::Display for TableError {
-    fn fmt<W: fmt::Write>(&self, f: &mut fmt::Formatter<W>) -> fmt::Result {
-        match self {
-            TableError::Error(error) => write!(f, "{error}"),
-            TableError::Io(kind) => write!(f, "{kind:?}"),
-            TableError::Number => f.write_str("no number"),
-            TableError::Text(text) => f.write_str(text),
-            TableError::Found(found) => write!(f, "found {found}"),
-        }
-    }
-}
-
-impl From<Error> for TableError {
-    fn from(error: Error) -> TableError {
-        TableError::Error(error)
-    }
-}
-
-impl From<Fault> for TableError {
-    fn from(fault: Fault) -> TableError {
-        TableError::Error(Error::System(fault))
-    }
-}
-
-impl From<AllocError> for TableError {
-    fn from(_error: AllocError) -> TableError {
-        TableError::Error(Error::Memory)
-    }
-}
-
-impl<T: Drop> From<AllocFailed<T>> for TableError {
-    fn from(_failed: AllocFailed<T>) -> TableError {
-        TableError::Error(Error::Memory)
-    }
-}
-
-impl From<ParseIntError> for TableError {
-    fn from(_error: ParseIntError) -> TableError {
-        TableError::Number
-    }
-}
-
-impl From<io::Error> for TableError {
-    fn from(error: io::Error) -> TableError {
-        TableError::Io(error.kind())
-    }
-}
-
-impl From<&'static str> for TableError {
-    fn from(text: &'static str) -> TableError {
-        TableError::Text(text)
     }
 }

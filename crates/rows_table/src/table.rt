@@ -3,13 +3,14 @@
 //! text; a line that begins with `#` is a comment. A line either sets up later lines of its row, or
 //! its text is compared with what was found.
 use crate::stop::TableError;
+use std::alloc::Global;
 use std::io::{self, Write};
 
 /// What the keys of a file mean.
 pub trait Table<'t> {
-    /// Reads a line. Returns the found text, which is compared with the text of the line, or `None`
-    /// if the line only sets up later lines. Fails with the reason why the row stops.
-    fn line(&mut self, key: &'t str, text: &'t str) -> Result<Option<String>, TableError>;
+    /// Reads a line. Returns whether the text of the line is compared with what the table adds to
+    /// `out`; if not, the line only sets up later lines. Fails with the reason why the row stops.
+    fn line(&mut self, key: &'t str, text: &'t str, out: &mut String) -> Result<bool, TableError>;
 
     /// Ends a row, and forgets what its lines set up. Fails if a condition that has to hold for
     /// every row does not hold.
@@ -46,28 +47,12 @@ pub struct File<'t> {
 
 /// Writes why no row of a file can be tried, and returns counts with one difference. Fails if the
 /// output can't be written.
-pub fn untried<W: Write>(file: File, stop: &TableError, out: &mut W) -> io::Result<Counts> {
-    stops(file, 1, stop, out)?;
+pub fn untried<W: Write>(file: File, stop: TableError, out: &mut W) -> io::Result<Counts> {
+    let _ = goes_on(file, 1, "", Err(stop), "", out)?;
     Ok(Counts {
         compared: 0,
         differing: 1,
     })
-}
-
-impl Counts {
-    /// Writes the counts of a file. Fails if the output can't be written.
-    pub fn tell<W: Write>(self, file: File, out: &mut W) -> io::Result<()> {
-        let (name, compared, differing) = (file.name, self.compared, self.differing);
-        writeln!(out, "{name}: {compared} compared, {differing} differ")
-    }
-}
-
-/// Writes why a row stops at the line of this number. Fails if the output can't be written.
-fn stops<W: Write>(file: File, number: u64, stop: &TableError, out: &mut W) -> io::Result<()> {
-    match file.mode {
-        Mode::Compare => writeln!(out, "{}:{number}: {stop}", file.name),
-        Mode::Tell => writeln!(out, "{number} stops: {stop}"),
-    }
 }
 
 /// Reads the rows of a file, and writes a line for each difference, or for each text that is found:
@@ -75,81 +60,59 @@ fn stops<W: Write>(file: File, number: u64, stop: &TableError, out: &mut W) -> i
 /// stopped. If a row stops, its later lines are skipped. Returns the counts. Fails if the output
 /// can't be written.
 pub fn compare<'t, T: Table<'t>, W: Write>(
+    alloc: Global,
     table: &mut T,
     file: File<'t>,
     out: &mut W,
 ) -> io::Result<Counts> {
-    let mut counts = Counts {
-        compared: 0,
-        differing: 0,
-    };
-    let (mut number, mut is_over) = (0_u64, false);
-    for line in file.text.lines() {
-        number = number.saturating_add(1);
+    let (mut compared, mut differing) = (0_u64, 0_u64);
+    let (mut number, mut is_over) = (1_u64, false);
+    let mut found = String::new(alloc);
+    for line in file.text.lines().chain([""]).skip(1) {
         let line = line.trim();
-        let holds = if line.is_empty() {
-            is_over = false;
-            ended(table, file, number, out)?
-        } else if is_over || number == 1 || line.starts_with('#') {
-            true
+        number = number.saturating_add(1);
+        if line.starts_with('#') || is_over && !line.is_empty() {
+            continue;
+        }
+        found.clear();
+        let (key, text) = line.split_once(':').unwrap_or((line, ""));
+        let read = if line.is_empty() {
+            table.end().map(|()| false)
         } else {
-            tried(table, file, number, line, &mut counts, out)?
+            table.line(key.trim(), text.trim(), &mut found)
         };
-        if !holds {
-            is_over = !line.is_empty();
-            counts.differing = counts.differing.saturating_add(1);
-        }
+        compared = compared.saturating_add(u64::from(matches!(read, Ok(true))));
+        let holds = goes_on(file, number, line, read, found.trim(), out)?;
+        differing = differing.saturating_add(u64::from(!holds));
+        is_over = !holds && !line.is_empty();
     }
-    if !ended(table, file, number, out)? {
-        counts.differing = counts.differing.saturating_add(1);
-    }
-    Ok(counts)
+    Ok(Counts {
+        compared,
+        differing,
+    })
 }
 
-/// Ends a row. Returns whether it may end there.
-fn ended<'t, T: Table<'t>, W: Write>(
-    table: &mut T,
-    file: File<'t>,
+/// Writes what was found, where it is told or differs, or why the row stops. Returns whether the
+/// row goes on.
+fn goes_on<W: Write>(
+    file: File,
     number: u64,
-    out: &mut W,
-) -> io::Result<bool> {
-    match table.end() {
-        Ok(()) => Ok(true),
-        Err(stop) => {
-            stops(file, number, &stop, out)?;
-            Ok(false)
-        }
-    }
-}
-
-/// Tries a line. Returns whether its row goes on.
-fn tried<'t, T: Table<'t>, W: Write>(
-    table: &mut T,
-    file: File<'t>,
-    number: u64,
-    line: &'t str,
-    counts: &mut Counts,
+    line: &str,
+    read: Result<bool, TableError>,
+    found: &str,
     out: &mut W,
 ) -> io::Result<bool> {
     let (key, wanted) = line.split_once(':').unwrap_or((line, ""));
-    let wanted = wanted.trim();
-    let found = match table.line(key.trim(), wanted) {
-        Ok(None) => return Ok(true),
-        Ok(Some(found)) => found,
-        Err(stop) => {
-            stops(file, number, &stop, out)?;
+    let (wanted, name, is_told) = (wanted.trim(), file.name, file.mode == Mode::Tell);
+    match read {
+        Ok(is_compared) if !is_compared || !is_told && found == wanted => return Ok(true),
+        Ok(_) if is_told => writeln!(out, "{number} {key}: {found}")?,
+        Ok(_) => writeln!(out, "{name}:{number}: {key}: {found}, not {wanted}")?,
+        Err(stop) if is_told => {
+            writeln!(out, "{number} stops: {stop}")?;
             return Ok(false);
         }
-    };
-    let found = found.as_str().trim();
-    counts.compared = counts.compared.saturating_add(1);
-    match file.mode {
-        Mode::Tell => writeln!(out, "{number} {key}: {found}")?,
-        Mode::Compare if found == wanted => {}
-        Mode::Compare => {
-            writeln!(out, "{}:{number}: {key}: {found}, not {wanted}", file.name)?;
-            return Ok(false);
-        }
+        Err(stop) => writeln!(out, "{name}:{number}: {stop}")?,
     }
-    Ok(true)
+    Ok(is_told)
 }

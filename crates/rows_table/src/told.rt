@@ -1,34 +1,16 @@
-//! The outcome of a start over the scripted system, as texts.
+//! Texts for the entries of journals and for specs, and for what came of a start over the scripted
+//! system.
 use crate::scenes::{Bench, FIRST};
-use crate::streams::push_origin;
-use duct::{CommandSpec, Entry, Error, Pool, Stdio, System};
-use duct_plan::checker::{fault_of, opened_numbers, origin, spent_numbers, trace};
+use crate::stop::TableError;
+use duct::{CommandSpec, Entry, Pool, Stdio, Stream, System};
+use duct_plan::checker::{Source, fault_of, opened_numbers, origin, spent_numbers, trace};
 use duct_script::calls::{Call, CallLog};
 use duct_script::requests::Sort;
+use duct_script::text::Words;
 use std::alloc::{AllocError, Global};
 use std::slice;
 
-/// Returns the entries of the trace as a text. An entry that was refused has the kind of its fault.
-/// An end is shown by where it comes from: the index in the trace of the entry that opened it, the
-/// parent's stream, or the number of a lent end. Fails only on an allocation failure.
-pub fn trace_text(alloc: Global, entries: &[Entry]) -> Result<String, Error> {
-    let mut text = String::new(alloc);
-    let trace = trace(alloc, entries)?;
-    let ends = Ends {
-        entries,
-        trace: trace.as_slice(),
-    };
-    for entry in trace.iter() {
-        begin(&mut text)?;
-        push_entry(&mut text, ends, entry)?;
-        if let Some(fault) = fault_of(entry) {
-            write!(text, " refused={:?}", fault.kind)?;
-        }
-    }
-    Ok(text)
-}
-
-/// Appends a comma and a space, unless the text is empty.
+/// Adds a comma and a space, unless the text is empty.
 fn begin(text: &mut String) -> Result<(), AllocError> {
     if text.is_empty() {
         Ok(())
@@ -37,107 +19,177 @@ fn begin(text: &mut String) -> Result<(), AllocError> {
     }
 }
 
-/// The journal and its trace, which tell where ends come from.
-#[derive(Clone, Copy)]
-struct Ends<'e> {
-    entries: &'e [Entry],
-    trace: &'e [&'e Entry],
-}
-
-impl Ends<'_> {
-    fn push(self, text: &mut String, number: u64) -> Result<(), AllocError> {
-        push_origin(text, self.trace, origin(self.entries, number))
-    }
-}
-
-fn push_entry(text: &mut String, ends: Ends, entry: &Entry) -> Result<(), Error> {
-    match entry {
-        Entry::Environment(_) => text.push_str("Environment")?,
-        Entry::Pipe(_) => text.push_str("Pipe")?,
-        Entry::OpenRead(path, _) => write!(text, "OpenRead {path}")?,
-        Entry::Create(path, _) => write!(text, "Create {path}")?,
-        Entry::Canonicalize(path, _) => write!(text, "Canonicalize {path}")?,
-        Entry::Spawn(spec, io, _) => push_spawn(text, ends, spec, io)?,
-        Entry::Feed(end, bytes, _) => {
-            text.push_str("Feed")?;
-            ends.push(text, *end)?;
-            write!(text, " {:?}", bytes.as_slice())?;
-        }
-        Entry::Drain(end, _) => {
-            text.push_str("Drain")?;
-            ends.push(text, *end)?;
-        }
-        Entry::Reader(end) => {
-            text.push_str("Reader")?;
-            ends.push(text, *end)?;
-        }
-        Entry::Duplicate(_, _) | Entry::Parent(_, _) | Entry::Close(_) => {}
+/// Adds the entries in words. Fails on an allocation failure.
+pub fn push_journal(text: &mut String, journal: &[Entry]) -> Result<(), AllocError> {
+    for entry in journal {
+        write!(text, "{}. ", Words(entry))?;
     }
     Ok(())
 }
 
-fn push_spawn(
-    text: &mut String,
-    ends: Ends,
-    spec: &CommandSpec,
-    io: &[Stdio<u64>; 3],
-) -> Result<(), Error> {
-    text.push_str("Spawn")?;
-    for word in spec.words() {
-        write!(text, " {word}")?;
+/// Adds the spec of the last entry. Fails if that entry is no spawn, or on an allocation failure.
+pub fn push_last_spec(text: &mut String, journal: &[Entry]) -> Result<(), TableError> {
+    match journal.last() {
+        Some(Entry::Spawn(spec, _, _)) => push_spec(text, spec),
+        _ => Err(TableError::Text("no child was started last")),
     }
-    text.push_str(" ->")?;
-    for stream in io {
-        match stream {
-            Stdio::Inherit => text.push_str(" inherit")?,
-            Stdio::Null => text.push_str(" null")?,
-            Stdio::End(end) => ends.push(text, *end)?,
-        }
-    }
-    if let Some(folder) = spec.folder() {
-        write!(text, " in {folder}")?;
-    }
+}
+
+/// Adds the words of a spec, its folder, its variables, and where its streams go. Fails on an
+/// allocation failure.
+pub fn push_spec(text: &mut String, spec: &CommandSpec) -> Result<(), TableError> {
+    write!(text, "{:?} {:?}", spec.words(), spec.folder())?;
+    push_variables(text, spec)?;
+    let ports = [Stream::In, Stream::Out, Stream::Err].map(|stream| spec.port(stream));
+    Ok(write!(text, " {ports:?}")?)
+}
+
+fn push_variables(text: &mut String, spec: &CommandSpec) -> Result<(), TableError> {
     for (name, value) in spec.vars()?.iter() {
         write!(text, " {name}={value}")?;
     }
     Ok(())
 }
 
+/// Adds where an end comes from. An end that was opened is shown by its number. Fails on an
+/// allocation failure.
+pub fn push_source(text: &mut String, source: Source) -> Result<(), AllocError> {
+    match source {
+        Source::Opened(number) => write!(text, " {number}"),
+        Source::ParentOf(side) => write!(text, " parent-{side:?}"),
+        Source::Lent(number) => write!(text, " lent-{number}"),
+    }
+}
+
+/// Adds the entries of the trace. An entry that was refused has the kind of its fault. An end is
+/// shown by where it comes from: the index in the trace of the entry that opened it, the parent's
+/// stream, or the number of a lent end. Fails only on an allocation failure.
+pub fn push_trace(text: &mut String, alloc: Global, entries: &[Entry]) -> Result<(), TableError> {
+    let traced = trace(alloc, entries)?;
+    let trace = traced.as_slice();
+    let mut tracing = Tracing {
+        text,
+        entries,
+        trace,
+    };
+    for entry in trace {
+        tracing.push(entry)?;
+    }
+    Ok(())
+}
+
+/// The text of a trace, with the journal.
+#[derive(Drop)]
+struct Tracing<'a> {
+    text: &'a mut String,
+    entries: &'a [Entry],
+    trace: &'a [&'a Entry],
+}
+
+impl Tracing<'_> {
+    fn push(&mut self, entry: &Entry) -> Result<(), TableError> {
+        begin(self.text)?;
+        match entry {
+            Entry::Environment(_) => self.text.push_str("Environment")?,
+            Entry::Pipe(_) => self.text.push_str("Pipe")?,
+            Entry::OpenRead(path, _) => write!(self.text, "OpenRead {path}")?,
+            Entry::Create(path, _) => write!(self.text, "Create {path}")?,
+            Entry::Canonicalize(path, _) => write!(self.text, "Canonicalize {path}")?,
+            Entry::Spawn(spec, io, _) => self.push_spawn(spec, io)?,
+            Entry::Feed(end, bytes, _) => {
+                self.push_end("Feed", *end)?;
+                write!(self.text, " {:?}", bytes.as_slice())?;
+            }
+            Entry::Drain(end, _) => self.push_end("Drain", *end)?,
+            Entry::Reader(end) => self.push_end("Reader", *end)?,
+            Entry::Duplicate(_, _) | Entry::Parent(_, _) | Entry::Close(_) => {}
+        }
+        match fault_of(entry) {
+            Some(fault) => Ok(write!(self.text, " refused={:?}", fault.kind)?),
+            None => Ok(()),
+        }
+    }
+
+    fn push_spawn(&mut self, spec: &CommandSpec, io: &[Stdio<u64>; 3]) -> Result<(), TableError> {
+        self.text.push_str("Spawn")?;
+        for word in spec.words() {
+            write!(self.text, " {word}")?;
+        }
+        self.text.push_str(" ->")?;
+        for stream in io {
+            match stream {
+                Stdio::Inherit => self.text.push_str(" inherit")?,
+                Stdio::Null => self.text.push_str(" null")?,
+                Stdio::End(end) => self.push_end("", *end)?,
+            }
+        }
+        if let Some(folder) = spec.folder() {
+            write!(self.text, " in {folder}")?;
+        }
+        push_variables(self.text, spec)
+    }
+
+    /// Adds a word, and where the end with this number comes from.
+    fn push_end(&mut self, word: &str, end: u64) -> Result<(), AllocError> {
+        self.text.push_str(word)?;
+        let number = match origin(self.entries, end) {
+            Source::Opened(number) => number,
+            source => return push_source(self.text, source),
+        };
+        for (place, entry) in self.trace.iter().enumerate() {
+            if let Some(end) = end_of(entry, number) {
+                return write!(self.text, " {end}-{place}");
+            }
+        }
+        write!(self.text, " unknown-{number}")
+    }
+}
+
+/// What the end with this number is, if this entry returned it.
+fn end_of(entry: &Entry, number: u64) -> Option<&'static str> {
+    match entry {
+        Entry::Pipe(Ok((reader, _))) if *reader == number => Some("reader"),
+        Entry::Pipe(Ok((_, writer))) if *writer == number => Some("writer"),
+        Entry::OpenRead(_, Ok(file)) | Entry::Create(_, Ok(file)) if *file == number => {
+            Some("file")
+        }
+        _ => None,
+    }
+}
+
 /// Returns how many children were started.
 pub fn children_started(entries: &[Entry]) -> u64 {
     let mut count = 0_u64;
     for entry in entries {
-        if let Entry::Spawn(_, _, Ok(_)) = entry {
-            count = count.saturating_add(1);
-        }
+        count = count.saturating_add(u64::from(matches!(entry, Entry::Spawn(_, _, Ok(_)))));
     }
     count
 }
 
-/// Returns how many children the pool keeps, was given, has reaped, and has lost.
-pub fn counts<C: Drop>(pool: &Pool<C>) -> (usize, u64, u64, u64) {
-    (pool.len(), pool.given(), pool.reaped(), pool.lost())
-}
-
-/// Returns the same counts as a text. Fails on an allocation failure.
-pub fn pool_text<C: Drop>(alloc: Global, pool: &Pool<C>) -> Result<String, AllocError> {
-    let (len, given, reaped, lost) = counts(pool);
-    format!(in alloc; "len {len}, given {given}, reaped {reaped}, lost {lost}")
-}
-
-/// Returns the numbers of the lent ends for which a duplicate was requested, in order. Fails on an
+/// Adds how many children the pool keeps, was given, has reaped, and has lost. Fails on an
 /// allocation failure.
-pub fn lent_text(alloc: Global, entries: &[Entry]) -> Result<String, AllocError> {
-    let mut text = String::new(alloc);
+pub fn push_pool<C: Drop>(text: &mut String, pool: &Pool<C>) -> Result<(), AllocError> {
+    let (given, reaped, lost) = (pool.given(), pool.reaped(), pool.lost());
+    write!(
+        text,
+        "len {}, given {given}, reaped {reaped}, lost {lost}",
+        pool.len()
+    )
+}
+
+/// Adds the numbers of the lent ends for which a duplicate was requested, in order. Fails on an
+/// allocation failure.
+pub fn push_lent(text: &mut String, entries: &[Entry]) -> Result<(), AllocError> {
     for entry in entries {
-        if let Entry::Duplicate(end, _) = entry {
-            if *end < FIRST {
-                begin(&mut text)?;
+        match entry {
+            Entry::Duplicate(end, _) if *end < FIRST => {
+                begin(text)?;
                 write!(text, "{end}")?;
             }
+            _ => {}
         }
     }
-    Ok(text)
+    Ok(())
 }
 
 /// Returns the greatest number of ends that were held at once. Fails on an allocation failure.
@@ -153,86 +205,61 @@ pub fn most_held(alloc: Global, entries: &[Entry]) -> Result<usize, AllocError> 
     Ok(most)
 }
 
-/// Returns this number if no more ends were held at once, or else the greatest number that was
-/// held. Fails on an allocation failure.
-pub fn most_text(alloc: Global, entries: &[Entry], number: &str) -> Result<String, AllocError> {
-    let most = most_held(alloc, entries)?;
-    match number.parse::<usize>() {
-        Ok(bound) if most <= bound => String::from_str(alloc, number),
-        _ => format!(in alloc; "{most}"),
-    }
-}
-
-/// Returns a `p` for each poll of a child in the log and an `o` for each order, in their order.
-/// Fails on an allocation failure.
-pub fn turns_text(alloc: Global, calls: &CallLog) -> Result<String, AllocError> {
-    let mut turns = String::new(alloc);
+/// Adds a `p` for each poll of a child in the log and an `o` for each order, in their order. Fails
+/// on an allocation failure.
+pub fn push_turns(text: &mut String, calls: &CallLog) -> Result<(), AllocError> {
     for place in 0..calls.noted() {
         match calls.get(place as usize) {
-            Some(Call::Poll(_)) => turns.push('p')?,
-            Some(Call::Order(_)) => turns.push('o')?,
+            Some(Call::Poll(_)) => text.push('p')?,
+            Some(Call::Order(_)) => text.push('o')?,
             Some(Call::Request(_) | Call::Hook(_) | Call::PollFeed(_) | Call::PollDrain(_))
             | None => (),
         }
     }
-    Ok(turns)
+    Ok(())
 }
 
-/// Returns the calls in the log from the first of two indices up to, but not including, the second,
-/// in order and without the requests `Duplicate`, `Parent` and `Close`. A child of the start is
-/// shown by its program, a child of the pool by its number, a feed by its bytes, and a drain by its
-/// place among those that were started. Fails on an allocation failure.
-pub fn noted_text(alloc: Global, bench: &Bench, places: (u64, u64)) -> Result<String, AllocError> {
-    let mut text = String::new(alloc);
-    let (from, to) = places;
+/// Adds the calls in the log from the first of two indices up to, but not including, the second, in
+/// order and without the requests `Duplicate`, `Parent` and `Close`. A child of the start is shown
+/// by its program, a child of the pool by its number, a feed by its bytes, and a drain by its place
+/// among those that were started. Fails on an allocation failure.
+pub fn push_noted(text: &mut String, bench: &Bench, from: u64, to: u64) -> Result<(), AllocError> {
     for place in from..to {
-        if let Some(call) = bench.calls.get(place as usize) {
-            push_call(&mut text, bench.sys.journal(), call)?;
+        match bench.calls.get(place as usize) {
+            None | Some(Call::Request(Sort::Duplicate | Sort::Parent | Sort::Close)) => {}
+            Some(call) => push_call(text, bench.sys.journal(), call)?,
         }
     }
-    Ok(text)
+    Ok(())
 }
 
 fn push_call(text: &mut String, entries: &[Entry], call: Call) -> Result<(), AllocError> {
-    if let Call::Request(Sort::Duplicate | Sort::Parent | Sort::Close) = call {
-        return Ok(());
-    }
     begin(text)?;
-    match call {
-        Call::Request(sort) => write!(text, "{sort:?}"),
-        Call::Hook(label) => write!(text, "hook {label}"),
-        Call::Poll(child) => push_child(text, "poll", entries, child),
-        Call::Order(child) => push_child(text, "order", entries, child),
-        Call::PollFeed(end) => {
-            let bytes = fed(entries, end).unwrap_or(&[]);
-            write!(text, "poll feed {}", str::from_utf8(bytes).unwrap_or("?"))
-        }
-        Call::PollDrain(end) => write!(text, "poll drain {}", drain_place(entries, end)),
-    }
-}
-
-fn push_child(
-    text: &mut String,
-    call: &str,
-    entries: &[Entry],
-    child: u64,
-) -> Result<(), AllocError> {
+    let (word, child) = match call {
+        Call::Request(sort) => return write!(text, "{sort:?}"),
+        Call::Hook(label) => return write!(text, "hook {label}"),
+        Call::Poll(child) => ("poll", child),
+        Call::Order(child) => ("order", child),
+        Call::PollFeed(end) => return write!(text, "poll feed {}", fed(entries, end)),
+        Call::PollDrain(end) => return write!(text, "poll drain {}", drain_place(entries, end)),
+    };
     match program(entries, child) {
-        Some(program) if child >= FIRST => write!(text, "{call} {program}"),
-        _ => write!(text, "{call} {child}"),
+        Some(program) if child >= FIRST => write!(text, "{word} {program}"),
+        _ => write!(text, "{word} {child}"),
     }
 }
 
-/// Returns the bytes of the feed of the end with this number, if the journal has its start.
-fn fed(entries: &[Entry], feed: u64) -> Option<&[u8]> {
+/// Returns the bytes of the feed of the end with this number, as a text.
+fn fed(entries: &[Entry], feed: u64) -> &str {
     for entry in entries {
-        if let Entry::Feed(end, bytes, Ok(())) = entry {
-            if *end == feed {
-                return Some(bytes.as_slice());
+        match entry {
+            Entry::Feed(end, bytes, Ok(())) if *end == feed => {
+                return str::from_utf8(bytes.as_slice()).unwrap_or("?");
             }
+            _ => {}
         }
     }
-    None
+    ""
 }
 
 /// Returns the place of a drain among those that were started.
@@ -251,12 +278,10 @@ fn drain_place(entries: &[Entry], drain: u64) -> usize {
 
 /// Returns the program of the child with this number, if the journal has its spawn.
 pub fn program(entries: &[Entry], child: u64) -> Option<&str> {
-    for entry in entries {
-        if let Entry::Spawn(spec, _, Ok(number)) = entry {
-            if *number == child {
-                return spec.words().first().map(String::as_str);
-            }
+    entries.iter().find_map(|entry| match entry {
+        Entry::Spawn(spec, _, Ok(number)) if *number == child => {
+            spec.words().first().map(String::as_str)
         }
-    }
-    None
+        _ => None,
+    })
 }

@@ -3,6 +3,8 @@ use crate::stop::TableError;
 use duct_base::spec::Stream;
 use duct_base::system::{Fault, Kind, Side};
 use std::alloc::{AllocError, Global};
+use std::io::ErrorKind;
+use std::time::Duration;
 
 /// Splits a text at its first space. Without a space, the second part is empty.
 pub fn first_word(text: &str) -> (&str, &str) {
@@ -32,53 +34,64 @@ pub fn pairs(alloc: Global, text: &str) -> Result<Vec<(&str, &str)>, AllocError>
     Ok(pairs)
 }
 
+/// Returns the value with this name. Fails if there is none.
+pub fn named<T: Copy>(values: &[(&str, T)], name: &str) -> Result<T, TableError> {
+    match values.iter().find(|(known, _)| *known == name) {
+        Some((_, value)) => Ok(*value),
+        None => Err(TableError::Text("no such name")),
+    }
+}
+
 /// Returns the stream with this name: `in`, `out` or `err`. Fails for any other name.
 pub fn stream(name: &str) -> Result<Stream, TableError> {
-    match name {
-        "in" => Ok(Stream::In),
-        "out" => Ok(Stream::Out),
-        "err" => Ok(Stream::Err),
-        _ => Err(TableError::Text("no such stream")),
-    }
+    named(
+        &[
+            ("in", Stream::In),
+            ("out", Stream::Out),
+            ("err", Stream::Err),
+        ],
+        name,
+    )
 }
 
 /// Returns the parent's output stream with this name: `out` or `err`. Fails for any other name.
 pub fn side(name: &str) -> Result<Side, TableError> {
-    match name {
-        "out" => Ok(Side::Out),
-        "err" => Ok(Side::Err),
-        _ => Err(TableError::Text("no such stream")),
-    }
+    named(&[("out", Side::Out), ("err", Side::Err)], name)
 }
+
+/// The kinds of faults by their names.
+const KINDS: [(&str, Kind); 8] = [
+    ("NotFound", Kind::NotFound),
+    ("PermissionDenied", Kind::PermissionDenied),
+    ("BrokenPipe", Kind::BrokenPipe),
+    ("WriteZero", Kind::WriteZero),
+    ("InvalidInput", Kind::InvalidInput),
+    ("Unsupported", Kind::Unsupported),
+    ("OutOfMemory", Kind::OutOfMemory),
+    ("Other", Kind::Other),
+];
 
 /// Returns a fault of the kind with this name. Fails if there is no such kind.
 pub fn fault(kind: &str) -> Result<Fault, TableError> {
-    let kind = match kind {
-        "NotFound" => Kind::NotFound,
-        "PermissionDenied" => Kind::PermissionDenied,
-        "BrokenPipe" => Kind::BrokenPipe,
-        "WriteZero" => Kind::WriteZero,
-        "InvalidInput" => Kind::InvalidInput,
-        "Unsupported" => Kind::Unsupported,
-        "OutOfMemory" => Kind::OutOfMemory,
-        "Other" => Kind::Other,
-        _ => return Err(TableError::Text("no kind of fault")),
-    };
-    Ok(Fault::new(kind))
+    Ok(Fault::new(named(&KINDS, kind)?))
 }
 
-/// Returns the same pairs as `pairs`, with owned texts. Fails on an allocation failure.
-pub fn owned_pairs(alloc: Global, text: &str) -> Result<Vec<(String, String)>, AllocError> {
-    let mut pairs = Vec::new(alloc);
-    for piece in text.split(',') {
-        if let Some((name, value)) = piece.split_once(':') {
-            pairs.push(owned_pair(alloc, name, value)?)?;
-        }
+/// The kinds of errors of reads and processes by their names.
+pub const ERROR_KINDS: [(&str, ErrorKind); 5] = [
+    ("Interrupted", ErrorKind::Interrupted),
+    ("NotFound", ErrorKind::NotFound),
+    ("PermissionDenied", ErrorKind::PermissionDenied),
+    ("WouldBlock", ErrorKind::WouldBlock),
+    ("Other", ErrorKind::Other),
+];
+
+/// Reads a duration: `0`, `5s`, `1ns`, or `most` for the greatest.
+pub fn duration(text: &str) -> Result<Duration, TableError> {
+    if text == "most" {
+        return Ok(Duration::MAX);
     }
-    Ok(pairs)
-}
-
-fn owned_pair(alloc: Global, name: &str, value: &str) -> Result<(String, String), AllocError> {
-    let name = String::from_str(alloc, name)?;
-    Ok((name, String::from_str(alloc, value)?))
+    match text.strip_suffix("ns") {
+        Some(count) => Ok(Duration::from_nanos(count.parse()?)),
+        None => Ok(Duration::from_secs(text.strip_suffix('s').unwrap_or(text).parse()?)),
+    }
 }

@@ -30,11 +30,10 @@ fn environment<R: Real>(host: &mut Host<R>) -> Result<String, Fail> {
 
 /// Returns the environment of a host over a runtime that returns the entries in `shown` at once,
 /// and those in `entries` one by one.
-fn read<R: Real>(rt: &R, shown: &str, entries: &str) -> Result<String, Fail> {
+fn read<R: Real>(rt: &R, shown: &'static str, entries: &'static str) -> Result<String, Fail> {
     let alloc = rt.alloc();
-    let mut odd = Odd::new(alloc, rt.clone()?, Script::new(alloc, "")?);
-    odd.shown = String::from_str(alloc, shown)?;
-    odd.entries = String::from_str(alloc, entries)?;
+    let mut odd = Odd::new(rt.clone()?, Script::new(alloc, "")?);
+    (odd.shown, odd.entries) = (shown, entries);
     environment(&mut Host::new(odd, alloc))
 }
 

@@ -5,7 +5,7 @@ use duct::{Clock, Error, ExitStatus, Expression, Handle, Output, Pool, ReaderHan
 use duct_host::host::Host;
 use duct_threads::handle::SharedHandle;
 use duct_threads::reader::SharedReader;
-use rows_table::left::count_left;
+use rows_table::real::count_left;
 use std::alloc::Global;
 use std::sync::{Arc, Wait};
 use std::test::Fail;

@@ -5,7 +5,7 @@ use duct_script::gate::Gate;
 use duct_script::reader::ReaderScript;
 use duct_script::system::Script;
 use rows_table::expressions::written;
-use rows_table::scenes::{Bench, Scene, bench_of};
+use rows_table::scenes::Bench;
 use rows_table::stop::TableError;
 use rows_table::waits::until;
 use std::alloc::Global;
@@ -72,7 +72,7 @@ fn count_and_ask<R: Wait + Threads + Sync>(
 #[test]
 fn a_kill_passes_a_read(rt: HostRuntime) -> Result<(), Fail> {
     let gate = Gate::new(rt.alloc())?;
-    let mut bench = bench_of(rt.alloc(), Scene::plain())?;
+    let mut bench = Bench::new(rt.alloc())?;
     let handle = handle_of(&rt, rt.alloc(), &mut bench, 3, &gate)?;
     gate.shut();
     let told = count_and_ask(&rt, &handle, &gate);
@@ -91,7 +91,8 @@ fn count_together<R: Wait + Threads + Sync>(rt: &R, handle: &ReaderHandle<Script
 #[test]
 fn two_threads_read(rt: HostRuntime) -> Result<(), Fail> {
     let gate = Gate::new(rt.alloc())?;
-    let mut bench = bench_of(rt.alloc(), Scene::of("code 0"))?;
+    let mut bench = Bench::new(rt.alloc())?;
+    let _ = bench.set(rt.alloc(), "children", "code 0")?;
     let handle = handle_of(&rt, rt.alloc(), &mut bench, 1000, &gate)?;
     let total = count_together(&rt, &handle);
     handle.give_up(&mut bench.pool);

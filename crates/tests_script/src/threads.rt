@@ -10,11 +10,10 @@ use duct_script::child::{ChildScript, PollAnswer};
 use duct_script::gate::Gate;
 use duct_script::system::Script;
 use rows_table::expressions::written;
-use rows_table::scenes::{Bench, Scene, bench_of};
+use rows_table::scenes::{Bench, set_system};
 use rows_table::stop::TableError;
-use rows_table::told::turns_text;
+use rows_table::told::push_turns;
 use rows_table::waits::until;
-use rows_table::workers::set_drains;
 use std::alloc::{AllocError, Global};
 use std::sync::{Arc, Wait};
 use std::test::Fail;
@@ -125,11 +124,12 @@ fn set_greeting(
 ) -> Result<(), TableError> {
     sys.child(child(alloc, runs, gate)?)?;
     sys.child(child(alloc, runs, gate)?)?;
-    set_drains(alloc, sys, "done hi")
+    let _ = set_system(alloc, sys, "drains", "done hi")?;
+    Ok(())
 }
 
 fn greeting_bench(alloc: Global, runs: usize, gate: &Gate) -> Result<Bench, TableError> {
-    let mut bench = bench_of(alloc, Scene::plain())?;
+    let mut bench = Bench::new(alloc)?;
     set_greeting(alloc, &mut bench.sys, runs, gate)?;
     Ok(bench)
 }
@@ -274,7 +274,8 @@ fn passes<R: Wait + Threads + Sync>(
     let play = play_of(alloc, Cast::Passed(waiting))?;
     let mut bench = greeting_bench(alloc, 400, &play.first)?;
     let well = played(rt, alloc, &mut bench, "a stdout_capture", &play)?;
-    let turns = turns_text(alloc, &bench.calls)?;
+    let mut turns = String::new(alloc);
+    push_turns(&mut turns, &bench.calls)?;
     let (before, behind) = turns.as_str().split_once('o').unwrap_or(("", ""));
     Ok(well && before.contains('p') && behind.contains('p'))
 }

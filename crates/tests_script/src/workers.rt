@@ -7,8 +7,8 @@ use duct_script::reader::ScriptReader;
 use duct_script::system::Script;
 use duct_worker::spawn::{spawn_drain, spawn_feed};
 use duct_worker::worker::Worker;
+use rows_table::scenes::set_system;
 use rows_table::waits::{heard, until};
-use rows_table::workers::set_reader;
 use std::alloc::Global;
 use std::io::{self, Write};
 use std::rt::Clock;
@@ -19,7 +19,7 @@ use std::thread::Threads;
 /// A reader of the scripted system that returns these pieces.
 fn reader(alloc: Global, pieces: &str) -> Result<ScriptReader, Fail> {
     let mut sys = Script::new(alloc)?;
-    set_reader(alloc, &mut sys, pieces)?;
+    let _ = set_system(alloc, &mut sys, "reads", pieces)?;
     let end = sys.open_read("f")?;
     Ok(sys.reader(end))
 }

@@ -22,7 +22,7 @@ use duct_program::line::line;
 use duct_record::journal::journal_text;
 use duct_record::write::Variables;
 use rows_table::expressions::{Lender, Tree, written_with};
-use rows_table::left::{Left, count_left};
+use rows_table::real::{Left, count_left};
 use rows_table::stop::TableError;
 use std::alloc::{AllocError, Global};
 use std::fs::File;

@@ -1,14 +1,13 @@
 //! What the checker finds in a journal, and writes to a spec.
+use crate::journals::journal;
 use crate::parts::Parts;
 use duct::{CommandSpec, Entry, Error, Hook, Stream};
 use duct_base::spec::give;
 use duct_plan::checker::{is_balanced, open_count, opened_numbers, origin, spent_numbers, trace};
 use duct_script::text::Words;
-use rows_table::entries::spec_text;
 use rows_table::hooks::hook;
-use rows_table::journals::journal;
 use rows_table::stop::TableError;
-use rows_table::streams::push_source;
+use rows_table::told::{push_source, push_spec};
 use rows_table::words::pieces;
 use std::alloc::Global;
 
@@ -54,7 +53,7 @@ pub fn written(row: &Parts, names: &str) -> Result<String, TableError> {
         wrote => wrote?,
     }
     if names.is_empty() {
-        return Ok(spec_text(alloc, spec)?);
+        return spec_text(alloc, spec);
     }
     let mut text = String::new(alloc);
     for name in names.split(' ') {
@@ -62,6 +61,12 @@ pub fn written(row: &Parts, names: &str) -> Result<String, TableError> {
             write!(text, "{name}={value} ")?;
         }
     }
+    Ok(text)
+}
+
+fn spec_text(alloc: Global, spec: &CommandSpec) -> Result<String, TableError> {
+    let mut text = String::new(alloc);
+    push_spec(&mut text, spec)?;
     Ok(text)
 }
 

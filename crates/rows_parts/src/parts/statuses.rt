@@ -2,10 +2,9 @@
 use crate::parts::Parts;
 use duct_base::status::{Core, Drains, Event, Reply, Shape, Word};
 use duct_script::child::PollAnswer;
-use rows_table::scenes::poll_answer;
+use rows_table::scenes::Answer;
 use rows_table::stop::TableError;
 use rows_table::words::{first_word, pieces, side};
-use rows_table::workers::{drain_word, feed_word};
 use std::alloc::{AllocError, Global};
 use std::sync::Arc;
 
@@ -95,13 +94,13 @@ fn event(alloc: Global, text: &str) -> Result<Event, TableError> {
     let (source, word) = first_word(text);
     match source {
         "conclude" => Ok(Event::Conclude),
-        "out" | "err" => Ok(Event::Drain(side(source)?, drain_word(alloc, word)?)),
+        "out" | "err" => Ok(Event::Drain(side(source)?, Answer::named(alloc, word)?)),
         "input" => {
             let (at, word) = first_word(word);
-            Ok(Event::Input(at.parse()?, feed_word(word)?))
+            Ok(Event::Input(at.parse()?, Answer::named(alloc, word)?))
         }
         at => {
-            let word = match poll_answer(word)? {
+            let word = match PollAnswer::named(alloc, word)? {
                 PollAnswer::Running => Word::Running,
                 PollAnswer::Ended(status) => Word::Ended(status),
                 PollAnswer::Fault(fault) => Word::Fault(fault),

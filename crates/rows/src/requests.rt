@@ -1,36 +1,19 @@
 //! Requests of a system, one by one. Each is a key with a text, and its result is said: values one
-//! after another, and the kinds of faults.
-//!
-//! - `environment` says how many variables there are. `pipe`, `open_read: f`, `create: f`,
-//!   `duplicate: 3` and `parent: out` say the numbers of the ends, and `canonicalize: ./x` the
-//!   path. `close: 1` says nothing, and `clear` clears the journal.
-//! - `lend: 1` is a duplicate of an adopted end, and `drop: 1` drops one.
-//! - `feed: 2` starts a worker that writes `xyz`, and `drain: 1` one that reads. Both wait for the
-//!   worker and say its result.
-//! - `read: 1` reads an end to EOF and says the text. `read: 1 4 2` reads it into buffers of these
-//!   lengths, of eight bytes at most, and says what each read returns.
-//! - `spawn: null 2 inherit (/bin/echo,a b)` has the words of a command in parentheses. Without
-//!   them, the command has no words. `folder: /in` and `variables: A=1,B=2` apply to the commands
-//!   that follow. - `poll`, `kill` and `signal: 15` are calls on the last child. `ending` waits
-//!   until it has ended, and says its status.
-//!
-//! These lines are compared: `says` with what was said after the last such line, and `journal` with
-//! the journal.
+//! after another, and the kinds of faults (`docs/ROWS.md`).
 ghost use Rattle.std.specs.Prelude.{◌≡◌, ◌+◌, ◌<◌, ◌≤◌, [], ◌∷◌, length, vec_len, IfOk, OnOk, OnErr};
 ghost use Rattle.duct_system.specs.Streams.{ends_of};
 
 use duct_base::spec::{CommandSpec, Port, spec_of};
 use duct_base::system::{Child, ExitStatus, Fault, Kind, Numbered, Stdio, System};
 use rows_calls::texts::push_bytes;
-use rows_table::entries::journal_text;
 use rows_table::stop::TableError;
+use rows_table::told::push_journal;
 use rows_table::waits::heard;
 use rows_table::words::{fault, first_word, side};
 use std::alloc::Global;
 use std::collections::BTreeMap;
 use std::fmt::{Debug, Write};
 use std::io::Read;
-use std::mem::replace;
 use std::rt::Clock;
 use std::sync::Arc;
 use std::thread;
@@ -66,33 +49,43 @@ impl<S: System + Drop> Requests<S> {
         }
     }
 
-    /// Reads a line. Returns the text that is compared, or `None` for a request. Blocks while a
-    /// worker runs or a read waits. Fails as `ask` and `says` do.
+    /// Returns the system, and lets all ends go that aren't spent.
+    pub fn system_alone(&mut self) -> &mut S {
+        self.ends.clear();
+        &mut self.system
+    }
+
+    /// Reads a line. Adds to `out` what is compared with the text, and returns whether there is
+    /// such. Blocks while a worker runs or a read waits. Fails as `ask` and `push_said` do.
     pub fn line(
         &mut self,
         rt: &impl Clock,
         key: &str,
         text: &str,
-    ) -> Result<Option<String>, TableError> {
+        out: &mut String,
+    ) -> Result<bool, TableError> {
         match key {
-            "says" => Ok(Some(self.says(text)?)),
-            "journal" => Ok(Some(journal_text(self.alloc, self.system.journal())?)),
+            "says" => self.push_said(text, out)?,
+            "journal" => push_journal(out, self.system.journal())?,
             _ => {
                 self.ask(rt, key, text)?;
-                Ok(None)
+                return Ok(false);
             }
         }
+        Ok(true)
     }
 
-    /// Returns what was said. Fails with an allocation failure if a request met one, the text is
-    /// not the wanted one, and it has no more other faults.
-    fn says(&mut self, wanted: &str) -> Result<String, TableError> {
-        let said = replace(&mut self.said, String::new(self.alloc));
+    /// Adds what was said. Fails with an allocation failure if a request met one, the text is not
+    /// the wanted one, and it has no more other faults.
+    fn push_said(&mut self, wanted: &str, out: &mut String) -> Result<(), TableError> {
+        let said = self.said.as_str();
         let is_wanted = said.trim() == wanted || !said.contains(REFUSED);
-        if is_wanted || faults(said.as_str()) > faults(wanted) {
-            return Ok(said);
+        if !is_wanted && faults(said) <= faults(wanted) {
+            return Err(TableError::from(Fault::new(Kind::OutOfMemory)));
         }
-        Err(TableError::from(Fault::new(Kind::OutOfMemory)))
+        out.push_str(said)?;
+        self.said.clear();
+        Ok(())
     }
 
     /// Makes the request of this key. After an allocation failure, a request of an end or a child
@@ -118,12 +111,13 @@ impl<S: System + Drop> Requests<S> {
             "feed" => self.feed(rt, text),
             "drain" => self.drain(rt, text),
             "read" => self.read(text),
+            "read_id" => self.read_id(text),
             "close" => {
-                let end = taken(&mut self.ends, text)?;
+                let end = taken(&mut self.ends, text.parse()?)?;
                 self.system.close(end);
                 Ok(())
             }
-            "drop" => Ok(drop(taken(&mut self.adopted, text)?)),
+            "drop" => Ok(drop(taken(&mut self.adopted, text.parse()?)?)),
             "clear" => Ok(self.system.clear_journal()),
             "folder" => set(&mut self.folder, text),
             "variables" => set(&mut self.variables, text),
@@ -145,7 +139,6 @@ impl<S: System + Drop> Requests<S> {
         }
     }
 
-    /// Requests one end, and keeps it.
     fn open(&mut self, key: &str, text: &str) -> Result<(), TableError> {
         self.ends.reserve(1)?;
         let made = match key {
@@ -153,11 +146,11 @@ impl<S: System + Drop> Requests<S> {
             "create" => self.system.create(text),
             "parent" => self.system.parent(side(text)?),
             "duplicate" => {
-                let place = place(self.ends.as_slice(), text)?;
+                let place = place(self.ends.as_slice(), text.parse()?)?;
                 self.system.duplicate(&self.ends[place])
             }
             _ => {
-                let place = place(self.adopted.as_slice(), text)?;
+                let place = place(self.adopted.as_slice(), text.parse()?)?;
                 self.system.duplicate(&self.adopted[place])
             }
         };
@@ -186,7 +179,7 @@ impl<S: System + Drop> Requests<S> {
 
     fn feed(&mut self, rt: &impl Clock, number: &str) -> Result<(), TableError> {
         let bytes = Arc::new(self.alloc, Vec::from_slice(self.alloc, b"xyz")?)?;
-        let end = taken(&mut self.ends, number)?;
+        let end = taken(&mut self.ends, number.parse()?)?;
         match self.system.start_feed(end, bytes) {
             Ok(mut worker) => tell(&mut self.said, &heard(rt, &mut worker)?),
             Err(fault) => say(&mut self.said, &fault.kind),
@@ -194,7 +187,7 @@ impl<S: System + Drop> Requests<S> {
     }
 
     fn drain(&mut self, rt: &impl Clock, number: &str) -> Result<(), TableError> {
-        let end = taken(&mut self.ends, number)?;
+        let end = taken(&mut self.ends, number.parse()?)?;
         let heard = match self.system.start_drain(end) {
             Ok(mut worker) => heard(rt, &mut worker)?,
             Err(fault) => Err(fault),
@@ -207,7 +200,7 @@ impl<S: System + Drop> Requests<S> {
 
     fn read(&mut self, text: &str) -> Result<(), TableError> {
         let (number, lengths) = first_word(text);
-        let end = taken(&mut self.ends, number)?;
+        let end = taken(&mut self.ends, number.parse()?)?;
         let mut reader = self.system.reader(end);
         if lengths.is_empty() {
             return read_all(self.alloc, reader, &mut self.said);
@@ -218,10 +211,9 @@ impl<S: System + Drop> Requests<S> {
         Ok(())
     }
 
-    /// Reads the last child's text from an end to EOF, and says whether it is the child's id.
-    pub fn read_id(&mut self, number: &str) -> Result<(), TableError> {
+    fn read_id(&mut self, number: &str) -> Result<(), TableError> {
         let mut text = String::new(self.alloc);
-        let end = taken(&mut self.ends, number)?;
+        let end = taken(&mut self.ends, number.parse()?)?;
         self.system.reader(end).read_to_string(&mut text)?;
         let found = text.trim().parse().ok();
         let id = self.child.as_ref().map(|child| child.id());
@@ -229,7 +221,7 @@ impl<S: System + Drop> Requests<S> {
     }
 
     fn spawn(&mut self, text: &str) -> Result<(), TableError> {
-        let (io, words) = parted(text);
+        let (io, words) = text.split_once(" (").unwrap_or((text, ""));
         let spec = self.spec(words)?;
         let (input, output, error) = streams(&mut self.ends, io)?;
         match self.system.spawn(spec, [input, output, error]) {
@@ -242,11 +234,12 @@ impl<S: System + Drop> Requests<S> {
         }
     }
 
-    /// The spec of a command with these words, if it has any. Its streams are inherited.
-    fn spec(&self, words: Option<&str>) -> Result<CommandSpec, TableError> {
+    /// Returns the spec of a command with these words, which a parenthesis ends, if it has any. Its
+    /// streams are inherited.
+    fn spec(&self, words: &str) -> Result<CommandSpec, TableError> {
         let alloc = self.alloc;
         let mut texts = Vec::new(alloc);
-        if let Some(words) = words {
+        if let Some(words) = words.strip_suffix(')') {
             for word in words.split(',') {
                 texts.push(String::from_str(alloc, word)?)?;
             }
@@ -300,7 +293,6 @@ fn faults(text: &str) -> usize {
         .count()
 }
 
-/// Says a value. Fails on an allocation failure.
 fn say<T: Debug>(said: &mut String, value: &T) -> Result<(), TableError> {
     Ok(write!(said, "{value:?}; ")?)
 }
@@ -313,7 +305,6 @@ fn tell<T: Debug>(said: &mut String, returned: &Result<T, Fault>) -> Result<(), 
     }
 }
 
-/// Says bytes as a text. Fails on an allocation failure.
 fn say_bytes(said: &mut String, bytes: &[u8]) -> Result<(), TableError> {
     push_bytes(said, bytes)?;
     Ok(said.push_str("; ")?)
@@ -339,14 +330,6 @@ fn read_once<R: Read>(reader: &mut R, length: usize, said: &mut String) -> Resul
     }
 }
 
-/// The streams of a spawn, and the words of its command, if it has any.
-fn parted(text: &str) -> (&str, Option<&str>) {
-    match text.split_once(" (") {
-        Some((io, words)) => (io, words.strip_suffix(')')),
-        None => (text, None),
-    }
-}
-
 fn set(text: &mut String, value: &str) -> Result<(), TableError> {
     text.clear();
     Ok(text.push_str(value)?)
@@ -365,12 +348,9 @@ fn ending<C: Child>(rt: &impl Clock, child: &mut C) -> Result<ExitStatus, TableE
     Err(TableError::Text("the child goes on"))
 }
 
-/// Returns the place of the end with this number in a list. Fails if the number is malformed or
-/// there is no such end.
-fn place<E: Numbered>(ends: &[E], number: &str) -> Result<usize, TableError>
+fn place<E: Numbered>(ends: &[E], number: u64) -> Result<usize, TableError>
     ensures { IfOk result (λ place. place < length ends.now) }
 {
-    let number = number.parse::<u64>()?;
     match ends.iter().position(|end| end.number() == number) {
         Some(place) if place < ends.len() => Ok(place),
         _ => Err(TableError::Text(MISSING)),
@@ -378,8 +358,8 @@ fn place<E: Numbered>(ends: &[E], number: &str) -> Result<usize, TableError>
 }
 
 /// Removes the end with this number from a list and returns it. Fails, with the list unchanged, if
-/// the number is malformed or there is no such end.
-pub fn taken<E: Numbered>(ends: &mut Vec<E>, number: &str) -> Result<E, TableError>
+/// there is no such end.
+pub fn taken<E: Numbered>(ends: &mut Vec<E>, number: u64) -> Result<E, TableError>
     ensures taken { OnOk result (vec_len ends.old ≡ vec_len ends.new + 1) }
     ensures left { OnErr result (vec_len ends.old ≡ vec_len ends.new) }
 {
@@ -396,12 +376,11 @@ fn stream<E: Numbered>(ends: &mut Vec<E>, word: Option<&str>) -> Result<Stdio<E>
     match word {
         Some("inherit") => Ok(Stdio::Inherit),
         Some("null") => Ok(Stdio::Null),
-        Some(number) => Ok(Stdio::End(taken(ends, number)?)),
+        Some(number) => Ok(Stdio::End(taken(ends, number.parse()?)?)),
         None => Err(TableError::Text("a stream is missing")),
     }
 }
 
-/// Stdin, stdout and stderr.
 type Streams<E> = (Stdio<E>, Stdio<E>, Stdio<E>);
 
 /// Reads three streams, whose ends are removed from a list.

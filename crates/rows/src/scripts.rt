@@ -1,21 +1,8 @@
-//! The table `scripts`: requests (`requests`) of the scripted system. Each row has a system of its
-//! own.
-//!
-//! `parent`, `canonical`, `refuse`, `children`, `feeds`, `drains` and `reads` set up the system as
-//! in the table of calls (`rows_table::scenes`), before it gives ends. `bytes: xyz 2,Interrupted`
-//! has the bytes of the next reader, and the pieces and errors that its reads return.
-//!
-//! A line `asks` has requests, separated by `; `. `adopt` adopts an end, and these set what the
-//! system returns from then on: `refuse_any 2 Other`, `starve`, `nourish`, `skip 3`.
-//!
-//! These lines are compared besides those of the requests.
-//! - `held`: the ends that aren't spent, the number of requests, and the room.
-//! - `kept`: the orders that the last child keeps, its polls, and its id. - `fed`, `drained`: the
-//!   results of three polls of a new feed or drain, its number, and its polls.
+//! The table `scripts`: requests of the scripted system (`docs/ROWS.md`). Each row has a system of
+//! its own.
 use crate::requests::Requests;
 use duct_base::system::{Child, Job, Numbered, Said, System};
 use duct_script::calls::CallLog;
-use duct_script::reader::{ReadStep, ReaderScript};
 use duct_script::system::Script;
 use rows_table::scenes::set_system;
 use rows_table::stop::TableError;
@@ -23,27 +10,26 @@ use rows_table::table::Table;
 use rows_table::words::{fault, first_word};
 use std::alloc::{AllocError, Global};
 use std::fmt::{Debug, Write};
-use std::io::ErrorKind;
 use std::rt::Clock;
 use std::sync::Arc;
 
 /// The scripted system of a row with its requests, and the log of its calls.
 #[derive(Drop)]
-pub struct Scripts<R> {
-    rt: R,
+pub struct Scripts<'r, R> {
+    rt: &'r R,
     alloc: Global,
     requests: Requests<Script>,
     calls: Arc<CallLog>,
 }
 
-impl<R: Clock + Clone> Scripts<R> {
+impl<'r, R: Clock> Scripts<'r, R> {
     /// Returns a table at the beginning of a row. Fails on an allocation failure.
-    pub fn new(rt: &R, alloc: Global) -> Result<Scripts<R>, TableError> {
+    pub fn new(rt: &'r R, alloc: Global) -> Result<Scripts<'r, R>, TableError> {
         let calls = Arc::new(alloc, CallLog::new(alloc, 0)?)?;
         let mut system = Script::new(alloc)?;
         system.note_in(Arc::try_clone(&calls)?);
         Ok(Scripts {
-            rt: rt.clone()?,
+            rt,
             alloc,
             requests: Requests::new(alloc, system),
             calls,
@@ -65,7 +51,7 @@ impl<R: Clock + Clone> Scripts<R> {
             "nourish" => system.starve(false),
             "skip" => system.skip_numbers_below(text.parse()?),
             "kill" | "signal" => return self.order(key, text),
-            _ => return self.requests.ask(&self.rt, key, text),
+            _ => return self.requests.ask(self.rt, key, text),
         }
         Ok(())
     }
@@ -74,7 +60,7 @@ impl<R: Clock + Clone> Scripts<R> {
     /// an allocation failure.
     fn order(&mut self, key: &str, text: &str) -> Result<(), TableError> {
         let (kept, noted) = self.orders();
-        self.requests.ask(&self.rt, key, text)?;
+        self.requests.ask(self.rt, key, text)?;
         let one = u64::from(!self.requests.said.ends_with("OutOfMemory; "));
         if self.orders() == (kept.saturating_add(one), noted.saturating_add(one)) {
             Ok(())
@@ -96,25 +82,17 @@ impl<R: Clock + Clone> Scripts<R> {
         if !self.requests.ends.is_empty() {
             return Err(TableError::Text("an end is there already"));
         }
-        let system = &mut self.requests.system;
-        if key == "bytes" {
-            return Ok(system.bytes(bytes(self.alloc, text)?)?);
+        if !set_system(self.alloc, &mut self.requests.system, key, text)? {
+            return Err(TableError::Text("no such key"));
         }
-        if set_system(self.alloc, system, key, text)? {
-            Ok(())
-        } else {
-            Err(TableError::Text("no such key"))
-        }
+        Ok(())
     }
 
     fn push_held(&self, text: &mut String) -> Result<(), AllocError> {
-        for end in self
-            .requests
-            .adopted
-            .iter()
-            .chain(self.requests.ends.iter())
-        {
-            write!(text, "{} ", end.number())?;
+        for ends in [&self.requests.adopted, &self.requests.ends] {
+            for end in ends {
+                write!(text, "{} ", end.number())?;
+            }
         }
         let (asked, room) = (self.requests.system.requests(), self.requests.system.room());
         write!(text, "| asked {asked} | room {room}")
@@ -146,37 +124,35 @@ impl<R: Clock + Clone> Scripts<R> {
     }
 }
 
-impl<'t, R: Clock + Clone> Table<'t> for Scripts<R> {
-    fn line(&mut self, key: &'t str, text: &'t str) -> Result<Option<String>, TableError> {
-        let mut found = String::new(self.alloc);
+impl<'t, R: Clock> Table<'t> for Scripts<'_, R> {
+    fn line(&mut self, key: &'t str, text: &'t str, out: &mut String) -> Result<bool, TableError> {
         match key {
             "asks" => {
                 for ask in text.split(';') {
                     let (key, text) = first_word(ask.trim());
                     self.ask(key, text)?;
                 }
-                return Ok(None);
+                return Ok(false);
             }
-            "says" | "journal" => return self.requests.line(&self.rt, key, text),
-            "held" => self.push_held(&mut found)?,
-            "kept" => self.push_kept(&mut found)?,
-            "fed" => self.push_fed(&mut found)?,
-            "drained" => self.push_drained(&mut found)?,
+            "says" | "journal" => return self.requests.line(self.rt, key, text, out),
+            "held" => self.push_held(out)?,
+            "kept" => self.push_kept(out)?,
+            "fed" => self.push_fed(out)?,
+            "drained" => self.push_drained(out)?,
             _ => {
                 self.set(key, text)?;
-                return Ok(None);
+                return Ok(false);
             }
         }
-        Ok(Some(found))
+        Ok(true)
     }
 
     fn end(&mut self) -> Result<(), TableError> {
-        *self = Scripts::new(&self.rt, self.alloc)?;
+        *self = Scripts::new(self.rt, self.alloc)?;
         Ok(())
     }
 }
 
-/// Polls a worker three times. Appends the results, and its number.
 fn push_polls<J: Job>(text: &mut String, worker: &mut J) -> Result<(), AllocError>
 where
     J::Result: Debug,
@@ -189,19 +165,4 @@ where
         }
     }
     write!(text, "| number {} | ", worker.number())
-}
-
-/// The bytes of a reader, and the pieces and errors that its reads return.
-fn bytes(alloc: Global, text: &str) -> Result<ReaderScript, TableError> {
-    let (bytes, steps) = first_word(text);
-    let mut script = ReaderScript::empty(alloc);
-    script.bytes = Vec::from_slice(alloc, bytes.as_bytes())?;
-    for step in steps.split(',') {
-        script.steps.push_back(match step {
-            "Interrupted" => ReadStep::Fault(ErrorKind::Interrupted),
-            "Other" => ReadStep::Fault(ErrorKind::Other),
-            length => ReadStep::Piece(length.parse()?),
-        })?;
-    }
-    Ok(script)
 }

@@ -14,11 +14,11 @@
 //! `refused=Other` is a fault of this kind. It takes the place of the result in `pipe`,
 //! `open_read`, `create`, `parent`, `duplicate` and `canonicalize`, and of the bytes in `feed`. In
 //! `spawn` it is one of the words that can follow.
-use crate::stop::TableError;
-use crate::words::{fault, first_word, owned_pairs, side};
 use duct::{Entry, Fault, Port, Stdio};
 use duct_base::names::EnvNameString;
 use duct_base::spec::spec_of;
+use rows_table::stop::TableError;
+use rows_table::words::{fault, first_word, side};
 use std::alloc::{AllocError, Global};
 use std::collections::BTreeMap;
 use std::sync::Arc;
@@ -151,4 +151,21 @@ fn variables(alloc: Global, text: &str) -> Result<BTreeMap<EnvNameString, String
         vars.insert(EnvNameString::from(name), value)?;
     }
     Ok(vars)
+}
+
+/// Returns the pairs of names and values in a text: `A:1,B:2`. Pieces without a colon are skipped.
+/// Fails on an allocation failure.
+fn owned_pairs(alloc: Global, text: &str) -> Result<Vec<(String, String)>, AllocError> {
+    let mut pairs = Vec::new(alloc);
+    for piece in text.split(',') {
+        if let Some((name, value)) = piece.split_once(':') {
+            pairs.push(owned_pair(alloc, name, value)?)?;
+        }
+    }
+    Ok(pairs)
+}
+
+fn owned_pair(alloc: Global, name: &str, value: &str) -> Result<(String, String), AllocError> {
+    let name = String::from_str(alloc, name)?;
+    Ok((name, String::from_str(alloc, value)?))
 }
