@@ -1,7 +1,6 @@
 //! The real machine, for the table of calls in `host calls` and `host rare calls`, and for single
 //! requests in `host requests` and `host rare requests` (`docs/ROWS.md`). Each row has a host of
 //! its own.
-use crate::requests::{Requests, taken};
 use duct::{Clock, Entry, Place, Pool, System};
 use duct_base::pool::pool_take;
 use duct_host::child::Child;
@@ -10,6 +9,7 @@ use duct_host::host::Host;
 use duct_script::calls::CallLog;
 use rows_calls::machine::{Machine, PartsOf, PoolOf};
 use rows_calls::texts::push_bytes;
+use rows_requests::requests::{Requests, taken};
 use rows_table::expressions::Lender;
 use rows_table::odd::Script;
 use rows_table::real::{Real, children_text, open_descriptors};

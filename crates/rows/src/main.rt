@@ -12,17 +12,15 @@
 #![tactic(auto)]
 
 mod host;
-mod requests;
-mod scripts;
 
 use crate::host::HostMachine;
-use crate::scripts::Scripts;
 use rows_calls::calls::Calls;
 use rows_calls::machine::Machine;
 use rows_calls::scripted::Scripted;
 use rows_parts::follows::Follows;
 use rows_parts::parts::Parts;
 use rows_parts::texts::Texts;
+use rows_requests::scripts::Scripts;
 use rows_table::odd::{Odd, Script};
 use rows_table::real::{Real, filled};
 use rows_table::stop::TableError;
@@ -59,9 +57,8 @@ fn on_host<R: Real + Wait, W: Write>(
     file: File,
     out: &mut W,
 ) -> io::Result<Counts> {
-    let alloc = rt.alloc();
     let text = filled(rt, file.text)?;
-    let script = Script::new(alloc, file.text)?;
+    let script = Script::new(rt.alloc(), file.text)?;
     let odd = Odd::new(rt.clone()?, script.clone()?);
     let file = File {
         name: file.name,
@@ -70,9 +67,24 @@ fn on_host<R: Real + Wait, W: Write>(
     };
     match table {
         "host calls" => calls(rt, HostMachine::new(rt, None), file, out),
-        "host rare calls" => calls(rt, HostMachine::new(&odd, Some(script)), file, out),
         "host requests" => host_requests(HostMachine::new(rt, None), file, out),
-        _ => host_requests(HostMachine::new(&odd, Some(script)), file, out),
+        _ => on_odd(rt, &odd, script, table, file, out),
+    }
+}
+
+/// Tries the rows over a runtime with scripted results.
+fn on_odd<R: Real + Wait, P: Real, W: Write>(
+    rt: &R,
+    odd: &P,
+    script: Script,
+    table: &str,
+    file: File,
+    out: &mut W,
+) -> io::Result<Counts> {
+    let machine = HostMachine::new(odd, Some(script));
+    match table {
+        "host rare calls" => calls(rt, machine, file, out),
+        _ => host_requests(machine, file, out),
     }
 }
 

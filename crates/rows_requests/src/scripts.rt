@@ -15,21 +15,21 @@ use std::sync::Arc;
 
 /// The scripted system of a row with its requests, and the log of its calls.
 #[derive(Drop)]
-pub struct Scripts<'r, R> {
-    rt: &'r R,
+pub struct Scripts<R> {
+    rt: R,
     alloc: Global,
     requests: Requests<Script>,
     calls: Arc<CallLog>,
 }
 
-impl<'r, R: Clock> Scripts<'r, R> {
+impl<R: Clock + Clone> Scripts<R> {
     /// Returns a table at the beginning of a row. Fails on an allocation failure.
-    pub fn new(rt: &'r R, alloc: Global) -> Result<Scripts<'r, R>, TableError> {
+    pub fn new(rt: &R, alloc: Global) -> Result<Scripts<R>, TableError> {
         let calls = Arc::new(alloc, CallLog::new(alloc, 0)?)?;
         let mut system = Script::new(alloc)?;
         system.note_in(Arc::try_clone(&calls)?);
         Ok(Scripts {
-            rt,
+            rt: rt.clone()?,
             alloc,
             requests: Requests::new(alloc, system),
             calls,
@@ -51,7 +51,7 @@ impl<'r, R: Clock> Scripts<'r, R> {
             "nourish" => system.starve(false),
             "skip" => system.skip_numbers_below(text.parse()?),
             "kill" | "signal" => return self.order(key, text),
-            _ => return self.requests.ask(self.rt, key, text),
+            _ => return self.requests.ask(&self.rt, key, text),
         }
         Ok(())
     }
@@ -60,7 +60,7 @@ impl<'r, R: Clock> Scripts<'r, R> {
     /// an allocation failure.
     fn order(&mut self, key: &str, text: &str) -> Result<(), TableError> {
         let (kept, noted) = self.orders();
-        self.requests.ask(self.rt, key, text)?;
+        self.requests.ask(&self.rt, key, text)?;
         let one = u64::from(!self.requests.said.ends_with("OutOfMemory; "));
         if self.orders() == (kept.saturating_add(one), noted.saturating_add(one)) {
             Ok(())
@@ -124,7 +124,7 @@ impl<'r, R: Clock> Scripts<'r, R> {
     }
 }
 
-impl<'t, R: Clock> Table<'t> for Scripts<'_, R> {
+impl<'t, R: Clock + Clone> Table<'t> for Scripts<R> {
     fn line(&mut self, key: &'t str, text: &'t str, out: &mut String) -> Result<bool, TableError> {
         match key {
             "asks" => {
@@ -134,7 +134,7 @@ impl<'t, R: Clock> Table<'t> for Scripts<'_, R> {
                 }
                 return Ok(false);
             }
-            "says" | "journal" => return self.requests.line(self.rt, key, text, out),
+            "says" | "journal" => return self.requests.line(&self.rt, key, text, out),
             "held" => self.push_held(out)?,
             "kept" => self.push_kept(out)?,
             "fed" => self.push_fed(out)?,
@@ -148,7 +148,7 @@ impl<'t, R: Clock> Table<'t> for Scripts<'_, R> {
     }
 
     fn end(&mut self) -> Result<(), TableError> {
-        *self = Scripts::new(self.rt, self.alloc)?;
+        *self = Scripts::new(&self.rt, self.alloc)?;
         Ok(())
     }
 }
