@@ -94,13 +94,9 @@ fn calls<R: Real + Wait, M: Machine, W: Write>(
     file: File,
     out: &mut W,
 ) -> io::Result<Counts> {
+    let alloc = rt.alloc();
     match machine {
-        Ok(machine) => compare(
-            rt.alloc(),
-            &mut Calls::new(rt, rt.alloc(), machine),
-            file,
-            out,
-        ),
+        Ok(machine) => compare(alloc, &mut Calls::new(rt, alloc, machine), file, out),
         Err(stop) => untried(file, stop, out),
     }
 }
