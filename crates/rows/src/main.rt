@@ -11,12 +11,10 @@
 //! Nth allocation of the process fails, `--spend` chooses which one of a row that is.
 #![tactic(auto)]
 
-mod host;
-
-use crate::host::HostMachine;
 use rows_calls::calls::Calls;
 use rows_calls::machine::Machine;
 use rows_calls::scripted::Scripted;
+use rows_host::host::HostMachine;
 use rows_parts::follows::Follows;
 use rows_parts::parts::Parts;
 use rows_parts::texts::Texts;
