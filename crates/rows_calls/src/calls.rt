@@ -137,8 +137,10 @@ impl<'t, 'r, R: Wait + Threads, M: Machine> Calls<'t, 'r, R, M> {
         match first_word(call) {
             ("", _) => Ok(()),
             ("pids", _) => Ok(write!(answers, "{} ids. ", started.pids().len())?),
-            ("kill" | "signal", signal) => {
-                Ok(push_done(answers, &started.order(self.rt, signal))?)
+            ("kill", "") => Ok(push_done(answers, &started.kill(self.rt))?),
+            ("signal", number) => {
+                let sent = started.signal(self.rt, number.parse()?)?;
+                Ok(push_done(answers, &sent)?)
             }
             ("poll" | "finish" | "try" | "wait" | "timeout" | "deadline", _) => {
                 let polled = polled(started, self.rt, &mut self.machine, call)?;

@@ -4,6 +4,7 @@ use duct::{Expression, System};
 use duct_program::line::line;
 use duct_program::perform::perform;
 use duct_script::hook::ScriptHook;
+use rows_table::stop::TableError;
 use std::alloc::{AllocError, Global};
 use std::io;
 use std::io::Write;
@@ -70,7 +71,7 @@ impl Write for Stream {
 /// What the program did last: its status, and what it wrote.
 #[derive(Drop)]
 pub struct Performed {
-    status: u8,
+    status: Option<u8>,
     out: Stream,
     err: Stream,
 }
@@ -79,7 +80,7 @@ impl Performed {
     /// Returns a program that has done nothing.
     pub fn new(alloc: Global) -> Performed {
         Performed {
-            status: 0,
+            status: None,
             out: Stream::new(alloc),
             err: Stream::new(alloc),
         }
@@ -99,18 +100,22 @@ impl Performed {
         self.out.reserve(room)?;
         self.err.reserve(room)?;
         let (out, err) = (&mut self.out, &mut self.err);
-        self.status = perform(rt, alloc, system, args.as_slice(), out, err);
+        self.status = Some(perform(rt, alloc, system, args.as_slice(), out, err));
         Ok(())
     }
 
-    /// Adds the status, in how many writes each stream got its bytes, or what was written. Fails on
-    /// an allocation failure.
-    pub fn push(&self, text: &mut String, key: &str) -> Result<(), AllocError> {
+    /// Adds the status, in how many writes each stream got its bytes, or what was written. Fails if
+    /// the program has done nothing, and on an allocation failure.
+    pub fn push(&self, text: &mut String, key: &str) -> Result<(), TableError> {
+        let Some(status) = self.status else {
+            return Err(TableError::Text("the program has done nothing"));
+        };
         match key {
-            "status" => write!(text, "{}", self.status),
-            "writes" => write!(text, "out {}, err {}", self.out.writes, self.err.writes),
-            "out" => push_bytes(text, self.out.taken.as_slice()),
-            _ => push_bytes(text, self.err.taken.as_slice()),
+            "status" => write!(text, "{status}")?,
+            "writes" => write!(text, "out {}, err {}", self.out.writes, self.err.writes)?,
+            "out" => push_bytes(text, self.out.taken.as_slice())?,
+            _ => push_bytes(text, self.err.taken.as_slice())?,
         }
+        Ok(())
     }
 }

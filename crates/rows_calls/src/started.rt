@@ -73,14 +73,21 @@ impl<R: Wait, S: System> Started<'_, R, S> {
         }
     }
 
-    /// Sends the signal with this number, or kills if there is none, or over a reader handle.
-    pub fn order(&mut self, rt: &R, signal: &str) -> Result<(), Error> {
-        match (self, signal.parse().ok()) {
-            (Started::Running(running), Some(signal)) => running.signal(signal),
-            (Started::Running(running), None) => running.kill(),
-            (Started::Handle(watched), Some(signal)) => watched.handle.send_signal(rt, signal),
-            (Started::Handle(watched), None) => watched.handle.kill(rt),
-            (Started::Reader(handle), _) => handle.kill(),
+    /// Kills what runs.
+    pub fn kill(&mut self, rt: &R) -> Result<(), Error> {
+        match self {
+            Started::Running(running) => running.kill(),
+            Started::Handle(watched) => watched.handle.kill(rt),
+            Started::Reader(handle) => handle.kill(),
+        }
+    }
+
+    /// Sends a signal. A reader handle has no such call.
+    pub fn signal(&mut self, rt: &R, signal: i32) -> Result<Result<(), Error>, TableError> {
+        match self {
+            Started::Running(running) => Ok(running.signal(signal)),
+            Started::Handle(watched) => Ok(watched.handle.send_signal(rt, signal)),
+            Started::Reader(_) => Err(TableError::Text("no signal to a reader handle")),
         }
     }
 
