@@ -277,7 +277,8 @@ impl<R: Processes> Child<R> {
 
     /// Starts a shell that sends the child a signal, and has no streams.
     fn start_shell(&self, signal: i32) -> Result<Started<R::Started>, Fault>
-        ensures { IfOk result (λ shell. RunsLine (kill_line signal self.now.id) shell.command.value) }
+        ensures { IfOk result
+            (λ shell. RunsLine (kill_line signal self.now.id) shell.command.value) }
     {
         let Ok(command) = kill_command(self.alloc, signal, self.id) else {
             return Err(no_memory());

@@ -78,7 +78,8 @@ fn write_spawn<W: fmt::Write>(spec: &CommandSpec, f: &mut fmt::Formatter<W>) -> 
 
 // Writes a colon and the kind of a fault.
 fn write_fault<W: fmt::Write>(fault: Fault, f: &mut fmt::Formatter<W>) -> fmt::Result
-    ensures { DisplaysOnOk W.write_str_gives f.old result (printed (fault_form (Some fault))) f.new }
+    ensures { DisplaysOnOk W.write_str_gives f.old result
+        (printed (fault_form (Some fault))) f.new }
 {
     let name = kind_name(fault.kind);
     write!(f, ": {name}")

@@ -49,8 +49,8 @@ pub(crate) fn change_all<S: System, H: Hook>(
     streams: &mut Streams<S::End>,
 ) -> Result<(), Error>
     requires room { many_ends streams.old ≤ (S.journal_view sys.old).room }
-    ensures ok { OnOk result (ChangeSucceeds ⟦<S as Viewed>⟧.views H.allows (hooks_of hooks.entry.items)
-        sys.old sys.new spec.old spec.new streams.old streams.new) }
+    ensures ok { OnOk result (ChangeSucceeds ⟦<S as Viewed>⟧.views H.allows
+        (hooks_of hooks.entry.items) sys.old sys.new spec.old spec.new streams.old streams.new) }
     ensures err { IfErr result (ChangeFails ⟦<S as Viewed>⟧.views H.allows H.refuses
         (hooks_of hooks.entry.items) sys.old sys.new spec.old streams.old streams.new) }
     ensures left { OnOk result (many_ends streams.new + (S.journal_view sys.old).room

@@ -37,8 +37,8 @@ pub(crate) fn create<S: System, H: Hook>(
     held: &mut Resources<S::End, Place<S::Child>, S::Feed, S::Drain>,
 ) -> Result<(), Error>
     requires reserved { vec_len held.old.stack + 1 ≤ vec_capacity held.old.stack }
-    ensures { Requested ⟦<S as Viewed>⟧.views H.allows (action.create path.now) result sys.old sys.new
-        held.old held.new }
+    ensures { Requested ⟦<S as Viewed>⟧.views H.allows (action.create path.now)
+        result sys.old sys.new held.old held.new }
 {
     let end = sys.create(path)?;
     held.stack.push_reserved(end);
@@ -66,8 +66,8 @@ pub(crate) fn open_input<S: System, H: Hook>(
     held: &mut Resources<S::End, Place<S::Child>, S::Feed, S::Drain>,
 ) -> Result<(), Error>
     requires reserved { vec_len held.old.stack + 2 ≤ vec_capacity held.old.stack }
-    ensures { Requested ⟦<S as Viewed>⟧.views H.allows (action.input) result sys.old sys.new held.old
-        held.new }
+    ensures { Requested ⟦<S as Viewed>⟧.views H.allows (action.input)
+        result sys.old sys.new held.old held.new }
 {
     let (reader, writer) = sys.pipe()?;
     held.stack.push_reserved(writer);
@@ -83,8 +83,8 @@ pub(crate) fn duplicate<S: System, H: Hook>(
 ) -> Result<(), Error>
     requires reserved { vec_len held.old.stack + 1 ≤ vec_capacity held.old.stack }
     requires within { depth < length held.old.stack.items }
-    ensures { Requested ⟦<S as Viewed>⟧.views H.allows (action.duplicate depth) result sys.old sys.new
-        held.old held.new }
+    ensures { Requested ⟦<S as Viewed>⟧.views H.allows (action.duplicate depth)
+        result sys.old sys.new held.old held.new }
 {
     let end = sys.duplicate(&held.stack[depth])?;
     held.stack.push_reserved(end);
@@ -128,8 +128,8 @@ pub(crate) fn close<S: System, H: Hook>(
 )
     requires full { 1 ≤ vec_len held.old.stack }
     requires room { 0 < (S.journal_view sys.old).room }
-    ensures { Requested ⟦<S as Viewed>⟧.views H.allows (action.close) (Ok tt) sys.old sys.new held.old
-        held.new }
+    ensures { Requested ⟦<S as Viewed>⟧.views H.allows (action.close)
+        (Ok tt) sys.old sys.new held.old held.new }
 {
     let end = top(&mut held.stack);
     sys.close(end);
@@ -162,8 +162,8 @@ pub(crate) fn duplicate_capture<S: System, H: Hook>(
 ) -> Result<(), Error>
     requires reserved { vec_len held.old.stack + 1 ≤ vec_capacity held.old.stack }
     requires open { IsSome (at_side held.old.pipes side) }
-    ensures { Requested ⟦<S as Viewed>⟧.views H.allows (action.duplicate_capture side) result sys.old
-        sys.new held.old held.new }
+    ensures { Requested ⟦<S as Viewed>⟧.views H.allows (action.duplicate_capture side)
+        result sys.old sys.new held.old held.new }
 {
     let end = match held.pipes.of(side) {
         Some((_, writer)) => sys.duplicate(writer)?,

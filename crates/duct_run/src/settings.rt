@@ -54,7 +54,8 @@ impl<'a, E, H> Settings<'a, E, H> {
     // Adds what the next scope outside sets.
     fn add(&mut self, setting: Setting<'a, E, H>) -> Result<(), Error>
         ensures sets { OnOk result ((outer scope : plan.Scope E H)
-            → Sets self.old (scope_inside (step_of_setting (setting_view setting.entry)) outer) scope
+            → Sets self.old (scope_inside (step_of_setting (setting_view setting.entry)) outer)
+            scope
             → Sets self.new outer scope) }
         ensures memory { IsOkUnless result Error.Memory }
     {
