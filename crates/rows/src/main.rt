@@ -15,9 +15,7 @@ use rows_calls::calls::Calls;
 use rows_calls::machine::Machine;
 use rows_calls::scripted::Scripted;
 use rows_host::host::HostMachine;
-use rows_parts::follows::Follows;
-use rows_parts::parts::Parts;
-use rows_parts::texts::Texts;
+use rows_parts::Parts;
 use rows_requests::scripts::Scripts;
 use rows_table::odd::{Odd, Script};
 use rows_table::real::{Real, filled};
@@ -39,9 +37,7 @@ fn tried<R: Real + Wait, W: Write>(rt: &R, file: File, out: &mut W) -> io::Resul
             Ok(mut scripts) => compare(alloc, &mut scripts, file, out),
             Err(stop) => untried(file, stop, out),
         },
-        "follows" => compare(alloc, &mut Follows::new(alloc), file, out),
         "parts" => compare(alloc, &mut Parts::new(alloc), file, out),
-        "texts" => compare(alloc, &mut Texts::new(alloc), file, out),
         table if table.starts_with("host ") => on_host(rt, table, file, out),
         _ => untried(file, TableError::Text("no such table"), out),
     }

@@ -5,19 +5,11 @@ use duct_program::line::line;
 use duct_program::perform::perform;
 use duct_script::hook::ScriptHook;
 use rows_table::stop::TableError;
+use rows_table::words::arguments;
 use std::alloc::{AllocError, Global};
 use std::io;
 use std::io::Write;
 use std::sync::Wait;
-
-fn arguments(alloc: Global, text: &str) -> Result<Vec<String>, AllocError> {
-    let mut args = Vec::new(alloc);
-    for word in text.split_whitespace() {
-        let argument = word.replace(alloc, "_", " ")?;
-        args.push(argument.as_str().replace(alloc, "~", "")?)?;
-    }
-    Ok(args)
-}
 
 /// Adds the debug text of the expression that these arguments mean, or the text of the error if
 /// they mean none. Fails on an allocation failure.

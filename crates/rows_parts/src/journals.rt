@@ -1,19 +1,4 @@
-//! Journals written as texts. The entries are separated by `;`, and each one is a request with its
-//! result.
-//!
-//! - `environment A:1,B:2`
-//! - `pipe 1 2`: the read end and the write end.
-//! - `open_read f 3`, `create f 3`, `parent out 3`.
-//! - `duplicate 3 4`: the lent end and the new one.
-//! - `canonicalize ./x /real/x`
-//! - `spawn a b -> inherit 2 null`: the words and the three streams, with ends by their numbers.
-//!   These words can follow: `in=/folder`, `with=A:1,B:2` for the variables, and `as=7` for the
-//!   child's number, which is 90 otherwise.
-//! - `feed 2 xyz`, `drain 1`, `reader 1`, `close 1`.
-//!
-//! `refused=Other` is a fault of this kind. It takes the place of the result in `pipe`,
-//! `open_read`, `create`, `parent`, `duplicate` and `canonicalize`, and of the bytes in `feed`. In
-//! `spawn` it is one of the words that can follow.
+//! Journals written as texts (`docs/ROWS.md`).
 use duct::{Entry, Fault, Port, Stdio};
 use duct_base::names::EnvNameString;
 use duct_base::spec::spec_of;

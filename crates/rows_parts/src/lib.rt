@@ -1,9 +1,112 @@
-//! Tables of single parts: journals beside plans, the texts of requests and journals, and what
-//! stands below an expression; and the notation of journals.
+//! The table `parts`: parts of the library that make no request, and journals and plans as they
+//! stand (`docs/ROWS.md`).
 //! Test support: the code is proved safe, and each function that can't block is proved to return.
 #![tactic(auto)]
 
-pub mod follows;
-pub mod journals;
-pub mod parts;
-pub mod texts;
+mod checks;
+mod follows;
+mod journals;
+mod names;
+mod statuses;
+mod texts;
+mod transfers;
+
+use rows_table::expressions::{Strangers, Writing};
+use rows_table::stop::TableError;
+use rows_table::table::Table;
+use rows_table::words::first_word;
+use std::alloc::Global;
+
+/// The keys of the lines that set something up.
+const SET: [&str; 12] = [
+    "arguments",
+    "bytes",
+    "captured",
+    "error",
+    "events",
+    "expression",
+    "journal",
+    "reader",
+    "record",
+    "room",
+    "shape",
+    "writes",
+];
+
+/// The table of parts.
+#[derive(Drop)]
+pub struct Parts<'t> {
+    alloc: Global,
+    /// The keys and the texts of the lines that set something up, in their order.
+    set: Vec<(&'t str, &'t str)>,
+}
+
+impl<'t> Parts<'t> {
+    /// Returns a table that has read no line yet.
+    pub fn new(alloc: Global) -> Parts<'t> {
+        Parts {
+            alloc,
+            set: Vec::new(alloc),
+        }
+    }
+
+    /// Returns the text of the last line with this key, or an empty text if there is none.
+    fn text(&self, key: &str) -> &'t str {
+        let mut last = "";
+        for (known, text) in &self.set {
+            if *known == key {
+                last = *text;
+            }
+        }
+        last
+    }
+
+    /// Adds the text that a line is compared with.
+    fn push(&self, text: &mut String, key: &str) -> Result<(), TableError> {
+        match first_word(key) {
+            ("replies", _) => statuses::push_replies(text, self),
+            ("due", _) => statuses::push_due(text, self),
+            (call @ ("fed" | "drained"), script) => transfers::push(text, self, call, script),
+            ("shows", _) => self.push_shown(text, usize::MAX),
+            ("first", _) => self.push_shown(text, 1),
+            ("spec", names) => checks::push_written(text, self, names),
+            (call @ ("says" | "trace" | "origin"), end) => checks::push(text, self, call, end),
+            ("follows" | "requests" | "cause" | "last", _) => follows::push(text, self, key),
+            ("requested" | "drawn" | "planned", _) => texts::push_planned(text, self, key),
+            ("read" | "again" | "texts" | "failed" | "judged", _) => texts::push(text, self, key),
+            (call, names) => names::push(text, self.alloc, call, names),
+        }
+    }
+
+    /// Adds the debug texts of the first expressions of a row, at most so many.
+    fn push_shown(&self, text: &mut String, most: usize) -> Result<(), TableError> {
+        let mut strangers = Strangers { alloc: self.alloc };
+        let mut writing = Writing::new(self.alloc, &mut strangers, None);
+        let wrote = writing.write(self.text("expression"));
+        for tree in writing.built.iter().take(most) {
+            write!(text, "{tree:?}; ")?;
+        }
+        match wrote {
+            Err(stop) if stop.is_memory() => Ok(write!(text, "{stop}; ")?),
+            wrote => wrote,
+        }
+    }
+}
+
+impl<'t> Table<'t> for Parts<'t> {
+    fn line(&mut self, key: &'t str, text: &'t str, out: &mut String) -> Result<bool, TableError> {
+        if SET.contains(&key) {
+            self.set.push((key, text))?;
+            return Ok(false);
+        }
+        let mut found = String::new(self.alloc);
+        self.push(&mut found, key)?;
+        out.push_str(found.replace(self.alloc, "\n", "\\n")?.as_str())?;
+        Ok(true)
+    }
+
+    fn end(&mut self) -> Result<(), TableError> {
+        self.set.clear();
+        Ok(())
+    }
+}

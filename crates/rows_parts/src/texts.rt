@@ -1,17 +1,6 @@
-//! The table `texts`: the texts of entries, journals, verdicts and plans.
-//!
-//! - `journal` adds a line to the journal of the row, in the form of `duct_record`. `arguments` has
-//!   the words of a command line, separated by spaces; in them `_` is a space. `expression` has an
-//!   expression in the form of `rows_table::expressions`.
-//!
-//! Every other line is compared. A newline is `\n` in it.
-//! - `read`: how many entries the journal has, or its first line that is no entry, and why not.
-//! - `again`: `same`, or else the journal as it is written after it was read.
-//! - `texts`: the text of each entry. `failed`: that of the request that failed, if there is one.
-//! - `judged`: the verdict whether a start of the command line has this journal.
-//! - `requested`: what a start of the expression will request. `drawn`: the same as a drawing.
-//! - `planned`: the status of the program `plan` for the command line, and what it writes.
-use duct::{Entry, Error};
+//! The texts of recorded journals, verdicts and plans.
+use crate::Parts;
+use duct::Error;
 use duct_follows::judgement::judge_line;
 use duct_plan::dot::PlanDot;
 use duct_plan::perform::perform;
@@ -23,85 +12,57 @@ use duct_record::journal::{journal_text, read_journal};
 use duct_record::write::Variables;
 use duct_report::request::failed_request;
 use duct_report::text::EntryText;
-use duct_script::system::ScriptEnd;
-use rows_table::expressions::{Tree, written};
+use rows_table::expressions::written;
 use rows_table::stop::TableError;
-use rows_table::table::Table;
+use rows_table::words::arguments;
 use std::alloc::{AllocError, Global};
 
-/// The table of texts.
-#[derive(Drop)]
-pub struct Texts<'t> {
-    alloc: Global,
-    journal: String,
-    arguments: &'t str,
-    expression: &'t str,
+/// Adds what is said of the record of a row.
+pub fn push(text: &mut String, row: &Parts, key: &str) -> Result<(), TableError> {
+    let record = record(row)?;
+    let record = record.as_str();
+    if key == "read" {
+        return push_read(text, row.alloc, record);
+    }
+    let entries = read_journal(row.alloc, record).map_err(stop)?;
+    let entries = entries.as_slice();
+    match key {
+        "again" => {
+            let again = journal_text(row.alloc, entries, Variables::Shown)?;
+            let is_same = again.as_str() == record;
+            text.push_str(if is_same { "same" } else { again.as_str() })?;
+        }
+        "texts" => {
+            for entry in entries {
+                write!(text, "{}. ", EntryText(entry))?;
+            }
+        }
+        "failed" => {
+            if let Some(entry) = failed_request(entries) {
+                write!(text, "{}", EntryText(entry))?;
+            }
+        }
+        _ => {
+            let args = arguments(row.alloc, row.text("arguments"))?;
+            match judge_line(row.alloc, args.as_slice(), entries) {
+                Ok(judgement) => text.push_str(judgement.text.as_str())?,
+                Err(Usage::Memory) => return Err(TableError::Error(Error::Memory)),
+                Err(usage) => write!(text, "{usage}")?,
+            }
+        }
+    }
+    Ok(())
 }
 
-impl<'t> Texts<'t> {
-    /// Returns a table that has read no line yet.
-    pub fn new(alloc: Global) -> Texts<'t> {
-        Texts {
-            alloc,
-            journal: String::new(alloc),
-            arguments: "",
-            expression: "",
+/// The lines of a recorded journal.
+fn record(row: &Parts) -> Result<String, AllocError> {
+    let mut record = String::new(row.alloc);
+    for (key, line) in &row.set {
+        if *key == "record" {
+            write!(record, "{line}\n")?;
         }
     }
-
-    fn found(&self, key: &str) -> Result<String, TableError> {
-        let (alloc, journal) = (self.alloc, self.journal.as_str());
-        match key {
-            "read" => counted(alloc, journal),
-            "requested" => {
-                let command = written(alloc, None, self.expression)?;
-                Ok(escaped(alloc, requested(alloc, &command)?.as_str())?)
-            }
-            "drawn" => {
-                let command = written(alloc, None, self.expression)?;
-                Ok(escaped(alloc, drawn(alloc, &command)?.as_str())?)
-            }
-            "planned" => planned(alloc, words(alloc, self.arguments)?.as_slice()),
-            _ => {
-                let entries = read_journal(alloc, journal).map_err(stop)?;
-                self.found_in(key, entries.as_slice())
-            }
-        }
-    }
-
-    fn found_in(&self, key: &str, entries: &[Entry]) -> Result<String, TableError> {
-        let (alloc, journal) = (self.alloc, self.journal.as_str());
-        match key {
-            "again" => Ok(again(alloc, journal, entries)?),
-            "texts" => Ok(entry_texts(alloc, entries)?),
-            "failed" => Ok(failed(alloc, entries)?),
-            "judged" => judged(alloc, words(alloc, self.arguments)?.as_slice(), entries),
-            _ => Err(TableError::Text("no such key")),
-        }
-    }
-}
-
-impl<'t> Table<'t> for Texts<'t> {
-    fn line(&mut self, key: &'t str, text: &'t str, out: &mut String) -> Result<bool, TableError> {
-        match key {
-            "journal" => {
-                self.journal.push_str(text)?;
-                self.journal.push('\n')?;
-            }
-            "arguments" => self.arguments = text,
-            "expression" => self.expression = text,
-            _ => {
-                out.push_str(self.found(key)?.as_str())?;
-                return Ok(true);
-            }
-        }
-        Ok(false)
-    }
-
-    fn end(&mut self) -> Result<(), TableError> {
-        *self = Texts::new(self.alloc);
-        Ok(())
-    }
+    Ok(record)
 }
 
 /// Why a journal that is not read stops its row.
@@ -112,75 +73,35 @@ fn stop(refused: LineRefusal) -> TableError {
     }
 }
 
-fn counted(alloc: Global, journal: &str) -> Result<String, TableError> {
-    match read_journal(alloc, journal) {
-        Ok(entries) => Ok(format!(in alloc; "{}", entries.len())?),
-        Err(refused) if refused.refusal == Refusal::Memory => Err(stop(refused)),
-        Err(refused) => Ok(format!(in alloc; "line {}: {:?}", refused.line, refused.refusal)?),
+/// Adds how many entries a record has, or its first line that is no entry, and why not.
+fn push_read(text: &mut String, alloc: Global, record: &str) -> Result<(), TableError> {
+    match read_journal(alloc, record) {
+        Ok(entries) => write!(text, "{}", entries.len())?,
+        Err(refused) if refused.refusal == Refusal::Memory => return Err(stop(refused)),
+        Err(refused) => write!(text, "line {}: {:?}", refused.line, refused.refusal)?,
     }
+    Ok(())
 }
 
-/// A text in which a newline is `\n`.
-fn escaped(alloc: Global, text: &str) -> Result<String, AllocError> {
-    text.replace(alloc, "\n", "\\n")
-}
-
-fn again(alloc: Global, journal: &str, entries: &[Entry]) -> Result<String, AllocError> {
-    let text = journal_text(alloc, entries, Variables::Shown)?;
-    let found = if text.as_str() == journal {
-        "same"
-    } else {
-        text.as_str()
-    };
-    escaped(alloc, found)
-}
-
-fn entry_texts(alloc: Global, entries: &[Entry]) -> Result<String, AllocError> {
-    let mut text = String::new(alloc);
-    for entry in entries {
-        write!(text, "{}. ", EntryText(entry))?;
+/// Adds what a start will request: as a text, as a drawing, or by the program `plan`.
+pub fn push_planned(text: &mut String, row: &Parts, key: &str) -> Result<(), TableError> {
+    if key == "planned" {
+        let args = arguments(row.alloc, row.text("arguments"))?;
+        return push_performed(text, row.alloc, args.as_slice());
     }
-    Ok(text)
-}
-
-fn failed(alloc: Global, entries: &[Entry]) -> Result<String, AllocError> {
-    match failed_request(entries) {
-        Some(entry) => format!(in alloc; "{}", EntryText(entry)),
-        None => Ok(String::new(alloc)),
+    let tree = written(row.alloc, None, row.text("expression"))?;
+    let plan = plan(row.alloc, &tree)?;
+    match key {
+        "drawn" => write!(text, "{}", PlanDot(&plan))?,
+        _ => write!(text, "{}", PlanText(&plan))?,
     }
-}
-
-fn words(alloc: Global, arguments: &str) -> Result<Vec<String>, AllocError> {
-    let mut words = Vec::new(alloc);
-    for word in arguments.split_whitespace() {
-        words.push(word.replace(alloc, "_", " ")?)?;
-    }
-    Ok(words)
-}
-
-fn judged(alloc: Global, args: &[String], entries: &[Entry]) -> Result<String, TableError> {
-    match judge_line(alloc, args, entries) {
-        Ok(judgement) => Ok(escaped(alloc, judgement.text.as_str())?),
-        Err(Usage::Memory) => Err(TableError::Error(Error::Memory)),
-        Err(usage) => Ok(format!(in alloc; "{usage}")?),
-    }
-}
-
-/// Returns what a start of this expression will request, a line for each request.
-fn requested(alloc: Global, command: &Tree<ScriptEnd>) -> Result<String, AllocError> {
-    let plan = plan(alloc, command)?;
-    PlanText(&plan).to_string(alloc)
-}
-
-fn drawn(alloc: Global, command: &Tree<ScriptEnd>) -> Result<String, AllocError> {
-    let plan = plan(alloc, command)?;
-    PlanDot(&plan).to_string(alloc)
+    Ok(())
 }
 
 /// The greatest number of bytes that the program `plan` writes in a row.
 const ROOM: usize = 4096;
 
-fn planned(alloc: Global, args: &[String]) -> Result<String, TableError> {
+fn push_performed(text: &mut String, alloc: Global, args: &[String]) -> Result<(), TableError> {
     let mut out = Vec::with_capacity(alloc, ROOM)?;
     let mut err = Vec::with_capacity(alloc, ROOM)?;
     let status = perform(alloc, args, &mut out, &mut err);
@@ -189,6 +110,5 @@ fn planned(alloc: Global, args: &[String]) -> Result<String, TableError> {
     if err.contains("out of memory") {
         return Err(TableError::Error(Error::Memory));
     }
-    let text = format!(in alloc; "{status} out={out} err={err}")?;
-    Ok(escaped(alloc, text.as_str())?)
+    Ok(write!(text, "{status} out={out} err={err}")?)
 }

@@ -22,6 +22,17 @@ pub fn pieces(alloc: Global, text: &str) -> Result<Vec<&str>, AllocError> {
     Ok(pieces)
 }
 
+/// Returns the arguments of a text, which are separated by spaces. In them `_` is a space, and `~` is
+/// an empty argument. Fails on an allocation failure.
+pub fn arguments(alloc: Global, text: &str) -> Result<Vec<String>, AllocError> {
+    let mut args = Vec::new(alloc);
+    for word in text.split_whitespace() {
+        let argument = word.replace(alloc, "_", " ")?;
+        args.push(argument.as_str().replace(alloc, "~", "")?)?;
+    }
+    Ok(args)
+}
+
 /// Returns the pairs of names and values in a text: `A:1,B:2`. Pieces without a colon are skipped.
 /// Fails on an allocation failure.
 pub fn pairs(alloc: Global, text: &str) -> Result<Vec<(&str, &str)>, AllocError> {
@@ -76,12 +87,21 @@ pub fn fault(kind: &str) -> Result<Fault, TableError> {
     Ok(Fault::new(named(&KINDS, kind)?))
 }
 
-/// The kinds of errors of reads and processes by their names.
-pub const ERROR_KINDS: [(&str, ErrorKind); 5] = [
-    ("Interrupted", ErrorKind::Interrupted),
+/// The kinds of errors of reads, writes and processes by their names.
+pub const ERROR_KINDS: [(&str, ErrorKind); 14] = [
     ("NotFound", ErrorKind::NotFound),
     ("PermissionDenied", ErrorKind::PermissionDenied),
+    ("BrokenPipe", ErrorKind::BrokenPipe),
+    ("WriteZero", ErrorKind::WriteZero),
+    ("InvalidInput", ErrorKind::InvalidInput),
+    ("Unsupported", ErrorKind::Unsupported),
+    ("OutOfMemory", ErrorKind::OutOfMemory),
+    ("Interrupted", ErrorKind::Interrupted),
+    ("TimedOut", ErrorKind::TimedOut),
     ("WouldBlock", ErrorKind::WouldBlock),
+    ("ConnectionReset", ErrorKind::ConnectionReset),
+    ("NotConnected", ErrorKind::NotConnected),
+    ("UnexpectedEof", ErrorKind::UnexpectedEof),
     ("Other", ErrorKind::Other),
 ];
 

@@ -1,17 +1,17 @@
-//! Feeds and drains over a stream that follows the words of a script, one word for each call. A
-//! number is the most bytes that the call takes or gives, and the name of an error kind makes the
-//! call fail with that kind. After the last word, a call takes or gives as many bytes as it can.
-use crate::parts::Parts;
+//! Feeds and drains over a stream that follows the words of a script.
+use crate::Parts;
 use duct_base::system::{Fault, Kind};
 use duct_worker::transfer::{drain, feed};
 use rows_table::stop::TableError;
-use rows_table::words::first_word;
+use rows_table::words::{ERROR_KINDS, first_word, named};
 use std::alloc::{AllocError, Global};
 use std::io;
 use std::io::{ErrorKind, Read, Write};
 
-/// Returns the result of a feed or of a drain, and the bytes that it moved.
-pub fn moved(row: &Parts, is_fed: bool, script: &str) -> Result<String, TableError> {
+/// Adds the result of a feed or of a drain, and the bytes that it moved, or their number if there
+/// are many.
+pub fn push(text: &mut String, row: &Parts, call: &str, script: &str) -> Result<(), TableError> {
+    let is_fed = call == "fed";
     let all = all(row.alloc, row.text("bytes").parse().unwrap_or(3))?;
     let script = repeated(row.alloc, script)?;
     let room = row.text("room").parse().unwrap_or(0);
@@ -35,7 +35,15 @@ pub fn moved(row: &Parts, is_fed: bool, script: &str) -> Result<String, TableErr
         }
         answer?;
     }
-    Ok(came_to(row.alloc, answer, stream.taken.as_slice())?)
+    match answer {
+        Ok(()) => text.push_str("Ok ")?,
+        Err(fault) => write!(text, "{:?} ", fault.kind)?,
+    }
+    match str::from_utf8(stream.taken.as_slice()) {
+        Ok(few) if few.len() <= 10 => text.push_str(few)?,
+        _ => write!(text, "{} bytes", stream.taken.len())?,
+    }
+    Ok(())
 }
 
 /// So many bytes, which begin with `abc`.
@@ -51,20 +59,6 @@ fn all(alloc: Global, count: usize) -> Result<Vec<u8>, AllocError> {
 fn repeated(alloc: Global, script: &str) -> Result<String, TableError> {
     let (words, times) = script.rsplit_once(" times ").unwrap_or((script, "1"));
     Ok(format!(in alloc; "{words} ")?.repeat(alloc, times.parse()?)?)
-}
-
-/// A result and the moved bytes, or their number if there are many, as a text.
-fn came_to(alloc: Global, answer: Result<(), Fault>, moved: &[u8]) -> Result<String, AllocError> {
-    let mut text = String::new(alloc);
-    match answer {
-        Ok(()) => text.push_str("Ok ")?,
-        Err(fault) => write!(text, "{:?} ", fault.kind)?,
-    }
-    match str::from_utf8(moved) {
-        Ok(few) if few.len() <= 10 => text.push_str(few)?,
-        _ => write!(text, "{} bytes", moved.len())?,
-    }
-    Ok(text)
 }
 
 /// A writer, and a reader.
@@ -85,26 +79,11 @@ impl Stream<'_> {
     fn next(&mut self) -> io::Result<usize> {
         let (word, rest) = first_word(self.script);
         self.script = rest;
-        if let Ok(count) = word.parse::<usize>() {
-            return Ok(count);
+        match word.parse() {
+            Ok(count) => Ok(count),
+            Err(_) if word.is_empty() => Ok(usize::MAX),
+            Err(_) => Err(io::Error::from(named(&ERROR_KINDS, word).unwrap_or(ErrorKind::Other))),
         }
-        Err(io::Error::from(match word {
-            "" => return Ok(usize::MAX),
-            "NotFound" => ErrorKind::NotFound,
-            "PermissionDenied" => ErrorKind::PermissionDenied,
-            "BrokenPipe" => ErrorKind::BrokenPipe,
-            "WriteZero" => ErrorKind::WriteZero,
-            "InvalidInput" => ErrorKind::InvalidInput,
-            "Unsupported" => ErrorKind::Unsupported,
-            "OutOfMemory" => ErrorKind::OutOfMemory,
-            "Interrupted" => ErrorKind::Interrupted,
-            "TimedOut" => ErrorKind::TimedOut,
-            "WouldBlock" => ErrorKind::WouldBlock,
-            "ConnectionReset" => ErrorKind::ConnectionReset,
-            "NotConnected" => ErrorKind::NotConnected,
-            "UnexpectedEof" => ErrorKind::UnexpectedEof,
-            _ => ErrorKind::Other,
-        }))
     }
 }
 

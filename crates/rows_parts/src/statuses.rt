@@ -1,5 +1,5 @@
 //! A core that is told events.
-use crate::parts::Parts;
+use crate::Parts;
 use duct_base::status::{Core, Drains, Event, Reply, Shape, Word};
 use duct_script::child::PollAnswer;
 use rows_table::scenes::Answer;
@@ -8,39 +8,37 @@ use rows_table::words::{first_word, pieces, side};
 use std::alloc::{AllocError, Global};
 use std::sync::Arc;
 
-/// Returns the replies to the events of a row. Each is followed by that in one run, if it differs.
-pub fn replies(row: &Parts) -> Result<String, TableError> {
+/// Adds the replies to the events of a row. Each is followed by that in one run, if it differs.
+pub fn push_replies(text: &mut String, row: &Parts) -> Result<(), TableError> {
     let alloc = row.alloc;
     let events = events(row)?;
     let (shape, drains) = (shape(row)?, drains(row));
     let others = Core::run(alloc, shape.try_clone(alloc)?, drains, events.as_slice())?;
     let mut core = Core::new(alloc, shape, drains)?;
-    let mut text = String::new(alloc);
     for (event, other) in events.into_iter().zip(others) {
         let reply = core.step(event);
-        push_reply(&mut text, &reply)?;
+        push_reply(text, &reply)?;
         if reply != other {
             text.push_str(", but in one run ")?;
-            push_reply(&mut text, &other)?;
+            push_reply(text, &other)?;
         }
         text.push_str("; ")?;
     }
-    Ok(text)
+    Ok(())
 }
 
-/// Returns the commands that are due after the events of a row.
-pub fn due(row: &Parts) -> Result<String, TableError> {
+/// Adds the commands that are due after the events of a row.
+pub fn push_due(text: &mut String, row: &Parts) -> Result<(), TableError> {
     let mut core = Core::new(row.alloc, shape(row)?, drains(row))?;
     for event in events(row)? {
         let _ = core.step(event);
     }
-    let mut text = String::new(row.alloc);
     for command in 0..8_usize {
         if core.is_due(command) {
             write!(text, "{command} ")?;
         }
     }
-    Ok(text)
+    Ok(())
 }
 
 fn drains(row: &Parts) -> Drains {

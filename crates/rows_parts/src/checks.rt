@@ -1,6 +1,6 @@
 //! What the checker finds in a journal, and writes to a spec.
+use crate::Parts;
 use crate::journals::journal;
-use crate::parts::Parts;
 use duct::{CommandSpec, Entry, Error, Hook, Stream};
 use duct_base::spec::give;
 use duct_plan::checker::{is_balanced, open_count, opened_numbers, origin, spent_numbers, trace};
@@ -11,13 +11,12 @@ use rows_table::told::{push_source, push_spec};
 use rows_table::words::pieces;
 use std::alloc::Global;
 
-/// Returns what the checker finds in the journal of a row: its numbers, its trace, or where the end
+/// Adds what the checker finds in the journal of a row: its numbers, its trace, or where the end
 /// with this number comes from.
-pub fn checked(row: &Parts, call: &str, end: &str) -> Result<String, TableError> {
+pub fn push(text: &mut String, row: &Parts, call: &str, end: &str) -> Result<(), TableError> {
     let alloc = row.alloc;
     let entries = journal(alloc, row.text("journal"))?;
     let entries = entries.as_slice();
-    let mut text = String::new(alloc);
     match call {
         "says" => write!(
             text,
@@ -33,14 +32,14 @@ pub fn checked(row: &Parts, call: &str, end: &str) -> Result<String, TableError>
                 write!(text, "{} | ", Words(entry))?;
             }
         }
-        _ => push_source(&mut text, origin(entries, end.parse()?))?,
+        _ => push_source(text, origin(entries, end.parse()?))?,
     }
-    Ok(text)
+    Ok(())
 }
 
-/// Returns the spec of a row after its writes, or its variables of these names, or the error of a
-/// hook that refuses it.
-pub fn written(row: &Parts, names: &str) -> Result<String, TableError> {
+/// Adds the spec of a row after its writes, or its variables of these names, or the error of a hook
+/// that refuses it.
+pub fn push_written(text: &mut String, row: &Parts, names: &str) -> Result<(), TableError> {
     let alloc = row.alloc;
     let mut entries = journal(alloc, row.text("journal"))?;
     let Some(Entry::Spawn(spec, _, _)) = entries.last_mut() else {
@@ -48,20 +47,19 @@ pub fn written(row: &Parts, names: &str) -> Result<String, TableError> {
     };
     match write_all(alloc, spec, row.text("writes")) {
         Err(stop @ TableError::Error(Error::Hook(_))) if !stop.is_memory() => {
-            return Ok(format!(in alloc; "{stop}")?);
+            return Ok(write!(text, "{stop}")?);
         }
         wrote => wrote?,
     }
     if names.is_empty() {
-        return spec_text(alloc, spec);
+        return push_spec(text, spec);
     }
-    let mut text = String::new(alloc);
     for name in names.split(' ') {
         if let Some(value) = spec.var(name) {
             write!(text, "{name}={value} ")?;
         }
     }
-    Ok(text)
+    Ok(())
 }
 
 fn spec_text(alloc: Global, spec: &CommandSpec) -> Result<String, TableError> {
