@@ -11,16 +11,16 @@
 //! Nth allocation of the process fails, `--spend` chooses which one of a row that is.
 #![tactic(auto)]
 
-use rows_calls::calls::Calls;
+use rows_calls::Calls;
 use rows_calls::machine::Machine;
 use rows_calls::scripted::Scripted;
-use rows_host::host::HostMachine;
+use rows_host::HostMachine;
 use rows_parts::Parts;
 use rows_requests::scripts::Scripts;
 use rows_table::odd::{Odd, Script};
 use rows_table::real::{Real, filled};
 use rows_table::stop::TableError;
-use rows_table::table::{Counts, File, Mode, compare, untried};
+use rows_table::table::{Counts, File, compare};
 use std::alloc::Global;
 use std::io::{self, Write};
 use std::process::ExitCode;
@@ -33,13 +33,15 @@ fn tried<R: Real + Wait, W: Write>(rt: &R, file: File, out: &mut W) -> io::Resul
     let first = file.text.lines().next().unwrap_or("");
     match first.strip_prefix("table: ").unwrap_or("") {
         "calls" => calls(rt, Scripted::new(alloc), file, out),
-        "scripts" => match Scripts::new(rt, alloc) {
-            Ok(mut scripts) => compare(alloc, &mut scripts, file, out),
-            Err(stop) => untried(file, stop, out),
-        },
-        "parts" => compare(alloc, &mut Parts::new(alloc), file, out),
-        table if table.starts_with("host ") => on_host(rt, table, file, out),
-        _ => untried(file, TableError::Text("no such table"), out),
+        "scripts" => compare(alloc, Scripts::new(rt, alloc), file, out),
+        "parts" => compare(alloc, Ok(Parts::new(alloc)), file, out),
+        table @ ("host calls" | "host requests" | "host rare calls" | "host rare requests") => {
+            on_host(rt, table, file, out)
+        }
+        _ => {
+            let none: Result<Parts, TableError> = Err(TableError::Text("no such table"));
+            compare(alloc, none, file, out)
+        }
     }
 }
 
@@ -55,30 +57,28 @@ fn on_host<R: Real + Wait, W: Write>(
     let script = Script::new(rt.alloc(), file.text)?;
     let odd = Odd::new(rt.clone()?, script.clone()?);
     let file = File {
-        name: file.name,
         text: text.as_str(),
-        mode: file.mode,
+        ..file
     };
-    match table {
-        "host calls" => calls(rt, HostMachine::new(rt, None), file, out),
-        "host requests" => host_requests(HostMachine::new(rt, None), file, out),
-        _ => on_odd(rt, &odd, script, table, file, out),
+    if table.contains("rare") {
+        on_machine(rt, HostMachine::new(&odd, Some(script)), table, file, out)
+    } else {
+        on_machine(rt, HostMachine::new(rt, None), table, file, out)
     }
 }
 
-/// Tries the rows over a runtime with scripted results.
-fn on_odd<R: Real + Wait, P: Real, W: Write>(
+/// Tries the rows of a table of calls, or of one of single requests.
+fn on_machine<R: Real + Wait, P: Real, W: Write>(
     rt: &R,
-    odd: &P,
-    script: Script,
+    machine: Result<HostMachine<P>, TableError>,
     table: &str,
     file: File,
     out: &mut W,
 ) -> io::Result<Counts> {
-    let machine = HostMachine::new(odd, Some(script));
-    match table {
-        "host rare calls" => calls(rt, machine, file, out),
-        _ => host_requests(machine, file, out),
+    if table.ends_with("calls") {
+        calls(rt, machine, file, out)
+    } else {
+        compare(rt.alloc(), machine, file, out)
     }
 }
 
@@ -89,27 +89,14 @@ fn calls<R: Real + Wait, M: Machine, W: Write>(
     out: &mut W,
 ) -> io::Result<Counts> {
     let alloc = rt.alloc();
-    match machine {
-        Ok(machine) => compare(alloc, &mut Calls::new(rt, alloc, machine), file, out),
-        Err(stop) => untried(file, stop, out),
-    }
-}
-
-fn host_requests<R: Real, W: Write>(
-    machine: Result<HostMachine<R>, TableError>,
-    file: File,
-    out: &mut W,
-) -> io::Result<Counts> {
-    match machine {
-        Ok(mut machine) => compare(machine.allocator(), &mut machine, file, out),
-        Err(stop) => untried(file, stop, out),
-    }
+    let table = machine.map(|machine| Calls::new(rt, alloc, machine));
+    compare(alloc, table, file, out)
 }
 
 /// How files are tried.
-#[derive(Clone, Copy)]
+#[derive(Clone, Copy, Default)]
 struct Options {
-    mode: Mode,
+    is_told: bool,
     is_quiet: bool,
     /// How many allocations are made before the rows of a file that are told.
     spent: u64,
@@ -141,15 +128,14 @@ fn file<R: Real + Wait, W: Write>(
     let file = File {
         name,
         text: text.as_str(),
-        mode: options.mode,
+        is_told: options.is_told,
     };
-    let is_told = options.mode == Mode::Tell;
-    if is_told {
+    if options.is_told {
         let spent = allocations(rt.alloc(), options.spent);
         writeln!(out, "{name}\nspent {spent}")?;
     }
     let counts = tried(rt, file, out)?;
-    if is_told {
+    if options.is_told {
         let left = allocations(rt.alloc(), LEFT);
         writeln!(out, "left {left}")?;
     } else if !options.is_quiet {
@@ -162,16 +148,12 @@ fn file<R: Real + Wait, W: Write>(
 /// Tries the files that the arguments name, each with the options before it. Returns whether all of
 /// their rows hold.
 fn files<R: Real + Wait, W: Write>(rt: &R, out: &mut W) -> io::Result<bool> {
-    let mut options = Options {
-        mode: Mode::Compare,
-        is_quiet: false,
-        spent: 0,
-    };
+    let mut options = Options::default();
     let mut holds = true;
     for argument in env::args(rt)?.skip(1) {
         match argument.as_str() {
             "--quiet" => options.is_quiet = true,
-            "--tell" => options.mode = Mode::Tell,
+            "--tell" => options.is_told = true,
             argument => match argument.strip_prefix("--spend=") {
                 Some(count) => options.spent = count.parse().unwrap_or(0),
                 None => holds = file(rt, argument, options, out)? && holds,

@@ -1,19 +1,10 @@
 //! What the table of calls needs of a machine besides the requests of the library.
-use duct::{Clock, Place, Pool, System};
-use duct_script::calls::CallLog;
+use duct::{Clock, Pool, Running, System};
 use rows_table::expressions::Lender;
 use rows_table::stop::TableError;
-use std::sync::Arc;
 
 /// The pool of a system's children.
 pub type PoolOf<S> = Pool<<S as System>::Child>;
-
-/// The children, the feeds and the drains of what ran.
-pub type PartsOf<S> = (
-    Vec<Place<<S as System>::Child>>,
-    Vec<<S as System>::Feed>,
-    Vec<<S as System>::Drain>,
-);
 
 /// A system with a pool. An expression names the ends that the machine lends by their numbers.
 pub trait Machine: Lender + Drop {
@@ -26,15 +17,9 @@ pub trait Machine: Lender + Drop {
     /// Returns the system, the pool and the clock.
     fn stage(&mut self) -> (&mut Self::System, &mut PoolOf<Self::System>, &Self::Clock);
 
-    /// Returns the log in which hooks note their calls, if there is one.
-    fn log(&self) -> Result<Option<Arc<CallLog>>, TableError>;
-
-    /// Returns how many calls the log has.
-    fn noted(&self) -> u64;
-
-    /// Adds the calls in the log from the first place up to the second one. Fails if there is no
-    /// log, or on an allocation failure.
-    fn push_noted(&self, from: u64, to: u64, out: &mut String) -> Result<(), TableError>;
+    /// Notes what the log has at this moment, if there is one: 0 is when a start begins, 1 when it
+    /// has returned, and 2 when the calls since then were made.
+    fn mark(&mut self, _moment: usize) {}
 
     /// Reads a line about the machine, as `Table::line` does.
     fn line(&mut self, key: &str, text: &str, out: &mut String) -> Result<bool, TableError>;
@@ -45,7 +30,7 @@ pub trait Machine: Lender + Drop {
 
     /// Takes the children and workers of what ran, and keeps of them what later lines of the row
     /// are compared with.
-    fn spend(&mut self, parts: PartsOf<Self::System>) -> Result<(), TableError>;
+    fn spend(&mut self, running: Running<Self::System>) -> Result<(), TableError>;
 
     /// Waits for a short time between two polls of what still runs.
     fn pause(&self);

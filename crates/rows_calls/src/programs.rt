@@ -1,14 +1,12 @@
 //! The program: the expression that its arguments mean, and what it does.
-use crate::texts::push_bytes;
+use crate::texts::Bytes;
 use duct::{Expression, System};
 use duct_program::line::line;
 use duct_program::perform::perform;
 use duct_script::hook::ScriptHook;
-use rows_table::stop::TableError;
 use rows_table::words::arguments;
 use std::alloc::{AllocError, Global};
-use std::io;
-use std::io::Write;
+use std::io::{self, Write};
 use std::sync::Wait;
 
 /// Adds the debug text of the expression that these arguments mean, or the text of the error if
@@ -32,17 +30,12 @@ struct Stream {
 }
 
 impl Stream {
-    fn new(alloc: Global) -> Stream {
-        Stream {
-            taken: Vec::new(alloc),
-            room: 0,
+    fn new(alloc: Global, room: usize) -> Result<Stream, AllocError> {
+        Ok(Stream {
+            taken: Vec::with_capacity(alloc, room)?,
+            room,
             writes: 0,
-        }
-    }
-
-    fn reserve(&mut self, room: usize) -> Result<(), AllocError> {
-        self.room = room;
-        self.taken.reserve(room)
+        })
     }
 }
 
@@ -60,54 +53,38 @@ impl Write for Stream {
     }
 }
 
-/// What the program did last: its status, and what it wrote.
+/// What the program did: its status, and what it wrote.
 #[derive(Drop)]
 pub struct Performed {
-    status: Option<u8>,
+    status: u8,
     out: Stream,
     err: Stream,
 }
 
 impl Performed {
-    /// Returns a program that has done nothing.
-    pub fn new(alloc: Global) -> Performed {
-        Performed {
-            status: None,
-            out: Stream::new(alloc),
-            err: Stream::new(alloc),
-        }
-    }
-
     /// Does what the program does with these arguments. The room for its output is reserved before.
     /// Blocks until it is done. Fails on an allocation failure.
-    pub fn perform<S: System>(
-        &mut self,
+    pub fn of<S: System>(
         rt: &impl Wait,
         alloc: Global,
         system: &mut S,
         args: &str,
         room: usize,
-    ) -> Result<(), AllocError> {
+    ) -> Result<Performed, AllocError> {
         let args = arguments(alloc, args)?;
-        self.out.reserve(room)?;
-        self.err.reserve(room)?;
-        let (out, err) = (&mut self.out, &mut self.err);
-        self.status = Some(perform(rt, alloc, system, args.as_slice(), out, err));
-        Ok(())
+        let (mut out, mut err) = (Stream::new(alloc, room)?, Stream::new(alloc, room)?);
+        let status = perform(rt, alloc, system, args.as_slice(), &mut out, &mut err);
+        Ok(Performed { status, out, err })
     }
 
-    /// Adds the status, in how many writes each stream got its bytes, or what was written. Fails if
-    /// the program has done nothing, and on an allocation failure.
-    pub fn push(&self, text: &mut String, key: &str) -> Result<(), TableError> {
-        let Some(status) = self.status else {
-            return Err(TableError::Text("the program has done nothing"));
-        };
+    /// Adds the status, in how many writes each stream got its bytes, or what was written. Fails on
+    /// an allocation failure.
+    pub fn push(&self, text: &mut String, key: &str) -> Result<(), AllocError> {
         match key {
-            "status" => write!(text, "{status}")?,
-            "writes" => write!(text, "out {}, err {}", self.out.writes, self.err.writes)?,
-            "out" => push_bytes(text, self.out.taken.as_slice())?,
-            _ => push_bytes(text, self.err.taken.as_slice())?,
+            "status" => write!(text, "{}", self.status),
+            "writes" => write!(text, "out {}, err {}", self.out.writes, self.err.writes),
+            "out" => write!(text, "{}", Bytes(self.out.taken.as_slice())),
+            _ => write!(text, "{}", Bytes(self.err.taken.as_slice())),
         }
-        Ok(())
     }
 }

@@ -1,17 +1,15 @@
 //! The table of calls over the scripted system (`docs/ROWS.md`).
-use crate::machine::{Machine, PartsOf, PoolOf};
-use duct::{Numbered, System};
-use duct_script::calls::CallLog;
+use crate::machine::{Machine, PoolOf};
+use duct::{Numbered, Running, System};
 use duct_script::child::ScriptChild;
 use duct_script::clock::ScriptClock;
 use duct_script::system::{Script, ScriptEnd};
-use rows_table::expressions::{Lender, Strangers};
+use rows_table::expressions::{Lender, Log, Strangers};
 use rows_table::scenes::Bench;
 use rows_table::stop::TableError;
 use rows_table::told::{most_held, program, push_lent, push_noted, push_turns};
 use rows_table::words::duration;
 use std::alloc::{AllocError, Global};
-use std::sync::Arc;
 
 /// The scripted system of a row.
 #[derive(Drop)]
@@ -20,6 +18,8 @@ pub struct Scripted {
     bench: Bench,
     clock: ScriptClock,
     parts: String,
+    /// How many calls the log had at each moment of the last start.
+    marks: [u64; 3],
     /// How many children, feeds and drains were returned.
     returned: [usize; 3],
 }
@@ -33,6 +33,7 @@ impl Scripted {
             bench: Bench::new(alloc)?,
             clock: ScriptClock::new(Vec::new(alloc)),
             parts: String::new(alloc),
+            marks: [0; 3],
             returned: [0, 0, 0],
         })
     }
@@ -41,21 +42,8 @@ impl Scripted {
         let mut turns = String::new(self.alloc);
         push_turns(&mut turns, &self.bench.calls)?;
         let polls = turns.bytes().filter(|turn| *turn == b'p').count();
-        write!(
-            text,
-            "polls {polls}, orders {}",
-            turns.len().saturating_sub(polls)
-        )
-    }
-
-    fn push_most(&self, text: &mut String, bound: &str) -> Result<(), AllocError> {
-        let most = most_held(self.alloc, self.bench.sys.journal())?;
-        write!(text, "{}", most.max(bound.parse().unwrap_or(0)))
-    }
-
-    fn push_parts(&self, text: &mut String) -> Result<(), AllocError> {
-        let parts = self.parts.as_str();
-        text.push_str(parts.strip_suffix(", ").unwrap_or(parts))
+        let orders = turns.len().saturating_sub(polls);
+        write!(text, "polls {polls}, orders {orders}")
     }
 
     fn set_clock(&mut self, text: &str) -> Result<(), TableError> {
@@ -83,6 +71,10 @@ impl Lender for Scripted {
     fn lend(&mut self, number: u64) -> Result<ScriptEnd, TableError> {
         Strangers { alloc: self.alloc }.lend(number)
     }
+
+    fn calls(&self) -> Log<'_> {
+        Some(&self.bench.calls)
+    }
 }
 
 impl Machine for Scripted {
@@ -95,28 +87,34 @@ impl Machine for Scripted {
         (&mut bench.sys, &mut bench.pool, &self.clock)
     }
 
-    fn log(&self) -> Result<Option<Arc<CallLog>>, TableError> {
-        Ok(Some(Arc::try_clone(&self.bench.calls)?))
-    }
-
-    fn noted(&self) -> u64 {
-        self.bench.calls.noted()
-    }
-
-    fn push_noted(&self, from: u64, to: u64, out: &mut String) -> Result<(), TableError> {
-        Ok(push_noted(out, &self.bench, from, to)?)
+    fn mark(&mut self, moment: usize) {
+        let (noted, [begun, started, _]) = (self.bench.calls.noted(), self.marks);
+        self.marks = match moment {
+            0 => [noted; 3],
+            1 => [begun, noted, noted],
+            _ => [begun, started, noted],
+        };
     }
 
     fn line(&mut self, key: &str, text: &str, out: &mut String) -> Result<bool, TableError> {
         let [children, feeds, drains] = self.returned;
+        let [begun, started, called] = self.marks;
         match key {
+            "during" => push_noted(out, &self.bench, begun, started)?,
+            "calls" => push_noted(out, &self.bench, started, called)?,
             "returns" => write!(out, "children {children}, feeds {feeds}, drains {drains}")?,
             "lent" => push_lent(out, self.bench.sys.journal())?,
-            "within" => self.push_most(out, text)?,
+            "within" => {
+                let most = most_held(self.alloc, self.bench.sys.journal())?;
+                write!(out, "{}", most.max(text.parse().unwrap_or(0)))?;
+            }
             "times" => self.push_times(out)?,
             "turns" => push_turns(out, &self.bench.calls)?,
             "asked" => write!(out, "{}", self.clock.asked())?,
-            "parts" => self.push_parts(out)?,
+            "parts" => {
+                let parts = self.parts.as_str();
+                out.push_str(parts.strip_suffix(", ").unwrap_or(parts))?;
+            }
             "clock" => {
                 self.set_clock(text)?;
                 return Ok(false);
@@ -141,8 +139,8 @@ impl Machine for Scripted {
         Ok(answer.push_str(". ")?)
     }
 
-    fn spend(&mut self, parts: PartsOf<Script>) -> Result<(), TableError> {
-        let (children, feeds, drains) = parts;
+    fn spend(&mut self, running: Running<Script>) -> Result<(), TableError> {
+        let (children, feeds, drains) = running.into_parts();
         self.returned = [children.len(), feeds.len(), drains.len()];
         self.parts.clear();
         for place in children {

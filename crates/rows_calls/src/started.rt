@@ -1,9 +1,9 @@
 //! What was started: a launch, a handle or a reader handle, and the calls on it.
 ghost use Rattle.std.specs.Prelude.{◌≡◌};
 
-use crate::calls::TURNS;
+use crate::TURNS;
 use crate::machine::{Machine, PoolOf};
-use crate::texts::{push_bytes, push_error};
+use crate::texts::Bytes;
 use duct::unix::HandleExt;
 use duct::{Clock, Error, Handle, Output, ReaderHandle, Running, Seen, System};
 use rows_table::expressions::Tree;
@@ -199,14 +199,14 @@ fn push_read<S: System, R: Wait>(
     if name == "read" {
         return match handle.read_as(buffer, &mut handle.seen()) {
             Ok(count) => push_prefix(text, buffer, count),
-            Err(error) => push_error(text, &error),
+            Err(error) => write!(text, "{error}. "),
         };
     }
     let is_exact = name.contains("exact");
     let read = if name.starts_with("own") {
         read_of_std(handle, is_exact, buffer)
     } else {
-        read_shared(handle, is_exact, buffer)
+        read_of_std(&mut &*handle, is_exact, buffer)
     };
     match read {
         Ok(count) => push_prefix(text, buffer, count),
@@ -215,40 +215,20 @@ fn push_read<S: System, R: Wait>(
 }
 
 /// Reads once, or fills the whole buffer. Returns how many bytes were read.
-fn read_of_std<S: System, R: Wait>(
-    handle: &mut ReaderHandle<S, R>,
-    is_exact: bool,
-    buffer: &mut [u8],
-) -> io::Result<usize> {
+fn read_of_std<R: Read>(reader: &mut R, is_exact: bool, buffer: &mut [u8]) -> io::Result<usize> {
     if !is_exact {
-        return handle.read(buffer);
+        return reader.read(buffer);
     }
-    handle.read_exact(buffer)?;
-    Ok(buffer.len())
-}
-
-/// Does the same through a shared reference to the handle.
-fn read_shared<S: System, R: Wait>(
-    mut handle: &ReaderHandle<S, R>,
-    is_exact: bool,
-    buffer: &mut [u8],
-) -> io::Result<usize> {
-    if !is_exact {
-        return handle.read(buffer);
-    }
-    handle.read_exact(buffer)?;
+    reader.read_exact(buffer)?;
     Ok(buffer.len())
 }
 
 /// Adds a count, and that many bytes of the buffer, if there are any.
 fn push_prefix(text: &mut String, buffer: &[u8], count: usize) -> Result<(), AllocError> {
-    let (prefix, _) = buffer.split_at(count.min(buffer.len()));
-    write!(text, "{count}")?;
-    if !prefix.is_empty() {
-        text.push(' ')?;
-        push_bytes(text, prefix)?;
+    match buffer.split_at(count.min(buffer.len())) {
+        ([], _) => write!(text, "{count}. "),
+        (prefix, _) => write!(text, "{count} {}. ", Bytes(prefix)),
     }
-    text.push_str(". ")
 }
 
 fn push_all<S: System, R: Wait>(
@@ -258,8 +238,7 @@ fn push_all<S: System, R: Wait>(
 ) -> Result<(), AllocError> {
     let mut bytes = Vec::new(alloc);
     match handle.read_to_end(&mut bytes) {
-        Ok(_) => push_bytes(text, bytes.as_slice())?,
-        Err(error) => write!(text, "{:?}", error.kind())?,
+        Ok(_) => write!(text, "{}. ", Bytes(bytes.as_slice())),
+        Err(error) => write!(text, "{:?}. ", error.kind()),
     }
-    text.push_str(". ")
 }

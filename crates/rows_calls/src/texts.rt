@@ -2,6 +2,7 @@
 use duct::{Error, Output};
 use duct_deadline::late::{Late, LateRead, Until};
 use std::alloc::AllocError;
+use std::fmt;
 use std::sync::Arc;
 
 /// The greatest number of bytes that are written as text.
@@ -15,7 +16,7 @@ pub fn push_polled(
     match polled {
         Ok(None) => text.push_str("nothing. "),
         Ok(Some(output)) => push_output(text, output),
-        Err(error) => push_error(text, error),
+        Err(error) => write!(text, "{error}. "),
     }
 }
 
@@ -23,7 +24,7 @@ pub fn push_polled(
 pub fn push_done(text: &mut String, answer: &Result<(), Error>) -> Result<(), AllocError> {
     match answer {
         Ok(()) => text.push_str("done. "),
-        Err(error) => push_error(text, error),
+        Err(error) => write!(text, "{error}. "),
     }
 }
 
@@ -36,7 +37,7 @@ pub fn push_run(
     match ran {
         Ok(Until::Done(output)) => push_output(text, output),
         Ok(Until::Late(late)) => push_late(text, late),
-        Err(error) => push_error(text, error),
+        Err(error) => write!(text, "{error}. "),
     }
 }
 
@@ -47,16 +48,16 @@ pub fn push_read(
     read: &Result<Until<String, LateRead>, Error>,
 ) -> Result<(), AllocError> {
     match read {
-        Ok(Until::Done(read)) if read.len() > LONG => {
-            push_long(text, read.as_bytes())?;
-            text.push_str(". ")
-        }
+        Ok(Until::Done(read)) if read.len() > LONG => write!(text, "{}. ", Bytes(read.as_bytes())),
         Ok(Until::Done(read)) => write!(text, "{read:?}. "),
         Ok(Until::Late(late)) => {
             push_late(text, &late.late)?;
-            push_last_read(text, &late.read)
+            match &late.read {
+                Some(bytes) => write!(text, "read {}. ", Bytes(bytes.as_slice())),
+                None => text.push_str("nothing read. "),
+            }
         }
-        Err(error) => push_error(text, error),
+        Err(error) => write!(text, "{error}. "),
     }
 }
 
@@ -65,60 +66,49 @@ fn push_late(text: &mut String, late: &Late) -> Result<(), AllocError> {
     text.push_str("late. ")?;
     match &late.ended {
         Some(Ok(output)) => push_output(text, output)?,
-        Some(Err(error)) => push_error(text, error)?,
+        Some(Err(error)) => write!(text, "{error}. ")?,
         None => text.push_str("not ended. ")?,
     }
     push_done(text, &late.killed)
 }
 
-fn push_last_read(text: &mut String, read: &Option<Arc<Vec<u8>>>) -> Result<(), AllocError> {
-    let Some(bytes) = read else {
-        return text.push_str("nothing read. ");
-    };
-    text.push_str("read ")?;
-    push_bytes(text, bytes.as_slice())?;
-    text.push_str(". ")
-}
-
-/// Adds the text of an error.
-pub fn push_error(text: &mut String, error: &Error) -> Result<(), AllocError> {
-    write!(text, "{error}. ")
-}
-
 /// Adds a status with what was captured.
-pub fn push_output(text: &mut String, output: &Output) -> Result<(), AllocError> {
-    write!(text, "{:?} out=", output.status)?;
-    push_bytes(text, output.stdout.as_slice())?;
-    text.push_str(" err=")?;
-    push_bytes(text, output.stderr.as_slice())?;
-    text.push_str(". ")
+fn push_output(text: &mut String, output: &Output) -> Result<(), AllocError> {
+    let out = Bytes(output.stdout.as_slice());
+    let err = Bytes(output.stderr.as_slice());
+    write!(text, "{:?} out={out} err={err}. ", output.status)
 }
 
-/// Adds bytes: their text, in which a newline is `\n`. Of long ones, and of those that are not
-/// UTF-8, adds how many there are, and their value if all have the same.
-pub fn push_bytes(text: &mut String, bytes: &[u8]) -> Result<(), AllocError> {
-    match str::from_utf8(bytes) {
-        Ok(read) if read.len() <= LONG => push_escaped(text, read),
-        _ => push_long(text, bytes),
+/// Bytes as their text, in which a newline is `\n`. Of long ones, and of those that are not UTF-8,
+/// how many there are, and their value if all have the same.
+#[derive(Drop)]
+pub struct Bytes<'a>(pub &'a [u8]);
+
+impl fmt::Display for Bytes<'_> {
+    fn fmt<W: fmt::Write>(&self, f: &mut fmt::Formatter<W>) -> fmt::Result {
+        match str::from_utf8(self.0) {
+            Ok(text) if text.len() <= LONG => write_escaped(f, text),
+            _ => write_long(f, self.0),
+        }
     }
 }
 
-fn push_escaped(text: &mut String, read: &str) -> Result<(), AllocError> {
-    for c in read.chars() {
+fn write_escaped<W: fmt::Write>(f: &mut fmt::Formatter<W>, text: &str) -> fmt::Result {
+    for c in text.chars() {
         match c {
-            '\n' => text.push_str("\\n")?,
-            '\r' => text.push_str("\\r")?,
-            '\0' => text.push_str("\\0")?,
-            c => text.push(c)?,
+            '\n' => write!(f, "\\n")?,
+            '\r' => write!(f, "\\r")?,
+            '\0' => write!(f, "\\0")?,
+            c => write!(f, "{c}")?,
         }
     }
     Ok(())
 }
 
-fn push_long(text: &mut String, bytes: &[u8]) -> Result<(), AllocError> {
-    write!(text, "{} bytes", bytes.len())?;
+fn write_long<W: fmt::Write>(f: &mut fmt::Formatter<W>, bytes: &[u8]) -> fmt::Result {
+    write!(f, "{} bytes", bytes.len())?;
     match bytes.first() {
-        Some(first) if bytes.iter().all(|byte| byte == first) => write!(text, " {first}"),
+        Some(first) if bytes.iter().all(|byte| byte == first) => write!(f, " {first}"),
         _ => Ok(()),
     }
 }

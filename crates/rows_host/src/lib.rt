@@ -1,33 +1,35 @@
-//! The real machine, for the table of calls in `host calls` and `host rare calls`, and for single
-//! requests in `host requests` and `host rare requests` (`docs/ROWS.md`). Each row has a host of
-//! its own.
-use duct::{Clock, Entry, Place, Pool, System};
+//! The real machine for the tables of calls and of single requests (`docs/ROWS.md`). Each row has a
+//! host of its own.
+//! Test support: the code is proved safe, and each function that can't block is proved to return.
+#![tactic(auto)]
+
+use duct::{Clock, Entry, Place, Pool, Running, System};
 use duct_base::pool::pool_take;
 use duct_host::child::Child;
 use duct_host::end::End;
 use duct_host::host::Host;
-use duct_script::calls::CallLog;
-use rows_calls::machine::{Machine, PartsOf, PoolOf};
-use rows_calls::texts::push_bytes;
-use rows_requests::requests::{Requests, taken};
+use rows_calls::TURNS;
+use rows_calls::machine::{Machine, PoolOf};
+use rows_calls::texts::Bytes;
+use rows_requests::{Requests, taken};
 use rows_table::expressions::Lender;
 use rows_table::odd::Script;
-use rows_table::real::{Real, children_text, open_descriptors};
+use rows_table::real::{Real, open_descriptors};
 use rows_table::stop::TableError;
 use rows_table::table::Table;
 use rows_table::words::{first_word, named};
-use std::alloc::{AllocError, Global};
+use std::alloc::AllocError;
 use std::fs::{self, File, Permissions};
 use std::io::{self, PipeReader, Read, Write};
 use std::mem::replace;
 use std::os::unix::fs::PermissionsExt;
-use std::sync::Arc;
 use std::sync::atomic::{AtomicU64, Ordering};
 use std::time::Duration;
 use std::{rt, thread};
 
-/// The greatest number of times that something that still runs is checked, once each millisecond.
-const TURNS: u32 = 30_000;
+/// The file with the ids of the children of this thread in the order of their starts, including
+/// those that have ended and are not reaped yet.
+const CHILDREN: &str = "/proc/thread-self/children";
 
 const UNSCRIPTED: TableError = TableError::Text("nothing is scripted");
 
@@ -81,7 +83,7 @@ impl<R: Real> HostMachine<R> {
         };
         let host = Host::new(rt.clone()?, alloc);
         let (opened, slept, begun) = (open_descriptors(rt)?, sleeps(rt)?, rt.monotonic()?);
-        let children = children_text(rt)?;
+        let children = fs::read_to_string(rt, CHILDREN)?;
         Ok(HostMachine {
             clock,
             requests: Requests::new(alloc, host),
@@ -94,11 +96,6 @@ impl<R: Real> HostMachine<R> {
             begun,
             script,
         })
-    }
-
-    /// Returns the allocator of its runtime.
-    pub fn allocator(&self) -> Global {
-        self.clock.rt.alloc()
     }
 
     /// Sets up what later lines of the row use. Returns whether there is such a key.
@@ -146,15 +143,15 @@ impl<R: Real> HostMachine<R> {
     /// Returns the ids of the children that this thread has got since the row began. Fails if an
     /// older child is gone.
     fn more_children(&self) -> Result<String, TableError> {
-        let children = children_text(&self.clock.rt)?;
+        let children = fs::read_to_string(&self.clock.rt, CHILDREN)?;
         match children.as_str().strip_prefix(self.children.as_str()) {
-            Some(more) => Ok(String::from_str(self.allocator(), more)?),
+            Some(more) => Ok(String::from_str(self.clock.rt.alloc(), more)?),
             None => Err(TableError::Text("a child of others was asked")),
         }
     }
 
     fn has_ids(&self, ids: &[u32]) -> Result<(), TableError> {
-        let mut text = String::new(self.allocator());
+        let mut text = String::new(self.clock.rt.alloc());
         for id in ids {
             write!(text, "{id} ")?;
         }
@@ -199,16 +196,15 @@ impl<R: Real> HostMachine<R> {
         let Some(mut reader) = self.captured.take() else {
             return Err(TableError::Text("nothing is captured"));
         };
-        let mut bytes = Vec::new(self.allocator());
+        let mut bytes = Vec::new(self.clock.rt.alloc());
         reader.read_to_end(&mut bytes)?;
-        push_bytes(answer, bytes.as_slice())?;
-        Ok(answer.push_str(". ")?)
+        Ok(write!(answer, "{}. ", Bytes(bytes.as_slice()))?)
     }
 
     /// Gives the children of the last launch to the pool, and sweeps it until it is empty, for
     /// about half a minute at most. Lets go of all other ends and children.
     fn clear(&mut self) {
-        let alloc = self.allocator();
+        let alloc = self.clock.rt.alloc();
         for place in replace(&mut self.spent, Vec::new(alloc)) {
             pool_take(&mut self.pool, place);
         }
@@ -251,18 +247,7 @@ impl<R: Real> Machine for HostMachine<R> {
         (self.requests.system_alone(), &mut self.pool, &self.clock)
     }
 
-    fn log(&self) -> Result<Option<Arc<CallLog>>, TableError> {
-        Ok(None)
-    }
-
-    fn noted(&self) -> u64 {
-        0
-    }
-
-    fn push_noted(&self, _from: u64, _to: u64, _out: &mut String) -> Result<(), TableError> {
-        Err(TableError::Text("nothing is noted"))
-    }
-
+    /// Reads the line of a single request as well.
     fn line(&mut self, key: &str, text: &str, out: &mut String) -> Result<bool, TableError> {
         if self.found(key, text, out)? {
             return Ok(true);
@@ -270,7 +255,7 @@ impl<R: Real> Machine for HostMachine<R> {
         if self.set(key, text)? {
             return Ok(false);
         }
-        Err(TableError::Text("no such key"))
+        self.requests.line(&self.clock.rt, key, text, out)
     }
 
     fn call(&mut self, call: &str, ids: &[u32], answer: &mut String) -> Result<(), TableError> {
@@ -284,8 +269,8 @@ impl<R: Real> Machine for HostMachine<R> {
         }
     }
 
-    fn spend(&mut self, parts: PartsOf<Host<R>>) -> Result<(), TableError> {
-        self.spent = parts.0;
+    fn spend(&mut self, running: Running<Host<R>>) -> Result<(), TableError> {
+        (self.spent, _, _) = running.into_parts();
         Ok(())
     }
 
@@ -305,13 +290,7 @@ impl<R: Real> Machine for HostMachine<R> {
 /// The tables of single requests.
 impl<'t, R: Real> Table<'t> for HostMachine<R> {
     fn line(&mut self, key: &'t str, text: &'t str, out: &mut String) -> Result<bool, TableError> {
-        if self.found(key, text, out)? {
-            return Ok(true);
-        }
-        if self.set(key, text)? {
-            return Ok(false);
-        }
-        self.requests.line(&self.clock.rt, key, text, out)
+        Machine::line(self, key, text, out)
     }
 
     fn end(&mut self) -> Result<(), TableError> {

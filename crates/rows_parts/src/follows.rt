@@ -28,7 +28,7 @@ pub fn push(text: &mut String, row: &Parts, key: &str) -> Result<(), TableError>
     } else {
         row.text("expression")
     };
-    let tree = written(alloc, None, expression)?;
+    let tree = written(alloc, expression)?;
     let plan = if has_reader {
         plan_of_reader(alloc, &tree)?
     } else {

@@ -3,7 +3,7 @@ use duct::{Entry, Fault, Port, Stdio};
 use duct_base::names::EnvNameString;
 use duct_base::spec::spec_of;
 use rows_table::stop::TableError;
-use rows_table::words::{fault, first_word, side};
+use rows_table::words::{fault, first_word, pairs, side};
 use std::alloc::{AllocError, Global};
 use std::collections::BTreeMap;
 use std::sync::Arc;
@@ -138,19 +138,13 @@ fn variables(alloc: Global, text: &str) -> Result<BTreeMap<EnvNameString, String
     Ok(vars)
 }
 
-/// Returns the pairs of names and values in a text: `A:1,B:2`. Pieces without a colon are skipped.
-/// Fails on an allocation failure.
 fn owned_pairs(alloc: Global, text: &str) -> Result<Vec<(String, String)>, AllocError> {
-    let mut pairs = Vec::new(alloc);
-    for piece in text.split(',') {
-        if let Some((name, value)) = piece.split_once(':') {
-            pairs.push(owned_pair(alloc, name, value)?)?;
-        }
+    let mut owned = Vec::new(alloc);
+    for (name, value) in pairs(alloc, text)? {
+        owned.push((
+            String::from_str(alloc, name)?,
+            String::from_str(alloc, value)?,
+        ))?;
     }
-    Ok(pairs)
-}
-
-fn owned_pair(alloc: Global, name: &str, value: &str) -> Result<(String, String), AllocError> {
-    let name = String::from_str(alloc, name)?;
-    Ok((name, String::from_str(alloc, value)?))
+    Ok(owned)
 }

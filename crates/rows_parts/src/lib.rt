@@ -18,20 +18,8 @@ use rows_table::words::first_word;
 use std::alloc::Global;
 
 /// The keys of the lines that set something up.
-const SET: [&str; 12] = [
-    "arguments",
-    "bytes",
-    "captured",
-    "error",
-    "events",
-    "expression",
-    "journal",
-    "reader",
-    "record",
-    "room",
-    "shape",
-    "writes",
-];
+const SET: &str = "shape captured events bytes room expression reader journal error record writes \
+    arguments";
 
 /// The table of parts.
 #[derive(Drop)]
@@ -81,7 +69,7 @@ impl<'t> Parts<'t> {
     /// Adds the debug texts of the first expressions of a row, at most so many.
     fn push_shown(&self, text: &mut String, most: usize) -> Result<(), TableError> {
         let mut strangers = Strangers { alloc: self.alloc };
-        let mut writing = Writing::new(self.alloc, &mut strangers, None);
+        let mut writing = Writing::new(self.alloc, &mut strangers);
         let wrote = writing.write(self.text("expression"));
         for tree in writing.built.iter().take(most) {
             write!(text, "{tree:?}; ")?;
@@ -95,7 +83,7 @@ impl<'t> Parts<'t> {
 
 impl<'t> Table<'t> for Parts<'t> {
     fn line(&mut self, key: &'t str, text: &'t str, out: &mut String) -> Result<bool, TableError> {
-        if SET.contains(&key) {
+        if SET.split(' ').any(|set| set == key) {
             self.set.push((key, text))?;
             return Ok(false);
         }

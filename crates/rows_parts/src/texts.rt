@@ -1,6 +1,6 @@
 //! The texts of recorded journals, verdicts and plans.
 use crate::Parts;
-use duct::Error;
+use duct::{Entry, Error};
 use duct_follows::judgement::judge_line;
 use duct_plan::dot::PlanDot;
 use duct_plan::perform::perform;
@@ -15,18 +15,31 @@ use duct_report::text::EntryText;
 use rows_table::expressions::written;
 use rows_table::stop::TableError;
 use rows_table::words::arguments;
-use std::alloc::{AllocError, Global};
+use std::alloc::Global;
 
 /// Adds what is said of the record of a row.
 pub fn push(text: &mut String, row: &Parts, key: &str) -> Result<(), TableError> {
-    let record = record(row)?;
-    let record = record.as_str();
-    if key == "read" {
-        return push_read(text, row.alloc, record);
+    let mut record = String::new(row.alloc);
+    for (key, line) in &row.set {
+        if *key == "record" {
+            writeln!(record, "{line}")?;
+        }
     }
-    let entries = read_journal(row.alloc, record).map_err(stop)?;
-    let entries = entries.as_slice();
+    match read_journal(row.alloc, record.as_str()) {
+        Ok(entries) => push_entries(text, row, key, record.as_str(), entries.as_slice()),
+        Err(refused) => push_refused(text, key, &refused),
+    }
+}
+
+fn push_entries(
+    text: &mut String,
+    row: &Parts,
+    key: &str,
+    record: &str,
+    entries: &[Entry],
+) -> Result<(), TableError> {
     match key {
+        "read" => write!(text, "{}", entries.len())?,
         "again" => {
             let again = journal_text(row.alloc, entries, Variables::Shown)?;
             let is_same = again.as_str() == record;
@@ -54,33 +67,13 @@ pub fn push(text: &mut String, row: &Parts, key: &str) -> Result<(), TableError>
     Ok(())
 }
 
-/// The lines of a recorded journal.
-fn record(row: &Parts) -> Result<String, AllocError> {
-    let mut record = String::new(row.alloc);
-    for (key, line) in &row.set {
-        if *key == "record" {
-            write!(record, "{line}\n")?;
-        }
-    }
-    Ok(record)
-}
-
-/// Why a journal that is not read stops its row.
-fn stop(refused: LineRefusal) -> TableError {
+/// Adds which line of a record is no entry, and why not, where the record is only read.
+fn push_refused(text: &mut String, key: &str, refused: &LineRefusal) -> Result<(), TableError> {
     match refused.refusal {
-        Refusal::Memory => TableError::Error(Error::Memory),
-        Refusal::NotJson | Refusal::NotEntry | Refusal::Hidden => TableError::Text("no journal"),
+        Refusal::Memory => Err(TableError::Error(Error::Memory)),
+        refusal if key == "read" => Ok(write!(text, "line {}: {refusal:?}", refused.line)?),
+        _ => Err(TableError::Text("no journal")),
     }
-}
-
-/// Adds how many entries a record has, or its first line that is no entry, and why not.
-fn push_read(text: &mut String, alloc: Global, record: &str) -> Result<(), TableError> {
-    match read_journal(alloc, record) {
-        Ok(entries) => write!(text, "{}", entries.len())?,
-        Err(refused) if refused.refusal == Refusal::Memory => return Err(stop(refused)),
-        Err(refused) => write!(text, "line {}: {:?}", refused.line, refused.refusal)?,
-    }
-    Ok(())
 }
 
 /// Adds what a start will request: as a text, as a drawing, or by the program `plan`.
@@ -89,7 +82,7 @@ pub fn push_planned(text: &mut String, row: &Parts, key: &str) -> Result<(), Tab
         let args = arguments(row.alloc, row.text("arguments"))?;
         return push_performed(text, row.alloc, args.as_slice());
     }
-    let tree = written(row.alloc, None, row.text("expression"))?;
+    let tree = written(row.alloc, row.text("expression"))?;
     let plan = plan(row.alloc, &tree)?;
     match key {
         "drawn" => write!(text, "{}", PlanDot(&plan))?,

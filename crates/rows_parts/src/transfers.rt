@@ -5,8 +5,7 @@ use duct_worker::transfer::{drain, feed};
 use rows_table::stop::TableError;
 use rows_table::words::{ERROR_KINDS, first_word, named};
 use std::alloc::{AllocError, Global};
-use std::io;
-use std::io::{ErrorKind, Read, Write};
+use std::io::{self, ErrorKind, Read, Write};
 
 /// Adds the result of a feed or of a drain, and the bytes that it moved, or their number if there
 /// are many.

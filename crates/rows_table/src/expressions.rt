@@ -3,7 +3,7 @@
 use crate::hooks::hook;
 use crate::stop::TableError;
 use crate::words::{first_word, pairs, pieces};
-use duct::{Error, Expression, Fault, Numbered};
+use duct::{Error, Expression, Numbered};
 use duct_script::calls::CallLog;
 use duct_script::hook::ScriptHook;
 use duct_script::system::{Script, ScriptEnd};
@@ -24,6 +24,11 @@ pub trait Lender {
 
     /// Returns the end with this number. Fails if it can't be lent.
     fn lend(&mut self, number: u64) -> Result<Self::End, TableError>;
+
+    /// Returns no log, unless the lender has one.
+    fn calls(&self) -> Log<'_> {
+        None
+    }
 }
 
 /// Lends ends of other scripted systems, with any number from 1 to `u64::MAX - 1`.
@@ -37,19 +42,16 @@ impl Lender for Strangers {
     type End = ScriptEnd;
 
     fn lend(&mut self, number: u64) -> Result<ScriptEnd, TableError> {
-        Ok(adopted(&mut Script::new(self.alloc)?, number)?)
+        let mut other = Script::new(self.alloc)?;
+        other.skip_numbers_below(number);
+        Ok(other.adopt()?)
     }
-}
-
-fn adopted(sys: &mut Script, number: u64) -> Result<ScriptEnd, Fault> {
-    sys.skip_numbers_below(number);
-    sys.adopt()
 }
 
 /// Builds the expression of a text over the scripted system, with ends from `Strangers`. Fails as
 /// `written_with` does.
-pub fn written(alloc: Global, calls: Log, text: &str) -> Result<Tree<ScriptEnd>, TableError> {
-    written_with(alloc, &mut Strangers { alloc }, calls, text)
+pub fn written(alloc: Global, text: &str) -> Result<Tree<ScriptEnd>, TableError> {
+    written_with(alloc, &mut Strangers { alloc }, text)
 }
 
 /// Builds the expression of a text, with ends from this lender. Fails if a step is malformed, if an
@@ -57,12 +59,14 @@ pub fn written(alloc: Global, calls: Log, text: &str) -> Result<Tree<ScriptEnd>,
 pub fn written_with<L: Lender>(
     alloc: Global,
     lender: &mut L,
-    calls: Log,
     text: &str,
 ) -> Result<Tree<L::End>, TableError> {
-    let mut writing = Writing::new(alloc, lender, calls);
+    let mut writing = Writing::new(alloc, lender);
     writing.write(text)?;
-    writing.only()
+    match writing.built.pop() {
+        Some(made) if writing.built.is_empty() => Ok(made),
+        _ => Err(TableError::Text("not exactly one expression")),
+    }
 }
 
 /// Returns the name of the first step of a text, its arguments, and the text after the step. A step
@@ -89,24 +93,21 @@ fn is_call(name: &str) -> bool {
 /// Why a step fails that needs an expression before it.
 const NONE: TableError = TableError::Text("no expression");
 
-/// Expressions that are built, with ends from this lender and hooks that note their calls in this
-/// log.
+/// Expressions that are built, with ends from this lender.
 #[derive(Drop)]
-pub struct Writing<'l, 'c, L: Lender> {
+pub struct Writing<'l, L: Lender> {
     alloc: Global,
     lender: &'l mut L,
-    calls: Log<'c>,
     /// The expressions that the steps so far left, in order.
     pub built: Vec<Tree<L::End>>,
 }
 
-impl<'l, 'c, L: Lender> Writing<'l, 'c, L> {
+impl<'l, L: Lender> Writing<'l, L> {
     /// Returns no expression yet.
-    pub fn new(alloc: Global, lender: &'l mut L, calls: Log<'c>) -> Writing<'l, 'c, L> {
+    pub fn new(alloc: Global, lender: &'l mut L) -> Writing<'l, L> {
         Writing {
             alloc,
             lender,
-            calls,
             built: Vec::new(alloc),
         }
     }
@@ -124,13 +125,6 @@ impl<'l, 'c, L: Lender> Writing<'l, 'c, L> {
             rest = others;
         }
         Ok(())
-    }
-
-    fn only(&mut self) -> Result<Tree<L::End>, TableError> {
-        match self.built.pop() {
-            Some(made) if self.built.is_empty() => Ok(made),
-            _ => Err(TableError::Text("not exactly one expression")),
-        }
     }
 
     /// Adds what a step makes in place of the expressions that it is made of.
@@ -210,7 +204,7 @@ impl<'l, 'c, L: Lender> Writing<'l, 'c, L> {
         for number in numbers.split_terminator(',') {
             ends.push(self.lender.lend(number.parse()?)?)?;
         }
-        let hook = hook(self.alloc, self.calls, text)?;
+        let hook = hook(self.alloc, self.lender.calls(), text)?;
         Ok(self.built.last().ok_or(NONE)?.before_spawn(hook, ends)?)
     }
 }

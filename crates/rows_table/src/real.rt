@@ -8,29 +8,15 @@ use std::rt::{Clock, Env, Files};
 use std::thread::Threads;
 use std::{env, fs, io};
 
-/// A runtime with everything that a host and its tables use.
-pub trait Real: Processes
-    + Files<File = File>
-    + Env
-    + Parents
-    + Threads
-    + Clock
-    + AllocGlobal
-    + Clone
-    + Drop {}
+/// A runtime with the processes, the files and the environment that a host uses.
+pub trait Platform: Processes + Files<File = File> + Env + Parents {}
 
-impl<R> Real for R
-where
-    R: Processes
-        + Files<File = File>
-        + Env
-        + Parents
-        + Threads
-        + Clock
-        + AllocGlobal
-        + Clone
-        + Drop,
-{}
+impl<R: Processes + Files<File = File> + Env + Parents> Platform for R {}
+
+/// A runtime with everything that a host and its tables use.
+pub trait Real: Platform + Threads + Clock + AllocGlobal + Clone + Drop {}
+
+impl<R: Platform + Threads + Clock + AllocGlobal + Clone + Drop> Real for R {}
 
 /// How many file descriptors are open, and how many children there are, including those that have
 /// ended and are not reaped yet.
@@ -79,15 +65,9 @@ pub fn open_descriptors<R: Files + Alloc + Clone>(rt: &R) -> io::Result<usize> {
     Ok(count)
 }
 
-/// Returns the ids of the children of this thread in the order of their starts, including those
-/// that have ended and are not reaped yet. Fails if `/proc/thread-self/children` can't be read.
-pub fn children_text<R: Files + AllocGlobal>(rt: &R) -> io::Result<String> {
-    fs::read_to_string(rt, "/proc/thread-self/children")
-}
-
-/// Returns the text of a file of rows, in which `{place}` is replaced by the beginning of the path
-/// of a file of this process, `{id}` by the id of this process, and `{nul}` by a NUL. Fails if the
-/// folder for temporary files or the id can't be determined, or on an allocation failure.
+/// Returns the text of a file of rows for this process: `{place}`, `{id}` and `{nul}` in it are
+/// replaced (`docs/ROWS.md`). Fails if the folder for temporary files or the id of the process
+/// can't be determined, or on an allocation failure.
 pub fn filled<R: Files + Env + AllocGlobal>(rt: &R, text: &str) -> io::Result<String> {
     let alloc = rt.alloc();
     let folder = env::temp_dir(rt)?.into_string();

@@ -138,11 +138,9 @@ fn child_script(alloc: Global, child: &str) -> Result<ChildScript, TableError> {
 }
 
 /// A result that a text names.
-pub trait Answer: Drop {
+pub trait Answer: Drop + Sized {
     /// Returns the result with this name. Fails if there is none, or on an allocation failure.
-    fn named(alloc: Global, text: &str) -> Result<Self, TableError>
-    where
-        Self: Sized;
+    fn named(alloc: Global, text: &str) -> Result<Self, TableError>;
 }
 
 /// `running`, `code 0`, `signal 9`, or the kind of a fault.

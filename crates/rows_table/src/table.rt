@@ -1,13 +1,10 @@
-//! Files of rows. The first line names the table, for example `table: plans`, which determines the
-//! keys of the other lines. Rows are separated by empty lines. A line has a key, a colon and a
-//! text; a line that begins with `#` is a comment. A line either sets up later lines of its row, or
-//! its text is compared with what was found.
+//! Files of rows (`docs/ROWS.md`).
 use crate::stop::TableError;
 use std::alloc::Global;
 use std::io::{self, Write};
 
 /// What the keys of a file mean.
-pub trait Table<'t> {
+pub trait Table<'t>: Drop {
     /// Reads a line. Returns whether the text of the line is compared with what the table adds to
     /// `out`; if not, the line only sets up later lines. Fails with the reason why the row stops.
     fn line(&mut self, key: &'t str, text: &'t str, out: &mut String) -> Result<bool, TableError>;
@@ -17,18 +14,8 @@ pub trait Table<'t> {
     fn end(&mut self) -> Result<(), TableError>;
 }
 
-/// What is done with the texts that are found.
-#[derive(Clone, Copy, Debug, PartialEq, Eq)]
-pub enum Mode {
-    /// Each is compared with the text of its line. A difference is written, and the later lines of
-    /// the row are skipped.
-    Compare,
-    /// Each is written, whatever the line has.
-    Tell,
-}
-
 /// How many texts were found, and how many of them differ or stopped a row.
-#[derive(Clone, Copy, Debug, PartialEq, Eq)]
+#[derive(Clone, Copy, Debug, Default, PartialEq, Eq)]
 pub struct Counts {
     pub compared: u64,
     pub differing: u64,
@@ -41,31 +28,28 @@ pub struct File<'t> {
     pub name: &'t str,
     /// The whole text of the file.
     pub text: &'t str,
-    /// What is done with the texts that are found.
-    pub mode: Mode,
-}
-
-/// Writes why no row of a file can be tried, and returns counts with one difference. Fails if the
-/// output can't be written.
-pub fn untried<W: Write>(file: File, stop: TableError, out: &mut W) -> io::Result<Counts> {
-    let _ = goes_on(file, 1, "", Err(stop), "", out)?;
-    Ok(Counts {
-        compared: 0,
-        differing: 1,
-    })
+    /// Whether each text that is found is written, and none is compared.
+    pub is_told: bool,
 }
 
 /// Reads the rows of a file, and writes a line for each difference, or for each text that is found:
 /// the file, the number of the line, and what was found and wanted, or the reason why the row
-/// stopped. If a row stops, its later lines are skipped. Returns the counts. Fails if the output
-/// can't be written.
+/// stopped. After a difference or a stop, the later lines of the row are skipped. Returns the
+/// counts; no table is one difference. Fails if the output can't be written.
 pub fn compare<'t, T: Table<'t>, W: Write>(
     alloc: Global,
-    table: &mut T,
+    table: Result<T, TableError>,
     file: File<'t>,
     out: &mut W,
 ) -> io::Result<Counts> {
-    let (mut compared, mut differing) = (0_u64, 0_u64);
+    let mut counts = Counts::default();
+    let mut table = match table {
+        Ok(table) => table,
+        Err(stop) => {
+            counts.differing = u64::from(!goes_on(file, 1, "", Err(stop), "", out)?);
+            return Ok(counts);
+        }
+    };
     let (mut number, mut is_over) = (1_u64, false);
     let mut found = String::new(alloc);
     for line in file.text.lines().chain([""]).skip(1) {
@@ -81,15 +65,13 @@ pub fn compare<'t, T: Table<'t>, W: Write>(
         } else {
             table.line(key.trim(), text.trim(), &mut found)
         };
-        compared = compared.saturating_add(u64::from(matches!(read, Ok(true))));
+        let compared = u64::from(matches!(read, Ok(true)));
+        counts.compared = counts.compared.saturating_add(compared);
         let holds = goes_on(file, number, line, read, found.trim(), out)?;
-        differing = differing.saturating_add(u64::from(!holds));
+        counts.differing = counts.differing.saturating_add(u64::from(!holds));
         is_over = !holds && !line.is_empty();
     }
-    Ok(Counts {
-        compared,
-        differing,
-    })
+    Ok(counts)
 }
 
 /// Writes what was found, where it is told or differs, or why the row stops. Returns whether the
@@ -103,16 +85,14 @@ fn goes_on<W: Write>(
     out: &mut W,
 ) -> io::Result<bool> {
     let (key, wanted) = line.split_once(':').unwrap_or((line, ""));
-    let (wanted, name, is_told) = (wanted.trim(), file.name, file.mode == Mode::Tell);
+    let (wanted, name, is_told) = (wanted.trim(), file.name, file.is_told);
+    let goes_on = is_told && read.is_ok();
     match read {
         Ok(is_compared) if !is_compared || !is_told && found == wanted => return Ok(true),
         Ok(_) if is_told => writeln!(out, "{number} {key}: {found}")?,
         Ok(_) => writeln!(out, "{name}:{number}: {key}: {found}, not {wanted}")?,
-        Err(stop) if is_told => {
-            writeln!(out, "{number} stops: {stop}")?;
-            return Ok(false);
-        }
+        Err(stop) if is_told => writeln!(out, "{number} stops: {stop}")?,
         Err(stop) => writeln!(out, "{name}:{number}: {stop}")?,
     }
-    Ok(is_told)
+    Ok(goes_on)
 }

@@ -27,14 +27,6 @@ pub fn push_journal(text: &mut String, journal: &[Entry]) -> Result<(), AllocErr
     Ok(())
 }
 
-/// Adds the spec of the last entry. Fails if that entry is no spawn, or on an allocation failure.
-pub fn push_last_spec(text: &mut String, journal: &[Entry]) -> Result<(), TableError> {
-    match journal.last() {
-        Some(Entry::Spawn(spec, _, _)) => push_spec(text, spec),
-        _ => Err(TableError::Text("no child was started last")),
-    }
-}
-
 /// Adds the words of a spec, its folder, its variables, and where its streams go. Fails on an
 /// allocation failure.
 pub fn push_spec(text: &mut String, spec: &CommandSpec) -> Result<(), TableError> {
@@ -159,11 +151,10 @@ fn end_of(entry: &Entry, number: u64) -> Option<&'static str> {
 
 /// Returns how many children were started.
 pub fn children_started(entries: &[Entry]) -> u64 {
-    let mut count = 0_u64;
-    for entry in entries {
-        count = count.saturating_add(u64::from(matches!(entry, Entry::Spawn(_, _, Ok(_)))));
-    }
-    count
+    let started = entries
+        .iter()
+        .filter(|entry| matches!(entry, Entry::Spawn(_, _, Ok(_))));
+    started.count() as u64
 }
 
 /// Adds how many children the pool keeps, was given, has reaped, and has lost. Fails on an
@@ -220,9 +211,7 @@ pub fn push_turns(text: &mut String, calls: &CallLog) -> Result<(), AllocError> 
 }
 
 /// Adds the calls in the log from the first of two indices up to, but not including, the second, in
-/// order and without the requests `Duplicate`, `Parent` and `Close`. A child of the start is shown
-/// by its program, a child of the pool by its number, a feed by its bytes, and a drain by its place
-/// among those that were started. Fails on an allocation failure.
+/// order and without the requests `Duplicate`, `Parent` and `Close`. Fails on an allocation failure.
 pub fn push_noted(text: &mut String, bench: &Bench, from: u64, to: u64) -> Result<(), AllocError> {
     for place in from..to {
         match bench.calls.get(place as usize) {
@@ -251,15 +240,11 @@ fn push_call(text: &mut String, entries: &[Entry], call: Call) -> Result<(), All
 
 /// Returns the bytes of the feed of the end with this number, as a text.
 fn fed(entries: &[Entry], feed: u64) -> &str {
-    for entry in entries {
-        match entry {
-            Entry::Feed(end, bytes, Ok(())) if *end == feed => {
-                return str::from_utf8(bytes.as_slice()).unwrap_or("?");
-            }
-            _ => {}
-        }
-    }
-    ""
+    let bytes = entries.iter().find_map(|entry| match entry {
+        Entry::Feed(end, bytes, Ok(())) if *end == feed => Some(bytes.as_slice()),
+        _ => None,
+    });
+    str::from_utf8(bytes.unwrap_or(b"")).unwrap_or("?")
 }
 
 /// Returns the place of a drain among those that were started.

@@ -5,21 +5,16 @@ use std::rt::Clock;
 use std::thread;
 use std::time::Duration;
 
-/// How many times a wait yields the thread between two checks.
-const YIELDS: u32 = 10;
-
-/// Checks a condition until it holds, at most a million times, and yields the thread between the
+/// Checks a condition until it holds, at most ten million times, and yields the thread between the
 /// checks. Returns whether it held.
 pub fn until<F: Fn() -> bool>(is_so: F) -> bool
     requires { F.IsAlwaysCallable is_so }
 {
-    for _ in 0..1_000_000 {
+    for _ in 0..10_000_000 {
         if is_so() {
             return true;
         }
-        for _ in 0..YIELDS {
-            thread::yield_now();
-        }
+        thread::yield_now();
     }
     false
 }

@@ -55,14 +55,12 @@ pub fn named<T: Copy>(values: &[(&str, T)], name: &str) -> Result<T, TableError>
 
 /// Returns the stream with this name: `in`, `out` or `err`. Fails for any other name.
 pub fn stream(name: &str) -> Result<Stream, TableError> {
-    named(
-        &[
-            ("in", Stream::In),
-            ("out", Stream::Out),
-            ("err", Stream::Err),
-        ],
-        name,
-    )
+    match name {
+        "in" => Ok(Stream::In),
+        "out" => Ok(Stream::Out),
+        "err" => Ok(Stream::Err),
+        _ => Err(TableError::Text("no such stream")),
+    }
 }
 
 /// Returns the parent's output stream with this name: `out` or `err`. Fails for any other name.

@@ -27,7 +27,7 @@ fn handle_of<'r, R: Wait>(
     script.bytes = vec![in alloc; 7; count]?;
     script.gate = Some(gate.share()?);
     bench.sys.bytes(script)?;
-    let tree = written(alloc, None, "a")?;
+    let tree = written(alloc, "a")?;
     Ok(tree.reader(rt, &mut bench.sys, &mut bench.pool)?)
 }
 

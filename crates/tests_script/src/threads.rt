@@ -136,7 +136,7 @@ fn greeting_bench(alloc: Global, runs: usize, gate: &Gate) -> Result<Bench, Tabl
 
 /// Starts the expression of a text, and returns its handle.
 fn handle_of(alloc: Global, bench: &mut Bench, text: &str) -> Result<Handle<Script>, TableError> {
-    let tree = written(alloc, None, text)?;
+    let tree = written(alloc, text)?;
     Ok(tree.start(&mut bench.sys, &mut bench.pool)?)
 }
 

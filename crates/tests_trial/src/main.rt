@@ -139,7 +139,7 @@ fn written<R: Files<File = File>>(
     let mut lender = EndFour {
         end: file_four(rt, host)?,
     };
-    written_with(alloc, &mut lender, None, text)
+    written_with(alloc, &mut lender, text)
 }
 
 /// Waits until what is left is what there was before, for at most `LOOKS` checks. Returns how much
