@@ -7,8 +7,7 @@ use rows_table::words::{ERROR_KINDS, first_word, named};
 use std::alloc::{AllocError, Global};
 use std::io::{self, ErrorKind, Read, Write};
 
-/// Adds the result of a feed or of a drain, and the bytes that it moved, or their number if there
-/// are many.
+/// Adds the result of a feed or of a drain, and the bytes that it moved.
 pub fn push(text: &mut String, row: &Parts, call: &str, script: &str) -> Result<(), TableError> {
     let is_fed = call == "fed";
     let all = all(row.alloc, row.text("bytes").parse().unwrap_or(3))?;
@@ -34,15 +33,19 @@ pub fn push(text: &mut String, row: &Parts, call: &str, script: &str) -> Result<
         }
         answer?;
     }
-    match answer {
+    Ok(push_moved(text, answer, stream.taken.as_slice())?)
+}
+
+/// Adds a result and the moved bytes, or their number if there are many.
+fn push_moved(text: &mut String, done: Result<(), Fault>, moved: &[u8]) -> Result<(), AllocError> {
+    match done {
         Ok(()) => text.push_str("Ok ")?,
         Err(fault) => write!(text, "{:?} ", fault.kind)?,
     }
-    match str::from_utf8(stream.taken.as_slice()) {
-        Ok(few) if few.len() <= 10 => text.push_str(few)?,
-        _ => write!(text, "{} bytes", stream.taken.len())?,
+    match str::from_utf8(moved) {
+        Ok(few) if few.len() <= 10 => text.push_str(few),
+        _ => write!(text, "{} bytes", moved.len()),
     }
-    Ok(())
 }
 
 /// So many bytes, which begin with `abc`.

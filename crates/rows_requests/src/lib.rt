@@ -293,9 +293,8 @@ const MISSING: &str = "there is no such end or child";
 /// How many faults a text has that are no allocation failures.
 fn faults(text: &str) -> usize {
     let words = text.split(';').map(|word| word.trim());
-    words
-        .filter(|word| *word != REFUSED && fault(word).is_ok())
-        .count()
+    let faults = words.filter(|word| *word != REFUSED && fault(word).is_ok());
+    faults.count()
 }
 
 fn say<T: Debug>(said: &mut String, value: &T) -> Result<(), TableError> {
