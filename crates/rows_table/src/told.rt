@@ -210,8 +210,8 @@ pub fn push_turns(text: &mut String, calls: &CallLog) -> Result<(), AllocError> 
     Ok(())
 }
 
-/// Adds the calls in the log from the first of two indices up to, but not including, the second, in
-/// order and without the requests `Duplicate`, `Parent` and `Close`. Fails on an allocation failure.
+/// Adds the calls in the log from the first of two indices up to the second, in order and without
+/// the requests `Duplicate`, `Parent` and `Close`. Fails on an allocation failure.
 pub fn push_noted(text: &mut String, bench: &Bench, from: u64, to: u64) -> Result<(), AllocError> {
     for place in from..to {
         match bench.calls.get(place as usize) {
