@@ -2,8 +2,12 @@
 //! and are killed after a grace.
 #![tactic(auto)]
 
-pub mod late;
-pub mod read;
-pub mod run;
+mod late;
+mod read;
+mod run;
 mod stop;
 mod watch;
+
+pub use late::{Late, LateRead, TERMINATE, Until};
+pub use read::read_until;
+pub use run::run_until;

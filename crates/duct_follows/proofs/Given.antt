@@ -20,7 +20,7 @@ use Rattle.duct_follows.proofs.ScriptHooks.{makes_one, makes_none}
 use Rattle.duct_follows.proofs.Specs.{same_asked_at, same_wired}
 use Rattle.duct_follows.proofs.Wiring.{streams_in, three_streams, wired-streams}
 use Rattle.duct_plan.specs.AskedOf.{IsAskedThere, IsAnswered}
-use Rattle.duct_plan.specs.declared.asked.Wired as answer
+use Rattle.duct_plan.specs.declared.command.Wired as answer
 use Rattle.duct_plan.specs.Source.{origin_of}
 use Rattle.duct_script.specs.declared.hook.ScriptHook.{ScriptHook}
 

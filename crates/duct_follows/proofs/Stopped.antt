@@ -23,7 +23,7 @@ use Rattle.duct_follows.proofs.Given.{answer_is_asked, only_the_answer}
 use Rattle.duct_follows.proofs.ScriptHooks.{makes_one, makes_none, refuses_one}
 use Rattle.duct_follows.proofs.SameStop.{same_stop_is, chain_stops_same}
 use Rattle.duct_plan.specs.AskedOf.{IsAskedThere}
-use Rattle.duct_plan.specs.declared.asked.Wired as answer
+use Rattle.duct_plan.specs.declared.command.Wired as answer
 use Rattle.duct_script.specs.declared.hook.ScriptHook.{ScriptHook}
 
 -- if there is a hook, it may refuse with `OutOfMemory`

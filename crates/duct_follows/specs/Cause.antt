@@ -4,7 +4,7 @@ use Rattle.std.specs.declared.result.Result.{Result}
 use Rattle.duct_system.specs.declared.error.Error.{Error}
 use Rattle.duct_system.specs.declared.error.Error.TheVariants.{Hook, HookEnd}
 use Rattle.duct_follows.specs.Given.{FoundNoMemory}
-use Rattle.duct_plan.specs.declared.asked.Wired.{Wired}
+use Rattle.duct_plan.specs.declared.command.Wired.{Wired}
 
 -- two errors of hooks are equal
 abbrev pub IsSameStop : Error → Error → Type 0

@@ -11,7 +11,7 @@ use Rattle.duct_system.specs.declared.system.Kind.TheVariants.{OutOfMemory}
 use Rattle.duct_system.specs.declared.system.Stdio.{Stdio}
 use Rattle.duct_follows.specs.declared.untold.Untold.{Untold}
 use Rattle.duct_follows.specs.declared.untold.Untold.TheVariants.{HookOutOfMemory}
-use Rattle.duct_plan.specs.declared.asked.Wired.{Wired}
+use Rattle.duct_plan.specs.declared.command.Wired.{Wired}
 use Rattle.duct_plan.specs.Source.{origin_of}
 
 -- this spec and these streams are those of the result

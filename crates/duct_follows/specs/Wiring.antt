@@ -9,7 +9,7 @@ use Rattle.duct_system.specs.declared.system.Stdio.{Stdio}
 use Rattle.duct_system.specs.declared.system.Stdio.TheVariants.{Inherit}
 use Rattle.duct_start.specs.Chain.{SpecWithOrigins}
 use Rattle.duct_plan.specs.Found.{hook_of}
-use Rattle.duct_plan.specs.declared.asked.Wired as answer
+use Rattle.duct_plan.specs.declared.command.Wired as answer
 use Rattle.duct_plan.specs.Source.{origin_of}
 use Rattle.duct_plan.specs.declared.checker.Source.{Source}
 

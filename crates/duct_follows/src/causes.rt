@@ -19,10 +19,7 @@ use crate::untold::Untold;
 use duct_base::error::Error;
 use duct_base::spec::Hook;
 use duct_base::system::{Entry, Fault, Kind, Numbered};
-use duct_plan::asked::{Wired, asked_at};
-use duct_plan::checker::{fault_of, trace};
-use duct_plan::found::Surroundings;
-use duct_plan::items::{Item, Plan};
+use duct_plan::{Item, Plan, Surroundings, Wired, asked_at, fault_of, trace};
 use duct_script::hook::ScriptHook;
 use std::alloc::Global;
 

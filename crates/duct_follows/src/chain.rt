@@ -10,8 +10,7 @@ ghost use Rattle.duct_plan.specs.Source.{origin_of};
 use duct_base::error::Error;
 use duct_base::spec::{CommandSpec, Hook, Port, Stream, give};
 use duct_base::system::{Numbered, Stdio};
-use duct_plan::asked::Wired;
-use duct_plan::checker::Source;
+use duct_plan::{Source, Wired};
 
 /// Runs the hooks of a command on what the tree gives it, the outermost first. Returns its spec
 /// after them, and where its streams then come from. Each hook's places are looked up among its

@@ -21,11 +21,9 @@ use crate::untold::Untold;
 use duct_base::error::Error;
 use duct_base::spec::{CommandSpec, Hook};
 use duct_base::system::{Entry, Kind, Numbered, Stdio};
-use duct_plan::asked::{Wired, asked_at};
-use duct_plan::checker::{Source, origin, trace};
-use duct_plan::found::Surroundings;
-use duct_plan::items::{Item, Plan};
-use duct_plan::trace::{first_end, second_end};
+use duct_plan::{
+    Item, Plan, Source, Surroundings, Wired, asked_at, first_end, origin, second_end, trace,
+};
 use duct_script::hook::ScriptHook;
 use duct_system::same::same_spec;
 use std::alloc::{AllocError, Global};

@@ -7,7 +7,7 @@ ghost use Rattle.duct_program.specs.declared.usage.Usage.TheVariants.{Memory};
 ghost use Rattle.duct_follows.specs.Judgement.{IsJudgement, IsJudgedLine};
 ghost use Rattle.duct_follows.specs.declared.verdict.Verdict.TheVariants as verdicts;
 
-use crate::judge::judge;
+use crate::entries::judge;
 use crate::text::VerdictText;
 use crate::untold::Untold;
 use crate::verdict::Verdict;
@@ -15,8 +15,7 @@ use duct::Expression;
 use duct_base::spec::Hook;
 use duct_base::system::{Entry, Numbered};
 use duct_plan::plan::plan_of_reader;
-use duct_program::line::line;
-use duct_program::usage::Usage;
+use duct_program::{Usage, line};
 use duct_script::hook::ScriptHook;
 use std::alloc::Global;
 

@@ -2,14 +2,25 @@
 #![tactic(auto)]
 
 pub mod causes;
-pub mod chain;
+mod chain;
+mod entries;
 pub mod follows;
-pub mod judge;
 pub mod judgement;
-pub mod perform;
-pub mod sources;
+mod program;
+mod sources;
 pub mod stops;
-pub mod text;
+mod text;
 mod unbalanced;
 pub mod untold;
-pub mod verdict;
+mod verdict;
+
+pub use causes::{answers_last_fault, is_caused_or_memory, last_fault};
+pub use chain::wired;
+pub use entries::judge;
+pub use judgement::{Judgement, NoEnd, judge_line};
+pub use program::perform;
+pub use sources::{CallerEnds, are_given};
+pub use stops::{is_clean, stops_at_fault};
+pub use text::VerdictText;
+pub use untold::Untold;
+pub use verdict::{Due, Verdict};

@@ -8,7 +8,7 @@ ghost use Rattle.duct_follows.specs.Sources.{IsFrom, IsGiven, duplicated_as, giv
 ghost use Rattle.duct_plan.specs.Source.{origin_of};
 
 use duct_base::system::{Entry, Stdio};
-use duct_plan::checker::{Source, origin};
+use duct_plan::{Source, origin};
 
 /// How the streams that go to an end of the caller are told from others.
 #[derive(Clone, Copy)]

@@ -4,7 +4,7 @@ ghost use Rattle.duct_system.specs.EntryView.{entry_view};
 ghost use Rattle.duct_system.specs.Trace.{is_close, IsClean, OnlyCloses, StopsAtFault};
 
 use duct_base::system::Entry;
-use duct_plan::checker::fault_of;
+use duct_plan::fault_of;
 
 /// Returns whether no entry has a fault.
 pub fn is_clean(entries: &[Entry]) -> bool

@@ -7,8 +7,7 @@ ghost use Rattle.duct_plan.specs.PlanView.{item_of, plan_view};
 ghost use Rattle.duct_follows.specs.VerdictForm.{due_form, found_form, request_form, verdict_form};
 
 use crate::verdict::{Due, Verdict};
-use duct_plan::items::{Item, Plan};
-use duct_plan::text::write_item;
+use duct_plan::{Item, Plan, write_item};
 use std::fmt;
 
 /// A verdict as a line of text, by the plan by which it was found: `yes`, or as in

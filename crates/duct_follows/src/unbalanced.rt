@@ -6,7 +6,7 @@ ghost use Rattle.duct_system.specs.Ledger.{count_of};
 ghost use Rattle.duct_follows.specs.Unbalanced.{is_unbalanced, unbalanced};
 
 use duct_base::system::Entry;
-use duct_plan::checker::{opened_numbers, spent_numbers};
+use duct_plan::{opened_numbers, spent_numbers};
 use std::alloc::{AllocError, Global};
 
 /// Returns the first number, of those that requests returned and then of those that were spent,

@@ -1,12 +1,19 @@
 //! A system that passes on to another one only the requests that a policy allows.
 #![tactic(auto)]
 
-pub mod child;
-pub mod counts;
+mod child;
+mod counts;
 mod crew;
-pub mod fixed;
-pub mod guard;
-pub mod policies;
-pub mod policy;
+mod fixed;
+mod guard;
+mod policies;
+mod policy;
 mod requests;
 mod streams;
+
+pub use child::GuardedChild;
+pub use counts::Counts;
+pub use fixed::{Fixed, FixedRules};
+pub use guard::Guarded;
+pub use policies::{AtOnce, Both, Folders, Limits, Programs, ReadOnly};
+pub use policy::Policy;

@@ -2,15 +2,22 @@
 //! calls std for the rest.
 #![tactic(auto)]
 
-pub mod child;
-pub mod clock;
-pub mod end;
+mod child;
+mod clock;
+mod end;
 mod environment;
 mod fault;
-pub mod host;
+mod host;
 mod opened;
-pub mod parents;
-pub mod reader;
+mod parents;
+mod reader;
 mod spawn;
 mod standard;
 mod started;
+
+pub use child::Child;
+pub use clock::HostClock;
+pub use end::End;
+pub use host::Host;
+pub use parents::Parents;
+pub use reader::Reader;

@@ -9,7 +9,7 @@ use Rattle.duct_start.specs.Asked.{IsAsked, stream_to, streams_to}
 use Rattle.duct_start.specs.Follows.{pairs_in, program_at}
 use Rattle.duct_start.specs.Surroundings.{Surroundings}
 use Rattle.duct_plan.specs.AskedOf.{IsAskedThere}
-use Rattle.duct_plan.specs.declared.asked.Wired.{Wired}
+use Rattle.duct_plan.specs.declared.command.Wired.{Wired}
 use Rattle.duct_plan.specs.Source.{origin_of}
 
 pub asked_there : {E H : Type 0} (entries : List EntryView) (number_of : E → ℕ) (place : ℕ)

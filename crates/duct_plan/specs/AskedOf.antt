@@ -8,9 +8,9 @@ use Rattle.duct_start.specs.Surroundings.{Surroundings}
 use Rattle.duct_start.specs.Plan.{Plan}
 use Rattle.duct_start.specs.Step.{AskSpawn}
 use Rattle.duct_plan.specs.Commands.{IsCommandAt}
-use Rattle.duct_plan.specs.declared.asked.AskedError.{AskedError}
-use Rattle.duct_plan.specs.declared.asked.AskedError.TheVariants.{TraceTooShort, Memory}
-use Rattle.duct_plan.specs.declared.asked.Wired as answer
+use Rattle.duct_plan.specs.declared.command.AskedError.{AskedError}
+use Rattle.duct_plan.specs.declared.command.AskedError.TheVariants.{TraceTooShort, Memory}
+use Rattle.duct_plan.specs.declared.command.Wired as answer
 use Rattle.duct_plan.specs.Source.{origin_of}
 
 -- the result has this spec and these streams

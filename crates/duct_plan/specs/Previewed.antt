@@ -7,11 +7,11 @@ use Rattle.duct_start.specs.TreeView.{TreeView}
 use Rattle.duct_program.specs.Answered.{Means}
 use Rattle.duct_program.specs.Line.{meant}
 use Rattle.duct_program.specs.Printed.{usage_text}
-use Rattle.duct_program.specs.declared.perform.NoHook.{NoHook}
+use Rattle.duct_program.specs.declared.program.NoHook.{NoHook}
 use Rattle.duct_program.specs.declared.usage.Usage.{Usage}
 use Rattle.duct_plan.specs.DotForm.{plan_dot}
 use Rattle.duct_plan.specs.PlanForm.{plan_text}
-use Rattle.duct_plan.specs.declared.preview.NoEnd.{NoEnd}
+use Rattle.duct_plan.specs.declared.words.NoEnd.{NoEnd}
 
 -- the expression that arguments mean, which has no ends of a caller and no hooks
 abbrev pub line_of : List (List ℕ) → Result (TreeView NoEnd NoHook) Usage

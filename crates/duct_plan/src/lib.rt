@@ -3,18 +3,30 @@
 //! tree gives it.
 #![tactic(auto)]
 
-pub mod asked;
 pub mod checker;
+mod command;
 pub mod dot;
-pub mod found;
+mod found;
 pub mod items;
 mod lookup;
 mod path;
 pub mod perform;
 pub mod plan;
-pub mod preview;
+mod returned;
 mod step;
 mod streams;
 pub mod text;
-pub mod trace;
 mod variables;
+mod words;
+
+pub use checker::{
+    Source, fault_of, in_trace, is_balanced, open_count, opened_numbers, origin, spent_numbers,
+    trace,
+};
+pub use command::{AskedError, Wired, asked, asked_at};
+pub use dot::PlanDot;
+pub use found::{Surroundings, Target, VariableChange, variable};
+pub use items::{Item, Plan};
+pub use returned::{first_end, second_end};
+pub use text::{PlanText, write_item};
+pub use words::{NoEnd, drawing, preview};

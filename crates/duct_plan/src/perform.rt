@@ -7,9 +7,8 @@ ghost use Rattle.duct_program.specs.declared.failure.Failure.TheVariants as fail
 ghost use Rattle.duct_program.specs.declared.usage.Usage.{Usage};
 ghost use Rattle.duct_plan.specs.Previewed.{IsPrinted, asked_of, line_of, usage_line};
 
-use crate::preview::{drawing, preview};
-use duct_program::failure::Failure;
-use duct_program::usage::Usage;
+use crate::words::{drawing, preview};
+use duct_program::{Failure, Usage};
 use std::alloc::Global;
 use std::io;
 use std::io::Write;

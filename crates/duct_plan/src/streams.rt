@@ -8,7 +8,7 @@ ghost use Rattle.duct_plan.specs.Source.{origin_of};
 
 use crate::checker::Source;
 use crate::found::{Surroundings, Target};
-use crate::trace::{first_end, second_end};
+use crate::returned::{first_end, second_end};
 use duct::{Entry, Numbered, Port, Side, Stdio, Stream};
 
 /// Returns the port of a stream that goes to this target. A stream that goes to the same stream of

@@ -1,10 +1,15 @@
 //! The program: what its arguments mean, and what it does over any system.
 #![tactic(auto)]
 
+mod arguments;
 mod command;
-pub mod failure;
-pub mod line;
+mod failure;
 mod options;
-pub mod perform;
 mod pieces;
+mod program;
 pub mod usage;
+
+pub use arguments::line;
+pub use failure::Failure;
+pub use program::{NoHook, answer, perform};
+pub use usage::Usage;

@@ -4,5 +4,10 @@
 pub mod error;
 pub mod journal;
 mod parts;
-pub mod read;
+mod read;
 pub mod write;
+
+pub use error::{LineRefusal, Refusal};
+pub use journal::{journal_text, read_journal};
+pub use read::read_entry;
+pub use write::{Variables, entry_text};

@@ -2,9 +2,15 @@
 //! no process at all, up to the first request that differs.
 #![tactic(auto)]
 
-pub mod child;
+mod child;
 mod found;
-pub mod reader;
-pub mod recording;
-pub mod replay;
-pub mod worker;
+mod reader;
+mod recording;
+mod replay;
+mod worker;
+
+pub use child::ReplayChild;
+pub use reader::ReplayReader;
+pub use recording::Recording;
+pub use replay::{Replay, ReplayEnd};
+pub use worker::{ReplayDrain, ReplayFeed};

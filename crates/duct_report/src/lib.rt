@@ -3,3 +3,6 @@
 
 pub mod request;
 pub mod text;
+
+pub use request::{failed_request, failed_starts};
+pub use text::EntryText;

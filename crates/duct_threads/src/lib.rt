@@ -10,5 +10,8 @@
 //! `ReaderHandle` it is what the clause of the call of that name says.
 #![tactic(auto)]
 
-pub mod handle;
-pub mod reader;
+mod handle;
+mod reader;
+
+pub use handle::SharedHandle;
+pub use reader::SharedReader;

@@ -7,11 +7,7 @@ ghost use Rattle.duct_guard.specs.Policies.{at_once_rules, limit_rules, program_
 ghost use Rattle.example_beside.specs.Tools.{tool_rules};
 
 use duct::{CommandSpec, Error, Expression, Pool, System};
-use duct_guard::counts::Counts;
-use duct_guard::fixed::{Fixed, FixedRules};
-use duct_guard::guard::Guarded;
-use duct_guard::policies::{AtOnce, Limits, Programs};
-use duct_guard::policy::Policy;
+use duct_guard::{AtOnce, Counts, Fixed, FixedRules, Guarded, Limits, Policy, Programs};
 use std::alloc::Global;
 use std::marker::Brand;
 use std::sync::Wait;

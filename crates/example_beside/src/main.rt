@@ -12,8 +12,7 @@ use crate::replay::replays;
 use crate::steps::{Allowed, step_text};
 use crate::threads::{read_or_kill, wait_or_kill};
 use duct::{Error, Expression, Pool, cmd};
-use duct_host::end::End;
-use duct_host::host::Host;
+use duct_host::{End, Host};
 use std::fs::File;
 use std::time::Duration;
 

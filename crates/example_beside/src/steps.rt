@@ -3,7 +3,7 @@ ghost use Rattle.std.specs.Prelude.{◌≡◌, []};
 
 use crate::guard::{read_in_turn, read_limited, read_listed, read_step};
 use duct::{Error, Expression, System, cmd};
-use duct_guard::counts::Counts;
+use duct_guard::Counts;
 use std::alloc::{AllocError, Global};
 use std::sync::Wait;
 

@@ -2,9 +2,8 @@
 ghost use Rattle.std.specs.Prelude.{IfSome, Err};
 
 use duct::{Error, Fault};
-use duct_host::clock::HostClock;
-use duct_threads::handle::SharedHandle;
-use duct_threads::reader::SharedReader;
+use duct_host::HostClock;
+use duct_threads::{SharedHandle, SharedReader};
 use std::rt;
 use std::sync::Wait;
 use std::thread::{self, Threads};

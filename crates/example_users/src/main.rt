@@ -5,7 +5,7 @@
 mod examples;
 
 use duct::{Error, Expression, Pool, System, cmd};
-use duct_host::host::Host;
+use duct_host::Host;
 use std::alloc::Global;
 use std::sync::Wait;
 

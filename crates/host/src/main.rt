@@ -2,8 +2,8 @@
 //! text, and exits with its status.
 #![tactic(auto)]
 
-use duct_host::host::Host;
-use duct_program::perform::perform;
+use duct_host::Host;
+use duct_program::perform;
 use std::io::{ErrorKind, Write};
 use std::process::ExitCode;
 use std::{env, io};

@@ -3,9 +3,8 @@
 //! it is named `-`.
 #![tactic(auto)]
 
-use duct_follows::perform::perform;
-use duct_record::error::Refusal;
-use duct_record::journal::read_journal;
+use duct_follows::perform;
+use duct_record::{Refusal, read_journal};
 use std::alloc::Global;
 use std::io::{ErrorKind, Read, Write};
 use std::process::ExitCode;

@@ -1,8 +1,7 @@
 //! The program: the expression that its arguments mean, and what it does.
 use crate::texts::Bytes;
 use duct::{Expression, System};
-use duct_program::line::line;
-use duct_program::perform::perform;
+use duct_program::{line, perform};
 use duct_script::hook::ScriptHook;
 use rows_table::words::arguments;
 use std::alloc::{AllocError, Global};

@@ -1,6 +1,6 @@
 //! Texts for the results of calls.
 use duct::{Error, Output};
-use duct_deadline::late::{Late, LateRead, Until};
+use duct_deadline::{Late, LateRead, Until};
 use std::alloc::AllocError;
 use std::fmt;
 use std::sync::Arc;

@@ -5,9 +5,7 @@
 
 use duct::{Clock, Entry, Place, Pool, Running, System};
 use duct_base::pool::pool_take;
-use duct_host::child::Child;
-use duct_host::end::End;
-use duct_host::host::Host;
+use duct_host::{Child, End, Host};
 use rows_calls::TURNS;
 use rows_calls::machine::{Machine, PoolOf};
 use rows_calls::texts::Bytes;

@@ -3,7 +3,7 @@ use crate::Parts;
 use crate::journals::journal;
 use duct::{CommandSpec, Entry, Error, Hook, Stream};
 use duct_base::spec::give;
-use duct_plan::checker::{is_balanced, open_count, opened_numbers, origin, spent_numbers, trace};
+use duct_plan::{is_balanced, open_count, opened_numbers, origin, spent_numbers, trace};
 use duct_script::text::Words;
 use rows_table::hooks::hook;
 use rows_table::stop::TableError;

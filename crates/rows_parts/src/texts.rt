@@ -1,17 +1,13 @@
 //! The texts of recorded journals, verdicts and plans.
 use crate::Parts;
 use duct::{Entry, Error};
-use duct_follows::judgement::judge_line;
-use duct_plan::dot::PlanDot;
+use duct_follows::judge_line;
 use duct_plan::perform::perform;
 use duct_plan::plan::plan;
-use duct_plan::text::PlanText;
-use duct_program::usage::Usage;
-use duct_record::error::{LineRefusal, Refusal};
-use duct_record::journal::{journal_text, read_journal};
-use duct_record::write::Variables;
-use duct_report::request::failed_request;
-use duct_report::text::EntryText;
+use duct_plan::{PlanDot, PlanText};
+use duct_program::Usage;
+use duct_record::{LineRefusal, Refusal, Variables, journal_text, read_journal};
+use duct_report::{EntryText, failed_request};
 use rows_table::expressions::written;
 use rows_table::stop::TableError;
 use rows_table::words::arguments;

@@ -3,7 +3,7 @@
 ghost use Rattle.std.specs.Io.{WritesAtMost};
 
 use crate::words::{ERROR_KINDS, first_word, named};
-use duct_host::parents::Parents;
+use duct_host::Parents;
 use std::alloc::{AllocError, Allocator, Global};
 use std::env::FillError;
 use std::fs::{Metadata, OpenOptions};

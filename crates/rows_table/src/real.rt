@@ -1,6 +1,6 @@
 //! The real machine as tables see it: its runtime, and the file descriptors and children of this
 //! process.
-use duct_host::parents::Parents;
+use duct_host::Parents;
 use std::fs::File;
 use std::io::ErrorKind;
 use std::process::Processes;

@@ -3,7 +3,7 @@
 use crate::scenes::{Bench, FIRST};
 use crate::stop::TableError;
 use duct::{CommandSpec, Entry, Pool, Stdio, Stream, System};
-use duct_plan::checker::{Source, fault_of, opened_numbers, origin, spent_numbers, trace};
+use duct_plan::{Source, fault_of, opened_numbers, origin, spent_numbers, trace};
 use duct_script::calls::{Call, CallLog};
 use duct_script::requests::Sort;
 use duct_script::text::Words;

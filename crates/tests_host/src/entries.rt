@@ -1,6 +1,6 @@
 //! Tests of the parent's variables, as the host returns them and notes them in its journal.
 use duct_base::system::{Entry, System};
-use duct_host::host::Host;
+use duct_host::Host;
 use rows_table::odd::{Odd, Script};
 use rows_table::real::Real;
 use std::alloc::{AllocError, Global};

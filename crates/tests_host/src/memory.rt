@@ -5,8 +5,7 @@
 use duct::{Error, Worker};
 use duct_base::spec::{CommandSpec, Port, spec_of};
 use duct_base::system::{Child, ExitStatus, Fault, Job, Kind, Stdio, System};
-use duct_host::child;
-use duct_host::host::Host;
+use duct_host::Host;
 use rows_table::odd::{Odd, Script};
 use rows_table::real::Real;
 use rows_table::stop::is_memory;
@@ -45,7 +44,7 @@ fn spec(alloc: Global, word: &str) -> Result<CommandSpec, AllocError> {
 }
 
 /// Starts a child that runs until it is killed.
-fn lasting<R: Real>(rt: &R, script: &Script) -> Result<child::Child<Odd<R>>, Error> {
+fn lasting<R: Real>(rt: &R, script: &Script) -> Result<duct_host::Child<Odd<R>>, Error> {
     let odd = Odd::new(rt.clone()?, script.clone()?);
     let spec = spec(rt.alloc(), "odd")?;
     let null = [Stdio::Null, Stdio::Null, Stdio::Null];

@@ -2,9 +2,7 @@
 //! and of threads with a host each.
 use crate::threads::Ticking;
 use duct::{Error, Expression, Handle, Output, Pool, System, cmd};
-use duct_host::child::Child;
-use duct_host::end::End;
-use duct_host::host::Host;
+use duct_host::{Child, End, Host};
 use rows_table::real::{Real, count_left};
 use std::alloc::Global;
 use std::rt::Clock as Ticks;

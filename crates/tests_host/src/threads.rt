@@ -2,9 +2,8 @@
 //! compares what is left at its end with what there was before. No command sleeps for much more
 //! than 20 seconds, so that a test that loses an order fails and doesn't hang.
 use duct::{Clock, Error, ExitStatus, Expression, Handle, Output, Pool, ReaderHandle, System, cmd};
-use duct_host::host::Host;
-use duct_threads::handle::SharedHandle;
-use duct_threads::reader::SharedReader;
+use duct_host::Host;
+use duct_threads::{SharedHandle, SharedReader};
 use rows_table::real::count_left;
 use std::alloc::Global;
 use std::sync::{Arc, Wait};

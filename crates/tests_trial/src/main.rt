@@ -15,12 +15,9 @@ mod trees;
 
 use crate::trees::{TREES_WITH_ENDS, Wires, tree};
 use duct::{Error, Expression, Fault, Hook, Pool, System};
-use duct_host::child::Child;
-use duct_host::end::End;
-use duct_host::host::Host;
-use duct_program::line::line;
-use duct_record::journal::journal_text;
-use duct_record::write::Variables;
+use duct_host::{Child, End, Host};
+use duct_program::line;
+use duct_record::{Variables, journal_text};
 use rows_table::expressions::{Lender, Tree, written_with};
 use rows_table::real::{Left, count_left};
 use rows_table::stop::TableError;

@@ -9,10 +9,7 @@ ghost use Rattle.duct_start.specs.TreeView.{around, stdout_file};
 ghost use Rattle.duct.specs.TreeView.{tree_view};
 
 use duct::{Error, Expression, Handle, Hook, Pool, System};
-use duct_host::child::Child;
-use duct_host::end::End;
-use duct_host::host::Host;
-use duct_host::parents::Parents;
+use duct_host::{Child, End, Host, Parents};
 use std::fs::File;
 use std::process::Processes;
 use std::rt::{Env, Files};

@@ -4,7 +4,7 @@ use super::limits::{build, supervise};
 use super::script::{run_script, started};
 use duct::{Clock, Error, ExitStatus, Expression, Fault, Kind, Output, Pool, System, cmd};
 use duct_attempts::run_attempts;
-use duct_host::clock::HostClock;
+use duct_host::HostClock;
 use duct_script::calls::{Call, CallLog};
 use duct_script::child::PollAnswer;
 use duct_script::clock::ScriptClock;

@@ -1,7 +1,6 @@
 //! A script runner, whose lines are commands, and what is read of the journal after it.
 use duct::{Entry, Error, Expression, Pool, System, cmd};
-use duct_report::request::failed_request;
-use duct_report::text::EntryText;
+use duct_report::{EntryText, failed_request};
 use std::alloc::{AllocError, Global};
 use std::sync::Wait;
 

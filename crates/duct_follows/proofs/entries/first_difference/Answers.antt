@@ -6,7 +6,7 @@ use Rattle.duct_start.specs.Follows.{Follows}
 use Rattle.duct_follows.specs.ScriptHooks.{allows}
 use Rattle.duct_plan.specs.PlanView.{plan_view}
 use Rattle.duct_follows.proofs.Verdicts.{follow_more}
-use Rattle.duct_follows.proofs.judge.first_difference.Goals as goal
+use Rattle.duct_follows.proofs.entries.first_difference.Goals as goal
 
 pub returns-then-not-branch : goal.returns-then-not-branch
 returns-then-not-branch g c =

@@ -3,7 +3,7 @@ use Rattle.std.proofs.Common.{◌≡◌, map, vec_len}
 use Rattle.duct.specs.TreeView.{tree_view}
 use Rattle.duct_program.specs.CommandView.{redirection_view}
 use Rattle.duct_program.specs.Line.{redirected_tree}
-use Rattle.duct_program.proofs.line.redirected_by.Given as goal
+use Rattle.duct_program.proofs.arguments.redirected_by.Given as goal
 
 abbrev pub invariant-loop-redirection : goal.invariant-loop-redirection
 invariant-loop-redirection g l =

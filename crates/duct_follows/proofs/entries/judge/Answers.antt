@@ -4,7 +4,7 @@ use Rattle.duct_system.specs.EntryView.{entry_view}
 use Rattle.duct_follows.specs.ScriptHooks.{allows}
 use Rattle.duct_plan.specs.PlanView.{plan_view}
 use Rattle.duct_follows.proofs.Verdicts.{decides, judged_by}
-use Rattle.duct_follows.proofs.judge.judge.Goals as goal
+use Rattle.duct_follows.proofs.entries.judge.Goals as goal
 
 pub returns-clause-verdict : goal.returns-clause-verdict
 returns-clause-verdict g c =

@@ -1,7 +1,7 @@
 -- The text or the error of an expression is that of its start and of what was read.
 use Rattle.std.proofs.Common.{rules, ◌⊎◌, inl, inr}
 use Rattle.duct.specs.TreeView.{tree_view}
-use Rattle.duct_program.proofs.perform.answer.Goals as goal
+use Rattle.duct_program.proofs.program.answer.Goals as goal
 
 either_way : {A B C D : Type 0} → (A → C) → (B → D) → A ⊎ B → C ⊎ D
 either_way first second (inl a) = inl (first a)

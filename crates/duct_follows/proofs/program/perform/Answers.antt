@@ -4,7 +4,7 @@ use Rattle.std.specs.Result.{result_unwrap_or}
 use Rattle.std.specs.declared.result.Result.{Result}
 use Rattle.std.proofs.Common.{refl, sym, ◌∙◌}
 use Rattle.duct_follows.specs.Printed.{status_of}
-use Rattle.duct_follows.proofs.perform.perform.Goals as goal
+use Rattle.duct_follows.proofs.program.perform.Goals as goal
 
 was_written : {Error : Type 0} (answer : Result ℕ Error) (status : ℕ) (Text : Type 0)
     → IfOk answer (λ told. told ≡ status) → IfOk answer (λ told. Text)

@@ -4,7 +4,7 @@ use Rattle.duct_system.specs.EntryView.{entry_view}
 use Rattle.duct_follows.specs.ScriptHooks.{allows}
 use Rattle.duct_plan.specs.PlanView.{plan_view}
 use Rattle.duct_follows.specs.Verdict.{FollowUpTo}
-use Rattle.duct_follows.proofs.judge.first_difference.Given as goal
+use Rattle.duct_follows.proofs.entries.first_difference.Given as goal
 
 abbrev pub invariant-loop-entry : goal.invariant-loop-entry
 invariant-loop-entry g l =

@@ -5,7 +5,7 @@ use Rattle.duct.specs.TreeView.{tree_view}
 use Rattle.duct_program.specs.Line.{pipeline_of}
 use Rattle.duct_program.specs.Pieces.{further, pieces}
 use Rattle.duct_program.proofs.Pipes.{piped_behind, pieces_len}
-use Rattle.duct_program.proofs.line.pipeline.Given as goal
+use Rattle.duct_program.proofs.arguments.pipeline.Given as goal
 
 abbrev pub invariant-loop-rest : goal.invariant-loop-rest
 invariant-loop-rest g l =

@@ -1,7 +1,7 @@
 use Rattle.std.proofs.Common.{ap, refl, sym, ◌∙◌}
 use Rattle.std.specs.Prelude.{Err}
 use Rattle.duct_program.proofs.Printing.{status_known, two_prints_usage, zero_prints_none}
-use Rattle.duct_program.proofs.perform.perform.Goals as goal
+use Rattle.duct_program.proofs.program.perform.Goals as goal
 
 pub returns-in-Ok-clause-text : goal.returns-in-Ok-clause-text
 returns-in-Ok-clause-text g c = λ zero.

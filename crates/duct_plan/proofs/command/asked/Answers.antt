@@ -6,7 +6,7 @@ use Rattle.duct_plan.proofs.Counted.{item_at}
 use Rattle.duct_plan.specs.Commands.{is_spawn}
 use Rattle.duct_plan.specs.Found.{found_of}
 use Rattle.duct_plan.specs.PlanView.{item_of}
-use Rattle.duct_plan.proofs.asked.asked.Goals as goal
+use Rattle.duct_plan.proofs.command.asked.Goals as goal
 
 pub returns-clause-some : goal.returns-clause-some
 returns-clause-some g c =

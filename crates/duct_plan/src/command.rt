@@ -14,8 +14,8 @@ use crate::checker::Source;
 use crate::found::Surroundings;
 use crate::items::{Item, Plan};
 use crate::plan::{is_canonical, program_of};
+use crate::returned::{pairs_in, text_at};
 use crate::streams::{port_to, streams_to};
-use crate::trace::{pairs_in, text_at};
 use crate::variables::variables;
 use duct::{CommandSpec, Entry, Numbered, Stdio, Stream};
 use duct_base::spec::spec_of;
@@ -34,7 +34,7 @@ pub enum AskedError {
 
 impl From<AllocError> for AskedError {
     ghost use Rattle.std.specs.Prelude.{◌≡◌};
-    ghost use Rattle.duct_plan.specs.declared.asked.AskedError.TheVariants.{Memory};
+    ghost use Rattle.duct_plan.specs.declared.command.AskedError.TheVariants.{Memory};
 
     ghost from_gives = { λ _ error. error ≡ Memory };
 

@@ -11,8 +11,8 @@ ghost use Rattle.duct_program.specs.declared.failure.Failure.TheVariants as fail
 ghost use Rattle.duct_program.specs.declared.usage.Usage.{Usage};
 ghost use Rattle.duct_program.specs.declared.usage.Usage.TheVariants.{Memory};
 
+use crate::arguments::line;
 use crate::failure::Failure;
-use crate::line::line;
 use duct::{CommandSpec, Expression, Fault, Hook, Pool, System};
 use duct_run::views::Viewed;
 use std::alloc::{AllocError, Global};

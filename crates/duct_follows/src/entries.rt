@@ -13,8 +13,7 @@ use crate::untold::Untold;
 use crate::verdict::{Due, Verdict};
 use duct_base::spec::Hook;
 use duct_base::system::{Entry, Numbered};
-use duct_plan::checker::trace;
-use duct_plan::items::Plan;
+use duct_plan::{Plan, trace};
 use duct_script::hook::ScriptHook;
 use std::alloc::{AllocError, Global};
 

@@ -7,9 +7,7 @@ use crate::dot::PlanDot;
 use crate::plan::plan_of_reader;
 use crate::text::PlanText;
 use duct::Expression;
-use duct_program::line::line;
-use duct_program::perform::NoHook;
-use duct_program::usage::Usage;
+use duct_program::{NoHook, Usage, line};
 use std::alloc::Global;
 
 /// The type of a line's ends of the caller, of which it has none.

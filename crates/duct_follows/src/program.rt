@@ -13,7 +13,7 @@ use crate::judgement::{Judgement, NoEnd, judge_line};
 use crate::verdict::Verdict;
 use duct_base::spec::Hook;
 use duct_base::system::{Entry, Numbered};
-use duct_program::usage::Usage;
+use duct_program::Usage;
 use duct_script::hook::ScriptHook;
 use std::alloc::Global;
 use std::io;
