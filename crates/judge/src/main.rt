@@ -4,40 +4,21 @@
 #![tactic(auto)]
 
 use duct_follows::perform;
+use duct_main::{Program, arguments};
 use duct_record::{Refusal, read_journal};
 use std::alloc::Global;
-use std::io::{ErrorKind, Read, Write};
+use std::io::{Read, Write};
 use std::process::ExitCode;
-use std::rt::{Env, Files};
-use std::{env, fs, io};
+use std::rt::Files;
+use std::{fs, io};
+
+const PROGRAM: Program = Program {
+    no_memory: "judge: out of memory\n",
+    failed: 3,
+};
 
 /// What is written where the arguments aren't those of the program.
 const USAGE: &str = "judge: usage: judge JOURNAL -- WORD..\n";
-
-/// The arguments after the program's own name. Fails if one of them is not UTF-8.
-fn arguments<R: Env + AllocGlobal>(rt: &R) -> io::Result<Vec<String>> {
-    let mut words = Vec::new(rt.alloc());
-    for word in env::args(rt)?.skip(1) {
-        words.push(word)?;
-    }
-    Ok(words)
-}
-
-/// The status and the line for an input that could not be read.
-fn unread(error: &io::Error, line: &'static str) -> (u8, &'static str) {
-    match error.kind() {
-        ErrorKind::OutOfMemory => (3, "judge: out of memory\n"),
-        _ => (2, line),
-    }
-}
-
-/// Writes a line, and returns the status, or 3 where the write fails.
-fn told<W: Write>(err: &mut W, status: u8, line: &str) -> u8 {
-    match err.write_all(line.as_bytes()) {
-        Ok(()) => status,
-        Err(_) => 3,
-    }
-}
 
 /// The text of a journal: of the file at this path, or of standard input where the path is `-`.
 fn journal<R: Files + AllocGlobal>(
@@ -64,9 +45,11 @@ fn judge<O: Write, E: Write>(
     match read_journal(alloc, text) {
         Ok(entries) => perform(alloc, words, entries.as_slice(), out, err),
         Err(at) => match (at.refusal, format!(in alloc; "judge: {at}\n")) {
-            (Refusal::Memory, _) | (_, Err(_)) => told(err, 3, "judge: out of memory\n"),
+            (Refusal::Memory, _) | (_, Err(_)) => {
+                PROGRAM.tell(err, PROGRAM.failed, PROGRAM.no_memory)
+            }
             (Refusal::NotJson | Refusal::NotEntry | Refusal::Hidden, Ok(line)) => {
-                told(err, 2, line.as_str())
+                PROGRAM.tell(err, 2, line.as_str())
             }
         },
     }
@@ -81,17 +64,14 @@ fn judged<R: Files + AllocGlobal, O: Write, E: Write>(
     err: &mut E,
 ) -> u8 {
     let [path, mark, words @ ..] = arguments else {
-        return told(err, 2, USAGE);
+        return PROGRAM.tell(err, 2, USAGE);
     };
     if mark.as_str() != "--" {
-        return told(err, 2, USAGE);
+        return PROGRAM.tell(err, 2, USAGE);
     }
     match journal(rt, stdin, path.as_str()) {
         Ok(text) => judge(rt.alloc(), words, text.as_str(), out, err),
-        Err(error) => {
-            let (status, line) = unread(&error, "judge: journal can't be read\n");
-            told(err, status, line)
-        }
+        Err(error) => PROGRAM.tell_error(err, &error, 2, "judge: journal can't be read\n"),
     }
 }
 
@@ -100,10 +80,7 @@ fn main(rt: HostRuntime) -> ExitCode {
     let mut err = rt.stderr();
     let status = match arguments(&rt) {
         Ok(words) => judged(&rt, &mut rt.stdin(), words.as_slice(), &mut out, &mut err),
-        Err(error) => {
-            let (status, line) = unread(&error, "judge: argument is not UTF-8\n");
-            told(&mut err, status, line)
-        }
+        Err(error) => PROGRAM.tell_error(&mut err, &error, 2, "judge: argument is not UTF-8\n"),
     };
     ExitCode::from(status)
 }

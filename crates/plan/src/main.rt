@@ -2,40 +2,22 @@
 //! requests nothing itself.
 #![tactic(auto)]
 
+use duct_main::{Program, arguments};
 use duct_plan::perform::perform;
-use std::io::{ErrorKind, Write};
+use std::io;
 use std::process::ExitCode;
-use std::{env, io};
 
-/// The arguments after the program's own name. Fails if one of them is not UTF-8.
-fn arguments<R: std::rt::Env + AllocGlobal>(rt: &R) -> io::Result<Vec<String>> {
-    let mut words = Vec::new(rt.alloc());
-    for word in env::args(rt)?.skip(1) {
-        words.push(word)?;
-    }
-    Ok(words)
-}
-
-/// The status and the line for arguments that could not be read.
-fn unread(error: &io::Error) -> (u8, &'static str) {
-    match error.kind() {
-        ErrorKind::OutOfMemory => (1, "plan: out of memory\n"),
-        _ => (2, "plan: argument is not UTF-8\n"),
-    }
-}
+const PROGRAM: Program = Program {
+    no_memory: "plan: out of memory\n",
+    failed: 1,
+};
 
 fn main(rt: HostRuntime) -> ExitCode {
     let mut out = io::writer(&rt);
     let mut err = rt.stderr();
     let status = match arguments(&rt) {
         Ok(words) => perform(rt.alloc(), words.as_slice(), &mut out, &mut err),
-        Err(error) => {
-            let (status, line) = unread(&error);
-            match err.write_all(line.as_bytes()) {
-                Ok(()) => status,
-                Err(_) => 1,
-            }
-        }
+        Err(error) => PROGRAM.tell_error(&mut err, &error, 2, "plan: argument is not UTF-8\n"),
     };
     ExitCode::from(status)
 }
