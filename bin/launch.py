@@ -1,11 +1,13 @@
-"""Runs the program whose name the calling script has: bin/host, bin/plan and bin/judge are alike.
+"""Runs the program whose name the calling script has: bin/host, bin/plan, bin/judge and bin/record
+are alike.
 
 usage: bin/NAME WORD..
        bin/NAME --prove [WORD..]
        bin/NAME --help
 
 Every word is the program's own, and crates/NAME/README.md says what they mean, but for a first word
-`--prove`, and for `--help` where it is the only word.
+`--prove`, and for `--help` where it is the only word. The journal that bin/record writes has the
+values of all environment variables, but after a first word `--hide`.
 
 If the proved program is built and no source is newer, it is run. Else an unproved one is run, with
 checks. The toolchain builds it in less than a minute; it is kept until a source changes.

@@ -1,0 +1,73 @@
+//! The work of `host`, and the journal of its start.
+ghost use Rattle.std.specs.Prelude.{◌≡◌, ◌≤◌, flat_map, map, string_bytes, IfOk};
+ghost use Rattle.std.specs.Io.KnownBytes.{Appends};
+ghost use Rattle.std.specs.declared.alloc.Global.{Global};
+ghost use Rattle.std.specs.declared.string.String.{String};
+ghost use Rattle.duct_system.specs.EntryView.{entry_view};
+ghost use Rattle.duct_program.specs.Answered.{PrintsText, line_of};
+ghost use Rattle.duct_program.specs.Parsed.{RefusesAs};
+ghost use Rattle.duct_program.specs.Printed.{AppendsFailure, line_of_text};
+ghost use Rattle.duct_program.specs.declared.failure.Failure.TheVariants as failures;
+ghost use Rattle.duct_program.specs.declared.usage.Usage.{Usage};
+ghost use Rattle.duct_record.specs.JournalMeant.{line_text};
+
+use crate::PROGRAM;
+use duct::{Entry, Hook, System};
+use duct_program::perform::{NoHook, perform};
+use duct_record::journal::journal_text;
+use duct_record::write::Variables;
+use duct_run::views::Viewed;
+use std::alloc::Global;
+use std::io;
+use std::io::Write;
+use std::sync::Wait;
+
+/// Does the work of `host` by `perform`, and returns its status. Whatever that is, the text of the
+/// system's journal is then written to `journal`. If that can't be written, or memory runs out for
+/// it, that is said on `err`, and the status is 3; a part of it may be written. It blocks as
+/// `perform` and the writers do.
+pub fn record<S: System, J: Write, O: Write, E: Write>(
+    rt: &impl Wait,
+    alloc: Global,
+    sys: &mut S,
+    args: &[String],
+    variables: Variables,
+    journal: &mut J,
+    out: &mut O,
+    err: &mut E,
+) -> u8
+    ensures text { result ≡ 0 → (text : String Global) × PrintsText ⟦<S as Viewed>⟧.views
+        ⟦<NoHook as Hook>⟧.allows S.may_read S.Reader.remaining (map string_bytes args.now)
+        sys.old sys.new text
+        × Appends (O.contents out.old) (O.contents out.new) (line_of_text (string_bytes text))
+        × (err.new ≡ err.old) }
+    ensures usage { result ≡ 2 → (usage : Usage)
+        × RefusesAs usage
+        (line_of S.End.number_of ⟦<NoHook as Hook>⟧.allows (map string_bytes args.now))
+        × (S.journal_view sys.new ≡ S.journal_view sys.old)
+        × AppendsFailure (failures.Usage usage) (E.contents err.old) (E.contents err.new)
+        × (out.new ≡ out.old) }
+    ensures journal { result ≤ 2 → Appends (J.contents journal.old) (J.contents journal.new)
+        (flat_map (line_text variables) (S.journal_view sys.new).entries) }
+    ensures status { result ≤ 3 }
+{
+    let status = perform(rt, alloc, sys, args, out, err);
+    match write_journal(alloc, sys.journal(), variables, journal) {
+        Ok(()) => status,
+        Err(error) => PROGRAM.tell_error(err, &error, 3, "record: journal can't be written\n"),
+    }
+}
+
+// Writes the text of a journal.
+fn write_journal<J: Write>(
+    alloc: Global,
+    entries: &[Entry],
+    variables: Variables,
+    journal: &mut J,
+) -> io::Result<()>
+    ensures { IfOk result (λ _. Appends (J.contents journal.old) (J.contents journal.new)
+        (flat_map (line_text variables) (map entry_view entries.now))) }
+{
+    let text = journal_text(alloc, entries, variables)?;
+    journal.write_all(text.as_bytes())
+}
