@@ -6,9 +6,6 @@
 //! A line has the arguments of the program `host`, separated by blanks, and its expression is run
 //! by `read`. The line `= 4` runs tree 4 of `trees`. After `+ ` a line has an expression as
 //! `rows_table::expressions` describes it, where `stdin_file=4` is the file named `4`.
-//!
-//! With the arguments `--journals FOLDER` the journal of each line is written to a file in that
-//! folder, which has the number of the line as its name: `0` for the first.
 #![tactic(auto)]
 
 mod trees;
@@ -17,7 +14,6 @@ use crate::trees::{TREES_WITH_ENDS, Wires, tree};
 use duct::{Error, Expression, Fault, Hook, Pool, System};
 use duct_host::{Child, End, Host};
 use duct_program::line;
-use duct_record::{Variables, journal_text};
 use rows_table::expressions::{Lender, Tree, written_with};
 use rows_table::real::{Left, count_left};
 use rows_table::stop::TableError;
@@ -27,7 +23,7 @@ use std::io::Read;
 use std::rt::{Clock, Files};
 use std::sync::Wait;
 use std::time::Duration;
-use std::{env, fs, io, thread};
+use std::{io, thread};
 
 /// How many times the program checks at most whether all that was started has ended, once a
 /// millisecond.
@@ -161,39 +157,14 @@ fn rest<R: Files + AllocGlobal + Clone + Wait + Clock, C: duct::Child>(
     })
 }
 
-/// The folder for the journals, if one is named.
-fn journals<R: std::rt::Env + AllocGlobal>(rt: &R) -> io::Result<Option<String>> {
-    let mut arguments = env::args(rt)?.skip(1);
-    match arguments.next() {
-        Some(option) if option.as_str() == "--journals" => Ok(arguments.next()),
-        Some(_) | None => Ok(None),
-    }
-}
-
-/// Writes the journal of the line with this number to its file in this folder, if there is one.
-fn keep_journal<R: Files + AllocGlobal, S: System>(
-    rt: &R,
-    sys: &S,
-    folder: &Option<String>,
-    number: usize,
-) -> io::Result<()> {
-    let Some(folder) = folder else {
-        return Ok(());
-    };
-    let path = format!(in rt.alloc(); "{folder}/{number}")?;
-    let text = journal_text(rt.alloc(), sys.journal(), Variables::Shown)?;
-    fs::write(rt, path.as_str(), text.as_bytes())
-}
-
 fn main(rt: HostRuntime) -> io::Result<()> {
     let alloc = rt.alloc();
-    let folder = journals(&rt)?;
     let mut input = String::new(alloc);
     rt.stdin().read_to_string(&mut input)?;
     let before = count_left(&rt)?;
     let mut host = Host::new(&rt, alloc);
     let mut pool: Pool<Child<&HostRuntime>> = Pool::new(alloc);
-    for (number, text) in input.lines().enumerate() {
+    for text in input.lines() {
         let told = if let Some(number) = text.strip_prefix("= ") {
             match tree_of(&rt, &mut host, alloc, number.parse().unwrap_or(0)) {
                 Ok(tree) => run_text(&rt, alloc, &mut host, &mut pool, &tree)?,
@@ -208,7 +179,6 @@ fn main(rt: HostRuntime) -> io::Result<()> {
             line_text(&rt, alloc, &mut host, &mut pool, text)?
         };
         println!(rt; "{told}")?;
-        keep_journal(&rt, &host, &folder, number)?;
         host.clear_journal();
     }
     let left = rest(&rt, &mut pool, before)?;
