@@ -4,12 +4,13 @@ use Rattle.std.specs.declared.result.Result.{Result}
 use Rattle.std.proofs.Common.{◌≡◌, refl, ap, sym, subst, ◌∙◌, arith, append_assoc, ◌+◌, ◌-◌, get_or}
 use Rattle.std.proofs.lemmas.List.{append-nil, map-append, length-append, length-map}
 use native.Mathlib.Nat.{sub-zero}
-use Rattle.duct_system.specs.EntryView.{Close}
+use Rattle.duct_system.specs.EntryView.{EntryView, Close}
 use Rattle.duct_system.specs.Journal.{JournalView}
 use Rattle.duct_system.specs.Streams.{stream_of, end_of, ends_of}
 use Rattle.duct_system.specs.declared.system.Fault.{Fault}
 use Rattle.duct_system.specs.declared.system.Stdio.{Stdio}
 use Rattle.duct_system.specs.declared.system.Stdio.TheVariants.{Inherit, Null, End}
+use Rattle.duct_guard.specs.Added.{AddsAll}
 use Rattle.duct_guard.specs.Closed.{ClosesFirst}
 
 -- the first of two lists
@@ -23,22 +24,28 @@ take_both (suc n) (x ∷ xs) ys =
     let less : suc n - length (x ∷ xs) ≡ n - length xs = omega arith in
     ap (λ l. x ∷ l) (take_both n xs ys) ∙ ap (λ m. x ∷ (take n xs ++ take m ys)) (sym less)
 
+-- entries that are added after others
+then_added : (first second : List EntryView) (given more : ℕ) (one two three : JournalView)
+    → AddsAll first 0 given one two → AddsAll second 0 more two three
+    → AddsAll (first ++ second) 0 (given + more) one three
+then_added first second given more one two three some rest = record {
+  entries_are = rw (rest.entries_are, some.entries_are) (append_assoc one.entries first second);
+  added_is =
+      let a = some.added_is in let b = rest.added_is in let both = length-append first second in
+      omega (arith, a, b, both);
+  next_grows = let a = some.next_grows in let b = rest.next_grows in omega (arith, a, b);
+  room_is = let a = some.room_is in let b = rest.room_is in omega (arith, a, b);
+}
+
 -- ends that are closed after others, in what is left of the room
 pub then_closes : (room : ℕ) (first second : List ℕ) (one two three : JournalView)
     → ClosesFirst room first one two → ClosesFirst (room - length first) second two three
     → ClosesFirst room (first ++ second) one three
 then_closes room first second one two three some more =
-    let split = take_both room first second in
-    record {
-      entries_are = rw (more.entries_are, some.entries_are, split, map-append Close (take room first) (take (room - length first) second))
-          (append_assoc one.entries (map Close (take room first)) (map Close (take (room - length first) second)));
-      next_grows = let a = some.next_grows in let b = more.next_grows in omega arith;
-      room_is =
-          let a = some.room_is in
-          let b = more.room_is in
-          let both = ap (λ l. length l) split ∙ length-append (take room first) (take (room - length first) second) in
-          omega arith;
-    }
+    let front = take room first in
+    let back = take (room - length first) second in
+    rw (take_both room first second, map-append Close front back, length-append front back)
+    (then_added (map Close front) (map Close back) (length front) (length back) one two three some more)
 
 -- the numbers of the ends of some streams are the ends of the streams by their numbers
 one_stream : {E : Type 0} (f : E → ℕ) (s : Stdio E) → end_of (stream_of f s) ≡ map f (end_of s)
@@ -91,11 +98,13 @@ pub nothing_closed : (room : ℕ) (numbers : List ℕ) (old new : JournalView) �
     → length numbers ≡ 0 → ClosesFirst room numbers old new
 nothing_closed zero [] old new same none = rw same (record {
   entries_are = sym (append-nil old.entries);
+  added_is = omega arith;
   next_grows = omega arith;
   room_is = omega arith;
 })
 nothing_closed (suc n) [] old new same none = rw same (record {
   entries_are = sym (append-nil old.entries);
+  added_is = omega arith;
   next_grows = omega arith;
   room_is = omega arith;
 })

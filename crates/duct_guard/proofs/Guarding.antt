@@ -18,6 +18,7 @@ use Rattle.duct_system.specs.Trace.{fault_of}
 use Rattle.duct_system.specs.declared.system.Fault.{Fault}
 use Rattle.duct_system.specs.declared.system.Kind.{Kind}
 use Rattle.duct_system.specs.declared.system.Stdio.{Stdio}
+use Rattle.duct_guard.specs.Added.{AddsAll}
 use Rattle.duct_guard.specs.Allowed.{is_allowed, is_denial, AreAllowed, AreDenied}
 use Rattle.duct_guard.specs.Answer.{answer_of}
 use Rattle.duct_guard.specs.Closed.{ClosesFirst}
@@ -48,7 +49,37 @@ module _ (rules : Rules) where
       → more ≡ own ++ entry ∷ [] → ∥ ForwardsAll rules earlier more new.entries ∥₁
   one_noted earlier held own more entry old new forwards counted forwarded is =
       let sent : Forwards rules (held_after earlier own) entry forwarded.asked = subst (λ h. Forwards rules h entry forwarded.asked) counted forwarded.forwards in
-      rw (is, forwarded.entries_are) (∥∥₁_map forwards (λ all. append_one earlier own old.entries entry forwarded.asked all sent))
+      rw (is, forwarded.adds.entries_are) (∥∥₁_map forwards (λ all. append_one earlier own old.entries entry forwarded.asked all sent))
+
+-- one entry was added, or none, which takes fewer ends than this
+one_added : (entry : EntryView) (got given : ℕ) (old new : JournalView)
+    → Adds entry got given old new → AddsAll (entry ∷ []) got given old new
+one_added entry got given old new adds = record {
+  entries_are = adds.entries_are;
+  added_is = adds.added_is;
+  next_grows = adds.next_grows;
+  room_is = adds.room_is;
+}
+
+none_added : (given : ℕ) (old new : JournalView) → AddsNothing old new → AddsAll [] 0 given old new
+none_added given old new nothing = record {
+  entries_are = nothing.entries_are ∙ sym (append-nil old.entries);
+  added_is = let same = nothing.added_is in omega (arith, same);
+  next_grows = nothing.next_grows;
+  room_is = let grows = nothing.room_grows in omega (arith, grows);
+}
+
+-- the first of some ends were closed
+some_closed : (room : ℕ) (numbers : List ℕ) (old new : JournalView)
+    → ClosesFirst room numbers old new
+    → AddsAll (map Close (take room numbers)) 0 (length numbers) old new
+some_closed room numbers old new closes = record {
+  entries_are = closes.entries_are;
+  added_is = closes.added_is;
+  next_grows = closes.next_grows;
+  room_is =
+      let kept = closes.room_is in let few = length-take room numbers in omega (arith, kept, few);
+}
 
 module _ (rules : Rules) (held : Counts) where
   -- an allowed request that was passed on
@@ -58,9 +89,7 @@ module _ (rules : Rules) (held : Counts) where
   passed entry old new allowed adds = record {
     asked = entry ∷ [];
     forwards = Passed allowed refl;
-    entries_are = adds.entries_are;
-    next_grows = adds.next_grows;
-    room_is = adds.room_is;
+    adds = one_added entry _ _ old new adds;
   }
 
   -- a request that takes no end and was not asked
@@ -70,9 +99,7 @@ module _ (rules : Rules) (held : Counts) where
   unasked entry old new fault opened nothing = record {
     asked = [];
     forwards = Refused 0 fault refl;
-    entries_are = nothing.entries_are ∙ sym (append-nil old.entries);
-    next_grows = nothing.next_grows;
-    room_is = rw opened (let grows = nothing.room_grows in omega arith);
+    adds = rw opened (none_added (length (spent_by entry)) old new nothing);
   }
 
   -- an allowed request that failed below
@@ -92,9 +119,7 @@ module _ (rules : Rules) (held : Counts) where
   closed entry room old new fault opened closes = record {
     asked = map Close (take room (spent_by entry));
     forwards = Refused room fault refl;
-    entries_are = closes.entries_are;
-    next_grows = closes.next_grows;
-    room_is = rw opened (let kept = closes.room_is in let few = length-take room (spent_by entry) in omega arith);
+    adds = rw opened (some_closed room (spent_by entry) old new closes);
   }
 
   -- a request for a worker that was refused here, whose end was closed
@@ -105,9 +130,7 @@ module _ (rules : Rules) (held : Counts) where
   one_closed entry n fault old new allowed noted is opened one adds = record {
     asked = Close n ∷ [];
     forwards = Refused 1 (rw (noted, is, allowed) refl) (rw one refl);
-    entries_are = adds.entries_are;
-    next_grows = adds.next_grows;
-    room_is = rw (opened, one) adds.room_is;
+    adds = rw (opened, one) (one_added (Close n) 0 1 old new adds);
   }
 
   -- the result of a request for an end, which takes none
@@ -155,10 +178,10 @@ module _ (rules : Rules) (held : Counts) where
       → OnOk made (left ≡ ready - 1) → OnErr made (left ≡ ready - 2)
       → IsForwarded rules held (entry (answer_of number made)) old new → left ≤ new.room
   end_room number entry old new (Ok end) own ready left one none closed within is ok err sent =
-      let room : old.room + 1 ≤ new.room + 0 = rw (one (number end), closed (Ok (number end))) at sent.room_is in
+      let room : old.room + 1 ≤ new.room + 0 = rw (one (number end), closed (Ok (number end))) at sent.adds.room_is in
       omega arith
   end_room number entry old new (Err f) own ready left one none closed within is ok err sent =
-      let room : old.room + 0 ≤ new.room + 0 = rw (none f, closed (Err f)) at sent.room_is in
+      let room : old.room + 0 ≤ new.room + 0 = rw (none f, closed (Err f)) at sent.adds.room_is in
       omega arith
 
   -- the result of a request for a worker, which takes an end
@@ -200,9 +223,7 @@ module _ (rules : Rules) (held : Counts) where
   child_refused spec io room running fault old new (inr full) few closes = record {
     asked = map Close (take room (ends_of io));
     forwards = Crowded room spec io (ap (λ fault. Spawn spec io (Err fault)) full.0) (let most = full.1 in omega (arith, most, few)) refl;
-    entries_are = closes.entries_are;
-    next_grows = closes.next_grows;
-    room_is = let kept = closes.room_is in let left = length-take room (ends_of io) in omega (arith, kept, left);
+    adds = some_closed room (ends_of io) old new closes;
   }
 
   -- the environment, and a canonical path, for whose copy there was no memory
@@ -212,9 +233,7 @@ module _ (rules : Rules) (held : Counts) where
   lost_vars vars fault old new is adds = record {
     asked = Environment (Ok vars) ∷ [];
     forwards = LostVars vars (ap (λ f. Environment (Err f)) is) refl;
-    entries_are = adds.entries_are;
-    next_grows = adds.next_grows;
-    room_is = adds.room_is;
+    adds = one_added _ 0 0 old new adds;
   }
 
   pub lost_path : (path name : List ℕ) (fault : Fault) (old new : JournalView)
@@ -224,9 +243,7 @@ module _ (rules : Rules) (held : Counts) where
   lost_path path name fault old new allowed is adds = record {
     asked = Canonicalize path (Ok name) ∷ [];
     forwards = LostPath path name allowed (ap (λ f. Canonicalize path (Err f)) is) refl;
-    entries_are = adds.entries_are;
-    next_grows = adds.next_grows;
-    room_is = adds.room_is;
+    adds = one_added _ 0 0 old new adds;
   }
 
   -- a request that is forbidden and takes no end

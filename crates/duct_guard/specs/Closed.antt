@@ -1,18 +1,18 @@
 -- How a journal changes when ends are closed as far as there is room.
-use Rattle.std.specs.Prelude.{ℕ, ◌≡◌, ◌≤◌, ◌+◌, ◌⊎◌, List, ◌++◌, length, map, take, Err}
+use Rattle.std.specs.Prelude.{ℕ, ◌⊎◌, List, length, map, take, Err}
 use Rattle.duct_system.specs.EntryView.{Spawn, Close}
 use Rattle.duct_system.specs.Journal.{JournalView, IsRefused}
 use Rattle.duct_system.specs.SpecView.{SpecView}
 use Rattle.duct_system.specs.Streams.{ends_of}
 use Rattle.duct_system.specs.declared.system.Fault.{Fault}
 use Rattle.duct_system.specs.declared.system.Stdio.{Stdio}
+use Rattle.duct_guard.specs.Added.{AddsAll}
 
 -- the first of these ends were closed, as many as this room has entries, and nothing else was
 -- asked; each close took its own room
-pub record ClosesFirst (room : ℕ) (numbers : List ℕ) (old new : JournalView) : Type 0 where
-  pub entries_are : new.entries ≡ old.entries ++ map Close (take room numbers)
-  pub next_grows : old.next ≤ new.next
-  pub room_is : old.room ≤ new.room + length (take room numbers)
+abbrev pub ClosesFirst : ℕ → List ℕ → JournalView → JournalView → Type 0
+ClosesFirst room numbers old new =
+    AddsAll (map Close (take room numbers)) 0 (length (take room numbers)) old new
 
 -- a spawn by this spec, with these streams, was asked and failed with this fault; or it was not asked,
 -- and its ends were closed

@@ -9,6 +9,7 @@ use Rattle.duct_system.specs.Trace.{fault_of}
 use Rattle.duct_system.specs.declared.system.Fault.{Fault}
 use Rattle.duct_system.specs.declared.system.Kind.TheVariants.{OutOfMemory, PermissionDenied}
 use Rattle.duct_system.specs.declared.system.Stdio.{Stdio}
+use Rattle.duct_guard.specs.Added.{AddsAll}
 use Rattle.duct_guard.specs.Allowed.{is_allowed}
 use Rattle.duct_guard.specs.Answer.{answer_of}
 use Rattle.duct_guard.specs.Held.{is_within, with_entry}
@@ -61,15 +62,12 @@ ForwardsAll rules held (entry ∷ entries) below =
     × ForwardsAll rules (with_entry held entry) entries rest
 
 -- the journal below before and after a request of the guard with this entry, which held this: what
--- the guard forwards was added, and the room changed by no more than the ends that were got and
--- taken
+-- the guard forwards was added
 pub record IsForwarded (rules : Rules) (held : Counts) (entry : EntryView) (old new : JournalView)
     : Type 0 where
   pub asked : List EntryView
   pub forwards : Forwards rules held entry asked
-  pub entries_are : new.entries ≡ old.entries ++ asked
-  pub next_grows : old.next ≤ new.next
-  pub room_is : old.room + length (opened_by entry) ≤ new.room + length (spent_by entry)
+  pub adds : AddsAll asked (length (opened_by entry)) (length (spent_by entry)) old new
 
 -- the same for a request for an end that returned this
 abbrev pub ForwardsEnd : {E : Type 0} → Rules → Counts → (E → ℕ) → (Result ℕ Fault → EntryView)

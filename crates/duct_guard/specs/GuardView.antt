@@ -1,11 +1,14 @@
--- What contracts see of a guard.
-use Rattle.std.specs.Prelude.{ℕ, List}
+-- What contracts see of a guard, and how a request changes it.
+use Rattle.std.specs.Prelude.{ℕ, List, ◌≡◌, ◌+◌, ◌++◌, length}
+use Rattle.duct_system.specs.EntryView.{EntryView}
 use Rattle.duct_system.specs.Journal.{JournalView}
+use Rattle.duct_guard.specs.Forwarded.{ForwardsAll}
+use Rattle.duct_guard.specs.Rules.{Rules}
 use Rattle.duct_guard.specs.declared.counts.Counts.{Counts}
 
--- the system below, the policy, and the guard's own journal, whose count of numbers isn't used;
--- what was held when the journal was cleared last, and what is held now; and the numbers of the
--- children that were started and aren't known to have ended
+-- the system below, the policy, and the guard's own journal with the count of numbers of the system
+-- below; what was held when the journal was cleared last, and what is held now; and the numbers of
+-- the children that were started and aren't known to have ended
 pub record GuardView (S P : Type 0) : Type 0 where
   pub inner : S
   pub policy : P
@@ -14,7 +17,16 @@ pub record GuardView (S P : Type 0) : Type 0 where
   pub held : Counts
   pub running : List ℕ
 
--- its journal as a system: its own one, with the count of numbers of the system below
-abbrev pub guard_journal : {S P : Type 0} → (S → JournalView) → GuardView S P → JournalView
-guard_journal journal_view guard =
-    record guard.journal { next = (journal_view guard.inner).next }
+-- the system below was asked what the guard forwards of the entries that were added to its own
+-- journal, and nothing else, and nothing was cleared there; the policy stays, and so does what was
+-- held when the journal was cleared last
+pub record OnlyForwards {S P : Type 0} (journal_view : S → JournalView) (rules : P → Rules)
+    (old new : GuardView S P) : Type 0 where
+  pub added : List EntryView
+  pub asked : List EntryView
+  pub forwards : ForwardsAll (rules old.policy) old.held added asked
+  pub added_are : new.journal.entries ≡ old.journal.entries ++ added
+  pub asked_are : (journal_view new.inner).entries ≡ (journal_view old.inner).entries ++ asked
+  pub count_is : (journal_view new.inner).added ≡ (journal_view old.inner).added + length asked
+  pub policy_is : new.policy ≡ old.policy
+  pub earlier_is : new.earlier ≡ old.earlier

@@ -60,7 +60,7 @@ impl<S: System, P: Policy> Model for Guarded<S, P> {
     ghost view = { λ g. record {
       inner = g.inner;
       policy = g.policy;
-      journal = g.journal;
+      journal = record g.journal { next = (S.journal_view g.inner).next };
       earlier = g.earlier;
       held = g.held;
       running = map (λ m. m.number) g.crew.items;
@@ -74,8 +74,8 @@ impl<S: System, P: Policy> Guarded<S, P> {
         requires { (S.journal_view inner).entries ≡ [] }
         ensures inner { result.inner ≡ inner }
         ensures policy { result.policy ≡ policy }
-        ensures journal { result.journal
-            ≡ record { entries = []; added = 0; next = 1; room = 0 } }
+        ensures journal { result.journal ≡ record
+            { entries = []; added = 0; next = (S.journal_view inner).next; room = 0 } }
         ensures earlier { result.earlier ≡ nothing_held }
         ensures held { result.held ≡ nothing_held }
         ensures running { result.running ≡ [] }
@@ -228,10 +228,13 @@ fn prepare_named(journal: &mut Journal, path: &str, ends: usize) -> Result<Strin
 impl<S: System, P: Policy> System for Guarded<S, P> {
     ghost use Rattle.std.specs.Prelude.{length, min, Ok, Err};
     ghost use Rattle.duct_system.specs.Child.{IsUnasked};
-    ghost use Rattle.duct_system.specs.EntryView.{Spawn};
-    ghost use Rattle.duct_system.specs.Journal.{GivesEnds, IsCleared, IsNew, IsRefused};
+    ghost use Rattle.duct_system.specs.EntryView.{Environment, Pipe, OpenRead, Create, Duplicate, Parent, Canonicalize, Spawn, Feed, Drain, Reader, Close};
+    ghost use Rattle.duct_system.specs.Job.{unpolled_job};
+    ghost use Rattle.duct_system.specs.Journal.{Asks, GetsEnd, GetsEnds, GivesEnds, IsCleared, IsNew, IsRefused};
+    ghost use Rattle.duct_system.specs.SpecView.{pair_text};
     ghost use Rattle.duct_system.specs.Streams.{stream_of, ends_of};
-    ghost use Rattle.duct_guard.specs.GuardView.{guard_journal};
+    ghost use Rattle.duct_guard.specs.GuardView.{OnlyForwards};
+    ghost use Rattle.std.specs.Arc.{arc_value};
 
     type End = S::End;
 
@@ -243,7 +246,7 @@ impl<S: System, P: Policy> System for Guarded<S, P> {
 
     type Reader = S::Reader;
 
-    ghost journal_view = { λ g. guard_journal S.journal_view g };
+    ghost journal_view = { λ guard. guard.journal };
 
     ghost may_read = { S.may_read };
 
@@ -253,7 +256,14 @@ impl<S: System, P: Policy> System for Guarded<S, P> {
 
     ghost feeds_say_again = { S.feeds_say_again };
 
-    fn environment(&mut self) -> Result<Vec<(String, String)>, Fault> {
+    fn environment(&mut self) -> Result<Vec<(String, String)>, Fault>
+        ensures ok { IfOk result (λ pairs.
+            Asks (Environment (Ok (map pair_text pairs.items))) self.old.journal
+            self.new.journal) }
+        ensures err { IfErr result (λ fault.
+            IsRefused (Environment (Err fault)) 0 fault self.old.journal self.new.journal) }
+        ensures below { OnlyForwards S.journal_view P.rules self.old self.new }
+    {
         self.journal.prepare(0)?;
         match environment_twice(self.journal.allocator(), &mut self.inner) {
             Ok((pairs, kept)) => {
@@ -267,7 +277,15 @@ impl<S: System, P: Policy> System for Guarded<S, P> {
         }
     }
 
-    fn pipe(&mut self) -> Result<(S::End, S::End), Fault> {
+    fn pipe(&mut self) -> Result<(S::End, S::End), Fault>
+        ensures ok { IfOk result (λ ends.
+            let read = S.End.number_of ends.0 in
+            let write = S.End.number_of ends.1 in
+            GetsEnds (Pipe (Ok (read, write))) read write self.old.journal self.new.journal) }
+        ensures err { IfErr result (λ fault.
+            IsRefused (Pipe (Err fault)) 0 fault self.old.journal self.new.journal) }
+        ensures below { OnlyForwards S.journal_view P.rules self.old self.new }
+    {
         self.journal.prepare(2)?;
         match pipe_allowed(&self.policy, self.held, &mut self.inner) {
             Ok((reader, writer)) => {
@@ -284,7 +302,14 @@ impl<S: System, P: Policy> System for Guarded<S, P> {
         }
     }
 
-    fn open_read(&mut self, path: &str) -> Result<S::End, Fault> {
+    fn open_read(&mut self, path: &str) -> Result<S::End, Fault>
+        ensures ok { IfOk result (λ end.
+            let number = S.End.number_of end in
+            GetsEnd (OpenRead path.now (Ok number)) number self.old.journal self.new.journal) }
+        ensures err { IfErr result (λ fault.
+            IsRefused (OpenRead path.now (Err fault)) 0 fault self.old.journal self.new.journal) }
+        ensures below { OnlyForwards S.journal_view P.rules self.old self.new }
+    {
         let kept = prepare_named(&mut self.journal, path, 1)?;
         let made = open_read_allowed(&self.policy, self.held, &mut self.inner, path);
         let entry = Entry::OpenRead(kept, number_of(&made));
@@ -292,7 +317,14 @@ impl<S: System, P: Policy> System for Guarded<S, P> {
         made
     }
 
-    fn create(&mut self, path: &str) -> Result<S::End, Fault> {
+    fn create(&mut self, path: &str) -> Result<S::End, Fault>
+        ensures ok { IfOk result (λ end.
+            let number = S.End.number_of end in
+            GetsEnd (Create path.now (Ok number)) number self.old.journal self.new.journal) }
+        ensures err { IfErr result (λ fault.
+            IsRefused (Create path.now (Err fault)) 0 fault self.old.journal self.new.journal) }
+        ensures below { OnlyForwards S.journal_view P.rules self.old self.new }
+    {
         let kept = prepare_named(&mut self.journal, path, 1)?;
         let made = create_allowed(&self.policy, self.held, &mut self.inner, path);
         let entry = Entry::Create(kept, number_of(&made));
@@ -300,7 +332,16 @@ impl<S: System, P: Policy> System for Guarded<S, P> {
         made
     }
 
-    fn duplicate(&mut self, end: &S::End) -> Result<S::End, Fault> {
+    fn duplicate(&mut self, end: &S::End) -> Result<S::End, Fault>
+        ensures ok { IfOk result (λ made.
+            let lent = S.End.number_of end.now in
+            let number = S.End.number_of made in
+            GetsEnd (Duplicate lent (Ok number)) number self.old.journal self.new.journal) }
+        ensures err { IfErr result (λ fault.
+            let lent = S.End.number_of end.now in
+            IsRefused (Duplicate lent (Err fault)) 0 fault self.old.journal self.new.journal) }
+        ensures below { OnlyForwards S.journal_view P.rules self.old self.new }
+    {
         self.journal.prepare(1)?;
         let made = duplicate_allowed(&self.policy, self.held, &mut self.inner, end);
         let entry = Entry::Duplicate(end.number(), number_of(&made));
@@ -308,7 +349,14 @@ impl<S: System, P: Policy> System for Guarded<S, P> {
         made
     }
 
-    fn parent(&mut self, side: Side) -> Result<S::End, Fault> {
+    fn parent(&mut self, side: Side) -> Result<S::End, Fault>
+        ensures ok { IfOk result (λ made.
+            let number = S.End.number_of made in
+            GetsEnd (Parent side (Ok number)) number self.old.journal self.new.journal) }
+        ensures err { IfErr result (λ fault.
+            IsRefused (Parent side (Err fault)) 0 fault self.old.journal self.new.journal) }
+        ensures below { OnlyForwards S.journal_view P.rules self.old self.new }
+    {
         self.journal.prepare(1)?;
         let made = parent_allowed(&self.policy, self.held, &mut self.inner, side);
         let entry = Entry::Parent(side, number_of(&made));
@@ -316,7 +364,15 @@ impl<S: System, P: Policy> System for Guarded<S, P> {
         made
     }
 
-    fn canonicalize(&mut self, path: &str) -> Result<String, Fault> {
+    fn canonicalize(&mut self, path: &str) -> Result<String, Fault>
+        ensures ok { IfOk result (λ text.
+            Asks (Canonicalize path.now (Ok (string_bytes text))) self.old.journal
+            self.new.journal) }
+        ensures err { IfErr result (λ fault.
+            IsRefused (Canonicalize path.now (Err fault)) 0 fault self.old.journal
+            self.new.journal) }
+        ensures below { OnlyForwards S.journal_view P.rules self.old self.new }
+    {
         let asked = prepare_named(&mut self.journal, path, 0)?;
         let alloc = self.journal.allocator();
         match canonicalize_twice(alloc, &self.policy, &mut self.inner, path) {
@@ -340,15 +396,12 @@ impl<S: System, P: Policy> System for Guarded<S, P> {
         ensures ok { IfOk result (λ child.
             let number = S.Child.number_of child.inner in
             let entry = Spawn spec (map (stream_of S.End.number_of) io) (Ok number) in
-            let old = guard_journal S.journal_view self.old in
-            let new = guard_journal S.journal_view self.new in
-            GivesEnds entry (length (ends_of io)) old new × IsNew old new number) }
+            GivesEnds entry (length (ends_of io)) self.old.journal self.new.journal
+            × IsNew self.old.journal self.new.journal number) }
         ensures unasked { IfOk result (λ child. IsUnasked (S.Child.child_view child.inner)) }
         ensures err { IfErr result (λ fault.
             let entry = Spawn spec (map (stream_of S.End.number_of) io) (Err fault) in
-            let old = guard_journal S.journal_view self.old in
-            let new = guard_journal S.journal_view self.new in
-            IsRefused entry (length (ends_of io)) fault old new) }
+            IsRefused entry (length (ends_of io)) fault self.old.journal self.new.journal) }
         // Without ends, nothing is asked: there may be no memory for the entry.
         ensures closes { allows_spawn (P.rules self.old.policy) self.old.held spec ≡ false →
             ClosesFirst self.old.journal.room (map S.End.number_of (ends_of io))
@@ -356,6 +409,7 @@ impl<S: System, P: Policy> System for Guarded<S, P> {
         ensures spends { IfErr result (λ fault.
             SpendsEnds self.old.journal.room spec (map (stream_of S.End.number_of) io) fault
             (S.journal_view self.old.inner) (S.journal_view self.new.inner)) }
+        ensures below { OnlyForwards S.journal_view P.rules self.old self.new }
     {
         let (streams, ends) = numbered_streams(&io);
         let room = self.journal.room();
@@ -378,7 +432,18 @@ impl<S: System, P: Policy> System for Guarded<S, P> {
         started
     }
 
-    fn start_feed(&mut self, end: S::End, bytes: Arc<Vec<u8>>) -> Result<S::Feed, Fault> {
+    fn start_feed(&mut self, end: S::End, bytes: Arc<Vec<u8>>) -> Result<S::Feed, Fault>
+        requires { 0 < self.old.journal.room }
+        ensures ok { IfOk result (λ job.
+            let entry = Feed (S.End.number_of end) (arc_value bytes).items (Ok tt) in
+            GivesEnds entry 1 self.old.journal self.new.journal) }
+        ensures unasked { IfOk result
+            (λ job. S.Feed.job_view job ≡ unpolled_job (S.End.number_of end)) }
+        ensures err { IfErr result (λ fault.
+            let entry = Feed (S.End.number_of end) (arc_value bytes).items (Err fault) in
+            GivesEnds entry 1 self.old.journal self.new.journal) }
+        ensures below { OnlyForwards S.journal_view P.rules self.old self.new }
+    {
         let number = end.number();
         self.held.spend(1);
         let started = start_shared_feed(&mut self.inner, end, &bytes);
@@ -386,7 +451,17 @@ impl<S: System, P: Policy> System for Guarded<S, P> {
         started
     }
 
-    fn start_drain(&mut self, end: S::End) -> Result<S::Drain, Fault> {
+    fn start_drain(&mut self, end: S::End) -> Result<S::Drain, Fault>
+        requires { 0 < self.old.journal.room }
+        ensures ok { IfOk result (λ job.
+            GivesEnds (Drain (S.End.number_of end) (Ok tt)) 1 self.old.journal self.new.journal) }
+        ensures unasked { IfOk result
+            (λ job. S.Drain.job_view job ≡ unpolled_job (S.End.number_of end)) }
+        ensures err { IfErr result (λ fault.
+            GivesEnds (Drain (S.End.number_of end) (Err fault)) 1 self.old.journal
+            self.new.journal) }
+        ensures below { OnlyForwards S.journal_view P.rules self.old self.new }
+    {
         let number = end.number();
         self.held.spend(1);
         let started = self.inner.start_drain(end);
@@ -394,13 +469,24 @@ impl<S: System, P: Policy> System for Guarded<S, P> {
         started
     }
 
-    fn reader(&mut self, end: S::End) -> S::Reader {
+    fn reader(&mut self, end: S::End) -> S::Reader
+        requires { 0 < self.old.journal.room }
+        ensures added { GivesEnds (Reader (S.End.number_of end)) 1 self.old.journal
+            self.new.journal }
+        ensures told { S.may_read (S.End.number_of end) result }
+        ensures below { OnlyForwards S.journal_view P.rules self.old self.new }
+    {
         self.held.spend(1);
         self.journal.add(Entry::Reader(end.number()));
         self.inner.reader(end)
     }
 
-    fn close(&mut self, end: S::End) {
+    fn close(&mut self, end: S::End)
+        requires { 0 < self.old.journal.room }
+        ensures added { GivesEnds (Close (S.End.number_of end)) 1 self.old.journal
+            self.new.journal }
+        ensures below { OnlyForwards S.journal_view P.rules self.old self.new }
+    {
         self.held.spend(1);
         self.journal.add(Entry::Close(end.number()));
         self.inner.close(end);
@@ -412,8 +498,7 @@ impl<S: System, P: Policy> System for Guarded<S, P> {
 
     // Both journals are cleared. What is held, and which children run, stays.
     fn clear_journal(&mut self)
-        ensures cleared { IsCleared (guard_journal S.journal_view self.old)
-            (guard_journal S.journal_view self.new) }
+        ensures cleared { IsCleared self.old.journal self.new.journal }
         ensures below { IsCleared (S.journal_view self.old.inner) (S.journal_view self.new.inner) }
         ensures policy { self.new.policy ≡ self.old.policy }
         ensures earlier { self.new.earlier ≡ self.old.held }

@@ -1,5 +1,6 @@
 use Rattle.std.proofs.Common.{refl, ap, arith}
 use Rattle.duct_system.specs.Journal.{JournalView}
+use Rattle.duct_guard.proofs.Below.{none_asked, one_asked}
 use Rattle.duct_guard.proofs.Counting.{one_held}
 use Rattle.duct_guard.proofs.guard.GuardedSystem.pipe.Goals as goal
 
@@ -10,7 +11,7 @@ invariant_of-self-inside-in-Ok g c =
     let same = ap (λ (j : JournalView). j.entries) c.in_ok-prepare.ensures.ok in
     let room = ap (λ (j : JournalView). j.room) c.add.ensures in
     let noted = ap (λ (j : JournalView). j.entries) c.add.ensures in (
-      omega (arith, ready, room, sent.room_is, c.self.inside.within),
+      omega (arith, ready, room, sent.adds.room_is, c.self.inside.within),
       one_held _ _ _ _ _ _ _ _ _ c.self.inside.forwards c.self.inside.counted c.self.inside.fits c.self.inside.knows sent refl (cc (same, noted)) (omega arith) (omega arith),
     )
 
@@ -23,6 +24,22 @@ invariant_of-self-inside-in-Err g c =
     let kept = ap (λ (j : JournalView). j.entries) c.give_back.ensures in
     let room = ap (λ (j : JournalView). j.room) c.add-in-Err.ensures in
     let noted = ap (λ (j : JournalView). j.entries) c.add-in-Err.ensures in (
-      omega (arith, ready, back, room, sent.room_is, c.self.inside.within),
+      omega (arith, ready, back, room, sent.adds.room_is, c.self.inside.within),
       one_held _ _ _ _ _ _ _ _ _ c.self.inside.forwards c.self.inside.counted c.self.inside.fits c.self.inside.knows sent refl (cc (same, kept, noted)) (omega arith) (omega arith),
     )
+
+pub returns-in_err-prepare-clause-below : goal.returns-in_err-prepare-clause-below
+returns-in_err-prepare-clause-below g c = none_asked _ _ _ _ (cc (c.self.view_is, c.in_err-prepare.ensures.unchanged))
+
+pub returns-in-Ok-clause-below : goal.returns-in-Ok-clause-below
+returns-in-Ok-clause-below g c =
+    let same = ap (λ (j : JournalView). j.entries) c.in_ok-prepare.ensures.ok in
+    let noted = ap (λ (j : JournalView). j.entries) c.add.ensures in
+    one_asked _ _ _ _ _ _ c.self.view_is c.in-Ok.ensures.ok.0 (cc (same, noted)) refl refl
+
+pub returns-in-Err-clause-below : goal.returns-in-Err-clause-below
+returns-in-Err-clause-below g c =
+    let same = ap (λ (j : JournalView). j.entries) c.in_ok-prepare.ensures.ok in
+    let kept = ap (λ (j : JournalView). j.entries) c.give_back.ensures in
+    let noted = ap (λ (j : JournalView). j.entries) c.add-in-Err.ensures in
+    one_asked _ _ _ _ _ _ c.self.view_is c.in-Err.ensures.err (cc (same, kept, noted)) refl refl

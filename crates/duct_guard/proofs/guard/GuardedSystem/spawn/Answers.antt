@@ -4,6 +4,7 @@ use Rattle.duct_system.specs.Journal.{JournalView}
 use Rattle.duct_system.specs.Streams.{stream_of, ends_of}
 use Rattle.duct_guard.specs.declared.child.GuardedChild.{GuardedChild}
 use Rattle.duct_guard.specs.GuardView.{GuardView}
+use Rattle.duct_guard.proofs.Below.{none_asked, one_asked}
 use Rattle.duct_guard.proofs.Closing.{nothing_closed, on_err, streams_count}
 use Rattle.duct_guard.proofs.Crews.{crew_started}
 use Rattle.duct_guard.proofs.Limiting.{child_held, one_spawned}
@@ -13,7 +14,7 @@ pub invariant_of-self-inside-2 : goal.invariant_of-self-inside-2
 invariant_of-self-inside-2 g c =
     let number = λ (child : GuardedChild g.row.S-Child.Denot g.S.Child.Child g.S.Child.Numbered). g.S.Child.Numbered.number_of child.inner in
     let sent = c.spawn_allowed-started.ensures.forwards in
-    let below = rw (streams_count g.S.End.Numbered.number_of c.args.io) at sent.room_is in
+    let below = rw (streams_count g.S.End.Numbered.number_of c.args.io) at sent.adds.room_is in
     let ready = ap (λ (j : JournalView). j.room) c.in_ok-prepare_spawn.ensures.ok in
     let same = ap (λ (j : JournalView). j.entries) c.in_ok-prepare_spawn.ensures.ok in
     let room = ap (λ (j : JournalView). j.room) c.add.ensures in
@@ -34,3 +35,12 @@ returns-in_err-prepare_spawn-clause-spends g c =
     let num = g.S.End.Numbered.number_of in
     let none = c.in_err-prepare_spawn.ensures.err.2 in
     on_err c.from_residual.result (λ fault. inr (nothing_closed _ (ends_of (map (stream_of num) c.args.io)) _ _ (ap (λ (v : GuardView g.row.S.Denot g.row.P.Denot). g.S.System.journal_view v.inner) c.self.view_is) (streams_count num c.args.io ∙ sym c.numbered_streams-ends.ensures.ends ∙ none)))
+
+pub returns-in_err-prepare_spawn-clause-below : goal.returns-in_err-prepare_spawn-clause-below
+returns-in_err-prepare_spawn-clause-below g c = none_asked _ _ _ _ (cc (c.self.view_is, c.in_err-prepare_spawn.ensures.err.1))
+
+pub returns-clause-below : goal.returns-clause-below
+returns-clause-below g c =
+    let same = ap (λ (j : JournalView). j.entries) c.in_ok-prepare_spawn.ensures.ok in
+    let noted = ap (λ (j : JournalView). j.entries) c.add.ensures in
+    one_asked _ _ _ _ _ _ c.self.view_is c.spawn_allowed-started.ensures.forwards (cc (same, noted, c.numbered_streams-ends.ensures.streams)) refl refl

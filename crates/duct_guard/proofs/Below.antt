@@ -1,0 +1,41 @@
+-- What a request of a guard asks the system below.
+use Rattle.std.specs.Prelude.{[], ◌∷◌, ◌++◌}
+use Rattle.std.proofs.Common.{◌≡◌, refl, sym, subst, arith}
+use Rattle.std.proofs.lemmas.List.{append-nil}
+use Rattle.duct_system.specs.EntryView.{EntryView}
+use Rattle.duct_system.specs.Journal.{JournalView}
+use Rattle.duct_guard.specs.Forwarded.{IsForwarded}
+use Rattle.duct_guard.specs.GuardView.{GuardView, OnlyForwards}
+use Rattle.duct_guard.specs.Rules.{Rules}
+
+module _ {S P : Type 0} (journal_view : S → JournalView) (rules : P → Rules) where
+  -- a request whose entry was added
+  pub one_asked : (was old new : GuardView S P) (entry : EntryView) → was ≡ old
+      → IsForwarded (rules was.policy) was.held entry (journal_view was.inner) (journal_view new.inner)
+      → new.journal.entries ≡ was.journal.entries ++ entry ∷ [] → new.policy ≡ was.policy
+      → new.earlier ≡ was.earlier → OnlyForwards journal_view rules old new
+  one_asked was old new entry same sent is policy earlier =
+      subst (λ v. OnlyForwards journal_view rules v new) same (record {
+        added = entry ∷ [];
+        asked = sent.asked;
+        forwards = (sent.asked, [], sym (append-nil sent.asked), sent.forwards, refl);
+        added_are = is;
+        asked_are = sent.adds.entries_are;
+        count_is = sent.adds.added_is;
+        policy_is = policy;
+        earlier_is = earlier;
+      })
+
+  -- a request for whose entry there was no memory
+  pub none_asked : (old new : GuardView S P) → new ≡ old → OnlyForwards journal_view rules old new
+  none_asked old new same =
+      subst (λ v. OnlyForwards journal_view rules old v) (sym same) (record {
+        added = [];
+        asked = [];
+        forwards = refl;
+        added_are = sym (append-nil old.journal.entries);
+        asked_are = sym (append-nil (journal_view old.inner).entries);
+        count_is = omega arith;
+        policy_is = refl;
+        earlier_is = refl;
+      })
