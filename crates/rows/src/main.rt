@@ -20,7 +20,7 @@ use rows_requests::scripts::Scripts;
 use rows_table::odd::{Odd, Script};
 use rows_table::real::{Real, filled};
 use rows_table::stop::TableError;
-use rows_table::table::{Counts, File, compare};
+use rows_table::table::{Counts, File, compare, untried};
 use std::alloc::Global;
 use std::io::{self, Write};
 use std::process::ExitCode;
@@ -33,15 +33,15 @@ fn tried<R: Real + Wait, W: Write>(rt: &R, file: File, out: &mut W) -> io::Resul
     let first = file.text.lines().next().unwrap_or("");
     match first.strip_prefix("table: ").unwrap_or("") {
         "calls" => calls(rt, Scripted::new(alloc), file, out),
-        "scripts" => compare(alloc, Scripts::new(rt, alloc), file, out),
-        "parts" => compare(alloc, Ok(Parts::new(alloc)), file, out),
+        "scripts" => match Scripts::new(rt, alloc) {
+            Ok(mut scripts) => compare(alloc, &mut scripts, file, out),
+            Err(stop) => untried(file, stop, out),
+        },
+        "parts" => compare(alloc, &mut Parts::new(alloc), file, out),
         table @ ("host calls" | "host requests" | "host rare calls" | "host rare requests") => {
             on_host(rt, table, file, out)
         }
-        _ => {
-            let none: Result<Parts, TableError> = Err(TableError::Text("no such table"));
-            compare(alloc, none, file, out)
-        }
+        _ => untried(file, TableError::Text("no such table"), out),
     }
 }
 
@@ -57,28 +57,42 @@ fn on_host<R: Real + Wait, W: Write>(
     let script = Script::new(rt.alloc(), file.text)?;
     let odd = Odd::new(rt.clone()?, script.clone()?);
     let file = File {
+        name: file.name,
         text: text.as_str(),
-        ..file
+        is_told: file.is_told,
     };
-    if table.contains("rare") {
-        on_machine(rt, HostMachine::new(&odd, Some(script)), table, file, out)
-    } else {
-        on_machine(rt, HostMachine::new(rt, None), table, file, out)
+    match table {
+        "host calls" => calls(rt, HostMachine::new(rt, None), file, out),
+        "host requests" => host_requests(rt.alloc(), HostMachine::new(rt, None), file, out),
+        _ => on_odd(rt, &odd, script, table, file, out),
     }
 }
 
-/// Tries the rows of a table of calls, or of one of single requests.
-fn on_machine<R: Real + Wait, P: Real, W: Write>(
+/// Tries the rows over a runtime with scripted results.
+fn on_odd<R: Real + Wait, P: Real, W: Write>(
     rt: &R,
-    machine: Result<HostMachine<P>, TableError>,
+    odd: &P,
+    script: Script,
     table: &str,
     file: File,
     out: &mut W,
 ) -> io::Result<Counts> {
-    if table.ends_with("calls") {
-        calls(rt, machine, file, out)
-    } else {
-        compare(rt.alloc(), machine, file, out)
+    let machine = HostMachine::new(odd, Some(script));
+    match table {
+        "host rare calls" => calls(rt, machine, file, out),
+        _ => host_requests(rt.alloc(), machine, file, out),
+    }
+}
+
+fn host_requests<R: Real, W: Write>(
+    alloc: Global,
+    machine: Result<HostMachine<R>, TableError>,
+    file: File,
+    out: &mut W,
+) -> io::Result<Counts> {
+    match machine {
+        Ok(mut machine) => compare(alloc, &mut machine, file, out),
+        Err(stop) => untried(file, stop, out),
     }
 }
 
@@ -89,8 +103,10 @@ fn calls<R: Real + Wait, M: Machine, W: Write>(
     out: &mut W,
 ) -> io::Result<Counts> {
     let alloc = rt.alloc();
-    let table = machine.map(|machine| Calls::new(rt, alloc, machine));
-    compare(alloc, table, file, out)
+    match machine {
+        Ok(machine) => compare(alloc, &mut Calls::new(rt, alloc, machine), file, out),
+        Err(stop) => untried(file, stop, out),
+    }
 }
 
 /// How files are tried.

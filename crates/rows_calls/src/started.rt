@@ -206,7 +206,7 @@ fn push_read<S: System, R: Wait>(
     let read = if name.starts_with("own") {
         read_of_std(handle, is_exact, buffer)
     } else {
-        read_of_std(&mut &*handle, is_exact, buffer)
+        read_shared(handle, is_exact, buffer)
     };
     match read {
         Ok(count) => push_prefix(text, buffer, count),
@@ -215,11 +215,28 @@ fn push_read<S: System, R: Wait>(
 }
 
 /// Reads once, or fills the whole buffer. Returns how many bytes were read.
-fn read_of_std<R: Read>(reader: &mut R, is_exact: bool, buffer: &mut [u8]) -> io::Result<usize> {
+fn read_of_std<S: System, R: Wait>(
+    handle: &mut ReaderHandle<S, R>,
+    is_exact: bool,
+    buffer: &mut [u8],
+) -> io::Result<usize> {
     if !is_exact {
-        return reader.read(buffer);
+        return handle.read(buffer);
     }
-    reader.read_exact(buffer)?;
+    handle.read_exact(buffer)?;
+    Ok(buffer.len())
+}
+
+/// Does the same through a shared reference to the handle.
+fn read_shared<S: System, R: Wait>(
+    mut handle: &ReaderHandle<S, R>,
+    is_exact: bool,
+    buffer: &mut [u8],
+) -> io::Result<usize> {
+    if !is_exact {
+        return handle.read(buffer);
+    }
+    handle.read_exact(buffer)?;
     Ok(buffer.len())
 }
 
@@ -231,7 +248,8 @@ fn push_prefix(text: &mut String, buffer: &[u8], count: usize) -> Result<(), All
     }
 }
 
-fn push_all<S: System, R: Wait>(
+/// Reads to the end, and adds what was read, or the kind of the error.
+pub fn push_all<S: System, R: Wait>(
     text: &mut String,
     alloc: Global,
     mut handle: &ReaderHandle<S, R>,

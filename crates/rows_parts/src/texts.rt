@@ -38,8 +38,11 @@ fn push_entries(
         "read" => write!(text, "{}", entries.len())?,
         "again" => {
             let again = journal_text(row.alloc, entries, Variables::Shown)?;
-            let is_same = again.as_str() == record;
-            text.push_str(if is_same { "same" } else { again.as_str() })?;
+            if again.as_str() == record {
+                text.push_str("same")?;
+            } else {
+                text.push_str(again.as_str())?;
+            }
         }
         "texts" => {
             for entry in entries {

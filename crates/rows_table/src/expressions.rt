@@ -63,10 +63,7 @@ pub fn written_with<L: Lender>(
 ) -> Result<Tree<L::End>, TableError> {
     let mut writing = Writing::new(alloc, lender);
     writing.write(text)?;
-    match writing.built.pop() {
-        Some(made) if writing.built.is_empty() => Ok(made),
-        _ => Err(TableError::Text("not exactly one expression")),
-    }
+    writing.only()
 }
 
 /// Returns the name of the first step of a text, its arguments, and the text after the step. A step
@@ -125,6 +122,13 @@ impl<'l, L: Lender> Writing<'l, L> {
             rest = others;
         }
         Ok(())
+    }
+
+    fn only(&mut self) -> Result<Tree<L::End>, TableError> {
+        match self.built.pop() {
+            Some(made) if self.built.is_empty() => Ok(made),
+            _ => Err(TableError::Text("not exactly one expression")),
+        }
     }
 
     /// Adds what a step makes in place of the expressions that it is made of.
