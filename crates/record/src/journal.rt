@@ -13,9 +13,8 @@ ghost use Rattle.duct_record.specs.JournalMeant.{line_text};
 
 use crate::PROGRAM;
 use duct::{Entry, Hook, System};
-use duct_program::perform::{NoHook, perform};
-use duct_record::journal::journal_text;
-use duct_record::write::Variables;
+use duct_program::{NoHook, perform};
+use duct_record::{Variables, journal_text};
 use duct_run::views::Viewed;
 use std::alloc::Global;
 use std::io;

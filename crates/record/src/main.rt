@@ -7,9 +7,9 @@ mod journal;
 
 use crate::journal::record;
 use duct::System;
-use duct_host::host::Host;
+use duct_host::Host;
 use duct_main::{Program, arguments};
-use duct_record::write::Variables;
+use duct_record::Variables;
 use std::fs::{OpenFile, OpenOptions, Permissions};
 use std::io;
 use std::io::Write;
