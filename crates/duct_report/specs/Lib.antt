@@ -1,2 +1,3 @@
 pub mod EntryForm
 pub mod FailedRequest
+pub mod RequestText

@@ -5,4 +5,4 @@ pub mod request;
 pub mod text;
 
 pub use request::{failed_request, failed_starts};
-pub use text::EntryText;
+pub use text::{EntryText, reason, request_text};

@@ -1,14 +1,44 @@
 //! The text of an entry: its request, and its fault if the system refused it.
-ghost use Rattle.std.specs.Prelude.{◌≡◌, Some};
+ghost use Rattle.std.specs.Prelude.{◌≡◌, map, Some, IfOk, IfSome};
 ghost use Rattle.std.specs.Fmt.{DisplaysOnOk};
 ghost use Rattle.duct_system.specs.EntryView.{entry_view};
 ghost use Rattle.duct_tree.specs.Text.{printed};
+ghost use Rattle.duct_report.specs.FailedRequest.{failed_request};
+ghost use Rattle.duct_report.specs.RequestText.{IsTextOf};
 ghost use Rattle.duct_report.specs.EntryForm.{entry_form, fault_form, kind_name, request_form, spawn_form};
 
-use crate::request::fault_of;
+use crate::request::{failed_request, fault_of};
+use duct_system::error::Error;
 use duct_system::spec::CommandSpec;
-use duct_system::system::{Entry, Fault, Kind, Side};
+use duct_system::system::{Entry, Fault, Kind, Side, System};
+use std::alloc::{AllocError, Global};
 use std::fmt;
+
+/// Returns the text of the request that made a start fail, if `failed_request` finds one in these
+/// entries. It doesn't block. Fails only at an allocation failure.
+pub fn request_text(alloc: Global, entries: &[Entry]) -> Result<Option<String>, AllocError>
+    ensures { IfOk result (IsTextOf (failed_request (map entry_view entries.now))) }
+{
+    match failed_request(entries) {
+        Some(request) => Ok(Some(format!(in alloc; "{}", EntryText(request))?)),
+        None => Ok(None),
+    }
+}
+
+/// Returns why a call failed: the text of the failed request of the journal, if there is one, and
+/// else that of the error. Clear the journal before the call, so that no earlier request is told.
+/// It doesn't block. Fails only at an allocation failure.
+///
+/// Example: `reason(alloc, &host, &error)?`, which is `spawn of "foo" in "/in": NotFound`
+pub fn reason<S: System>(alloc: Global, system: &S, error: &Error) -> Result<String, AllocError>
+    ensures { IfOk result (λ text. IfSome (failed_request (S.journal_view system.now).entries)
+        (λ request. IsTextOf (Some request) (Some text))) }
+{
+    match request_text(alloc, system.journal())? {
+        Some(text) => Ok(text),
+        None => format!(in alloc; "{error}"),
+    }
+}
 
 /// An entry as text, as in `spawn of "foo" in "/in": NotFound`: its request, and the kind of its
 /// fault if the system refused it. Ends stand there by their numbers, and texts in quotes, as std's
