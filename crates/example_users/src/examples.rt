@@ -9,3 +9,4 @@ mod over_a_script;
 mod over_the_machine;
 mod readers;
 mod script;
+mod supervisor;

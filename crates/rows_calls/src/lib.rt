@@ -6,22 +6,26 @@
 pub mod machine;
 mod programs;
 pub mod scripted;
+mod shells;
 mod started;
 pub mod texts;
 
 use crate::machine::Machine;
 use crate::programs::{Performed, push_line};
+use crate::shells::by_shell;
 use crate::started::{Started, polled, start};
 use crate::texts::{push_done, push_polled, push_read, push_run};
 use duct::{Clock, Entry, Error, Handle, System};
 use duct_deadline::{Until, read_until, run_until};
 use duct_plan::is_balanced;
+use duct_shell::Shell;
 use rows_table::expressions::{Tree, written_with};
 use rows_table::stop::TableError;
 use rows_table::table::Table;
 use rows_table::told::{children_started, push_journal, push_pool, push_spec, push_trace};
 use rows_table::words::{duration, first_word};
 use std::alloc::{AllocError, Global};
+use std::mem;
 use std::sync::Wait;
 use std::thread::{self, Threads};
 use std::time::Duration;
@@ -50,6 +54,8 @@ pub struct Calls<'t, 'r, R, M> {
     is_kept: bool,
     /// Whether the pool was given another number of children than it had to be.
     is_lost: bool,
+    /// Whether a shell keeps the journal.
+    keeps_journal: bool,
 }
 
 impl<'t, 'r, R: Wait + Threads, M: Machine> Calls<'t, 'r, R, M> {
@@ -65,6 +71,7 @@ impl<'t, 'r, R: Wait + Threads, M: Machine> Calls<'t, 'r, R, M> {
             performed: None,
             is_kept: false,
             is_lost: false,
+            keeps_journal: false,
         }
     }
 
@@ -83,18 +90,37 @@ impl<'t, 'r, R: Wait + Threads, M: Machine> Calls<'t, 'r, R, M> {
     fn call(&mut self, key: &str, text: &str) -> Result<(), TableError> {
         self.answers.clear();
         self.is_kept = false;
+        let shell_call = key.strip_prefix("shell_");
+        if shell_call.is_some() && !self.keeps_journal {
+            self.machine.stage().0.clear_journal(); // as the shell does it
+        }
         let before = self.counts();
         self.machine.mark(0);
-        let made = match key {
-            "run" | "run_until" => self.run(text),
-            "read" | "read_until" => self.read(text),
-            "perform" => self.perform(text),
-            _ => self.start(key, text),
+        let made = match (key, shell_call) {
+            (_, Some(call)) => self.by_shell(call, text),
+            ("run" | "run_until", None) => self.run(text),
+            ("read" | "read_until", None) => self.read(text),
+            ("perform", None) => self.perform(text),
+            (_, None) => self.start(key, text),
         };
         let after = self.counts();
         let started = after.0.saturating_sub(before.0);
         let owed = if self.is_kept { 0 } else { started };
         self.is_lost = self.is_lost || after.1.saturating_sub(before.1) != owed;
+        made
+    }
+
+    /// Makes a call of a shell on the expression of the row, by this name.
+    fn by_shell(&mut self, call: &str, text: &str) -> Result<(), TableError> {
+        let tree = self.tree()?;
+        let spare = self.machine.spare()?;
+        let (system, pool, clock) = self.machine.stage();
+        let mut shell = Shell::with_hooks(self.rt, self.alloc, mem::replace(system, spare));
+        mem::swap(&mut shell.pool, pool);
+        shell.keeps_journal = self.keeps_journal;
+        let (is_kept, answers) = (&mut self.is_kept, &mut self.answers);
+        let made = by_shell(&mut shell, clock, &tree, (call, text), is_kept, answers);
+        (*system, *pool) = shell.into_parts();
         made
     }
 
@@ -166,7 +192,7 @@ impl<'t, 'r, R: Wait + Threads, M: Machine> Calls<'t, 'r, R, M> {
         match (started, end) {
             (Started::Running(running), "parts") => {
                 self.is_kept = true;
-                self.machine.spend(running)
+                self.machine.spend(running.into_parts())
             }
             (Started::Handle(watched), "into" | "share" | "lend") => {
                 self.into_output(watched.into_handle(), end, mark)
@@ -347,6 +373,11 @@ impl<'t, R: Wait + Threads, M: Machine> Table<'t> for Calls<'t, '_, R, M> {
             "clear" => self.machine.stage().0.clear_journal(),
             "launch" | "launch_reader" | "handle" | "reader" => self.call(key, text)?,
             "run" | "run_until" | "read" | "read_until" | "perform" => self.call(key, text)?,
+            "shell_run" | "shell_run_for" | "shell_read" | "shell_read_for" => self.call(
+                key, text,
+            )?,
+            "shell_start" | "shell_reader" => self.call(key, text)?,
+            "keep_journal" => self.keeps_journal = true,
             _ => return self.found(key, text, out),
         }
         Ok(false)
@@ -354,7 +385,8 @@ impl<'t, R: Wait + Threads, M: Machine> Table<'t> for Calls<'t, '_, R, M> {
 
     fn end(&mut self) -> Result<(), TableError> {
         let checked = self.check();
-        (self.expression, self.arguments, self.is_lost) = ("", "", false);
+        (self.expression, self.arguments) = ("", "");
+        (self.is_lost, self.keeps_journal) = (false, false);
         let ended = self.machine.end();
         checked.and(ended)
     }

@@ -1,21 +1,32 @@
 //! What the table of calls needs of a machine besides the requests of the library.
-use duct::{Clock, Pool, Running, System};
+use duct::{Clock, Place, Pool, System};
 use rows_table::expressions::Lender;
 use rows_table::stop::TableError;
 
 /// The pool of a system's children.
 pub type PoolOf<S> = Pool<<S as System>::Child>;
 
+/// The children, the feeds and the drains of what ran.
+pub type PartsOf<S> = (
+    Vec<Place<<S as System>::Child>>,
+    Vec<<S as System>::Feed>,
+    Vec<<S as System>::Drain>,
+);
+
 /// A system with a pool. An expression names the ends that the machine lends by their numbers.
 pub trait Machine: Lender + Drop {
     /// The system over which expressions are started.
-    type System: System<End = Self::End>;
+    type System: System<End = Self::End> + Drop;
 
     /// The clock of the waits with a deadline or a timeout.
     type Clock: Clock;
 
     /// Returns the system, the pool and the clock.
     fn stage(&mut self) -> (&mut Self::System, &mut PoolOf<Self::System>, &Self::Clock);
+
+    /// Returns another system, which stands in for the machine's while a shell has that one. Fails
+    /// on an allocation failure.
+    fn spare(&self) -> Result<Self::System, TableError>;
 
     /// Notes what the log has at this moment, if there is one: 0 is when a start begins, 1 when it
     /// has returned, and 2 when the calls since then were made.
@@ -30,7 +41,7 @@ pub trait Machine: Lender + Drop {
 
     /// Takes the children and workers of what ran, and keeps of them what later lines of the row
     /// are compared with.
-    fn spend(&mut self, running: Running<Self::System>) -> Result<(), TableError>;
+    fn spend(&mut self, parts: PartsOf<Self::System>) -> Result<(), TableError>;
 
     /// Waits for a short time between two polls of what still runs.
     fn pause(&self);

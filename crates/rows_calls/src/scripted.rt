@@ -1,6 +1,6 @@
 //! The table of calls over the scripted system (`docs/ROWS.md`).
-use crate::machine::{Machine, PoolOf};
-use duct::{Numbered, Running, System};
+use crate::machine::{Machine, PartsOf, PoolOf};
+use duct::{Numbered, System};
 use duct_script::child::ScriptChild;
 use duct_script::clock::ScriptClock;
 use duct_script::system::{Script, ScriptEnd};
@@ -87,6 +87,10 @@ impl Machine for Scripted {
         (&mut bench.sys, &mut bench.pool, &self.clock)
     }
 
+    fn spare(&self) -> Result<Script, TableError> {
+        Ok(Script::new(self.alloc)?)
+    }
+
     fn mark(&mut self, moment: usize) {
         let (noted, [begun, started, _]) = (self.bench.calls.noted(), self.marks);
         self.marks = match moment {
@@ -139,8 +143,8 @@ impl Machine for Scripted {
         Ok(answer.push_str(". ")?)
     }
 
-    fn spend(&mut self, running: Running<Script>) -> Result<(), TableError> {
-        let (children, feeds, drains) = running.into_parts();
+    fn spend(&mut self, parts: PartsOf<Script>) -> Result<(), TableError> {
+        let (children, feeds, drains) = parts;
         self.returned = [children.len(), feeds.len(), drains.len()];
         self.parts.clear();
         for place in children {

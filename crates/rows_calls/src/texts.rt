@@ -21,7 +21,10 @@ pub fn push_polled(
 }
 
 /// Adds that an order was obeyed, or the text of its error.
-pub fn push_done(text: &mut String, answer: &Result<(), Error>) -> Result<(), AllocError> {
+pub fn push_done<E: fmt::Display>(
+    text: &mut String,
+    answer: &Result<(), E>,
+) -> Result<(), AllocError> {
     match answer {
         Ok(()) => text.push_str("done. "),
         Err(error) => write!(text, "{error}. "),
@@ -30,9 +33,9 @@ pub fn push_done(text: &mut String, answer: &Result<(), Error>) -> Result<(), Al
 
 /// Adds the result of a run: a status with what was captured, how it was late, or the text of an
 /// error.
-pub fn push_run(
+pub fn push_run<E: fmt::Display>(
     text: &mut String,
-    ran: &Result<Until<Output, Late>, Error>,
+    ran: &Result<Until<Output, Late>, E>,
 ) -> Result<(), AllocError> {
     match ran {
         Ok(Until::Done(output)) => push_output(text, output),
@@ -43,9 +46,9 @@ pub fn push_run(
 
 /// Adds a text that was read, in quotes, or of a long one its length, or how the read was late, or
 /// the text of an error.
-pub fn push_read(
+pub fn push_read<E: fmt::Display>(
     text: &mut String,
-    read: &Result<Until<String, LateRead>, Error>,
+    read: &Result<Until<String, LateRead>, E>,
 ) -> Result<(), AllocError> {
     match read {
         Ok(Until::Done(read)) if read.len() > LONG => write!(text, "{}. ", Bytes(read.as_bytes())),

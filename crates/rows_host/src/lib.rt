@@ -3,11 +3,11 @@
 //! Test support: the code is proved safe, and each function that can't block is proved to return.
 #![tactic(auto)]
 
-use duct::{Clock, Entry, Place, Pool, Running, System};
+use duct::{Clock, Entry, Place, Pool, System};
 use duct_base::pool::pool_take;
 use duct_host::{Child, End, Host};
 use rows_calls::TURNS;
-use rows_calls::machine::{Machine, PoolOf};
+use rows_calls::machine::{Machine, PartsOf, PoolOf};
 use rows_calls::texts::Bytes;
 use rows_requests::{Requests, taken};
 use rows_table::expressions::Lender;
@@ -246,6 +246,12 @@ impl<R: Real> Machine for HostMachine<R> {
     }
 
     /// Reads the line of a single request as well.
+    fn spare(&self) -> Result<Host<R>, TableError> {
+        let rt = self.clock.rt.clone()?;
+        let alloc = rt.alloc();
+        Ok(Host::new(rt, alloc))
+    }
+
     fn line(&mut self, key: &str, text: &str, out: &mut String) -> Result<bool, TableError> {
         if self.found(key, text, out)? {
             return Ok(true);
@@ -267,8 +273,8 @@ impl<R: Real> Machine for HostMachine<R> {
         }
     }
 
-    fn spend(&mut self, running: Running<Host<R>>) -> Result<(), TableError> {
-        (self.spent, _, _) = running.into_parts();
+    fn spend(&mut self, parts: PartsOf<Host<R>>) -> Result<(), TableError> {
+        self.spent = parts.0;
         Ok(())
     }
 

@@ -1,6 +1,7 @@
 //! Commands and pipelines: their arguments, their streams and surroundings, and what a hook
 //! changes.
 use duct::{CommandSpec, Error, Expression, Fault, Hook, HookBox, Kind, Pool, Port, System, cmd};
+use duct_report::reason;
 use std::alloc::Global;
 use std::path::Path;
 use std::sync::Wait;
@@ -40,6 +41,17 @@ pub fn failed<S: System>(rt: &impl Wait, alloc: Global, system: &mut S) -> Resul
     let fails: Expression<S::End> = cmd!(in alloc; "sh", "-c", "exit 3")?;
     let output = fails.unchecked()?.run(rt, system, &mut pool)?;
     Ok(format!(in alloc; "{:?}", output.status)?) // ExitStatus::Code(3)
+}
+
+/// Returns why a command can't be started.
+pub fn unfound<S: System>(rt: &impl Wait, alloc: Global, system: &mut S) -> Result<String, Error> {
+    let mut pool = Pool::new(alloc);
+    let foo: Expression<S::End> = cmd!(in alloc; "no-such-program")?;
+    system.clear_journal(); // so that no earlier request is told
+    match foo.run(rt, system, &mut pool) {
+        Ok(output) => Ok(format!(in alloc; "{:?}", output.status)?),
+        Err(error) => Ok(reason(alloc, system, &error)?), // spawn of "no-such-program": NotFound
+    }
 }
 
 /// Returns two commands in a pipe: the left one is named by a path, the right one by a text.

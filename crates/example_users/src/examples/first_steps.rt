@@ -1,42 +1,50 @@
 //! The first steps, as README shows them.
-use duct::{Error, Expression, Output, Pool, System, cmd};
+use duct_shell::{Chain, Clock, Expression, Failure, Output, Shell, System, Until, cmd, run};
 use std::alloc::Global;
 use std::sync::Wait;
+use std::time::Duration;
 
 /// Returns how many bytes a pipeline prints to each stream, and why another command fails.
-pub fn piped<S: System>(rt: &impl Wait, alloc: Global, system: &mut S) -> Result<String, Error> {
-    let mut pool = Pool::new(alloc);
-    let hello: Expression<S::End> = cmd!(in alloc; "sh", "-c", "echo hello; echo careful >&2")?;
-    let loud = hello.pipe(&cmd!(in alloc; "tr", "a-z", "A-Z")?)?;
-    let captured = loud.stdout_capture()?.stderr_capture()?;
-    let output = captured.run(rt, system, &mut pool)?; // stdout: HELLO, stderr: careful
-    let fails: Expression<S::End> = cmd!(in alloc; "sh", "-c", "exit 3")?;
-    let failed = fails.run(rt, system, &mut pool); // Err(Error::Checked(..))
+pub fn piped<S: System, R: Wait>(sh: &mut Shell<S, R>) -> Result<String, Failure> {
+    let hello = cmd!(sh; "sh", "-c", "echo hello; echo careful >&2");
+    let loud = hello.pipe(cmd!(sh; "tr", "a-z", "A-Z"));
+    let output = sh.run(&loud.stdout_capture().stderr_capture()?)?; // stdout: HELLO, stderr: careful
+    let failed = run!(sh; "sh", "-c", "exit 3"); // Err: it exited with code 3
 
-    told(alloc, &output, failed)
+    told(sh.alloc, &output, failed)
 }
 
-// Returns how many bytes an output has of each stream, and the error of another result.
-fn told(alloc: Global, output: &Output, failed: Result<Output, Error>) -> Result<String, Error> {
+// Returns how many bytes an output has of each stream, and the text of a failure.
+fn told(
+    alloc: Global,
+    output: &Output,
+    failed: Result<Output, Failure>,
+) -> Result<String, Failure> {
     let (out, err) = (output.stdout.len(), output.stderr.len());
     match failed {
-        Ok(_) => Ok(format!(in alloc; "{out}, {err}, no error")?),
-        Err(error) => Ok(format!(in alloc; "{out}, {err}, {error}")?),
+        Ok(_) => Ok(format!(in alloc; "{out}, {err}, no failure")?),
+        Err(failure) => Ok(format!(in alloc; "{out}, {err}, {failure}")?),
     }
 }
 
 /// Returns what a command writes to a file.
-pub fn filed<S: System>(
-    rt: &impl Wait,
-    alloc: Global,
-    system: &mut S,
-    path: &str,
-) -> Result<String, Error> {
-    let mut pool = Pool::new(alloc);
-    let sh: Expression<S::End> = cmd!(in alloc; "sh", "-c", "echo $WHO; pwd; echo no >&2")?;
-    let there = sh.env("WHO", "me")?.dir("/")?; // WHO=me, in the folder /
-    let filed = there.stdout_path(path)?.stderr_null()?; // > path 2> /dev/null
-    filed.run(rt, system, &mut pool)?;
-    let cat: Expression<S::End> = cmd!(in alloc; "cat")?;
-    cat.stdin_path(path)?.read(rt, system, &mut pool) // cat < path
+pub fn filed<S: System, R: Wait>(sh: &mut Shell<S, R>, path: &str) -> Result<String, Failure> {
+    let there = cmd!(sh; "sh", "-c", "echo $WHO; pwd; echo no >&2")
+        .env("WHO", "me")
+        .dir("/");
+    sh.run(&there.stdout_path(path).stderr_null()?)?; // > path 2> /dev/null
+    sh.read(&cmd!(sh; "cat").stdin_path(path)?) // cat < path
+}
+
+/// Runs a test, and returns whether it succeeds within a limit of time.
+pub fn passes<S: System, R: Wait, C: Clock>(
+    sh: &mut Shell<S, R>,
+    clock: &C,
+    test: &Expression<S::End>,
+    limit: Duration,
+) -> Result<bool, Failure> {
+    match sh.run_for(clock, limit, Duration::from_secs(1), &test.unchecked()?)? {
+        Until::Done(output) => Ok(output.status.success()),
+        Until::Late(_) => Ok(false), // it was sent signal 15, and killed a second later
+    }
 }

@@ -1,7 +1,8 @@
 //! Tests of the examples over the scripted system, which runs no program.
 use super::handles::started_at_last;
-use super::limits::{build, supervise};
+use super::limits::build;
 use super::script::{run_script, started};
+use super::supervisor::supervise;
 use duct::{Clock, Error, ExitStatus, Expression, Fault, Kind, Output, Pool, System, cmd};
 use duct_attempts::run_attempts;
 use duct_host::HostClock;
@@ -10,6 +11,7 @@ use duct_script::child::PollAnswer;
 use duct_script::clock::ScriptClock;
 use duct_script::requests::Sort;
 use duct_script::system::Script;
+use duct_shell::{Failure, Shell};
 use std::alloc::{AllocError, Global};
 use std::sync::{Arc, Wait};
 use std::test::Fail;
@@ -35,13 +37,10 @@ fn scripted(alloc: Global, polls: &[PollAnswer]) -> Result<Script, AllocError> {
 /// the child returns to polls.
 #[test]
 fn a_script_stops_at_a_failure(rt: HostRuntime) -> Result<(), Fail> {
-    let mut system = Script::new(rt.alloc())?;
-    let mut pool = Pool::new(rt.alloc());
-    system.polls(&[PollAnswer::Running, PollAnswer::Ended(ExitStatus::Code(2))])?;
-    let script = "make all\nmake install";
-    let told = run_script(&rt, rt.alloc(), &mut system, &mut pool, script);
-    assert!(rt; matches!(told, Err(Error::Checked(_))));
-    assert_eq!(rt; started(rt.alloc(), &system)?.as_str(), "make all \n"); // from the journal
+    let mut sh = Shell::over(&rt, rt.alloc(), Script::new(rt.alloc())?);
+    sh.system.polls(&[PollAnswer::Running, PollAnswer::Ended(ExitStatus::Code(2))])?;
+    assert!(rt; run_script(&mut sh, "make all\nmake install").is_err());
+    assert_eq!(rt; started(rt.alloc(), &sh.system)?.as_str(), "make all \n"); // from the journal
     Ok(())
 }
 
@@ -113,25 +112,24 @@ fn steps_with_a_time_limit(rt: HostRuntime) -> Result<(), Fail> {
 
 /// Supervises a service that may run this long. Returns how many times it was restarted, and how
 /// many children were given to the pool.
-pub fn service_text<S: System>(
-    rt: &impl Wait,
-    alloc: Global,
-    system: &mut S,
+pub fn service_text<S: System, R: Wait>(
+    sh: &mut Shell<S, R>,
     clock: &impl Clock,
     limit: Duration,
-) -> Result<String, Error> {
-    let mut pool = Pool::new(alloc);
-    let service: Expression<S::End> = cmd!(in alloc; "sleep", "20")?;
-    let restarted = supervise(rt, clock, system, &mut pool, &service, limit)?;
-    Ok(format!(in alloc; "{restarted:?}, {} given", pool.given())?)
+) -> Result<String, Failure> {
+    let service = sh.cmd("sleep", &["20"])?;
+    let given = sh.pool.given();
+    let restarted = supervise(sh, clock, &service, limit)?;
+    let given = sh.pool.given().saturating_sub(given);
+    Ok(format!(in sh.alloc; "{restarted:?}, {given} given")?)
 }
 
 #[test]
 fn a_service_succeeds_at_last(rt: HostRuntime) -> Result<(), Fail> {
     let clock = HostClock::new(&rt)?;
-    let mut system = scripted(rt.alloc(), &[FAILS, FAILS, SUCCEEDS])?;
-    let limit = Duration::from_secs(60);
-    let text = service_text(&rt, rt.alloc(), &mut system, &clock, limit)?;
+    let system = scripted(rt.alloc(), &[FAILS, FAILS, SUCCEEDS])?;
+    let mut sh = Shell::over(&rt, rt.alloc(), system);
+    let text = service_text(&mut sh, &clock, Duration::from_secs(60))?;
     assert_eq!(rt; text.as_str(), "Some(2), 2 given");
     Ok(())
 }

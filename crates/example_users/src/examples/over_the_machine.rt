@@ -2,15 +2,17 @@
 //! fails.
 use super::commands::{
     by_paths, excused, failed, fed, filtered, listed, logged, merged, placed, silenced, swapped,
+    unfound,
 };
 use super::files::start_to_file;
-use super::first_steps::{filed, piped};
+use super::first_steps::{filed, passes, piped};
 use super::handles::{stopped, work_beside};
 use super::over_a_script::service_text;
 use super::readers::{copied, counted, longest_line};
-use super::script::{reason, run_script, started};
+use super::script::{run_script, started};
 use duct::{Clock, Error, Expression, Fault, Pool, System, cmd};
 use duct_host::{End, Host, HostClock, Parents};
+use duct_shell::{Failure, Shell};
 use std::alloc::{AllocError, Global};
 use std::fs;
 use std::fs::File;
@@ -39,20 +41,32 @@ fn push_read<S: System>(
     Ok(push_line(text, printed)?)
 }
 
-/// Adds what the first steps and the commands of the cookbook print.
+/// Adds what the first steps print, and whether a test passes.
+fn push_first_steps<S: System, R: Wait>(
+    text: &mut String,
+    sh: &mut Shell<S, R>,
+    clock: &impl Clock,
+) -> Result<(), Failure> {
+    push_line(text, piped(sh)?)?;
+    push_line(text, filed(sh, "filed")?)?;
+    let test = sh.cmd("test", &["-e", "filed"])?;
+    let limit = Duration::from_secs(60);
+    Ok(writeln!(text, "passes: {}", passes(sh, clock, &test, limit)?)?)
+}
+
+/// Adds what the commands of the cookbook print.
 fn push_commands<S: System>(
     text: &mut String,
     rt: &impl Wait,
     alloc: Global,
     system: &mut S,
 ) -> Result<(), Error> {
-    push_line(text, piped(rt, alloc, system)?)?;
-    push_line(text, filed(rt, alloc, system, "filed")?)?;
     push_read(text, rt, alloc, system, listed(alloc)?)?;
     push_read(text, rt, alloc, system, fed(alloc)?)?;
     push_read(text, rt, alloc, system, merged(alloc)?)?;
     push_read(text, rt, alloc, system, placed(alloc)?)?;
-    Ok(push_line(text, failed(rt, alloc, system)?)?)
+    push_line(text, failed(rt, alloc, system)?)?;
+    Ok(push_line(text, unfound(rt, alloc, system)?)?)
 }
 
 /// Works beside a command, a millisecond a piece, and returns whether it succeeded.
@@ -131,24 +145,17 @@ fn push_pipelines<S: System>(
 }
 
 /// Adds what a script prints, why another one fails, how many children the pool keeps, and what was
-/// started.
-fn push_scripts<S: System>(
+/// started since the journal was cleared.
+fn push_scripts<S: System, R: Wait>(
     text: &mut String,
-    rt: &impl Wait,
-    alloc: Global,
-    system: &mut S,
-) -> Result<(), Error> {
-    let mut pool = Pool::new(alloc);
-    system.clear_journal();
-    push_line(
-        text,
-        run_script(rt, alloc, system, &mut pool, "echo hi\nprintf a%sc b")?,
-    )?;
-    if let Err(error) = run_script(rt, alloc, system, &mut pool, "no-such-program\necho hi") {
-        push_line(text, reason(alloc, system, &error)?)?;
+    sh: &mut Shell<S, R>,
+) -> Result<(), Failure> {
+    push_line(text, run_script(sh, "echo hi\nprintf a%sc b")?)?;
+    push_line(text, started(sh.alloc, &sh.system)?)?;
+    if let Err(failure) = run_script(sh, "no-such-program\necho hi") {
+        writeln!(text, "{failure}")?;
     }
-    writeln!(text, "{} kept", pool.len())?;
-    Ok(push_line(text, started(alloc, system)?)?)
+    Ok(writeln!(text, "{} kept", sh.pool.len())?)
 }
 
 /// Adds the longest line of what a command prints in pieces, its bytes, what is left of a log, and
@@ -181,31 +188,46 @@ fn push_failing<S: System>(
     }
 }
 
-/// Adds what all examples print. A log is too short, and another one isn't; a service may run for
-/// 20 milliseconds.
+/// Adds what the examples without a shell print. A log is too short, and another one isn't.
 fn push_all<S: System>(
     text: &mut String,
     rt: &impl Wait,
     alloc: Global,
     system: &mut S,
-    clock: &impl Clock,
 ) -> Result<(), Error> {
     push_commands(text, rt, alloc, system)?;
     push_handles(text, rt, alloc, system)?;
     push_pipes(text, rt, alloc, system)?;
     push_pipelines(text, rt, alloc, system)?;
-    push_scripts(text, rt, alloc, system)?;
     push_lines(text, rt, alloc, system, &mut [0; 7])?;
     push_lines(text, rt, alloc, system, &mut [0; 20])?;
-    push_failing(text, rt, alloc, system)?;
-    let limit = Duration::from_millis(20);
-    Ok(push_line(text, service_text(rt, alloc, system, clock, limit)?)?)
+    push_failing(text, rt, alloc, system)
+}
+
+/// Adds what the examples over a shell print. A service may run for 20 milliseconds.
+fn push_shells<S: System, R: Wait>(
+    text: &mut String,
+    sh: &mut Shell<S, R>,
+    clock: &impl Clock,
+) -> Result<(), Failure> {
+    push_first_steps(text, sh, clock)?;
+    push_scripts(text, sh)?;
+    Ok(push_line(text, service_text(sh, clock, Duration::from_millis(20))?)?)
 }
 
 /// What all examples print.
 const WANTED: &str = "6, 8, command [\"sh\", \"-c\", \"exit 3\"] exited with code 3
 me
 /
+passes: true
+hi
+abc
+
+printf a%sc b\x20
+
+spawn of \"no-such-program\": NotFound
+0 kept
+None, 3 given
 foo bar baz
 foo
 out
@@ -213,6 +235,7 @@ err
 /
 foobar
 Code(3)
+spawn of \"no-such-program\": NotFound
 Signal(15), 3893 bytes, true
 bar
 ; foo
@@ -224,31 +247,18 @@ foo
 a
 b
 Pipe(Cmd([\"./tools/a\", \"-v\", \"in\"]), Cmd([\"b\"]))
-hi
-abc
-
-spawn of \"no-such-program\": NotFound
-0 kept
-echo hi\x20
-printf a%sc b\x20
-
 5, 13, 0, false
 5, 13, 7, true
 command [\"sh\", \"-c\", \"echo hi; exit 3\"] exited with code 3
-None, 3 given
 ";
 
 #[test]
 fn examples_over_the_machine(rt: HostRuntime) -> Result<(), Fail> {
     let clock = HostClock::new(&rt)?;
     let mut text = String::new(rt.alloc());
-    push_all(
-        &mut text,
-        &rt,
-        rt.alloc(),
-        &mut Host::new(&rt, rt.alloc()),
-        &clock,
-    )?;
+    let mut sh = Shell::new(&rt);
+    push_shells(&mut text, &mut sh, &clock)?;
+    push_all(&mut text, &rt, rt.alloc(), &mut sh.system)?;
     assert_eq!(rt; text.as_str(), WANTED);
     Ok(())
 }

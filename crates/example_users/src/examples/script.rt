@@ -1,46 +1,33 @@
 //! A script runner, whose lines are commands, and what is read of the journal after it.
-use duct::{Entry, Error, Expression, Pool, System, cmd};
-use duct_report::{EntryText, failed_request};
+use duct::Entry;
+use duct_shell::{Failure, Shell, System};
 use std::alloc::{AllocError, Global};
 use std::sync::Wait;
 
 /// Runs the command of each line, in order, up to the first that fails. Returns what they printed,
-/// with a newline after the text of each line. The pool keeps what a line leaves running, and is
-/// swept after each.
-pub fn run_script<S: System>(
-    rt: &impl Wait,
-    alloc: Global,
-    system: &mut S,
-    pool: &mut Pool<S::Child>,
+/// with a newline after the text of each line.
+pub fn run_script<S: System, R: Wait>(
+    sh: &mut Shell<S, R>,
     script: &str,
-) -> Result<String, Error> {
-    let mut printed = String::new(alloc);
+) -> Result<String, Failure> {
+    let mut printed = String::new(sh.alloc);
     for line in script.lines() {
-        let text = run_line(rt, alloc, system, pool, line);
-        pool.sweep();
-        printed.push_str(text?.as_str())?;
+        printed.push_str(run_line(sh, line)?.as_str())?;
         printed.push('\n')?;
     }
     Ok(printed)
 }
 
 // Returns what the command of one line prints. An empty line prints nothing.
-fn run_line<S: System>(
-    rt: &impl Wait,
-    alloc: Global,
-    system: &mut S,
-    pool: &mut Pool<S::Child>,
-    line: &str,
-) -> Result<String, Error> {
-    let mut words = Vec::new(alloc);
+fn run_line<S: System, R: Wait>(sh: &mut Shell<S, R>, line: &str) -> Result<String, Failure> {
+    let mut words = Vec::new(sh.alloc);
     for word in line.split_whitespace() {
         words.push(word)?;
     }
-    let Some((program, arguments)) = words.split_first() else {
-        return Ok(String::new(alloc));
-    };
-    let command: Expression<S::End> = cmd(alloc, *program, arguments)?;
-    command.read(rt, system, pool)
+    match words.split_first() {
+        Some((program, arguments)) => sh.read(&sh.cmd(*program, arguments)?),
+        None => Ok(String::new(sh.alloc)),
+    }
 }
 
 /// Returns the words of each command that was started, one command a line.
@@ -60,13 +47,4 @@ fn push_words(text: &mut String, words: &[String]) -> Result<(), AllocError> {
         write!(text, "{word} ")?;
     }
     text.push('\n')
-}
-
-/// Returns why a call failed: the request that the system refused, if it refused one, and else the
-/// error.
-pub fn reason<S: System>(alloc: Global, system: &S, error: &Error) -> Result<String, AllocError> {
-    match failed_request(system.journal()) {
-        Some(request) => format!(in alloc; "{}", EntryText(request)),
-        None => format!(in alloc; "{error}"),
-    }
 }

@@ -1,0 +1,4 @@
+pub mod Begun
+pub mod Limit
+pub mod Named
+pub mod Wraps

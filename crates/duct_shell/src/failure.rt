@@ -1,0 +1,111 @@
+//! Why a call of a shell failed.
+ghost use Rattle.std.specs.Prelude.{◌≡◌, map, None};
+ghost use Rattle.duct_system.specs.EntryView.{entry_view};
+ghost use Rattle.duct_system.specs.declared.error.Error.TheVariants.{Memory};
+ghost use Rattle.duct_shell.specs.Named.{Names};
+
+use duct::{Entry, Error, Fault};
+use duct_report::request_text;
+use std::alloc::{AllocError, AllocFailed, Global};
+use std::io::ErrorKind;
+use std::{error, fmt, io};
+
+/// Why a call of a shell failed. It prints as its request if there is one, as in
+/// `spawn of "foo" in "/in": NotFound`, and else as its error. Its `{:?}` is the same text, so a
+/// `main` that returns it prints one readable line.
+#[derive(Drop)]
+pub struct Failure {
+    /// The error of the call.
+    pub error: Error,
+
+    /// The request of the start that the system refused, as text. It is `None` where none was
+    /// refused, and where there was no memory for the text.
+    pub request: Option<String>,
+}
+
+impl Failure {
+    // Returns the failure of a call that failed with this error, and added these entries.
+    pub(crate) fn new(alloc: Global, added: &[Entry], error: Error) -> Failure
+        ensures error { result.error ≡ error }
+        ensures request { Names (map entry_view added.now) result.request }
+    {
+        let request = match request_text(alloc, added) {
+            Ok(request) => request,
+            Err(_) => None,
+        };
+        Failure { error, request }
+    }
+}
+
+impl fmt::Display for Failure {
+    fn fmt<W: fmt::Write>(&self, f: &mut fmt::Formatter<W>) -> fmt::Result {
+        match &self.request {
+            Some(request) => f.write_str(request.as_str()),
+            None => write!(f, "{}", self.error),
+        }
+    }
+}
+
+impl fmt::Debug for Failure {
+    fn fmt<W: fmt::Write>(&self, f: &mut fmt::Formatter<W>) -> fmt::Result {
+        write!(f, "{self}")
+    }
+}
+
+impl error::Error for Failure {}
+
+impl From<Error> for Failure {
+    fn from(error: Error) -> Failure
+        ensures error { result.error ≡ error }
+        ensures request { result.request ≡ None }
+    {
+        Failure {
+            error,
+            request: None,
+        }
+    }
+}
+
+impl From<AllocError> for Failure {
+    fn from(_error: AllocError) -> Failure
+        ensures error { result.error ≡ Memory }
+        ensures request { result.request ≡ None }
+    {
+        Failure::from(Error::Memory)
+    }
+}
+
+impl<T: Drop> From<AllocFailed<T>> for Failure {
+    fn from(_error: AllocFailed<T>) -> Failure
+        ensures error { result.error ≡ Memory }
+        ensures request { result.request ≡ None }
+    {
+        Failure::from(Error::Memory)
+    }
+}
+
+impl From<io::Error> for Failure {
+    fn from(error: io::Error) -> Failure
+        ensures request { result.request ≡ None }
+    {
+        Failure::from(Error::System(Fault::from(error)))
+    }
+}
+
+/// It has the text of the request, or of the command that failed, cut at 80 bytes.
+impl From<Failure> for io::Error {
+    fn from(failure: Failure) -> io::Error {
+        let Failure { error, request } = failure;
+        if let Some(request) = request {
+            return io::Error::other(request.as_str());
+        }
+        match error {
+            Error::Checked(message) => io::Error::other(message.as_str()),
+            Error::NotUtf8 => io::Error::from(ErrorKind::InvalidData),
+            Error::Memory => io::Error::from(ErrorKind::OutOfMemory),
+            Error::System(_) | Error::Hook(_) | Error::HookEnd(_) | Error::Deadline => {
+                io::Error::from(ErrorKind::Other)
+            }
+        }
+    }
+}

@@ -1,0 +1,357 @@
+//! A system with the pool, the runtime and the allocator that each call over it needs.
+ghost use Rattle.std.specs.Prelude.{◌≡◌, ◌⊎◌, ◌∷◌, List, [], drop, length, map, false, None, Ok, Err, IfErr, IfOk, OnOk, IsOkUnless};
+ghost use Rattle.duct_system.specs.EntryView.{entry_view};
+ghost use Rattle.duct_system.specs.Journal.{IsCleared};
+ghost use Rattle.duct_system.specs.SpecView.{texts_of};
+ghost use Rattle.duct_system.specs.declared.error.Error.TheVariants.{Memory};
+ghost use Rattle.duct_system.specs.declared.system.Order.TheVariants.{Kill};
+ghost use Rattle.duct_status.specs.ReplyView.{answered};
+ghost use Rattle.duct_status.specs.ShapeView.{shape_view};
+ghost use Rattle.duct_start.specs.TreeView.{command};
+ghost use Rattle.duct_run.specs.Requested.{PoolGets};
+ghost use Rattle.duct_running.specs.Answered.{IsAnswer, IsConcluded};
+ghost use Rattle.duct_handle.specs.AreGiven.{AreGiven};
+ghost use Rattle.duct_handle.specs.Obeyed.{IsObeyed};
+ghost use Rattle.duct.specs.Launched.{Fails, Handles, LaunchRefused, Launched, ReadFails, Reads, Returns, RunFailed, draining, reading};
+ghost use Rattle.duct.specs.TreeView.{tree_view};
+ghost use Rattle.duct_shell.specs.Begun.{Begins, DoesFrom, FailsFrom};
+ghost use Rattle.duct_shell.specs.Named.{Names};
+
+use crate::failure::Failure;
+use duct::{
+    Entry, Error, Expression, Handle, Hook, HookBox, IntoExecutablePath, Output, Pool,
+    ReaderHandle, System, cmd,
+};
+use duct_host::{Host, Parents};
+use duct_run::views::Viewed;
+use std::alloc::Global;
+use std::fs::File;
+use std::marker::PhantomData;
+use std::process::Processes;
+use std::rt::{Env, Files};
+use std::sync::Wait;
+use std::thread::Threads;
+
+/// A system, and what each call over it needs: a runtime, an allocator, and a pool, which keeps
+/// the children that a failed call leaves. Expressions that it makes have hooks of type `H`.
+///
+/// A call that starts an expression begins by clearing the journal, so that the journal is that of
+/// the last start; a shell whose `keeps_journal` is set leaves it. The other fields may be lent to
+/// any call of the library.
+///
+/// Where a shell is dropped its pool is swept once: children that have ended are reaped. Nothing is
+/// killed and nothing is waited for: what still runs goes on, and stays a zombie once it has ended,
+/// until the program ends.
+pub struct Shell<S: System, R, H = HookBox> {
+    pub rt: R,
+    pub alloc: Global,
+    pub system: S,
+    pub pool: Pool<S::Child>,
+    pub keeps_journal: bool,
+    hooks: PhantomData<H>,
+}
+
+impl<S: System + Drop, R: Drop, H> Drop for Shell<S, R, H> {
+    fn drop(self) {
+        let (system, mut pool) = self.into_parts();
+        pool.sweep();
+        drop((system, pool));
+    }
+}
+
+impl<'r, R: Processes + Files<File = File> + Env + Parents + Threads + AllocGlobal> Shell<
+    Host<&'r R>,
+    &'r R,
+> {
+    /// Makes a shell over the real machine. It can't fail and doesn't block.
+    ///
+    /// Example: `let mut sh = Shell::new(&rt);`
+    pub fn new(rt: &'r R) -> Shell<Host<&'r R>, &'r R>
+        ensures { result.system ≡ record { entries = []; added = 0; next = 1; room = 0 } }
+    {
+        Shell::over(rt, rt.alloc(), Host::new(rt, rt.alloc()))
+    }
+}
+
+impl<S: System, R: Drop> Shell<S, R> {
+    /// Makes a shell over any system, as a scripted one in a test, with an empty pool.
+    ///
+    /// Example: `let mut sh = Shell::over(&rt, rt.alloc(), Script::new(rt.alloc())?);`
+    pub fn over(rt: R, alloc: Global, system: S) -> Shell<S, R>
+        ensures system { result.system ≡ system }
+        ensures pool { result.pool ≡ record { children = []; given = 0; reaped = 0; lost = 0 } }
+        ensures keeps { result.keeps_journal ≡ false }
+    {
+        Shell::with_hooks(rt, alloc, system)
+    }
+}
+
+impl<S: System, R: Drop, H> Shell<S, R, H> {
+    /// Makes a shell over any system, whose expressions have hooks of type `H`.
+    pub fn with_hooks(rt: R, alloc: Global, system: S) -> Shell<S, R, H>
+        ensures system { result.system ≡ system }
+        ensures pool { result.pool ≡ record { children = []; given = 0; reaped = 0; lost = 0 } }
+        ensures keeps { result.keeps_journal ≡ false }
+    {
+        Shell {
+            rt,
+            alloc,
+            system,
+            pool: Pool::new(alloc),
+            keeps_journal: false,
+            hooks: PhantomData,
+        }
+    }
+
+    /// Returns the system and the pool. Nothing is swept.
+    pub fn into_parts(self) -> (S, Pool<S::Child>)
+        ensures system { result.0 ≡ self.system }
+        ensures pool { result.1 ≡ self.pool }
+    {
+        let Shell {
+            rt,
+            alloc: _,
+            system,
+            pool,
+            keeps_journal: _,
+            hooks: _,
+        } = self;
+        drop(rt);
+        (system, pool)
+    }
+}
+
+impl<S: System, R, H: Drop> Shell<S, R, H> {
+    /// Makes a command: a program and its arguments, which no shell reads. Nothing is started.
+    ///
+    /// Fails with `Error::Memory`, and only at an allocation failure.
+    ///
+    /// Example: `sh.cmd("ls", &["-l"])?`, or `cmd!(sh; "ls", "-l")?`
+    pub fn cmd<P: IntoExecutablePath>(
+        &self,
+        program: P,
+        args: &[&str],
+    ) -> Result<Expression<S::End, H>, Error>
+        ensures tree { IfOk result
+            (λ made. tree_view made ≡ command (P.executable program ∷ texts_of args.now)) }
+        ensures memory { IsOkUnless result Memory }
+    {
+        cmd(self.alloc, program, args)
+    }
+
+    /// Gives up what a handle runs, as `Handle::give_up` does: its children go to the shell's pool.
+    /// Nothing is killed and nothing is waited for.
+    pub fn give_up(&mut self, handle: Handle<S>)
+        ensures given { (children : List S.Child)
+            × PoolGets ⟦<S as Viewed>⟧.views children self.old.pool self.new.pool }
+        ensures system { self.new.system ≡ self.old.system }
+        ensures keeps { self.new.keeps_journal ≡ self.old.keeps_journal }
+    {
+        handle.give_up(&mut self.pool);
+    }
+
+    /// Clears the journal.
+    pub fn clear(&mut self)
+        ensures cleared { IsCleared (S.journal_view self.old.system)
+            (S.journal_view self.new.system) }
+        ensures pool { self.new.pool ≡ self.old.pool }
+        ensures keeps { self.new.keeps_journal ≡ self.old.keeps_journal }
+    {
+        self.system.clear_journal();
+    }
+
+    // Begins a call that starts an expression. Returns how many entries the journal has.
+    pub(crate) fn begin(&mut self) -> usize
+        ensures begins { Begins S.journal_view self.old.keeps_journal self.old.system
+            self.new.system }
+        ensures entries { result ≡ length (S.journal_view self.new.system).entries }
+        ensures pool { self.new.pool ≡ self.old.pool }
+        ensures keeps { self.new.keeps_journal ≡ self.old.keeps_journal }
+    {
+        if !self.keeps_journal {
+            self.clear();
+        }
+        self.system.journal().len()
+    }
+
+    // Returns the failure of a call that began with so many entries, and failed with this error.
+    pub(crate) fn failure(&self, entries: usize, error: Error) -> Failure
+        ensures error { result.error ≡ error }
+        ensures request { Names (drop entries (S.journal_view self.now.system).entries)
+            result.request }
+    {
+        Failure::new(self.alloc, after(self.system.journal(), entries), error)
+    }
+}
+
+// Returns the entries after the first so many.
+fn after(journal: &[Entry], entries: usize) -> &[Entry]
+    ensures { map entry_view result.now ≡ drop entries (map entry_view journal.now) }
+{
+    match journal.split_at_checked(entries) {
+        Some((_, added)) => added,
+        None => &[],
+    }
+}
+
+impl<S: System, R, H: Hook> Shell<S, R, H> {
+    /// Starts an expression as `Expression::start` does, and returns a handle of what runs, which
+    /// has to be spent: by `wait`, `kill` or `give_up`. It doesn't wait until that has ended.
+    ///
+    /// Fails as `Expression::launch` does, and leaves the same.
+    ///
+    /// Example: `let server = sh.start(&cmd!(sh; "server")?)?;`
+    pub fn start(&mut self, expression: &Expression<S::End, H>) -> Result<Handle<S>, Failure>
+        ensures launched { IfOk result (λ handle. DoesFrom S.journal_view self.old.keeps_journal
+            self.old.system (λ begun. Launched ⟦<S as Viewed>⟧.views H.allows draining
+            expression.now begun self.new.system self.old.pool self.new.pool
+            (Handles ⟦<S as Viewed>⟧.views handle))) }
+        ensures refused { IfErr result (FailsFrom S.journal_view self.old.keeps_journal
+            self.old.system self.new.system (λ begun. LaunchRefused ⟦<S as Viewed>⟧.views H.allows
+            H.refuses draining expression.now begun self.new.system self.old.pool
+            self.new.pool)) }
+        ensures keeps { self.new.keeps_journal ≡ self.old.keeps_journal }
+    {
+        let entries = self.begin();
+        match expression.start(&mut self.system, &mut self.pool) {
+            Ok(handle) => Ok(handle),
+            Err(error) => Err(self.failure(entries, error)),
+        }
+    }
+}
+
+impl<S: System, R: Wait + Clone + Drop, H: Hook> Shell<S, R, H> {
+    /// Starts an expression as `Expression::reader` does, and returns a handle whose reads give
+    /// what it writes to stdout, and block in the pipe. The handle has to be spent, by its
+    /// `give_up` with this shell's pool.
+    ///
+    /// Fails as `Expression::launch` does, and leaves the same, and with `Error::Memory` where the
+    /// runtime can have no further owner.
+    ///
+    /// Example: `let mut lines = sh.reader(&cmd!(sh; "tail", "-f", "log")?)?;`
+    pub fn reader(
+        &mut self,
+        expression: &Expression<S::End, H>,
+    ) -> Result<ReaderHandle<S, R>, Failure>
+        ensures launched { IfOk result (λ handle. DoesFrom S.journal_view self.old.keeps_journal
+            self.old.system (λ begun. Launched ⟦<S as Viewed>⟧.views H.allows reading
+            expression.now begun self.new.system self.old.pool self.new.pool
+            (Handles ⟦<S as Viewed>⟧.views handle))) }
+        ensures refused { IfErr result (FailsFrom S.journal_view self.old.keeps_journal
+            self.old.system self.new.system (λ begun e. ((e ≡ Memory)
+            × (self.new.system ≡ begun) × (self.new.pool ≡ self.old.pool))
+            ⊎ LaunchRefused ⟦<S as Viewed>⟧.views H.allows H.refuses reading expression.now begun
+            self.new.system self.old.pool self.new.pool e)) }
+        ensures keeps { self.new.keeps_journal ≡ self.old.keeps_journal }
+    {
+        let entries = self.begin();
+        let rt = match self.rt.clone() {
+            Ok(rt) => rt,
+            Err(_) => return Err(self.failure(entries, Error::Memory)),
+        };
+        match expression.reader(rt, &mut self.system, &mut self.pool) {
+            Ok(handle) => Ok(handle),
+            Err(error) => Err(self.failure(entries, error)),
+        }
+    }
+}
+
+impl<S: System, R: Wait, H: Hook> Shell<S, R, H> {
+    /// Runs an expression as `Expression::run` does, blocks until it has ended, and returns its
+    /// output: the status, and what was captured.
+    ///
+    /// Fails as `Expression::run` does, and leaves the same.
+    ///
+    /// Example: `sh.run(&cmd!(sh; "make")?.env("V", "1")?)?`
+    pub fn run(&mut self, expression: &Expression<S::End, H>) -> Result<Output, Failure>
+        ensures output { IfOk result (λ output. DoesFrom S.journal_view self.old.keeps_journal
+            self.old.system (λ begun. Launched ⟦<S as Viewed>⟧.views H.allows draining
+            expression.now begun self.new.system self.old.pool self.new.pool
+            (Returns ⟦<S as Viewed>⟧.views output))) }
+        ensures failed { IfErr result (FailsFrom S.journal_view self.old.keeps_journal
+            self.old.system self.new.system (λ begun. RunFailed ⟦<S as Viewed>⟧.views H.allows
+            H.refuses draining expression.now begun self.new.system self.old.pool self.new.pool
+            (Fails ⟦<S as Viewed>⟧.views))) }
+        ensures keeps { self.new.keeps_journal ≡ self.old.keeps_journal }
+    {
+        let entries = self.begin();
+        match expression.run(&self.rt, &mut self.system, &mut self.pool) {
+            Ok(output) => Ok(output),
+            Err(error) => Err(self.failure(entries, error)),
+        }
+    }
+
+    /// Reads what an expression prints, as `Expression::read` does: it blocks until it has ended,
+    /// and returns the text without the newlines and carriage returns at its end.
+    ///
+    /// Fails as `Expression::read` does, and leaves the same.
+    ///
+    /// Example: `sh.read(&cmd!(sh; "git", "status")?.dir(folder)?)?`
+    pub fn read(&mut self, expression: &Expression<S::End, H>) -> Result<String, Failure>
+        ensures text { IfOk result (λ text. DoesFrom S.journal_view self.old.keeps_journal
+            self.old.system (λ begun. Launched ⟦<S as Viewed>⟧.views H.allows reading
+            expression.now begun self.new.system self.old.pool self.new.pool
+            (Reads ⟦<S as Viewed>⟧.views S.may_read S.Reader.remaining text))) }
+        ensures failed { IfErr result (FailsFrom S.journal_view self.old.keeps_journal
+            self.old.system self.new.system (λ begun. RunFailed ⟦<S as Viewed>⟧.views H.allows
+            H.refuses reading expression.now begun self.new.system self.old.pool self.new.pool
+            (ReadFails ⟦<S as Viewed>⟧.views S.may_read S.Reader.remaining))) }
+        ensures keeps { self.new.keeps_journal ≡ self.old.keeps_journal }
+    {
+        let entries = self.begin();
+        match expression.read(&self.rt, &mut self.system, &mut self.pool) {
+            Ok(text) => Ok(text),
+            Err(error) => Err(self.failure(entries, error)),
+        }
+    }
+
+    /// Waits for a handle as `Handle::into_output` does: it blocks until what it runs has ended,
+    /// and returns the output.
+    ///
+    /// Fails as `Handle::into_output` does. The children are then given to the shell's pool.
+    ///
+    /// Example: `let output = sh.wait(server)?;`
+    pub fn wait(&mut self, handle: Handle<S>) -> Result<Output, Failure>
+        ensures output { IfOk result
+            (λ output. IsConcluded ⟦<S as Viewed>⟧.views (shape_view handle.shape) handle.numbers
+            (answered output.status output.stdout.items output.stderr.items)) }
+        ensures err { IfErr result (λ failure. IsAnswer ⟦<S as Viewed>⟧.views
+            (shape_view handle.shape) handle.numbers (Err failure.error)) }
+        ensures request { IfErr result (λ failure. failure.request ≡ None) }
+        ensures kept { OnOk result (self.new.pool ≡ self.old.pool) }
+        ensures given { IfErr result (λ failure. AreGiven ⟦<S as Viewed>⟧.views handle.numbers
+            failure.error self.old.pool self.new.pool) }
+        ensures system { self.new.system ≡ self.old.system }
+        ensures keeps { self.new.keeps_journal ≡ self.old.keeps_journal }
+    {
+        match handle.into_output(&self.rt, &mut self.pool) {
+            Ok(output) => Ok(output),
+            Err(error) => Err(Failure::from(error)),
+        }
+    }
+
+    /// Kills what a handle runs, as `Handle::kill` does, and gives it up. It doesn't wait until
+    /// that has ended: the children are in the shell's pool, where a sweep reaps them.
+    ///
+    /// Fails as `Handle::kill` does. The handle is given up then too.
+    ///
+    /// Example: `sh.kill(server)?;`
+    pub fn kill(&mut self, handle: Handle<S>) -> Result<(), Failure>
+        ensures killed { OnOk result
+            (IsObeyed ⟦<S as Viewed>⟧.views Kill handle.numbers.children (Ok tt)) }
+        ensures failed { IfErr result (λ failure.
+            IsObeyed ⟦<S as Viewed>⟧.views Kill handle.numbers.children (Err failure.error)) }
+        ensures request { IfErr result (λ failure. failure.request ≡ None) }
+        ensures given { (children : List S.Child)
+            × PoolGets ⟦<S as Viewed>⟧.views children self.old.pool self.new.pool }
+        ensures system { self.new.system ≡ self.old.system }
+        ensures keeps { self.new.keeps_journal ≡ self.old.keeps_journal }
+    {
+        let killed = handle.kill(&self.rt);
+        self.give_up(handle);
+        match killed {
+            Ok(()) => Ok(()),
+            Err(error) => Err(Failure::from(error)),
+        }
+    }
+}
