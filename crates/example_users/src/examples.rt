@@ -3,10 +3,12 @@
 mod commands;
 mod files;
 mod first_steps;
+mod groups;
 mod handles;
 mod limits;
 mod over_a_script;
 mod over_the_machine;
 mod readers;
+mod recipes;
 mod script;
 mod supervisor;
