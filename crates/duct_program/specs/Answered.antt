@@ -1,5 +1,6 @@
 -- What is returned for arguments: a usage error, or what is said of the expression that they mean.
-use Rattle.std.specs.Prelude.{◌≡◌, ◌⊎◌, ℕ, List, Ok, Err}
+use Rattle.std.specs.Prelude.{◌≡◌, ◌⊎◌, ℕ, List, Ok, Err, string_bytes}
+use Rattle.std.specs.Io.KnownBytes.{Appends}
 use Rattle.std.specs.declared.alloc.Global.{Global}
 use Rattle.std.specs.declared.option.Option.{Option}
 use Rattle.std.specs.declared.result.Result.{Result}
@@ -14,6 +15,8 @@ use Rattle.duct_run.specs.SystemViews.{SystemViews}
 use Rattle.duct_running.specs.Stored.{Bytes}
 use Rattle.duct.specs.Launched.{Ran, ReadFails, Reads, added_between, reading}
 use Rattle.duct_program.specs.Line.{meant}
+use Rattle.duct_program.specs.Parsed.{RefusesAs}
+use Rattle.duct_program.specs.Printed.{AppendsFailure, line_of_text}
 use Rattle.duct_program.specs.declared.failure.Failure.{Failure}
 use Rattle.duct_program.specs.declared.failure.Failure.TheVariants as failures
 use Rattle.duct_program.specs.declared.usage.Usage.{Usage}
@@ -55,3 +58,22 @@ module _ {S E C F D : Type 0} (views : SystemViews S E C F D (Unit {0}) Bytes) {
       × ((waited : RunningView C F D)
       × Ran views waited reading tree (added_between views sys after)
       × ReadFails views may remaining error waited reading tree (added_between views sys after))))
+
+  -- the arguments mean an expression, and the line of the text that it prints is appended to what
+  -- stdout has; stderr is unchanged
+  abbrev pub WritesText : {O W : Type 0} → (O → Option (List ℕ)) → List (List ℕ) → S → S
+      → O → O → W → W → Type 0
+  WritesText contents args sys after out out_after err err_after = (text : String Global)
+      × PrintsText args sys after text
+      × Appends (contents out) (contents out_after) (line_of_text (string_bytes text))
+      × (err_after ≡ err)
+
+  -- the arguments are no valid line, no request is made, and the line of the usage error is
+  -- appended to what stderr has; stdout is unchanged
+  abbrev pub WritesUsage : {O W : Type 0} → (W → Option (List ℕ)) → List (List ℕ) → S → S
+      → O → O → W → W → Type 0
+  WritesUsage contents args sys after out out_after err err_after = (usage : Usage)
+      × RefusesAs usage (line_of views.number_of allows args)
+      × (views.journal after ≡ views.journal sys)
+      × AppendsFailure (failures.Usage usage) (contents err) (contents err_after)
+      × (out_after ≡ out)

@@ -4,7 +4,7 @@ ghost use Rattle.std.specs.Prelude.{◌≡◌, ◌≢◌, ◌⊎◌, ◌≤◌, 
 ghost use Rattle.std.specs.Io.KnownBytes.{Appends};
 ghost use Rattle.std.specs.declared.alloc.Global.{Global};
 ghost use Rattle.std.specs.declared.string.String.{String};
-ghost use Rattle.duct_program.specs.Answered.{IfRefused, IfUsage, PrintsError, PrintsText, line_of};
+ghost use Rattle.duct_program.specs.Answered.{IfRefused, IfUsage, PrintsError, PrintsText, WritesText, WritesUsage, line_of};
 ghost use Rattle.duct_program.specs.Parsed.{RefusesAs};
 ghost use Rattle.duct_program.specs.Printed.{AppendsFailure, PrintsFailure, failure_text, line_of_error, line_of_text};
 ghost use Rattle.duct_program.specs.declared.failure.Failure.TheVariants as failures;
@@ -78,17 +78,12 @@ pub fn perform<S: System, O: Write, E: Write>(
     out: &mut O,
     err: &mut E,
 ) -> u8
-    ensures text { result ≡ 0 → (text : String Global) × PrintsText ⟦<S as Viewed>⟧.views
-        ⟦<NoHook as Hook>⟧.allows S.may_read S.Reader.remaining (map string_bytes args.now)
-        sys.old sys.new text
-        × Appends (O.contents out.old) (O.contents out.new) (line_of_text (string_bytes text))
-        × (err.new ≡ err.old) }
-    ensures usage { result ≡ 2 → (usage : Usage)
-        × RefusesAs usage
-        (line_of S.End.number_of ⟦<NoHook as Hook>⟧.allows (map string_bytes args.now))
-        × (S.journal_view sys.new ≡ S.journal_view sys.old)
-        × AppendsFailure (failures.Usage usage) (E.contents err.old) (E.contents err.new)
-        × (out.new ≡ out.old) }
+    ensures text { result ≡ 0 → WritesText ⟦<S as Viewed>⟧.views ⟦<NoHook as Hook>⟧.allows
+        S.may_read S.Reader.remaining O.contents (map string_bytes args.now) sys.old sys.new
+        out.old out.new err.old err.new }
+    ensures usage { result ≡ 2 → WritesUsage ⟦<S as Viewed>⟧.views ⟦<NoHook as Hook>⟧.allows
+        S.may_read S.Reader.remaining E.contents (map string_bytes args.now) sys.old sys.new
+        out.old out.new err.old err.new }
     ensures status { result ≤ 2 }
     ensures one { (out.new ≡ out.old) ⊎ (err.new ≡ err.old) }
 {

@@ -1,4 +1,5 @@
 pub mod Begun
+pub mod Converted
 pub mod Limit
 pub mod Named
 pub mod Wraps

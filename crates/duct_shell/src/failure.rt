@@ -1,10 +1,14 @@
 //! Why a call of a shell failed.
+ghost use Rattle.std.specs.IoError.{error_kind};
 ghost use Rattle.std.specs.Prelude.{◌≡◌, map, None};
 ghost use Rattle.duct_system.specs.EntryView.{entry_view};
-ghost use Rattle.duct_system.specs.declared.error.Error.TheVariants.{Memory};
+ghost use Rattle.duct_system.specs.Kinds.{kind_of};
+ghost use Rattle.duct_system.specs.declared.error.Error.TheVariants.{Memory, System};
+ghost use Rattle.duct_reader.specs.ErrorKinds.{name_of};
+ghost use Rattle.duct_shell.specs.Converted.{IsFault, io_kind};
 ghost use Rattle.duct_shell.specs.Named.{Names};
 
-use duct::{Entry, Error, Fault};
+use duct::{Entry, Error, Fault, Kind};
 use duct_report::request_text;
 use std::alloc::{AllocError, AllocFailed, Global};
 use std::io::ErrorKind;
@@ -84,28 +88,66 @@ impl<T: Drop> From<AllocFailed<T>> for Failure {
     }
 }
 
-impl From<io::Error> for Failure {
-    fn from(error: io::Error) -> Failure
+impl From<Fault> for Failure {
+    fn from(fault: Fault) -> Failure
+        ensures error { result.error ≡ System fault }
         ensures request { result.request ≡ None }
     {
-        Failure::from(Error::System(Fault::from(error)))
+        Failure::from(Error::System(fault))
     }
 }
 
-/// It has the text of the request, or of the command that failed, cut at 80 bytes.
+impl From<io::Error> for Failure {
+    fn from(error: io::Error) -> Failure
+        ensures error { IsFault (kind_of (error_kind error)) result.error }
+        ensures request { result.request ≡ None }
+    {
+        Failure::from(Fault::from(error))
+    }
+}
+
+/// It has the kind of the fault, and the text of the request, or of the command that failed, cut at
+/// 80 bytes.
 impl From<Failure> for io::Error {
-    fn from(failure: Failure) -> io::Error {
-        let Failure { error, request } = failure;
-        if let Some(request) = request {
-            return io::Error::other(request.as_str());
+    fn from(failure: Failure) -> io::Error
+        ensures { error_kind result ≡ io_kind failure.error }
+    {
+        let kind = io_kind(&failure.error);
+        if let Some(request) = &failure.request {
+            return io::Error::new(kind, request.as_str());
         }
-        match error {
-            Error::Checked(message) => io::Error::other(message.as_str()),
-            Error::NotUtf8 => io::Error::from(ErrorKind::InvalidData),
-            Error::Memory => io::Error::from(ErrorKind::OutOfMemory),
-            Error::System(_) | Error::Hook(_) | Error::HookEnd(_) | Error::Deadline => {
-                io::Error::from(ErrorKind::Other)
-            }
+        if let Error::Checked(message) = &failure.error {
+            return io::Error::new(kind, message.as_str());
         }
+        io::Error::from(kind)
+    }
+}
+
+// Returns the kind of the `io::Error` that a failure with this error becomes.
+fn io_kind(error: &Error) -> ErrorKind
+    ensures { result ≡ io_kind error.now }
+{
+    match error {
+        Error::System(fault) => name_of(fault.kind),
+        Error::Hook(fault) => name_of(fault.kind),
+        Error::NotUtf8 => ErrorKind::InvalidData,
+        Error::Memory => ErrorKind::OutOfMemory,
+        Error::Checked(_) | Error::HookEnd(_) | Error::Deadline => ErrorKind::Other,
+    }
+}
+
+// Returns the kind of the same name.
+fn name_of(kind: Kind) -> ErrorKind
+    ensures { result ≡ name_of kind }
+{
+    match kind {
+        Kind::NotFound => ErrorKind::NotFound,
+        Kind::PermissionDenied => ErrorKind::PermissionDenied,
+        Kind::BrokenPipe => ErrorKind::BrokenPipe,
+        Kind::WriteZero => ErrorKind::WriteZero,
+        Kind::InvalidInput => ErrorKind::InvalidInput,
+        Kind::Unsupported => ErrorKind::Unsupported,
+        Kind::OutOfMemory => ErrorKind::OutOfMemory,
+        Kind::Other => ErrorKind::Other,
     }
 }

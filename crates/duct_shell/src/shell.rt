@@ -67,7 +67,9 @@ impl<'r, R: Processes + Files<File = File> + Env + Parents + Threads + AllocGlob
     ///
     /// Example: `let mut sh = Shell::new(&rt);`
     pub fn new(rt: &'r R) -> Shell<Host<&'r R>, &'r R>
-        ensures { result.system ≡ record { entries = []; added = 0; next = 1; room = 0 } }
+        ensures system { result.system ≡ record { entries = []; added = 0; next = 1; room = 0 } }
+        ensures pool { result.pool ≡ record { children = []; given = 0; reaped = 0; lost = 0 } }
+        ensures keeps { result.keeps_journal ≡ false }
     {
         Shell::over(rt, rt.alloc(), Host::new(rt, rt.alloc()))
     }

@@ -1,14 +1,8 @@
 //! The work of `host`, and the journal of its start.
-ghost use Rattle.std.specs.Prelude.{◌≡◌, ◌≤◌, flat_map, map, string_bytes, IfOk};
+ghost use Rattle.std.specs.Prelude.{◌≡◌, ◌⊎◌, ◌≤◌, flat_map, map, string_bytes, IfOk};
 ghost use Rattle.std.specs.Io.KnownBytes.{Appends};
-ghost use Rattle.std.specs.declared.alloc.Global.{Global};
-ghost use Rattle.std.specs.declared.string.String.{String};
 ghost use Rattle.duct_system.specs.EntryView.{entry_view};
-ghost use Rattle.duct_program.specs.Answered.{PrintsText, line_of};
-ghost use Rattle.duct_program.specs.Parsed.{RefusesAs};
-ghost use Rattle.duct_program.specs.Printed.{AppendsFailure, line_of_text};
-ghost use Rattle.duct_program.specs.declared.failure.Failure.TheVariants as failures;
-ghost use Rattle.duct_program.specs.declared.usage.Usage.{Usage};
+ghost use Rattle.duct_program.specs.Answered.{WritesText, WritesUsage};
 ghost use Rattle.duct_record.specs.JournalMeant.{line_text};
 
 use crate::PROGRAM;
@@ -35,19 +29,15 @@ pub fn record<S: System, J: Write, O: Write, E: Write>(
     out: &mut O,
     err: &mut E,
 ) -> u8
-    ensures text { result ≡ 0 → (text : String Global) × PrintsText ⟦<S as Viewed>⟧.views
-        ⟦<NoHook as Hook>⟧.allows S.may_read S.Reader.remaining (map string_bytes args.now)
-        sys.old sys.new text
-        × Appends (O.contents out.old) (O.contents out.new) (line_of_text (string_bytes text))
-        × (err.new ≡ err.old) }
-    ensures usage { result ≡ 2 → (usage : Usage)
-        × RefusesAs usage
-        (line_of S.End.number_of ⟦<NoHook as Hook>⟧.allows (map string_bytes args.now))
-        × (S.journal_view sys.new ≡ S.journal_view sys.old)
-        × AppendsFailure (failures.Usage usage) (E.contents err.old) (E.contents err.new)
-        × (out.new ≡ out.old) }
+    ensures text { result ≡ 0 → WritesText ⟦<S as Viewed>⟧.views ⟦<NoHook as Hook>⟧.allows
+        S.may_read S.Reader.remaining O.contents (map string_bytes args.now) sys.old sys.new
+        out.old out.new err.old err.new }
+    ensures usage { result ≡ 2 → WritesUsage ⟦<S as Viewed>⟧.views ⟦<NoHook as Hook>⟧.allows
+        S.may_read S.Reader.remaining E.contents (map string_bytes args.now) sys.old sys.new
+        out.old out.new err.old err.new }
     ensures journal { result ≤ 2 → Appends (J.contents journal.old) (J.contents journal.new)
         (flat_map (line_text variables) (S.journal_view sys.new).entries) }
+    ensures one { result ≤ 2 → (out.new ≡ out.old) ⊎ (err.new ≡ err.old) }
     ensures status { result ≤ 3 }
 {
     let status = perform(rt, alloc, sys, args, out, err);

@@ -44,8 +44,8 @@ fn asked(arguments: &[String]) -> Option<(Variables, &str, &[String])> {
     }
 }
 
-/// Makes the file of a journal, or empties it if it is there. If it is a regular file, it is then its
-/// owner's alone. Fails, with what was there unchanged, if the file can't be written.
+/// Makes the file of a journal, or empties it if it is there. If it is a regular file, it is then
+/// its owner's alone. Fails, with what was there unchanged, if the file can't be written.
 fn journal_file<R: Files>(rt: &R, path: &str) -> io::Result<R::File> {
     let mut options = OpenOptions::new();
     let file = options.write(true).create(true).mode(OWNER).open(rt, path)?;
