@@ -12,8 +12,8 @@ ghost use Rattle.duct_follows.specs.Wiring.{hooks_of};
 ghost use Rattle.duct_plan.specs.Found.{found_of};
 ghost use Rattle.duct_plan.specs.PlanView.{item_of, plan_view};
 
+use crate::added::found_no_memory;
 use crate::chain::wired;
-use crate::follows::found_no_memory;
 use crate::stops::is_close;
 use crate::untold::Untold;
 use duct_base::error::Error;

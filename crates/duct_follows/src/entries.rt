@@ -6,7 +6,7 @@ ghost use Rattle.duct_plan.specs.PlanView.{plan_view};
 ghost use Rattle.duct_follows.specs.Verdict.{IsDue, IsJudged, IsVerdict, verdict_by};
 ghost use Rattle.duct_follows.specs.declared.verdict.Verdict.TheVariants as verdicts;
 
-use crate::follows::follows;
+use crate::added::follows;
 use crate::stops::is_clean;
 use crate::unbalanced::unbalanced;
 use crate::untold::Untold;

@@ -14,7 +14,7 @@ use crate::verdict::Verdict;
 use duct::Expression;
 use duct_base::spec::Hook;
 use duct_base::system::{Entry, Numbered};
-use duct_plan::plan::plan_of_reader;
+use duct_plan::plan_of_reader;
 use duct_program::{Usage, line};
 use duct_script::hook::ScriptHook;
 use std::alloc::Global;

@@ -1,19 +1,20 @@
 //! Whether what a start added to the journal follows a plan, decided by plain functions.
 #![tactic(auto)]
 
-pub mod causes;
+mod added;
+mod causes;
 mod chain;
 mod entries;
-pub mod follows;
-pub mod judgement;
+mod judgement;
 mod program;
 mod sources;
-pub mod stops;
+mod stops;
 mod text;
 mod unbalanced;
-pub mod untold;
+mod untold;
 mod verdict;
 
+pub use added::{asks_plan, follows, follows_whole};
 pub use causes::{answers_last_fault, is_caused_or_memory, last_fault};
 pub use chain::wired;
 pub use entries::judge;

@@ -13,7 +13,7 @@ ghost use Rattle.duct_plan.specs.PlanView.{plan_view};
 use crate::checker::Source;
 use crate::found::Surroundings;
 use crate::items::{Item, Plan};
-use crate::plan::{is_canonical, program_of};
+use crate::requests::{is_canonical, program_of};
 use crate::returned::{pairs_in, text_at};
 use crate::streams::{port_to, streams_to};
 use crate::variables::variables;

@@ -8,7 +8,7 @@ ghost use Rattle.duct_plan.specs.DotForm.{arguments_form, box_end, box_form, com
 
 use crate::found::{Surroundings, Target};
 use crate::items::{Item, Plan};
-use crate::plan::program_of;
+use crate::requests::program_of;
 use duct::Stream;
 use std::fmt;
 

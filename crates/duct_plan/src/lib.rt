@@ -3,19 +3,19 @@
 //! tree gives it.
 #![tactic(auto)]
 
-pub mod checker;
+mod checker;
 mod command;
-pub mod dot;
+mod dot;
 mod found;
-pub mod items;
+mod items;
 mod lookup;
 mod path;
-pub mod perform;
-pub mod plan;
+mod program;
+mod requests;
 mod returned;
 mod step;
 mod streams;
-pub mod text;
+mod text;
 mod variables;
 mod words;
 
@@ -27,6 +27,8 @@ pub use command::{AskedError, Wired, asked, asked_at};
 pub use dot::PlanDot;
 pub use found::{Surroundings, Target, VariableChange, variable};
 pub use items::{Item, Plan};
+pub use program::perform;
+pub use requests::{plan, plan_of_reader};
 pub use returned::{first_end, second_end};
 pub use text::{PlanText, write_item};
 pub use words::{NoEnd, drawing, preview};

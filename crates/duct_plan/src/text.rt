@@ -11,7 +11,7 @@ ghost use Rattle.duct_plan.specs.PlanForm.{arguments_form, change_form, changes_
 
 use crate::found::{Surroundings, Target, VariableChange};
 use crate::items::{Item, Plan};
-use crate::plan::{is_canonical, program_of};
+use crate::requests::{is_canonical, program_of};
 use duct::Stream;
 use duct_base::names::EnvNameString;
 use std::collections::btree_map::Iter;

@@ -4,7 +4,7 @@ ghost use Rattle.duct_program.specs.Parsed.{RefusesAs};
 ghost use Rattle.duct_plan.specs.Previewed.{IsDrawing, IsPreview, line_of};
 
 use crate::dot::PlanDot;
-use crate::plan::plan_of_reader;
+use crate::requests::plan_of_reader;
 use crate::text::PlanText;
 use duct::Expression;
 use duct_program::{NoHook, Usage, line};

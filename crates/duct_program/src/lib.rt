@@ -7,7 +7,7 @@ mod failure;
 mod options;
 mod pieces;
 mod program;
-pub mod usage;
+mod usage;
 
 pub use arguments::line;
 pub use failure::Failure;

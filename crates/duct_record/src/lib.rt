@@ -1,11 +1,11 @@
 //! A journal as text: one line of JSON for each entry, written and read back.
 #![tactic(auto)]
 
-pub mod error;
-pub mod journal;
+mod error;
+mod journal;
 mod parts;
 mod read;
-pub mod write;
+mod write;
 
 pub use error::{LineRefusal, Refusal};
 pub use journal::{journal_text, read_journal};

@@ -5,8 +5,7 @@ ghost use Rattle.duct_system.specs.EntryView.{entry_view};
 
 use duct::{Entry, Error, Expression, Output, Pool, System, cmd};
 use duct_host::End;
-use duct_plan::PlanText;
-use duct_plan::plan::plan;
+use duct_plan::{PlanText, plan};
 use duct_record::{Variables, journal_text, read_journal};
 use duct_replay::{Recording, Replay};
 use duct_report::EntryText;

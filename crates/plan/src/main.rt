@@ -3,7 +3,7 @@
 #![tactic(auto)]
 
 use duct_main::{Program, arguments};
-use duct_plan::perform::perform;
+use duct_plan::perform;
 use std::io;
 use std::process::ExitCode;
 

@@ -2,13 +2,11 @@
 use crate::Parts;
 use crate::journals::journal;
 use duct::{Entry, Error};
-use duct_follows::follows::{asks_plan, follows, follows_whole};
-use duct_follows::stops::{is_clean, stops_at_fault};
-use duct_follows::untold::Untold;
-use duct_follows::{answers_last_fault, is_caused_or_memory};
-use duct_plan::items::Plan;
-use duct_plan::plan::{plan, plan_of_reader};
-use duct_plan::trace;
+use duct_follows::{
+    Untold, answers_last_fault, asks_plan, follows, follows_whole, is_caused_or_memory, is_clean,
+    stops_at_fault,
+};
+use duct_plan::{Plan, plan, plan_of_reader, trace};
 use duct_script::hook::ScriptHook;
 use duct_script::system::ScriptEnd;
 use rows_table::expressions::written;

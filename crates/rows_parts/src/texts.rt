@@ -2,9 +2,7 @@
 use crate::Parts;
 use duct::{Entry, Error};
 use duct_follows::judge_line;
-use duct_plan::perform::perform;
-use duct_plan::plan::plan;
-use duct_plan::{PlanDot, PlanText};
+use duct_plan::{PlanDot, PlanText, perform, plan};
 use duct_program::Usage;
 use duct_record::{LineRefusal, Refusal, Variables, journal_text, read_journal};
 use duct_report::{EntryText, failed_request};

@@ -1,5 +1,5 @@
 use Rattle.std.proofs.Common.{rules}
-use Rattle.duct_plan.proofs.plan.+plan_of_subtree.Goals as goal
+use Rattle.duct_plan.proofs.requests.+plan_of_subtree.Goals as goal
 
 pub returns-in_ok-plan-in-Io-2 : goal.returns-in_ok-plan-in-Io-2
 returns-in_ok-plan-in-Io-2 g t c = search rules

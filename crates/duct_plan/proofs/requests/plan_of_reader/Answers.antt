@@ -9,7 +9,7 @@ use Rattle.duct_start.specs.Step.{Item}
 use Rattle.duct_start.specs.TreeView.{TreeView, stdout_capture}
 use Rattle.duct.specs.TreeView.{tree_view}
 use Rattle.duct_plan.specs.PlanView.{item_of, plan_view}
-use Rattle.duct_plan.proofs.plan.plan_of_reader.Goals as goal
+use Rattle.duct_plan.proofs.requests.plan_of_reader.Goals as goal
 
 closed_by_nothing : {E H : Type 0} (plan : Plan E H) → with_closing [] plan ≡ plan
 closed_by_nothing {E} {H} plan = ap (λ items. closed_with items) (append-nil plan.items)

@@ -141,7 +141,7 @@ fn with_reader<'t, E: Drop, H: Drop>(
 }
 
 /// Returns the program of these words: the first word, or an empty text if there are none.
-pub fn program_of(words: &[String]) -> &str
+pub(crate) fn program_of(words: &[String]) -> &str
     ensures { result.now ≡ program_of (map string_bytes words.now) }
 {
     match words.split_first() {
@@ -151,7 +151,7 @@ pub fn program_of(words: &[String]) -> &str
 }
 
 /// Returns whether the canonical path of a command's program is requested before its spawn.
-pub fn is_canonical<E, H>(found: &Surroundings<'_, E, H>, words: &[String]) -> bool
+pub(crate) fn is_canonical<E, H>(found: &Surroundings<'_, E, H>, words: &[String]) -> bool
     ensures { result ≡ is_canonical (found_of found.now) (map string_bytes words.now) }
 {
     asks_canonical(program_of(words), found.folder.is_some())

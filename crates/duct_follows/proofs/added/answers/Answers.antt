@@ -2,7 +2,7 @@ use Rattle.std.proofs.Common.{map, string_bytes}
 use Rattle.duct_system.specs.EntryView.{entry_view}
 use Rattle.duct_system.specs.Trace.{trace}
 use Rattle.duct_follows.proofs.Given.{given_by}
-use Rattle.duct_follows.proofs.follows.answers.Goals as goal
+use Rattle.duct_follows.proofs.added.answers.Goals as goal
 use Rattle.duct_follows.specs.Sources.{gives}
 use Rattle.duct_plan.specs.Found.{found_of}
 

@@ -4,7 +4,7 @@ use Rattle.duct_system.specs.EntryView.{entry_view, EntryView}
 use Rattle.duct_system.specs.Trace.{trace}
 use Rattle.duct_follows.specs.Given.{Decides}
 use Rattle.duct_follows.proofs.Given.{given_is}
-use Rattle.duct_follows.proofs.follows.given.Goals as goal
+use Rattle.duct_follows.proofs.added.given.Goals as goal
 use Rattle.duct_plan.specs.AskedOf.{IsAskedThere}
 use Rattle.duct_plan.specs.Found.{found_of}
 use Rattle.duct_plan.specs.EntryViews.{entry_views}

@@ -1,5 +1,5 @@
 use Rattle.std.proofs.Common.{rules}
-use Rattle.duct_plan.proofs.plan.plan.Goals as goal
+use Rattle.duct_plan.proofs.requests.plan.Goals as goal
 
 pub returns : goal.returns
 returns g c = search rules
