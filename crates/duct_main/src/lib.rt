@@ -1,5 +1,5 @@
-//! What the programs share: how they read their arguments, and how they end where they can't do their
-//! work.
+//! What the programs share: how they read their arguments, and how they end where they can't do
+//! their work.
 #![tactic(auto)]
 
 ghost use Rattle.std.specs.Prelude.{◌≡◌, ◌≢◌, ◌⊎◌};
@@ -29,8 +29,8 @@ pub struct Program {
 }
 
 impl Program {
-    /// Writes a line, and returns this status, or `failed` where the write fails; a part of the line
-    /// may then be written. It blocks as the writer does.
+    /// Writes a line, and returns this status, or `failed` where the write fails; a part of the
+    /// line may then be written. It blocks as the writer does.
     pub fn tell<E: Write>(&self, err: &mut E, status: u8, line: &str) -> u8
         ensures status { (result ≡ status) ⊎ (result ≡ self.now.failed) }
         ensures text { result ≢ self.now.failed

@@ -22,8 +22,8 @@ pub fn pieces(alloc: Global, text: &str) -> Result<Vec<&str>, AllocError> {
     Ok(pieces)
 }
 
-/// Returns the arguments in a text, separated by spaces. In them `_` is a space, and `~` is an empty
-/// argument. Fails on an allocation failure.
+/// Returns the arguments in a text, separated by spaces. In them `_` is a space, and `~` is an
+/// empty argument. Fails on an allocation failure.
 pub fn arguments(alloc: Global, text: &str) -> Result<Vec<String>, AllocError> {
     let mut args = Vec::new(alloc);
     for word in text.split_whitespace() {

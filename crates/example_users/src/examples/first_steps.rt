@@ -8,7 +8,7 @@ use std::time::Duration;
 pub fn piped<S: System, R: Wait>(sh: &mut Shell<S, R>) -> Result<String, Failure> {
     let hello = cmd!(sh; "sh", "-c", "echo hello; echo careful >&2");
     let loud = hello.pipe(cmd!(sh; "tr", "a-z", "A-Z"));
-    let output = sh.run(&loud.stdout_capture().stderr_capture()?)?; // stdout: HELLO, stderr: careful
+    let output = sh.run(&loud.stdout_capture().stderr_capture()?)?; // stdout HELLO, stderr careful
     let failed = run!(sh; "sh", "-c", "exit 3"); // Err: it exited with code 3
 
     told(sh.alloc, &output, failed)
