@@ -11,16 +11,11 @@
 //! Nth allocation of the process fails, `--spend` chooses which one of a row that is.
 #![tactic(auto)]
 
-use rows_calls::Calls;
-use rows_calls::machine::Machine;
-use rows_calls::scripted::Scripted;
+use rows_calls::{Calls, Machine, Scripted};
 use rows_host::HostMachine;
 use rows_parts::Parts;
-use rows_requests::scripts::Scripts;
-use rows_table::odd::{Odd, Script};
-use rows_table::real::{Real, filled};
-use rows_table::stop::TableError;
-use rows_table::table::{Counts, File, compare, untried};
+use rows_requests::Scripts;
+use rows_table::{Counts, File, Odd, Real, Script, TableError, compare, filled, untried};
 use std::alloc::Global;
 use std::io::{self, Write};
 use std::process::ExitCode;

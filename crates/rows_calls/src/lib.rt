@@ -3,27 +3,28 @@
 //! Test support: the code is proved safe, and each function that can't block is proved to return.
 #![tactic(auto)]
 
-pub mod machine;
+mod machine;
 mod programs;
-pub mod scripted;
+mod scripted;
 mod shells;
 mod started;
-pub mod texts;
+mod texts;
 
-use crate::machine::Machine;
+pub use crate::machine::{Machine, PartsOf, PoolOf};
 use crate::programs::{Performed, push_line};
+pub use crate::scripted::Scripted;
 use crate::shells::by_shell;
 use crate::started::{Started, polled, start};
+pub use crate::texts::Bytes;
 use crate::texts::{push_done, push_polled, push_read, push_run};
 use duct::{Clock, Entry, Error, Handle, System};
 use duct_deadline::{Until, read_until, run_until};
 use duct_plan::is_balanced;
 use duct_shell::Shell;
-use rows_table::expressions::{Tree, written_with};
-use rows_table::stop::TableError;
-use rows_table::table::Table;
-use rows_table::told::{children_started, push_journal, push_pool, push_spec, push_trace};
-use rows_table::words::{duration, first_word};
+use rows_table::{
+    Table, TableError, Tree, children_started, duration, first_word, push_journal, push_pool,
+    push_spec, push_trace, written_with,
+};
 use std::alloc::{AllocError, Global};
 use std::mem;
 use std::sync::Wait;

@@ -1,7 +1,6 @@
 //! What the table of calls needs of a machine besides the requests of the library.
 use duct::{Clock, Place, Pool, System};
-use rows_table::expressions::Lender;
-use rows_table::stop::TableError;
+use rows_table::{Lender, TableError};
 
 /// The pool of a system's children.
 pub type PoolOf<S> = Pool<<S as System>::Child>;

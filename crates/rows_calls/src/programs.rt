@@ -3,7 +3,7 @@ use crate::texts::Bytes;
 use duct::{Expression, System};
 use duct_program::{line, perform};
 use duct_script::hook::ScriptHook;
-use rows_table::words::arguments;
+use rows_table::arguments;
 use std::alloc::{AllocError, Global};
 use std::io::{self, Write};
 use std::sync::Wait;

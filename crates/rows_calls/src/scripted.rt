@@ -4,11 +4,10 @@ use duct::{Numbered, System};
 use duct_script::child::ScriptChild;
 use duct_script::clock::ScriptClock;
 use duct_script::system::{Script, ScriptEnd};
-use rows_table::expressions::{Lender, Log, Strangers};
-use rows_table::scenes::Bench;
-use rows_table::stop::TableError;
-use rows_table::told::{most_held, program, push_lent, push_noted, push_turns};
-use rows_table::words::duration;
+use rows_table::{
+    Bench, Lender, Log, Strangers, TableError, duration, most_held, program, push_lent, push_noted,
+    push_turns,
+};
 use std::alloc::{AllocError, Global};
 
 /// The scripted system of a row.

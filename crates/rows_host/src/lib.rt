@@ -6,16 +6,9 @@
 use duct::{Clock, Entry, Place, Pool, System};
 use duct_base::pool::pool_take;
 use duct_host::{Child, End, Host};
-use rows_calls::TURNS;
-use rows_calls::machine::{Machine, PartsOf, PoolOf};
-use rows_calls::texts::Bytes;
+use rows_calls::{Bytes, Machine, PartsOf, PoolOf, TURNS};
 use rows_requests::{Requests, taken};
-use rows_table::expressions::Lender;
-use rows_table::odd::Script;
-use rows_table::real::{Real, open_descriptors};
-use rows_table::stop::TableError;
-use rows_table::table::Table;
-use rows_table::words::{first_word, named};
+use rows_table::{Lender, Real, Script, Table, TableError, first_word, named, open_descriptors};
 use std::alloc::AllocError;
 use std::fs::{self, File, Permissions};
 use std::io::{self, PipeReader, Read, Write};

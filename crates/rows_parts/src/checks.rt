@@ -5,10 +5,7 @@ use duct::{CommandSpec, Entry, Error, Hook, Stream};
 use duct_base::spec::give;
 use duct_plan::{is_balanced, open_count, opened_numbers, origin, spent_numbers, trace};
 use duct_script::text::Words;
-use rows_table::hooks::hook;
-use rows_table::stop::TableError;
-use rows_table::told::{push_source, push_spec};
-use rows_table::words::pieces;
+use rows_table::{TableError, hook, pieces, push_source, push_spec};
 use std::alloc::Global;
 
 /// Adds what the checker finds in the journal of a row: its numbers, its trace, or where the end

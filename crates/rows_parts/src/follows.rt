@@ -9,9 +9,7 @@ use duct_follows::{
 use duct_plan::{Plan, plan, plan_of_reader, trace};
 use duct_script::hook::ScriptHook;
 use duct_script::system::ScriptEnd;
-use rows_table::expressions::written;
-use rows_table::stop::TableError;
-use rows_table::words::{fault, first_word};
+use rows_table::{TableError, fault, first_word, written};
 use std::alloc::Global;
 
 /// A plan over the scripted system.

@@ -2,8 +2,7 @@
 use duct::{Entry, Fault, Port, Stdio};
 use duct_base::names::EnvNameString;
 use duct_base::spec::spec_of;
-use rows_table::stop::TableError;
-use rows_table::words::{fault, first_word, pairs, side};
+use rows_table::{TableError, fault, first_word, pairs, side};
 use std::alloc::{AllocError, Global};
 use std::collections::BTreeMap;
 use std::sync::Arc;

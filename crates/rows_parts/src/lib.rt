@@ -11,10 +11,7 @@ mod statuses;
 mod texts;
 mod transfers;
 
-use rows_table::expressions::{Strangers, Writing};
-use rows_table::stop::TableError;
-use rows_table::table::Table;
-use rows_table::words::first_word;
+use rows_table::{Strangers, Table, TableError, Writing, first_word};
 use std::alloc::Global;
 
 /// The keys of the lines that set something up.

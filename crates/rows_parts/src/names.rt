@@ -1,9 +1,7 @@
 //! The names of variables, and programs.
 use duct::{Error, asks_canonical, cmd};
 use duct_base::names::EnvNameString;
-use rows_table::expressions::Tree;
-use rows_table::stop::TableError;
-use rows_table::words::first_word;
+use rows_table::{TableError, Tree, first_word};
 use std::alloc::{AllocError, Global};
 use std::collections::{BTreeMap, HashSet};
 use std::convert::AsStr;

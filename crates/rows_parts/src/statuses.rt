@@ -2,9 +2,7 @@
 use crate::Parts;
 use duct_base::status::{Core, Drains, Event, Reply, Shape, Word};
 use duct_script::child::PollAnswer;
-use rows_table::scenes::Answer;
-use rows_table::stop::TableError;
-use rows_table::words::{first_word, pieces, side};
+use rows_table::{Answer, TableError, first_word, pieces, side};
 use std::alloc::{AllocError, Global};
 use std::sync::Arc;
 

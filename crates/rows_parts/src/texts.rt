@@ -6,9 +6,7 @@ use duct_plan::{PlanDot, PlanText, perform, plan};
 use duct_program::Usage;
 use duct_record::{LineRefusal, Refusal, Variables, journal_text, read_journal};
 use duct_report::{EntryText, failed_request};
-use rows_table::expressions::written;
-use rows_table::stop::TableError;
-use rows_table::words::arguments;
+use rows_table::{TableError, arguments, written};
 use std::alloc::Global;
 
 /// Adds what is said of the record of a row.

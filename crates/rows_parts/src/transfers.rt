@@ -2,8 +2,7 @@
 use crate::Parts;
 use duct_base::system::{Fault, Kind};
 use duct_worker::transfer::{drain, feed};
-use rows_table::stop::TableError;
-use rows_table::words::{ERROR_KINDS, first_word, named};
+use rows_table::{ERROR_KINDS, TableError, first_word, named};
 use std::alloc::{AllocError, Global};
 use std::io::{self, ErrorKind, Read, Write};
 

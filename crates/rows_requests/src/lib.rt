@@ -6,15 +6,13 @@
 ghost use Rattle.std.specs.Prelude.{◌≡◌, ◌+◌, ◌<◌, ◌≤◌, [], ◌∷◌, length, vec_len, IfOk, OnOk, OnErr};
 ghost use Rattle.duct_system.specs.Streams.{ends_of};
 
-pub mod scripts;
+mod scripts;
 
+pub use crate::scripts::Scripts;
 use duct_base::spec::{CommandSpec, Port, spec_of};
 use duct_base::system::{Child, ExitStatus, Fault, Kind, Numbered, Stdio, System};
-use rows_calls::texts::Bytes;
-use rows_table::stop::TableError;
-use rows_table::told::push_journal;
-use rows_table::waits::heard;
-use rows_table::words::{fault, first_word, side};
+use rows_calls::Bytes;
+use rows_table::{TableError, fault, first_word, heard, push_journal, side};
 use std::alloc::Global;
 use std::collections::BTreeMap;
 use std::fmt::{Debug, Write};

@@ -4,13 +4,27 @@
 //! Test support: the code is proved safe, and each function that can't block is proved to return.
 #![tactic(auto)]
 
-pub mod expressions;
-pub mod hooks;
-pub mod odd;
-pub mod real;
-pub mod scenes;
-pub mod stop;
-pub mod table;
-pub mod told;
-pub mod waits;
-pub mod words;
+mod expressions;
+mod hooks;
+mod odd;
+mod real;
+mod scenes;
+mod stop;
+mod table;
+mod told;
+mod waits;
+mod words;
+
+pub use expressions::{Lender, Log, Strangers, Tree, Writing, written, written_with};
+pub use hooks::hook;
+pub use odd::{Odd, Script};
+pub use real::{Left, Real, count_left, filled, open_descriptors};
+pub use scenes::{Answer, Bench, set_system};
+pub use stop::{TableError, is_memory};
+pub use table::{Counts, File, Table, compare, untried};
+pub use told::{
+    children_started, most_held, program, push_journal, push_lent, push_noted, push_pool,
+    push_source, push_spec, push_trace, push_turns,
+};
+pub use waits::{heard, until};
+pub use words::{ERROR_KINDS, arguments, duration, fault, first_word, named, pairs, pieces, side};

@@ -3,7 +3,12 @@
 //! contracts of the interface to the operating system, and callers over it to return what it says.
 #![tactic(auto)]
 
-pub mod callers;
-pub mod child;
-pub mod system;
-pub mod worker;
+mod callers;
+mod child;
+mod system;
+mod worker;
+
+pub use callers::{kill, read, run, wait};
+pub use child::SmallChild;
+pub use system::{SmallEnd, SmallSystem};
+pub use worker::{SmallDrain, SmallFeed};

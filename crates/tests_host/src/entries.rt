@@ -1,8 +1,7 @@
 //! Tests of the parent's variables, as the host returns them and notes them in its journal.
 use duct_base::system::{Entry, System};
 use duct_host::Host;
-use rows_table::odd::{Odd, Script};
-use rows_table::real::Real;
+use rows_table::{Odd, Real, Script};
 use std::alloc::{AllocError, Global};
 use std::fmt::Write;
 use std::test::Fail;

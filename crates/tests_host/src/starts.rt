@@ -3,7 +3,7 @@
 use crate::threads::Ticking;
 use duct::{Error, Expression, Handle, Output, Pool, System, cmd};
 use duct_host::{Child, End, Host};
-use rows_table::real::{Real, count_left};
+use rows_table::{Real, count_left};
 use std::alloc::Global;
 use std::rt::Clock as Ticks;
 use std::sync::{Mutex, Wait};

@@ -4,7 +4,7 @@
 use duct::{Clock, Error, ExitStatus, Expression, Handle, Output, Pool, ReaderHandle, System, cmd};
 use duct_host::Host;
 use duct_threads::{SharedHandle, SharedReader};
-use rows_table::real::count_left;
+use rows_table::count_left;
 use std::alloc::Global;
 use std::sync::{Arc, Wait};
 use std::test::Fail;

@@ -5,7 +5,7 @@
 //!
 //! A line has the arguments of the program `host`, separated by blanks, and its expression is run
 //! by `read`. The line `= 4` runs tree 4 of `trees`. After `+ ` a line has an expression as
-//! `rows_table::expressions` describes it, where `stdin_file=4` is the file named `4`.
+//! `rows_table::written_with` reads it, where `stdin_file=4` is the file named `4`.
 #![tactic(auto)]
 
 mod trees;
@@ -14,9 +14,7 @@ use crate::trees::{TREES_WITH_ENDS, Wires, tree};
 use duct::{Error, Expression, Fault, Hook, Pool, System};
 use duct_host::{Child, End, Host};
 use duct_program::line;
-use rows_table::expressions::{Lender, Tree, written_with};
-use rows_table::real::{Left, count_left};
-use rows_table::stop::TableError;
+use rows_table::{Left, Lender, TableError, Tree, count_left, written_with};
 use std::alloc::{AllocError, Global};
 use std::fs::File;
 use std::io::Read;
