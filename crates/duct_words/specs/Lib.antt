@@ -1,0 +1,4 @@
+pub mod Kind
+pub mod LexerView
+pub mod Quote
+pub mod Split
