@@ -6,6 +6,7 @@ mod first_steps;
 mod groups;
 mod handles;
 mod limits;
+mod machines;
 mod over_a_script;
 mod over_the_machine;
 mod readers;
