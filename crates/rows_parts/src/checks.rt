@@ -11,25 +11,25 @@ use std::alloc::Global;
 /// Adds what the checker finds in the journal of a row: its numbers, its trace, or where the end
 /// with this number comes from.
 pub fn push(text: &mut String, row: &Parts, call: &str, end: &str) -> Result<(), TableError> {
-    let alloc = row.alloc;
-    let entries = journal(alloc, row.text("journal"))?;
-    let entries = entries.as_slice();
+    let entries = journal(row.alloc, row.text("journal"))?;
     match call {
-        "says" => write!(
-            text,
-            "got {:?} spent {:?} balanced {} held {} trace {}",
-            opened_numbers(alloc, entries)?,
-            spent_numbers(alloc, entries)?,
-            is_balanced(alloc, entries)?,
-            open_count(alloc, entries)?,
-            trace(alloc, entries)?.len(),
-        )?,
-        "trace" => {
-            for entry in trace(alloc, entries)? {
-                write!(text, "{} | ", Words(entry))?;
-            }
-        }
-        _ => push_source(text, origin(entries, end.parse()?))?,
+        "says" => push_numbers(text, row.alloc, &entries),
+        "trace" => push_trace(text, row.alloc, &entries),
+        _ => Ok(push_source(text, origin(&entries, end.parse()?))?),
+    }
+}
+
+fn push_numbers(text: &mut String, alloc: Global, entries: &[Entry]) -> Result<(), TableError> {
+    write!(text, "got {:?}", opened_numbers(alloc, entries)?)?;
+    write!(text, " spent {:?}", spent_numbers(alloc, entries)?)?;
+    let (is_balanced, held) = (is_balanced(alloc, entries)?, open_count(alloc, entries)?);
+    let count = trace(alloc, entries)?.len();
+    Ok(write!(text, " balanced {is_balanced} held {held} trace {count}")?)
+}
+
+fn push_trace(text: &mut String, alloc: Global, entries: &[Entry]) -> Result<(), TableError> {
+    for entry in trace(alloc, entries)? {
+        write!(text, "{} | ", Words(entry))?;
     }
     Ok(())
 }
@@ -37,12 +37,20 @@ pub fn push(text: &mut String, row: &Parts, call: &str, end: &str) -> Result<(),
 /// Adds the spec of a row after its writes, or its variables of these names, or the error of a hook
 /// that refuses it.
 pub fn push_written(text: &mut String, row: &Parts, names: &str) -> Result<(), TableError> {
-    let alloc = row.alloc;
-    let mut entries = journal(alloc, row.text("journal"))?;
-    let Some(Entry::Spawn(spec, _, _)) = entries.last_mut() else {
-        return Err(TableError::Text("no spec"));
-    };
-    match write_all(alloc, spec, row.text("writes")) {
+    let mut entries = journal(row.alloc, row.text("journal"))?;
+    match entries.last_mut() {
+        Some(Entry::Spawn(spec, _, _)) => push_spec_written(text, row, spec, names),
+        _ => Err(TableError::Text("no spec")),
+    }
+}
+
+fn push_spec_written(
+    text: &mut String,
+    row: &Parts,
+    spec: &mut CommandSpec,
+    names: &str,
+) -> Result<(), TableError> {
+    match write_all(row.alloc, spec, row.text("writes")) {
         Err(stop @ TableError::Error(Error::Hook(_))) if !stop.is_memory() => {
             return Ok(write!(text, "{stop}")?);
         }

@@ -18,34 +18,47 @@ type TestPlan<'t> = Plan<'t, ScriptEnd, ScriptHook>;
 /// Adds whether the journal of a row follows its plan, or whether its error has a cause there.
 pub fn push(text: &mut String, row: &Parts, key: &str) -> Result<(), TableError> {
     let (alloc, reader) = (row.alloc, row.text("reader"));
-    let has_reader = !reader.is_empty();
-    let expression = if has_reader {
-        reader
+    if reader.is_empty() {
+        let tree = written(alloc, row.text("expression"))?;
+        push_followed(text, row, key, &plan(alloc, &tree)?)
     } else {
-        row.text("expression")
-    };
-    let tree = written(alloc, expression)?;
-    let plan = if has_reader {
-        plan_of_reader(alloc, &tree)?
-    } else {
-        plan(alloc, &tree)?
-    };
-    let entries = journal(alloc, row.text("journal"))?;
-    let entries = entries.as_slice();
+        let tree = written(alloc, reader)?;
+        push_followed(text, row, key, &plan_of_reader(alloc, &tree)?)
+    }
+}
+
+fn push_followed(
+    text: &mut String,
+    row: &Parts,
+    key: &str,
+    plan: &TestPlan,
+) -> Result<(), TableError> {
+    let entries = journal(row.alloc, row.text("journal"))?;
     let told = match key {
-        "follows" => followed(alloc, &plan, entries),
-        "requests" => requested(alloc, &plan, entries),
-        "cause" => {
-            let error = error(row.text("error"))?;
-            is_caused_or_memory(alloc, &plan, entries, &error).map(yes_or_no)
-        }
-        _ => Ok(yes_or_no(answers_last_fault(entries, &error(row.text("error"))?))),
+        "follows" => followed(row.alloc, plan, &entries),
+        "requests" => requested(row.alloc, plan, &entries),
+        _ => caused(row.alloc, plan, &entries, key, &error(row.text("error"))?),
     };
     match told {
         Ok(told) => Ok(text.push_str(told)?),
         Err(Untold::HookOutOfMemory) => Ok(text.push_str("no memory")?),
         Err(Untold::Memory) => Err(TableError::Error(Error::Memory)),
     }
+}
+
+/// Returns whether an error has a cause in these entries, or is the answer to the last fault.
+fn caused(
+    alloc: Global,
+    plan: &TestPlan,
+    entries: &[Entry],
+    key: &str,
+    error: &Error,
+) -> Result<&'static str, Untold> {
+    let holds = match key {
+        "cause" => is_caused_or_memory(alloc, plan, entries, error)?,
+        _ => answers_last_fault(entries, error),
+    };
+    Ok(if holds { "yes" } else { "no" })
 }
 
 /// Returns how much of a plan these entries follow.
@@ -68,10 +81,6 @@ fn requested(alloc: Global, plan: &TestPlan, entries: &[Entry]) -> Result<&'stat
     } else {
         Ok("prefix")
     }
-}
-
-fn yes_or_no(holds: bool) -> &'static str {
-    if holds { "yes" } else { "no" }
 }
 
 /// Returns the error of a text. Fails if the text names none.

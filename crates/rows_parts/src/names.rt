@@ -56,22 +56,21 @@ fn push_compared(text: &mut String, alloc: Global, spellings: &str) -> Result<()
 /// then as each other type.
 fn push_commands(text: &mut String, alloc: Global, words: &str) -> Result<(), Error> {
     let (program, argument) = words.split_once(',').unwrap_or((words, ""));
-    let string = String::from_str(alloc, program)?;
-    let path = PathBuf::from_str(alloc, program)?;
-    let commands: [Result<Tree<u64>, Error>; 10] = [
-        cmd!(in alloc; program, argument),
-        cmd!(in alloc; program, argument,),
-        cmd!(in alloc; program),
-        cmd!(in alloc; program,),
-        duct::cmd(alloc, program, &[]),
-        cmd!(in alloc; &string, argument),
-        cmd!(in alloc; string),
-        cmd!(in alloc; Path::new(program), argument),
-        cmd!(in alloc; &path),
-        cmd!(in alloc; path),
-    ];
-    for command in commands {
-        write!(text, "{:?} ", command?)?;
-    }
-    Ok(())
+    push_command(text, cmd!(in alloc; program, argument))?;
+    push_command(text, cmd!(in alloc; program, argument,))?;
+    push_command(text, cmd!(in alloc; program))?;
+    push_command(text, cmd!(in alloc; program,))?;
+    push_command(text, duct::cmd(alloc, program, &[]))?;
+    push_command(
+        text,
+        cmd!(in alloc; &String::from_str(alloc, program)?, argument),
+    )?;
+    push_command(text, cmd!(in alloc; String::from_str(alloc, program)?))?;
+    push_command(text, cmd!(in alloc; Path::new(program), argument))?;
+    push_command(text, cmd!(in alloc; &PathBuf::from_str(alloc, program)?))?;
+    push_command(text, cmd!(in alloc; PathBuf::from_str(alloc, program)?))
+}
+
+fn push_command(text: &mut String, made: Result<Tree<u64>, Error>) -> Result<(), Error> {
+    Ok(write!(text, "{:?} ", made?)?)
 }

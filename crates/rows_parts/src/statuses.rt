@@ -2,27 +2,32 @@
 use crate::Parts;
 use duct_base::status::{Core, Drains, Event, Reply, Shape, Word};
 use duct_script::child::PollAnswer;
-use rows_table::{Answer, TableError, first_word, pieces, side};
+use rows_table::{Answer, TableError, first_word, side, texts};
 use std::alloc::{AllocError, Global};
-use std::sync::Arc;
 
 /// Adds the replies to the events of a row. Each is followed by that in one run, if it differs.
 pub fn push_replies(text: &mut String, row: &Parts) -> Result<(), TableError> {
-    let alloc = row.alloc;
-    let events = events(row)?;
-    let (shape, drains) = (shape(row)?, drains(row));
-    let others = Core::run(alloc, shape.try_clone(alloc)?, drains, events.as_slice())?;
-    let mut core = Core::new(alloc, shape, drains)?;
+    let (shape, drains, events) = (shape(row)?, drains(row), events(row)?);
+    let others = Core::run(
+        row.alloc,
+        shape.try_clone(row.alloc)?,
+        drains,
+        events.as_slice(),
+    )?;
+    let mut core = Core::new(row.alloc, shape, drains)?;
     for (event, other) in events.into_iter().zip(others) {
-        let reply = core.step(event);
-        push_reply(text, &reply)?;
-        if reply != other {
-            text.push_str(", but in one run ")?;
-            push_reply(text, &other)?;
-        }
-        text.push_str("; ")?;
+        push_both(text, &core.step(event), &other)?;
     }
     Ok(())
+}
+
+fn push_both(text: &mut String, reply: &Reply, other: &Reply) -> Result<(), AllocError> {
+    push_reply(text, reply)?;
+    if reply != other {
+        text.push_str(", but in one run ")?;
+        push_reply(text, other)?;
+    }
+    text.push_str("; ")
 }
 
 /// Adds the commands that are due after the events of a row.
@@ -58,7 +63,7 @@ fn shape(row: &Parts) -> Result<Shape, TableError> {
                 let right = last(alloc, &mut shapes)?;
                 Shape::Pipe(last(alloc, &mut shapes)?, right)
             }
-            words => command(alloc, words)?,
+            words => Shape::Command(texts(alloc, words, ',')?),
         };
         shapes.push(shape)?;
     }
@@ -68,14 +73,6 @@ fn shape(row: &Parts) -> Result<Shape, TableError> {
 /// Removes and returns the last shape.
 fn last(alloc: Global, shapes: &mut Vec<Shape>) -> Result<Box<Shape>, TableError> {
     Ok(Box::new(alloc, shapes.pop().ok_or("no shape")?)?)
-}
-
-fn command(alloc: Global, words: &str) -> Result<Shape, AllocError> {
-    let mut texts = Vec::new(alloc);
-    for word in pieces(alloc, words)? {
-        texts.push(String::from_str(alloc, word)?)?;
-    }
-    Ok(Shape::Command(Arc::new(alloc, texts)?))
 }
 
 fn events(row: &Parts) -> Result<Vec<Event>, TableError> {

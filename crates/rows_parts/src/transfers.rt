@@ -18,32 +18,43 @@ pub fn push(text: &mut String, row: &Parts, call: &str, script: &str) -> Result<
         left: all.as_slice(),
         least: usize::MAX,
     };
-    let answer = if is_fed {
+    let done = if is_fed {
         feed(&mut stream, all.as_slice())
     } else {
         drain(row.alloc, &mut stream).map(|bytes| stream.taken = bytes)
     };
-    if stream.least < 64 * 1024 || !all.starts_with(stream.taken.as_slice()) {
-        return Err(TableError::Text("a read has less room than 64 KiB, or other bytes were moved"));
+    if done == Err(Fault::new(Kind::OutOfMemory)) && !script.contains("OutOfMemory") {
+        let is_wrong = is_fed && room > 0;
+        return Err(if is_wrong {
+            WANTS
+        } else {
+            TableError::Memory(AllocError)
+        });
     }
-    if answer == Err(Fault::new(Kind::OutOfMemory)) && !script.contains("OutOfMemory") {
-        if is_fed && room > 0 {
-            return Err(TableError::Text("a feed wants memory"));
-        }
-        answer?;
-    }
-    Ok(push_moved(text, answer, stream.taken.as_slice())?)
+    push_moved(text, done, &stream, all.as_slice())
 }
 
-/// Adds a result and the moved bytes, or their number if there are many.
-fn push_moved(text: &mut String, done: Result<(), Fault>, moved: &[u8]) -> Result<(), AllocError> {
+const WANTS: TableError = TableError::Text("a feed wants memory");
+
+/// Adds a result and the moved bytes, or their number if there are many. Fails if other bytes than
+/// these were moved.
+fn push_moved(
+    text: &mut String,
+    done: Result<(), Fault>,
+    stream: &Stream,
+    all: &[u8],
+) -> Result<(), TableError> {
+    let moved = stream.taken.as_slice();
+    if stream.least < 64 * 1024 || !all.starts_with(moved) {
+        return Err(TableError::Text("a read has less room than 64 KiB, or other bytes were moved"));
+    }
     match done {
         Ok(()) => text.push_str("Ok ")?,
         Err(fault) => write!(text, "{:?} ", fault.kind)?,
     }
     match str::from_utf8(moved) {
-        Ok(few) if few.len() <= 10 => text.push_str(few),
-        _ => write!(text, "{} bytes", moved.len()),
+        Ok(few) if few.len() <= 10 => Ok(text.push_str(few)?),
+        _ => Ok(write!(text, "{} bytes", moved.len())?),
     }
 }
 

@@ -151,17 +151,19 @@ impl<'l, L: Lender> Writing<'l, L> {
     /// So many `unchecked` nodes, or pipes with the last expression as their right side.
     fn repeated(&self, count: Option<&str>, is_pipe: bool) -> Result<Tree<L::End>, TableError> {
         let (last, others) = self.built.split_last().ok_or(NONE)?;
-        let mut made = if is_pipe {
-            others.last().ok_or(NONE)?.clone()?
+        let first = if is_pipe {
+            others.last().ok_or(NONE)?
         } else {
-            last.clone()?
+            last
         };
-        for _ in 0..count.unwrap_or("1").parse::<u64>()? {
+        let count = count.unwrap_or("1").parse::<u64>()?;
+        let mut made = first.clone()?;
+        for _ in 0..count {
             made = if is_pipe {
-                made.pipe(last)?
+                made.pipe(last)
             } else {
-                made.unchecked()?
-            };
+                made.unchecked()
+            }?;
         }
         Ok(made)
     }

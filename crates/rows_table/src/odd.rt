@@ -146,21 +146,22 @@ impl<R> Odd<R> {
 }
 
 /// Whether each of these streams is `/dev/null`.
-fn are_null<R: Processes, B: Allocator + Clone>(
-    rt: &R,
-    alloc: &B,
-    streams: [&Stdio; 3],
-) -> io::Result<bool> {
-    let mut looks = Command::new(alloc.clone()?, "/bin/sh")?;
-    looks.arg("-c")?.arg(LOOKS)?.env_clear();
+fn are_null<R: Processes>(rt: &R, alloc: Global, streams: [&Stdio; 3]) -> io::Result<bool> {
     let [stdin, stdout, stderr] = streams;
-    Ok(rt.spawn(&looks, stdin, stdout, stderr)?.wait()?.success())
+    let ended = rt.spawn(&shell(alloc)?, stdin, stdout, stderr)?.wait();
+    Ok(ended?.success())
+}
+
+fn shell(alloc: Global) -> io::Result<Command<Global>> {
+    let mut shell = Command::new(alloc, "/bin/sh")?;
+    shell.arg("-c")?.arg(LOOKS)?.env_clear();
+    Ok(shell)
 }
 
 /// Fails unless each of the shell's streams is `/dev/null`.
 const LOOKS: &str = "for n in 0 1 2; do [ /proc/self/fd/$n -ef /dev/null ] || exit 1; done";
 
-impl<R: Processes> Processes for Odd<R> {
+impl<R: Processes + AllocGlobal> Processes for Odd<R> {
     type Started = Script;
 
     fn spawn<B: Allocator + Clone>(
@@ -172,7 +173,7 @@ impl<R: Processes> Processes for Odd<R> {
     ) -> io::Result<Child<Script>> {
         let is_apart = command.get_program() != "/bin/sh"
             || command.get_env_clear()
-                && are_null(&self.real, command.allocator(), [stdin, stdout, stderr])?;
+                && are_null(&self.real, self.real.alloc(), [stdin, stdout, stderr])?;
         if !is_apart {
             return Err(io::Error::from(ErrorKind::InvalidInput));
         }

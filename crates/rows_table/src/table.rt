@@ -15,14 +15,14 @@ pub trait Table<'t>: Drop {
 }
 
 /// How many texts were found, and how many of them differ or stopped a row.
-#[derive(Clone, Copy, Debug, Default, PartialEq, Eq)]
+#[derive(Clone, Copy, Default)]
 pub struct Counts {
     pub compared: u64,
     pub differing: u64,
 }
 
 /// A file of rows.
-#[derive(Clone, Copy, Debug)]
+#[derive(Clone, Copy)]
 pub struct File<'t> {
     /// The name of the file in the output.
     pub name: &'t str,
@@ -35,7 +35,7 @@ pub struct File<'t> {
 /// Writes why no row of a file can be tried, and returns counts with one difference. Fails if the
 /// output can't be written.
 pub fn untried<W: Write>(file: File, stop: TableError, out: &mut W) -> io::Result<Counts> {
-    let _ = goes_on(file, 1, "", Err(stop), "", out)?;
+    let _ = goes_on(file, 1, "", &Err(stop), "", out)?;
     Ok(Counts {
         compared: 0,
         differing: 1,
@@ -70,7 +70,7 @@ pub fn compare<'t, T: Table<'t>, W: Write>(
         };
         let compared = u64::from(matches!(read, Ok(true)));
         counts.compared = counts.compared.saturating_add(compared);
-        let holds = goes_on(file, number, line, read, found.trim(), out)?;
+        let holds = goes_on(file, number, line, &read, found.trim(), out)?;
         counts.differing = counts.differing.saturating_add(u64::from(!holds));
         is_over = !holds && !line.is_empty();
     }
@@ -83,19 +83,18 @@ fn goes_on<W: Write>(
     file: File,
     number: u64,
     line: &str,
-    read: Result<bool, TableError>,
+    read: &Result<bool, TableError>,
     found: &str,
     out: &mut W,
 ) -> io::Result<bool> {
     let (key, wanted) = line.split_once(':').unwrap_or((line, ""));
     let (wanted, name, is_told) = (wanted.trim(), file.name, file.is_told);
-    let goes_on = is_told && read.is_ok();
     match read {
-        Ok(is_compared) if !is_compared || !is_told && found == wanted => return Ok(true),
-        Ok(_) if is_told => writeln!(out, "{number} {key}: {found}")?,
-        Ok(_) => writeln!(out, "{name}:{number}: {key}: {found}, not {wanted}")?,
-        Err(stop) if is_told => writeln!(out, "{number} stops: {stop}")?,
-        Err(stop) => writeln!(out, "{name}:{number}: {stop}")?,
-    }
-    Ok(goes_on)
+        Ok(is_compared) if !*is_compared || !is_told && found == wanted => return Ok(true),
+        Ok(_) if is_told => writeln!(out, "{number} {key}: {found}"),
+        Ok(_) => writeln!(out, "{name}:{number}: {key}: {found}, not {wanted}"),
+        Err(stop) if is_told => writeln!(out, "{number} stops: {stop}"),
+        Err(stop) => writeln!(out, "{name}:{number}: {stop}"),
+    }?;
+    Ok(is_told && read.is_ok())
 }

@@ -1,9 +1,10 @@
 //! Parts of the lines of tables, and the names of streams and of kinds of faults.
 use crate::stop::TableError;
 use duct_base::spec::Stream;
-use duct_base::system::{Fault, Kind, Side};
+use duct_base::system::{Fault, Side};
 use std::alloc::{AllocError, Global};
-use std::io::ErrorKind;
+use std::io::{self, ErrorKind};
+use std::sync::Arc;
 use std::time::Duration;
 
 /// Splits a text at its first space. Without a space, the second part is empty.
@@ -13,13 +14,10 @@ pub fn first_word(text: &str) -> (&str, &str) {
 
 /// Splits a text at its commas. An empty text has no pieces. Fails on an allocation failure.
 pub fn pieces(alloc: Global, text: &str) -> Result<Vec<&str>, AllocError> {
-    let mut pieces = Vec::new(alloc);
-    if !text.is_empty() {
-        for piece in text.split(',') {
-            pieces.push(piece)?;
-        }
+    if text.is_empty() {
+        return Ok(Vec::new(alloc));
     }
-    Ok(pieces)
+    text.split(',').collect(alloc)
 }
 
 /// Returns the arguments in a text, separated by spaces. In them `_` is a space, and `~` is an
@@ -33,34 +31,44 @@ pub fn arguments(alloc: Global, text: &str) -> Result<Vec<String>, AllocError> {
     Ok(args)
 }
 
+/// Returns copies of the parts of a text that this character separates. Fails on an allocation
+/// failure.
+pub fn texts(alloc: Global, text: &str, between: char) -> Result<Arc<Vec<String>>, AllocError> {
+    let mut texts = Vec::new(alloc);
+    for part in text.split(between) {
+        texts.push(String::from_str(alloc, part)?)?;
+    }
+    Ok(Arc::new(alloc, texts)?)
+}
+
 /// Returns the pairs of names and values in a text: `A:1,B:2`. Pieces without a colon are skipped.
 /// Fails on an allocation failure.
 pub fn pairs(alloc: Global, text: &str) -> Result<Vec<(&str, &str)>, AllocError> {
-    let mut pairs = Vec::new(alloc);
-    for piece in text.split(',') {
-        if let Some(pair) = piece.split_once(':') {
-            pairs.push(pair)?;
-        }
-    }
-    Ok(pairs)
+    text.split(',')
+        .filter_map(|piece| piece.split_once(':'))
+        .collect(alloc)
 }
 
 /// Returns the value with this name. Fails if there is none.
 pub fn named<T: Copy>(values: &[(&str, T)], name: &str) -> Result<T, TableError> {
-    match values.iter().find(|(known, _)| *known == name) {
-        Some((_, value)) => Ok(*value),
-        None => Err(TableError::Text("no such name")),
+    for (known, value) in values {
+        if *known == name {
+            return Ok(*value);
+        }
     }
+    Err(TableError::Text("no such name"))
 }
 
 /// Returns the stream with this name: `in`, `out` or `err`. Fails for any other name.
 pub fn stream(name: &str) -> Result<Stream, TableError> {
-    match name {
-        "in" => Ok(Stream::In),
-        "out" => Ok(Stream::Out),
-        "err" => Ok(Stream::Err),
-        _ => Err(TableError::Text("no such stream")),
-    }
+    named(
+        &[
+            ("in", Stream::In),
+            ("out", Stream::Out),
+            ("err", Stream::Err),
+        ],
+        name,
+    )
 }
 
 /// Returns the parent's output stream with this name: `out` or `err`. Fails for any other name.
@@ -68,24 +76,12 @@ pub fn side(name: &str) -> Result<Side, TableError> {
     named(&[("out", Side::Out), ("err", Side::Err)], name)
 }
 
-/// The kinds of faults by their names.
-const KINDS: [(&str, Kind); 8] = [
-    ("NotFound", Kind::NotFound),
-    ("PermissionDenied", Kind::PermissionDenied),
-    ("BrokenPipe", Kind::BrokenPipe),
-    ("WriteZero", Kind::WriteZero),
-    ("InvalidInput", Kind::InvalidInput),
-    ("Unsupported", Kind::Unsupported),
-    ("OutOfMemory", Kind::OutOfMemory),
-    ("Other", Kind::Other),
-];
-
 /// Returns a fault of the kind with this name. Fails if there is no such kind.
 pub fn fault(kind: &str) -> Result<Fault, TableError> {
-    Ok(Fault::new(named(&KINDS, kind)?))
+    Ok(Fault::from(io::Error::from(named(&ERROR_KINDS, kind)?)))
 }
 
-/// The kinds of errors of reads, writes and processes by their names.
+/// The kinds of errors by their names.
 pub const ERROR_KINDS: [(&str, ErrorKind); 14] = [
     ("NotFound", ErrorKind::NotFound),
     ("PermissionDenied", ErrorKind::PermissionDenied),
