@@ -11,10 +11,11 @@
 //! Nth allocation of the process fails, `--spend` chooses which one of a row that is.
 #![tactic(auto)]
 
-use rows_calls::{Calls, Machine, Scripted};
-use rows_host::HostMachine;
+mod host;
+
+use crate::host::HostMachine;
+use rows_calls::{Calls, Machine, Scripted, Scripts};
 use rows_parts::Parts;
-use rows_requests::Scripts;
 use rows_table::{Counts, File, Odd, Real, Script, TableError, compare, filled, untried};
 use std::alloc::Global;
 use std::io::{self, Write};
@@ -33,10 +34,7 @@ fn tried<R: Real + Wait, W: Write>(rt: &R, file: File, out: &mut W) -> io::Resul
             Err(stop) => untried(file, stop, out),
         },
         "parts" => compare(alloc, &mut Parts::new(alloc), file, out),
-        table @ ("host calls" | "host requests" | "host rare calls" | "host rare requests") => {
-            on_host(rt, table, file, out)
-        }
-        _ => untried(file, TableError::Text("no such table"), out),
+        table => on_host(rt, table, file, out),
     }
 }
 
@@ -49,8 +47,6 @@ fn on_host<R: Real + Wait, W: Write>(
     out: &mut W,
 ) -> io::Result<Counts> {
     let text = filled(rt, file.text)?;
-    let script = Script::new(rt.alloc(), file.text)?;
-    let odd = Odd::new(rt.clone()?, script.clone()?);
     let file = File {
         name: file.name,
         text: text.as_str(),
@@ -59,23 +55,25 @@ fn on_host<R: Real + Wait, W: Write>(
     match table {
         "host calls" => calls(rt, HostMachine::new(rt, None), file, out),
         "host requests" => host_requests(rt.alloc(), HostMachine::new(rt, None), file, out),
-        _ => on_odd(rt, &odd, script, table, file, out),
+        _ => on_odd(rt, table, file, out),
     }
 }
 
 /// Tries the rows over a runtime with scripted results.
-fn on_odd<R: Real + Wait, P: Real, W: Write>(
+fn on_odd<R: Real + Wait, W: Write>(
     rt: &R,
-    odd: &P,
-    script: Script,
     table: &str,
     file: File,
     out: &mut W,
 ) -> io::Result<Counts> {
-    let machine = HostMachine::new(odd, Some(script));
+    let script = Script::new(rt.alloc(), file.text)?;
+    let odd = Odd::new(rt.clone()?, script.clone()?);
     match table {
-        "host rare calls" => calls(rt, machine, file, out),
-        _ => host_requests(rt.alloc(), machine, file, out),
+        "host rare calls" => calls(rt, HostMachine::new(&odd, Some(script)), file, out),
+        "host rare requests" => {
+            host_requests(rt.alloc(), HostMachine::new(&odd, Some(script)), file, out)
+        }
+        _ => untried(file, TableError::Text("no such table"), out),
     }
 }
 
@@ -97,9 +95,13 @@ fn calls<R: Real + Wait, M: Machine, W: Write>(
     file: File,
     out: &mut W,
 ) -> io::Result<Counts> {
-    let alloc = rt.alloc();
     match machine {
-        Ok(machine) => compare(alloc, &mut Calls::new(rt, alloc, machine), file, out),
+        Ok(machine) => compare(
+            rt.alloc(),
+            &mut Calls::new(rt, rt.alloc(), machine),
+            file,
+            out,
+        ),
         Err(stop) => untried(file, stop, out),
     }
 }

@@ -1,35 +1,39 @@
-//! The table of calls: expressions that are started over any system, and the results of the calls
-//! on what was started (`docs/ROWS.md`); and the scripted system of a row.
+//! The tables of calls and of requests over any system (`docs/ROWS.md`): expressions that are
+//! started, with the results of the calls on what was started, and single requests; and the
+//! scripted system of a row.
 //! Test support: the code is proved safe, and each function that can't block is proved to return.
 #![tactic(auto)]
 
 mod machine;
 mod programs;
+mod requests;
 mod scripted;
+mod scripts;
 mod shells;
 mod started;
 mod texts;
 
 pub use crate::machine::{Machine, PartsOf, PoolOf};
 use crate::programs::{Performed, push_line};
+pub use crate::requests::{Requests, taken};
 pub use crate::scripted::Scripted;
-use crate::shells::by_shell;
+pub use crate::scripts::Scripts;
+use crate::shells::{Limits, by_shell, limits};
 use crate::started::{Started, polled, start};
 pub use crate::texts::Bytes;
 use crate::texts::{push_done, push_polled, push_read, push_run};
-use duct::{Clock, Entry, Error, Handle, System};
-use duct_deadline::{Until, read_until, run_until};
+use duct::{Clock, Entry, Error, Handle, Output, System};
+use duct_deadline::{Late, LateRead, Until, read_until, run_until};
 use duct_plan::is_balanced;
 use duct_shell::Shell;
 use rows_table::{
-    Table, TableError, Tree, children_started, duration, first_word, push_journal, push_pool,
-    push_spec, push_trace, written_with,
+    Table, TableError, Tree, children_started, first_word, push_journal, push_pool, push_spec,
+    push_trace, written_with,
 };
 use std::alloc::{AllocError, Global};
 use std::mem;
 use std::sync::Wait;
 use std::thread::{self, Threads};
-use std::time::Duration;
 
 /// The greatest number of polls or sweeps while something still runs.
 pub const TURNS: u32 = 30_000;
@@ -119,10 +123,10 @@ impl<'t, 'r, R: Wait + Threads, M: Machine> Calls<'t, 'r, R, M> {
         let mut shell = Shell::with_hooks(self.rt, self.alloc, mem::replace(system, spare));
         mem::swap(&mut shell.pool, pool);
         shell.keeps_journal = self.keeps_journal;
-        let (is_kept, answers) = (&mut self.is_kept, &mut self.answers);
-        let made = by_shell(&mut shell, clock, &tree, (call, text), is_kept, answers);
+        let made = by_shell(&mut shell, clock, &tree, (call, text), &mut self.answers);
         (*system, *pool) = shell.into_parts();
-        made
+        self.is_kept = made?;
+        Ok(())
     }
 
     /// Starts the expression of the row, and makes these calls on what was started. The last one
@@ -246,53 +250,60 @@ impl<'t, 'r, R: Wait + Threads, M: Machine> Calls<'t, 'r, R, M> {
     }
 
     /// Returns until when an expression may run, and its grace, if the text has them.
-    fn limits(&mut self, text: &str) -> Result<Option<(Duration, Duration)>, TableError> {
-        if text.is_empty() {
-            return Ok(None);
+    fn limits(&mut self, text: &str) -> Result<Limits, TableError> {
+        match limits(text)? {
+            None => Ok(None),
+            Some((length, grace)) => {
+                let (_, _, clock) = self.machine.stage();
+                Ok(Some((clock.now().saturating_add(length), grace)))
+            }
         }
-        let (length, grace) = first_word(text);
-        let moment = self
-            .machine
-            .stage()
-            .2
-            .now()
-            .saturating_add(duration(length)?);
-        Ok(Some((moment, duration(grace)?)))
     }
 
     /// Runs the expression of the row, until a moment if one is given with a grace.
     fn run(&mut self, limits: &str) -> Result<(), TableError> {
         let limits = self.limits(limits)?;
+        let ran = self.ran(limits)?;
+        self.is_kept = matches!(ran, Ok(Until::Done(_)));
+        Ok(push_run(&mut self.answers, &ran)?)
+    }
+
+    fn ran(&mut self, limits: Limits) -> Result<Result<Until<Output, Late>, Error>, TableError> {
         let tree = self.tree()?;
         let (rt, alloc) = (self.rt, self.alloc);
         let (system, pool, clock) = self.machine.stage();
-        let ran = match limits {
+        Ok(match limits {
             None => tree.run(rt, system, pool).map(Until::Done),
             Some((moment, grace)) => {
                 run_until(&tree, alloc, rt, clock, moment, grace, system, pool)
             }
-        };
-        self.is_kept = matches!(ran, Ok(Until::Done(_)));
-        Ok(push_run(&mut self.answers, &ran)?)
+        })
     }
 
     /// Reads the expression of the row, until a moment if one is given with a grace.
     fn read(&mut self, limits: &str) -> Result<(), TableError> {
         let limits = self.limits(limits)?;
-        let tree = self.tree()?;
-        let (rt, alloc) = (self.rt, self.alloc);
-        let (system, pool, clock) = self.machine.stage();
-        let read = match limits {
-            None => tree.read(rt, system, pool).map(Until::Done),
-            Some((moment, grace)) => {
-                read_until(&tree, alloc, rt, clock, moment, grace, system, pool)
-            }
-        };
+        let read = self.text_read(limits)?;
         self.is_kept = match &read {
             Ok(ended) => matches!(ended, Until::Done(_)),
             Err(error) => limits.is_some() && *error == Error::NotUtf8,
         };
         Ok(push_read(&mut self.answers, &read)?)
+    }
+
+    fn text_read(
+        &mut self,
+        limits: Limits,
+    ) -> Result<Result<Until<String, LateRead>, Error>, TableError> {
+        let tree = self.tree()?;
+        let (rt, alloc) = (self.rt, self.alloc);
+        let (system, pool, clock) = self.machine.stage();
+        Ok(match limits {
+            None => tree.read(rt, system, pool).map(Until::Done),
+            Some((moment, grace)) => {
+                read_until(&tree, alloc, rt, clock, moment, grace, system, pool)
+            }
+        })
     }
 
     /// Runs the expression of the row `times` times. Adds each result that differs from the one
@@ -374,11 +385,8 @@ impl<'t, R: Wait + Threads, M: Machine> Table<'t> for Calls<'t, '_, R, M> {
             "clear" => self.machine.stage().0.clear_journal(),
             "launch" | "launch_reader" | "handle" | "reader" => self.call(key, text)?,
             "run" | "run_until" | "read" | "read_until" | "perform" => self.call(key, text)?,
-            "shell_run" | "shell_run_for" | "shell_read" | "shell_read_for" => self.call(
-                key, text,
-            )?,
-            "shell_start" | "shell_reader" => self.call(key, text)?,
             "keep_journal" => self.keeps_journal = true,
+            _ if key.starts_with("shell_") => self.call(key, text)?,
             _ => return self.found(key, text, out),
         }
         Ok(false)

@@ -1,56 +1,72 @@
 //! The calls of a shell, on the expression of a row.
 use crate::started::push_all;
 use crate::texts::{push_done, push_read, push_run};
-use duct::{Clock, Error, System};
-use duct_deadline::Until;
+use duct::{Clock, Error, Output, System};
+use duct_deadline::{Late, LateRead, Until};
 use duct_script::hook::ScriptHook;
-use duct_shell::Shell;
+use duct_shell::{Failure, Shell};
 use rows_table::{TableError, Tree, duration, first_word};
-use std::alloc::AllocError;
 use std::sync::Wait;
 use std::time::Duration;
 
+/// For how long an expression may run, and its grace.
+pub type Limits = Option<(Duration, Duration)>;
+
 /// Makes the call of a shell with this name on an expression, and adds its result. The text has its
-/// limits, or the call that spends the handle. Notes whether the call gives no child to the pool.
+/// limits, or the call that spends the handle. Returns whether the call gives no child to the pool.
 pub fn by_shell<S: System, R: Wait + Clone + Drop, C: Clock>(
     sh: &mut Shell<S, R, ScriptHook>,
     clock: &C,
     tree: &Tree<S::End>,
     (call, text): (&str, &str),
-    is_kept: &mut bool,
     answers: &mut String,
-) -> Result<(), TableError> {
+) -> Result<bool, TableError> {
     match call {
-        "run" => {
-            let ran = sh.run(tree).map(Until::Done);
-            *is_kept = ran.is_ok();
+        "run" | "run_for" => {
+            let limits = limits(text)?;
+            let ran = run(sh, clock, tree, limits);
             push_run(answers, &ran)?;
+            Ok(matches!(ran, Ok(Until::Done(_))))
         }
-        "read" => {
-            let read = sh.read(tree).map(Until::Done);
-            *is_kept = read.is_ok();
+        "read" | "read_for" => {
+            let limits = limits(text)?;
+            let read = read(sh, clock, tree, limits);
             push_read(answers, &read)?;
-        }
-        "run_for" => {
-            let (limit, grace) = limits(text)?;
-            let ran = sh.run_for(clock, limit, grace, tree);
-            *is_kept = matches!(ran, Ok(Until::Done(_)));
-            push_run(answers, &ran)?;
-        }
-        "read_for" => {
-            let (limit, grace) = limits(text)?;
-            let read = sh.read_for(clock, limit, grace, tree);
-            *is_kept = match &read {
+            Ok(match &read {
                 Ok(until) => matches!(until, Until::Done(_)),
-                Err(failure) => failure.error == Error::NotUtf8,
-            };
-            push_read(answers, &read)?;
+                Err(failure) => limits.is_some() && failure.error == Error::NotUtf8,
+            })
         }
-        "start" => spend_start(sh, tree, text, is_kept, answers)?,
-        "reader" => read_all(sh, tree, answers)?,
-        _ => return Err(TableError::Text("no such call of a shell")),
+        "start" => spend_start(sh, tree, text, answers),
+        "reader" => read_all(sh, tree, answers),
+        _ => Err(TableError::Text("no such call of a shell")),
     }
-    Ok(())
+}
+
+/// Runs an expression, for as long as its limits say if there are any.
+fn run<S: System, R: Wait, C: Clock>(
+    sh: &mut Shell<S, R, ScriptHook>,
+    clock: &C,
+    tree: &Tree<S::End>,
+    limits: Limits,
+) -> Result<Until<Output, Late>, Failure> {
+    match limits {
+        None => sh.run(tree).map(Until::Done),
+        Some((limit, grace)) => sh.run_for(clock, limit, grace, tree),
+    }
+}
+
+/// Reads an expression, for as long as its limits say if there are any.
+fn read<S: System, R: Wait, C: Clock>(
+    sh: &mut Shell<S, R, ScriptHook>,
+    clock: &C,
+    tree: &Tree<S::End>,
+    limits: Limits,
+) -> Result<Until<String, LateRead>, Failure> {
+    match limits {
+        None => sh.read(tree).map(Until::Done),
+        Some((limit, grace)) => sh.read_for(clock, limit, grace, tree),
+    }
 }
 
 /// Starts an expression, and spends the handle by this call.
@@ -58,25 +74,25 @@ fn spend_start<S: System, R: Wait + Drop>(
     sh: &mut Shell<S, R, ScriptHook>,
     tree: &Tree<S::End>,
     end: &str,
-    is_kept: &mut bool,
     answers: &mut String,
-) -> Result<(), AllocError> {
+) -> Result<bool, TableError> {
     let handle = match sh.start(tree) {
         Ok(handle) => handle,
-        Err(failure) => return write!(answers, "{failure}. "),
+        Err(failure) => {
+            write!(answers, "{failure}. ")?;
+            return Ok(false);
+        }
     };
     match end {
         "wait" => {
             let waited = sh.wait(handle).map(Until::Done);
-            *is_kept = waited.is_ok();
-            push_run(answers, &waited)
+            push_run(answers, &waited)?;
+            return Ok(waited.is_ok());
         }
-        "kill" => push_done(answers, &sh.kill(handle)),
-        _ => {
-            sh.give_up(handle);
-            Ok(())
-        }
+        "kill" => push_done(answers, &sh.kill(handle))?,
+        _ => sh.give_up(handle),
     }
+    Ok(false)
 }
 
 /// Starts an expression, reads it to the end, and gives the handle up.
@@ -84,18 +100,23 @@ fn read_all<S: System, R: Wait + Clone + Drop>(
     sh: &mut Shell<S, R, ScriptHook>,
     tree: &Tree<S::End>,
     answers: &mut String,
-) -> Result<(), AllocError> {
+) -> Result<bool, TableError> {
     match sh.reader(tree) {
         Ok(handle) => {
             let pushed = push_all(answers, sh.alloc, &handle);
             handle.give_up(&mut sh.pool);
-            pushed
+            pushed?;
         }
-        Err(failure) => write!(answers, "{failure}. "),
+        Err(failure) => write!(answers, "{failure}. ")?,
     }
+    Ok(false)
 }
 
-fn limits(text: &str) -> Result<(Duration, Duration), TableError> {
+/// Returns the limits in a text, if it has any.
+pub fn limits(text: &str) -> Result<Limits, TableError> {
+    if text.is_empty() {
+        return Ok(None);
+    }
     let (limit, grace) = first_word(text);
-    Ok((duration(limit)?, duration(grace)?))
+    Ok(Some((duration(limit)?, duration(grace)?)))
 }

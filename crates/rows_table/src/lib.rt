@@ -27,4 +27,6 @@ pub use told::{
     push_source, push_spec, push_trace, push_turns,
 };
 pub use waits::{heard, until};
-pub use words::{ERROR_KINDS, arguments, duration, fault, first_word, named, pairs, pieces, side};
+pub use words::{
+    ERROR_KINDS, arguments, duration, fault, first_word, named, pairs, pieces, side, texts,
+};

@@ -1,13 +1,10 @@
 //! The real machine for the tables of calls and of single requests (`docs/ROWS.md`). Each row has a
 //! host of its own.
-//! Test support: the code is proved safe, and each function that can't block is proved to return.
-#![tactic(auto)]
 
 use duct::{Clock, Entry, Place, Pool, System};
 use duct_base::pool::pool_take;
 use duct_host::{Child, End, Host};
-use rows_calls::{Bytes, Machine, PartsOf, PoolOf, TURNS};
-use rows_requests::{Requests, taken};
+use rows_calls::{Bytes, Machine, PartsOf, PoolOf, Requests, TURNS, taken};
 use rows_table::{Lender, Real, Script, Table, TableError, first_word, named, open_descriptors};
 use std::alloc::AllocError;
 use std::fs::{self, File, Permissions};
@@ -68,16 +65,15 @@ impl<R: Real> HostMachine<R> {
     /// these, or on an allocation failure.
     pub fn new(rt: &R, script: Option<Script>) -> Result<HostMachine<R>, TableError> {
         let alloc = rt.alloc();
+        let (opened, slept, begun) = (open_descriptors(rt)?, sleeps(rt)?, rt.monotonic()?);
+        let children = fs::read_to_string(rt, CHILDREN)?;
         let clock = Counting {
             rt: rt.clone()?,
             asked: AtomicU64::new(0),
         };
-        let host = Host::new(rt.clone()?, alloc);
-        let (opened, slept, begun) = (open_descriptors(rt)?, sleeps(rt)?, rt.monotonic()?);
-        let children = fs::read_to_string(rt, CHILDREN)?;
         Ok(HostMachine {
+            requests: Requests::new(alloc, Host::new(rt.clone()?, alloc)),
             clock,
-            requests: Requests::new(alloc, host),
             pool: Pool::new(alloc),
             captured: None,
             spent: Vec::new(alloc),

@@ -1,6 +1,6 @@
 //! The table `scripts`: requests of the scripted system (`docs/ROWS.md`). Each row has a system of
 //! its own.
-use crate::Requests;
+use crate::requests::Requests;
 use duct_base::system::{Child, Job, Numbered, Said, System};
 use duct_script::calls::CallLog;
 use duct_script::system::Script;

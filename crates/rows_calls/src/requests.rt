@@ -1,18 +1,11 @@
-//! Requests of a system, one by one, each of which is a key with a text, and the table of those of
-//! the scripted system (`docs/ROWS.md`).
-//! Test support: the code is proved safe, and each function that can't block is proved to return.
-#![tactic(auto)]
-
+//! Requests of a system, one by one, each of which is a key with a text (`docs/ROWS.md`).
 ghost use Rattle.std.specs.Prelude.{◌≡◌, ◌+◌, ◌<◌, ◌≤◌, [], ◌∷◌, length, vec_len, IfOk, OnOk, OnErr};
 ghost use Rattle.duct_system.specs.Streams.{ends_of};
 
-mod scripts;
-
-pub use crate::scripts::Scripts;
+use crate::texts::Bytes;
 use duct_base::spec::{CommandSpec, Port, spec_of};
 use duct_base::system::{Child, ExitStatus, Fault, Kind, Numbered, Stdio, System};
-use rows_calls::Bytes;
-use rows_table::{TableError, fault, first_word, heard, push_journal, side};
+use rows_table::{TableError, fault, first_word, heard, push_journal, side, texts};
 use std::alloc::Global;
 use std::collections::BTreeMap;
 use std::fmt::{Debug, Write};
@@ -241,14 +234,11 @@ impl<S: System + Drop> Requests<S> {
     /// streams are inherited.
     fn spec(&self, words: &str) -> Result<CommandSpec, TableError> {
         let alloc = self.alloc;
-        let mut texts = Vec::new(alloc);
-        if let Some(words) = words.strip_suffix(')') {
-            for word in words.split(',') {
-                texts.push(String::from_str(alloc, word)?)?;
-            }
-        }
         let inherit = Port::Inherit;
-        let texts = Arc::new(alloc, texts)?;
+        let texts = match words.strip_suffix(')') {
+            Some(words) => texts(alloc, words, ',')?,
+            None => Arc::new(alloc, Vec::new(alloc))?,
+        };
         let mut spec = spec_of(texts, None, BTreeMap::new(alloc), inherit, inherit, inherit);
         if !self.folder.is_empty() {
             spec.current_dir(self.folder.as_str())?;
