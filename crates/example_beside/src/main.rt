@@ -10,9 +10,9 @@ mod threads;
 
 use crate::replay::replays;
 use crate::steps::{Allowed, step_text};
-use crate::threads::{read_or_kill, wait_or_kill};
-use duct::{Error, Expression, Pool, cmd};
-use duct_host::{End, Host};
+use crate::threads::{asleep, printing, read_or_kill, wait_or_kill};
+use duct::{Error, Pool};
+use duct_host::Host;
 use std::fs::File;
 use std::time::Duration;
 
@@ -38,15 +38,12 @@ fn main(rt: HostRuntime) -> Result<(), Error> {
         };
     }
     let _ = println!(rt; "made: {}", File::open(&rt, "made").is_ok());
-    let mut host = Host::new(&rt, alloc);
+    let (mut host, mut pool) = (Host::new(&rt, alloc), Pool::new(alloc));
     let _ = print!(rt; "{}", replays(&rt, alloc, &mut host)?);
-    let mut pool = Pool::new(alloc);
-    let sleep: Expression<End> = cmd!(in alloc; "sleep", "20")?;
-    let handle = sleep.start(&mut host, &mut pool)?;
+    let handle = asleep(alloc, &mut host, &mut pool)?;
     let ended = wait_or_kill(&rt, &handle, limit);
     handle.give_up(&mut pool);
-    let print: Expression<End> = cmd!(in alloc; "sh", "-c", "echo hi; exec sleep 20")?;
-    let reader = print.reader(&rt, &mut host, &mut pool)?;
+    let reader = printing(&rt, alloc, &mut host, &mut pool)?;
     let read = read_or_kill(&rt, &reader, limit);
     reader.give_up(&mut pool);
     if let (Some(ended), (count, Some(stopped))) = (ended, read) {

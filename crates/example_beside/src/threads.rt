@@ -1,9 +1,10 @@
 //! A wait and a read, each beside a thread that kills what runs for too long.
 ghost use Rattle.std.specs.Prelude.{IfSome, Err};
 
-use duct::{Error, Fault};
+use duct::{Error, Expression, Fault, Handle, Pool, ReaderHandle, System, cmd};
 use duct_host::HostClock;
 use duct_threads::{SharedHandle, SharedReader};
+use std::alloc::Global;
 use std::rt;
 use std::sync::Wait;
 use std::thread::{self, Threads};
@@ -69,4 +70,25 @@ fn read_all<H: SharedReader, R: Wait>(rt: &R, reader: &H) -> (usize, Option<Erro
         }
     }
     unreachable!()
+}
+
+/// Starts a command that sleeps.
+pub fn asleep<S: System>(
+    alloc: Global,
+    system: &mut S,
+    pool: &mut Pool<S::Child>,
+) -> Result<Handle<S>, Error> {
+    let sleep: Expression<S::End> = cmd!(in alloc; "sleep", "20")?;
+    sleep.start(system, pool)
+}
+
+/// Starts a command that prints and then sleeps, with a reader.
+pub fn printing<S: System, R: Wait + Drop>(
+    rt: R,
+    alloc: Global,
+    system: &mut S,
+    pool: &mut Pool<S::Child>,
+) -> Result<ReaderHandle<S, R>, Error> {
+    let print: Expression<S::End> = cmd!(in alloc; "sh", "-c", "echo hi; exec sleep 20")?;
+    print.reader(rt, system, pool)
 }

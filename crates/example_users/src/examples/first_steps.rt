@@ -1,30 +1,17 @@
 //! The first steps, as README shows them.
 use duct_shell::{Chain, Clock, Expression, Failure, Output, Shell, System, Until, cmd, run};
-use std::alloc::Global;
 use std::sync::Wait;
 use std::time::Duration;
 
-/// Returns how many bytes a pipeline prints to each stream, and why another command fails.
-pub fn piped<S: System, R: Wait>(sh: &mut Shell<S, R>) -> Result<String, Failure> {
+/// Returns what a pipeline prints to each stream, and why another command fails.
+pub fn piped<S: System, R: Wait>(
+    sh: &mut Shell<S, R>,
+) -> Result<(Output, Result<Output, Failure>), Failure> {
     let hello = cmd!(sh; "sh", "-c", "echo hello; echo careful >&2");
     let loud = hello.pipe(cmd!(sh; "tr", "a-z", "A-Z"));
     let output = sh.run(&loud.stdout_capture().stderr_capture()?)?; // stdout HELLO, stderr careful
     let failed = run!(sh; "sh", "-c", "exit 3"); // Err: it exited with code 3
-
-    told(sh.alloc, &output, failed)
-}
-
-// Returns how many bytes an output has of each stream, and the text of a failure.
-fn told(
-    alloc: Global,
-    output: &Output,
-    failed: Result<Output, Failure>,
-) -> Result<String, Failure> {
-    let (out, err) = (output.stdout.len(), output.stderr.len());
-    match failed {
-        Ok(_) => Ok(format!(in alloc; "{out}, {err}, no failure")?),
-        Err(failure) => Ok(format!(in alloc; "{out}, {err}, {failure}")?),
-    }
+    Ok((output, failed))
 }
 
 /// Returns what a command writes to a file.

@@ -1,5 +1,4 @@
-//! A test of the examples over the real machine: each adds to a text what it prints, or why it
-//! fails.
+//! Tests of the examples over the real machine: what each of them comes to, or why it fails.
 use super::commands::{
     by_paths, excused, failed, fed, filtered, listed, logged, merged, placed, silenced, swapped,
     unfound,
@@ -7,15 +6,16 @@ use super::commands::{
 use super::files::start_to_file;
 use super::first_steps::{filed, passes, piped};
 use super::handles::{stopped, work_beside};
+use super::limits::build;
 use super::over_a_script::service_text;
 use super::readers::{copied, counted, longest_line};
 use super::script::{run_script, started};
-use duct::{Clock, Error, Expression, Fault, Pool, System, cmd};
+use duct::{Clock, Error, Expression, Fault, Output, Pool, System, cmd};
 use duct_host::{End, Host, HostClock, Parents};
 use duct_shell::{Failure, Shell};
-use std::alloc::{AllocError, Global};
-use std::fs;
-use std::fs::File;
+use std::alloc::Global;
+use std::fmt::Debug;
+use std::fs::{self, File};
 use std::process::Processes;
 use std::rt::{Env, Files};
 use std::sync::Wait;
@@ -23,243 +23,238 @@ use std::test::Fail;
 use std::thread::{Parker, Threads};
 use std::time::Duration;
 
-/// Adds a line to a text.
-fn push_line(text: &mut String, line: String) -> Result<(), AllocError> {
-    text.push_str(line.as_str())?;
-    text.push('\n')
+/// An example, or what is seen after it.
+#[derive(Clone, Copy)]
+enum Example {
+    Piped,
+    Filed,
+    Passes,
+    Script,
+    Started,
+    BrokenScript,
+    Kept,
+    Service,
+    Listed,
+    Fed,
+    Merged,
+    Placed,
+    Failed,
+    Unfound,
+    Stopped,
+    Counted,
+    Worked,
+    InTime,
+    TooLong,
+    Silenced,
+    Excused,
+    Swapped,
+    Filtered,
+    ByPaths,
+    ShortLog,
+    LongLog,
+    LongestLine,
+    FailingLines,
 }
 
-/// Adds what a command prints.
-fn push_read<S: System>(
-    text: &mut String,
-    rt: &impl Wait,
-    alloc: Global,
-    system: &mut S,
-    command: Expression<S::End>,
-) -> Result<(), Error> {
-    let printed = command.read(rt, system, &mut Pool::new(alloc))?;
-    Ok(push_line(text, printed)?)
+/// What each example comes to.
+const EXAMPLES: [(Example, &str); 28] = [
+    (
+        Example::Piped,
+        "(Output { status: Code(0), stdout: [72, 69, 76, 76, 79, 10], \
+stderr: [99, 97, 114, 101, 102, 117, 108, 10] }, \
+Err(command [\"sh\", \"-c\", \"exit 3\"] exited with code 3))",
+    ),
+    (Example::Filed, "me\n/"),
+    (Example::Passes, "true"),
+    (Example::Script, "hi\nabc\n"),
+    (Example::Started, "printf a%sc b \n"),
+    (
+        Example::BrokenScript,
+        "spawn of \"no-such-program\": NotFound",
+    ),
+    (Example::Kept, "0"),
+    (Example::Service, "None, 3 given"),
+    (Example::Listed, "foo bar baz"),
+    (Example::Fed, "foo"),
+    (Example::Merged, "out\nerr"),
+    (Example::Placed, "/\nfoobar"),
+    (Example::Failed, "Code(3)"),
+    (Example::Unfound, "spawn of \"no-such-program\": NotFound"),
+    (
+        Example::Stopped,
+        "Output { status: Signal(15), stdout: [], stderr: [] }",
+    ),
+    (Example::Counted, "3893"),
+    (Example::Worked, "true"),
+    (
+        Example::InTime,
+        "Some(Output { status: Code(0), stdout: [], stderr: [] })",
+    ),
+    (Example::TooLong, "None"),
+    (Example::Silenced, "bar\n; foo\n; ; "),
+    (
+        Example::Excused,
+        "command [\"sh\", \"-c\", \"exit 3\"] exited with code 3; \
+command [\"sh\", \"-c\", \"exit 2\"] exited with code 2; ; ",
+    ),
+    (Example::Swapped, "foo\n; "),
+    (Example::Filtered, "a\nb"),
+    (
+        Example::ByPaths,
+        "Pipe(Cmd([\"./tools/a\", \"-v\", \"in\"]), Cmd([\"b\"]))",
+    ),
+    (Example::ShortLog, "(13, 0, false)"),
+    (Example::LongLog, "(13, 7, true)"),
+    (Example::LongestLine, "5"),
+    (
+        Example::FailingLines,
+        "command [\"sh\", \"-c\", \"echo hi; exit 3\"] exited with code 3",
+    ),
+];
+
+/// Returns the text of a result.
+fn text<T: Debug + Drop, E: Drop>(alloc: Global, told: Result<T, E>) -> Result<String, Failure>
+where
+    Failure: From<E>,
+{
+    Ok(format!(in alloc; "{:?}", told?)?)
 }
 
-/// Adds what the first steps print, and whether a test passes.
-fn push_first_steps<S: System, R: Wait>(
-    text: &mut String,
-    sh: &mut Shell<S, R>,
-    clock: &impl Clock,
-) -> Result<(), Failure> {
-    push_line(text, piped(sh)?)?;
-    push_line(text, filed(sh, "filed")?)?;
+/// Returns whether a test passes.
+fn passed<S: System, R: Wait>(sh: &mut Shell<S, R>, clock: &impl Clock) -> Result<bool, Failure> {
     let test = sh.cmd("test", &["-e", "filed"])?;
-    let limit = Duration::from_secs(60);
-    Ok(writeln!(text, "passes: {}", passes(sh, clock, &test, limit)?)?)
-}
-
-/// Adds what the commands of the cookbook print.
-fn push_commands<S: System>(
-    text: &mut String,
-    rt: &impl Wait,
-    alloc: Global,
-    system: &mut S,
-) -> Result<(), Error> {
-    push_read(text, rt, alloc, system, listed(alloc)?)?;
-    push_read(text, rt, alloc, system, fed(alloc)?)?;
-    push_read(text, rt, alloc, system, merged(alloc)?)?;
-    push_read(text, rt, alloc, system, placed(alloc)?)?;
-    push_line(text, failed(rt, alloc, system)?)?;
-    Ok(push_line(text, unfound(rt, alloc, system)?)?)
+    passes(sh, clock, &test, Duration::from_secs(60))
 }
 
 /// Works beside a command, a millisecond a piece, and returns whether it succeeded.
 fn worked<S: System>(rt: &impl Wait, alloc: Global, system: &mut S) -> Result<bool, Error> {
-    let mut pool = Pool::new(alloc);
     let sleep: Expression<S::End> = cmd!(in alloc; "sleep", "0.05")?;
-    let (output, done) = work_beside(rt, system, &mut pool, &sleep, |_| {
+    let (output, done) = work_beside(rt, system, &mut Pool::new(alloc), &sleep, |_| {
         Parker::new().park_timeout(rt, Duration::from_millis(1));
         true
     })?;
     Ok(output.status.success() && done > 0)
 }
 
-/// Adds how a service is stopped, how many bytes a command prints, and whether one was worked
-/// beside.
-fn push_handles<S: System>(
-    text: &mut String,
-    rt: &impl Wait,
-    alloc: Global,
-    system: &mut S,
-) -> Result<(), Error> {
-    let status = stopped(rt, alloc, system)?.status;
-    let (count, worked) = (counted(rt, alloc, system)?, worked(rt, alloc, system)?);
-    Ok(writeln!(text, "{status:?}, {count} bytes, {worked}")?)
-}
-
 /// A command of this shell script.
-fn sh<E: Drop>(alloc: Global, script: &str) -> Result<Expression<E>, Error> {
+fn script<E: Drop>(alloc: Global, script: &str) -> Result<Expression<E>, Error> {
     cmd!(in alloc; "sh", "-c", script)
 }
 
-/// Adds what expressions print to stderr, or why they fail.
-fn push_stderr<S: System>(
-    text: &mut String,
-    rt: &impl Wait,
-    alloc: Global,
-    system: &mut S,
+/// Two pipes of which one side is silent, and one of which both are.
+fn silent_pipes<E: Drop>(alloc: Global) -> Result<[Expression<E>; 3], Error> {
+    silenced(
+        &script(alloc, "echo foo >&2")?,
+        &script(alloc, "echo bar >&2")?,
+    )
+}
+
+/// Two pipes of which one side may fail, and one of which both may.
+fn failing_pipes<E: Drop>(alloc: Global) -> Result<[Expression<E>; 3], Error> {
+    excused(&script(alloc, "exit 2")?, &script(alloc, "exit 3")?)
+}
+
+/// A pipeline that is made in a loop.
+fn sorted<E: Drop>(alloc: Global) -> Result<Expression<E>, Error> {
+    filtered(alloc, &script(alloc, "printf 'b\na\n'")?, &["sort", "rev"])
+}
+
+/// Returns what expressions print to stderr, or why they fail.
+fn errors<S: System, R: Wait>(
+    sh: &mut Shell<S, R>,
     expressions: &[Expression<S::End>],
-) -> Result<(), Error> {
-    let mut pool = Pool::new(alloc);
+) -> Result<String, Failure> {
+    let mut text = String::new(sh.alloc);
     for expression in expressions {
-        match expression.stderr_capture()?.run(rt, system, &mut pool) {
+        match sh.run(&expression.stderr_capture()?) {
             Ok(output) => write!(text, "{}; ", str::from_utf8(&output.stderr).unwrap_or("?"))?,
-            Err(error) => write!(text, "{error}; ")?,
+            Err(failure) => write!(text, "{failure}; ")?,
         }
     }
-    Ok(text.push('\n')?)
+    Ok(text)
 }
 
-/// Adds what pipes print where one side is silent, and why they fail where one may fail.
-fn push_pipes<S: System>(
-    text: &mut String,
-    rt: &impl Wait,
-    alloc: Global,
-    system: &mut S,
-) -> Result<(), Error> {
-    let pipes = silenced(&sh(alloc, "echo foo >&2")?, &sh(alloc, "echo bar >&2")?)?;
-    push_stderr(text, rt, alloc, system, &pipes)?;
-    let pipes = excused(&sh(alloc, "exit 2")?, &sh(alloc, "exit 3")?)?;
-    push_stderr(text, rt, alloc, system, &pipes)
-}
+/// A script that prints its lines in pieces.
+const PIECES: &str = "printf 'one\nth'; sleep 0.02; printf 'ree\ntwo'";
 
-/// Adds what a command prints whose streams are exchanged, what a pipeline prints that is made in a
-/// loop, and how one of paths is shown.
-fn push_pipelines<S: System>(
-    text: &mut String,
-    rt: &impl Wait,
-    alloc: Global,
-    system: &mut S,
-) -> Result<(), Error> {
-    push_stderr(text, rt, alloc, system, &[swapped(alloc)?])?;
-    let sorted = filtered(alloc, &sh(alloc, "printf 'b\na\n'")?, &["sort", "rev"])?;
-    push_read(text, rt, alloc, system, sorted)?;
-    let pipe: Expression<S::End> = by_paths(alloc)?;
-    Ok(writeln!(text, "{pipe:?}")?)
-}
-
-/// Adds what a script prints, why another one fails, how many children the pool keeps, and what was
-/// started since the journal was cleared.
-fn push_scripts<S: System, R: Wait>(
-    text: &mut String,
-    sh: &mut Shell<S, R>,
-) -> Result<(), Failure> {
-    push_line(text, run_script(sh, "echo hi\nprintf a%sc b")?)?;
-    push_line(text, started(sh.alloc, &sh.system)?)?;
-    if let Err(failure) = run_script(sh, "no-such-program\necho hi") {
-        writeln!(text, "{failure}")?;
-    }
-    Ok(writeln!(text, "{} kept", sh.pool.len())?)
-}
-
-/// Adds the longest line of what a command prints in pieces, its bytes, what is left of a log, and
-/// whether the log got all of them.
-fn push_lines<S: System>(
-    text: &mut String,
-    rt: &impl Wait,
-    alloc: Global,
-    system: &mut S,
-    mut log: &mut [u8],
-) -> Result<(), Error> {
-    let script = "printf 'one\nth'; sleep 0.02; printf 'ree\ntwo'";
-    let command: Expression<S::End> = sh(alloc, script)?;
-    let longest = longest_line(rt, alloc, system, &command)?;
-    let (bytes, whole) = copied(rt, alloc, system, &command, &mut log)?;
-    Ok(writeln!(text, "{longest}, {}, {}, {whole}", bytes.len(), log.len())?)
-}
-
-/// Adds why the lines of a command that fails can't be read to their end.
-fn push_failing<S: System>(
-    text: &mut String,
-    rt: &impl Wait,
-    alloc: Global,
-    system: &mut S,
-) -> Result<(), Error> {
-    let command: Expression<S::End> = sh(alloc, "echo hi; exit 3")?;
-    match longest_line(rt, alloc, system, &command) {
-        Ok(longest) => Ok(writeln!(text, "{longest}")?),
-        Err(error) => Ok(writeln!(text, "{error}")?),
-    }
-}
-
-/// Adds what the examples without a shell print. A log is too short, and another one isn't.
-fn push_all<S: System>(
-    text: &mut String,
-    rt: &impl Wait,
-    alloc: Global,
-    system: &mut S,
-) -> Result<(), Error> {
-    push_commands(text, rt, alloc, system)?;
-    push_handles(text, rt, alloc, system)?;
-    push_pipes(text, rt, alloc, system)?;
-    push_pipelines(text, rt, alloc, system)?;
-    push_lines(text, rt, alloc, system, &mut [0; 7])?;
-    push_lines(text, rt, alloc, system, &mut [0; 20])?;
-    push_failing(text, rt, alloc, system)
-}
-
-/// Adds what the examples over a shell print. A service may run for 20 milliseconds.
-fn push_shells<S: System, R: Wait>(
-    text: &mut String,
+/// Runs a step that sleeps for so many seconds, for at most this long.
+fn built<S: System, R: Wait>(
     sh: &mut Shell<S, R>,
     clock: &impl Clock,
-) -> Result<(), Failure> {
-    push_first_steps(text, sh, clock)?;
-    push_scripts(text, sh)?;
-    Ok(push_line(text, service_text(sh, clock, Duration::from_millis(20))?)?)
+    seconds: &str,
+    limit: Duration,
+) -> Result<Option<Output>, Error> {
+    let step: Expression<S::End> = cmd!(in sh.alloc; "sleep", seconds)?;
+    build(&sh.rt, &mut sh.system, &mut sh.pool, clock, &step, limit)
 }
 
-/// What all examples print.
-const WANTED: &str = "6, 8, command [\"sh\", \"-c\", \"exit 3\"] exited with code 3
-me
-/
-passes: true
-hi
-abc
+/// Returns the length of the longest line that a script prints.
+fn longest<S: System, R: Wait>(sh: &mut Shell<S, R>, lines: &str) -> Result<usize, Error> {
+    let command = script(sh.alloc, lines)?;
+    longest_line(&sh.rt, sh.alloc, &mut sh.system, &command)
+}
 
-printf a%sc b\x20
+/// Returns how many bytes a command prints, how much is left of a log, and whether the log got all
+/// of them.
+fn logged_length<S: System, R: Wait>(
+    sh: &mut Shell<S, R>,
+    mut log: &mut [u8],
+) -> Result<(usize, usize, bool), Error> {
+    let command = script(sh.alloc, PIECES)?;
+    let (bytes, whole) = copied(&sh.rt, sh.alloc, &mut sh.system, &command, &mut log)?;
+    Ok((bytes.len(), log.len(), whole))
+}
 
-spawn of \"no-such-program\": NotFound
-0 kept
-None, 3 given
-foo bar baz
-foo
-out
-err
-/
-foobar
-Code(3)
-spawn of \"no-such-program\": NotFound
-Signal(15), 3893 bytes, true
-bar
-; foo
-; ;\x20
-command [\"sh\", \"-c\", \"exit 3\"] exited with code 3; \
-command [\"sh\", \"-c\", \"exit 2\"] exited with code 2; ;\x20
-foo
-;\x20
-a
-b
-Pipe(Cmd([\"./tools/a\", \"-v\", \"in\"]), Cmd([\"b\"]))
-5, 13, 0, false
-5, 13, 7, true
-command [\"sh\", \"-c\", \"echo hi; exit 3\"] exited with code 3
-";
+/// Returns what an example comes to.
+fn told<S: System, R: Wait>(
+    sh: &mut Shell<S, R>,
+    clock: &impl Clock,
+    example: Example,
+) -> Result<String, Failure> {
+    let alloc = sh.alloc;
+    match example {
+        Example::Piped => text(alloc, piped(sh)),
+        Example::Filed => filed(sh, "filed"),
+        Example::Passes => text(alloc, passed(sh, clock)),
+        Example::Script => run_script(sh, "echo hi\nprintf a%sc b"),
+        Example::Started => Ok(started(alloc, &sh.system)?),
+        Example::BrokenScript => run_script(sh, "no-such-program\necho hi"),
+        Example::Kept => Ok(format!(in alloc; "{}", sh.pool.len())?),
+        Example::Service => service_text(sh, clock, Duration::from_millis(20)),
+        Example::Listed => sh.read(&listed(alloc)?),
+        Example::Fed => sh.read(&fed(alloc)?),
+        Example::Merged => sh.read(&merged(alloc)?),
+        Example::Placed => sh.read(&placed(alloc)?),
+        Example::Failed => Ok(failed(&sh.rt, alloc, &mut sh.system)?),
+        Example::Unfound => Ok(unfound(&sh.rt, alloc, &mut sh.system)?),
+        Example::Stopped => text(alloc, stopped(&sh.rt, alloc, &mut sh.system)),
+        Example::Counted => text(alloc, counted(&sh.rt, alloc, &mut sh.system)),
+        Example::Worked => text(alloc, worked(&sh.rt, alloc, &mut sh.system)),
+        Example::InTime => text(alloc, built(sh, clock, "0", Duration::from_secs(60))),
+        Example::TooLong => text(alloc, built(sh, clock, "20", Duration::from_millis(20))),
+        Example::Silenced => errors(sh, &silent_pipes(alloc)?),
+        Example::Excused => errors(sh, &failing_pipes(alloc)?),
+        Example::Swapped => errors(sh, &[swapped(alloc)?]),
+        Example::Filtered => sh.read(&sorted(alloc)?),
+        Example::ByPaths => text(alloc, by_paths::<S::End>(alloc)),
+        Example::ShortLog => text(alloc, logged_length(sh, &mut [0; 7])),
+        Example::LongLog => text(alloc, logged_length(sh, &mut [0; 20])),
+        Example::LongestLine => text(alloc, longest(sh, PIECES)),
+        Example::FailingLines => text(alloc, longest(sh, "echo hi; exit 3")),
+    }
+}
 
 #[test]
 fn examples_over_the_machine(rt: HostRuntime) -> Result<(), Fail> {
     let clock = HostClock::new(&rt)?;
-    let mut text = String::new(rt.alloc());
     let mut sh = Shell::new(&rt);
-    push_shells(&mut text, &mut sh, &clock)?;
-    push_all(&mut text, &rt, rt.alloc(), &mut sh.system)?;
-    assert_eq!(rt; text.as_str(), WANTED);
+    for (example, wanted) in EXAMPLES {
+        let told = match told(&mut sh, &clock, example) {
+            Ok(text) => text,
+            Err(failure) => format!(in rt.alloc(); "{failure}")?,
+        };
+        assert_eq!(rt; told.as_str(), wanted);
+    }
     Ok(())
 }
 
@@ -268,13 +263,11 @@ fn run_logged<S: System>(
     rt: &impl Wait,
     alloc: Global,
     system: &mut S,
-    end: S::End,
+    log: S::End,
 ) -> Result<(), Error> {
-    let mut pool = Pool::new(alloc);
-    let command: Expression<S::End> = sh(alloc, "echo $0 >&2")?;
-    let logged = logged(alloc, &command.stderr_null()?, end)?;
-    logged.stderr_capture()?.run(rt, system, &mut pool)?;
-    Ok(())
+    let command = script(alloc, "echo $0 >&2")?.stderr_null()?;
+    let logged = logged(alloc, &command, log)?.stderr_capture()?;
+    logged.run(rt, system, &mut Pool::new(alloc)).map(drop)
 }
 
 /// Writes what a command prints to an open file.
@@ -282,10 +275,10 @@ fn write_file<R>(rt: &R, alloc: Global, file: File, host: &mut Host<R>) -> Resul
 where
     R: Processes + Files<File = File> + Env + Parents + Threads + Wait + Clone + Drop,
 {
-    let mut pool = Pool::new(alloc);
     let echo: Expression<End> = cmd!(in alloc; "echo", "foo")?;
-    start_to_file(&echo, file, host, &mut pool)?.into_output(rt, &mut pool)?;
-    Ok(())
+    let mut pool = Pool::new(alloc);
+    let handle = start_to_file(&echo, file, host, &mut pool)?;
+    handle.into_output(rt, &mut pool).map(drop)
 }
 
 /// Writes a log and a file that are open.
@@ -293,8 +286,7 @@ fn write_open<R>(rt: &R, alloc: Global, host: &mut Host<R>) -> Result<(), Error>
 where
     R: Processes + Files<File = File> + Env + Parents + Threads + Wait + Clone + Drop,
 {
-    let log = File::create(rt, "log").map_err(Fault::from)?;
-    let log = host.adopt_file(log)?;
+    let log = host.adopt_file(File::create(rt, "log").map_err(Fault::from)?)?;
     run_logged(rt, alloc, host, log)?;
     let file = File::create(rt, "file").map_err(Fault::from)?;
     write_file(rt, alloc, file, host)
