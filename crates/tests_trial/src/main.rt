@@ -182,11 +182,7 @@ fn told<R: Real + Wait>(
 
 /// Waits until what is left is what there was before, for at most `LOOKS` checks. Returns how much
 /// more is left.
-fn rest<R: Real, C: duct::Child>(
-    rt: &R,
-    pool: &mut Pool<C>,
-    before: Left,
-) -> io::Result<Left> {
+fn rest<R: Real, C: duct::Child>(rt: &R, pool: &mut Pool<C>, before: Left) -> io::Result<Left> {
     let mut after = count_left(rt)?;
     for _ in 0..LOOKS {
         pool.sweep();
