@@ -7,6 +7,7 @@
 //! ```
 #![tactic(auto)]
 
+mod capture;
 mod chain;
 mod failure;
 mod limit;
@@ -19,6 +20,7 @@ pub use shell::Shell;
 // What a program over a shell needs of the library.
 pub use duct::{Clock, Error, ExitStatus, Expression, Handle, Output, ReaderHandle, System};
 pub use duct_deadline::{Late, LateRead, Until};
+pub use duct_lines::{Captured, FailedRun};
 
 /// A command: `cmd!(sh; program, arg, ..)` is `sh.cmd(program, &[arg, ..])`. A trailing comma is
 /// allowed.

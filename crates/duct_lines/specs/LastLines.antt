@@ -1,0 +1,15 @@
+-- The last lines of bytes.
+use Rattle.std.specs.Prelude.{ℕ, ◌-◌, ◌≡◌, ◌⊎◌, List, [], ◌∷◌, ◌++◌, length, drop, nat_le, if◌then◌else◌}
+use Rattle.std.specs.Io.BufRead.{drop_through}
+
+-- the last whole lines of these bytes, at most so many bytes: all bytes if they are no more, else
+-- what follows the first `\n` from the byte before the last so many
+abbrev pub last_lines : ℕ → List ℕ → List ℕ
+last_lines most bytes =
+    if nat_le (length bytes) most then bytes
+    else drop_through 10 (drop (length bytes - most - 1) bytes)
+
+-- the tail is the end of the bytes; it is empty, or it is all of them, or a `\n` is before it
+abbrev pub BeginsLine : List ℕ → List ℕ → Type 0
+BeginsLine bytes tail =
+    (tail ≡ []) ⊎ ((tail ≡ bytes) ⊎ ((before : List ℕ) × (bytes ≡ before ++ 10 ∷ tail)))
