@@ -1,16 +1,18 @@
 //! What stands beside `duct`, over the real machine: steps of a build that may do only so much,
-//! threads of which one kills what takes too long for another, and a pipeline that is previewed,
-//! recorded, and run again with no process.
+//! threads of which one kills what takes too long for another, a pipeline that is previewed,
+//! recorded, and run again with no process, and a step whose log has what ran and how it failed.
 #![tactic(auto)]
 
 mod guard;
 mod replay;
 mod steps;
 mod threads;
+mod traced;
 
 use crate::replay::replays;
 use crate::steps::{Allowed, step_text};
 use crate::threads::{asleep, printing, read_or_kill, wait_or_kill};
+use crate::traced::failed_step;
 use duct::{Error, Pool};
 use duct_host::Host;
 use std::fs::File;
@@ -40,6 +42,7 @@ fn main(rt: HostRuntime) -> Result<(), Error> {
     let _ = println!(rt; "made: {}", File::open(&rt, "made").is_ok());
     let (mut host, mut pool) = (Host::new(&rt, alloc), Pool::new(alloc));
     let _ = print!(rt; "{}", replays(&rt, alloc, &mut host)?);
+    let _ = println!(rt; "{}", failed_step(&rt, alloc, Host::new(&rt, alloc))?);
     let handle = asleep(alloc, &mut host, &mut pool)?;
     let ended = wait_or_kill(&rt, &handle, limit);
     handle.give_up(&mut pool);

@@ -12,6 +12,7 @@ mod scripts;
 mod shells;
 mod started;
 mod texts;
+mod traced;
 
 pub use crate::machine::{Machine, PartsOf, PoolOf};
 use crate::programs::{Performed, push_line};
@@ -22,6 +23,7 @@ use crate::shells::{Limits, by_shell, limits};
 use crate::started::{Started, polled, start};
 pub use crate::texts::Bytes;
 use crate::texts::{push_done, push_polled, push_read, push_run};
+use crate::traced::run_traced;
 use duct::{Clock, Entry, Error, Handle, Output, System};
 use duct_deadline::{Late, LateRead, Until, read_until, run_until};
 use duct_plan::is_balanced;
@@ -105,6 +107,7 @@ impl<'t, 'r, R: Wait + Threads, M: Machine> Calls<'t, 'r, R, M> {
             (_, Some(call)) => self.by_shell(call, text),
             ("run" | "run_until", None) => self.run(text),
             ("read" | "read_until", None) => self.read(text),
+            ("run_traced", None) => self.run_traced(text),
             ("perform", None) => self.perform(text),
             (_, None) => self.start(key, text),
         };
@@ -127,6 +130,21 @@ impl<'t, 'r, R: Wait + Threads, M: Machine> Calls<'t, 'r, R, M> {
         (*system, *pool) = shell.into_parts();
         self.is_kept = made?;
         Ok(())
+    }
+
+    /// Runs the expression of the row over the traced system, and keeps its output.
+    fn run_traced(&mut self, text: &str) -> Result<(), TableError> {
+        let (room, most) = first_word(text);
+        let limits = (room.parse()?, most.parse()?);
+        let tree = self.tree()?;
+        let spare = self.machine.spare()?;
+        let (system, pool, _) = self.machine.stage();
+        let own = mem::replace(system, spare);
+        let (rt, alloc, answers) = (self.rt, self.alloc, &mut self.answers);
+        let (own, is_kept, pushed) = run_traced(rt, alloc, own, pool, &tree, limits, answers);
+        *system = own;
+        self.is_kept = is_kept;
+        Ok(pushed?)
     }
 
     /// Starts the expression of the row, and makes these calls on what was started. The last one
@@ -385,6 +403,7 @@ impl<'t, R: Wait + Threads, M: Machine> Table<'t> for Calls<'t, '_, R, M> {
             "clear" => self.machine.stage().0.clear_journal(),
             "launch" | "launch_reader" | "handle" | "reader" => self.call(key, text)?,
             "run" | "run_until" | "read" | "read_until" | "perform" => self.call(key, text)?,
+            "run_traced" => self.call(key, text)?,
             "keep_journal" => self.keeps_journal = true,
             _ if key.starts_with("shell_") => self.call(key, text)?,
             _ => return self.found(key, text, out),

@@ -76,7 +76,7 @@ fn push_late(text: &mut String, late: &Late) -> Result<(), AllocError> {
 }
 
 /// Adds a status with what was captured.
-fn push_output(text: &mut String, output: &Output) -> Result<(), AllocError> {
+pub fn push_output(text: &mut String, output: &Output) -> Result<(), AllocError> {
     let out = Bytes(output.stdout.as_slice());
     let err = Bytes(output.stderr.as_slice());
     write!(text, "{:?} out={out} err={err}. ", output.status)
