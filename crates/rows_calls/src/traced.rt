@@ -3,7 +3,7 @@ use crate::texts::{Bytes, push_output};
 use duct::{Error, Pool, System};
 use duct_lines::{Captured, run_captured};
 use duct_traced::Traced;
-use rows_table::expressions::Tree;
+use rows_table::Tree;
 use std::alloc::{AllocError, Global};
 use std::sync::Wait;
 
