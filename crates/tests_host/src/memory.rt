@@ -6,12 +6,13 @@ use duct::{Error, Worker};
 use duct_base::spec::{CommandSpec, Port, spec_of};
 use duct_base::system::{Child, ExitStatus, Fault, Job, Kind, Stdio, System};
 use duct_host::Host;
-use rows_table::{Odd, Real, Script, heard, is_memory, open_descriptors};
+use rows_table::{Odd, Real, Script, heard, is_memory};
 use std::alloc::{AllocError, Global};
 use std::collections::BTreeMap;
-use std::fs;
-use std::rt::Clock;
+use std::os::fd::AsRawFd;
+use std::rt::{Clock, Files};
 use std::sync::Arc;
+use std::{fs, io};
 
 /// Writes a text to this file, and creates it. Returns whether it is then empty. Fails with the
 /// fault of the create if the file has its text, and returns false if it hasn't.
@@ -66,16 +67,21 @@ fn is_killed(child: &mut impl Child) -> bool {
         && child.poll() == Ok(Some(ExitStatus::Signal(9)))
 }
 
+/// The file descriptors that a new pipe gets.
+fn free<R: Files>(rt: &R) -> Result<(i32, i32), Error> {
+    let (read, write) = io::pipe(rt).map_err(Fault::from)?;
+    Ok((read.as_raw_fd(), write.as_raw_fd()))
+}
+
 /// Spawns a child that takes both ends of a pipe. Returns whether they are closed then. Fails with
 /// the fault of the spawn if they are, and returns false if they aren't.
 fn spawned<R: Real>(rt: &R) -> Result<bool, Error> {
-    let before = open_descriptors(rt).map_err(Fault::from)?;
     let spec = spec(rt.alloc(), "/bin/true")?;
     let mut host = Host::new(rt.clone()?, rt.alloc());
+    let before = free(rt)?;
     let (read, write) = host.pipe()?;
     let answer = host.spawn(spec, [Stdio::End(read), Stdio::End(write), Stdio::Null]);
-    let after = open_descriptors(rt).map_err(Fault::from)?;
-    match (answer, after == before) {
+    match (answer, free(rt)? == before) {
         (Err(fault), true) => Err(Error::System(fault)),
         (_, are_closed) => Ok(are_closed),
     }

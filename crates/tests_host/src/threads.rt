@@ -116,6 +116,25 @@ fn wait_and_order<H: SharedHandle, R: Wait + Threads + rt::Clock + Sync>(
     )
 }
 
+/// Checks that two threads that wait for a pipeline both see the kill or the signal of a third one,
+/// and that nothing is left after either.
+#[test]
+fn orders_end_two_waits(rt: HostRuntime) -> Result<(), Fail> {
+    let before = count_left(&rt)?;
+    for signal in [KILL, 15] {
+        let well = {
+            let mut host = Host::new(&rt, rt.alloc());
+            let mut pool = Pool::new(rt.alloc());
+            let handle = asleep(rt.alloc(), &mut host, &mut pool)?;
+            let told = wait_and_order(&rt, &handle, signal);
+            handle.give_up(&mut pool);
+            told == ((true, true), (2, true, true))
+        };
+        assert_eq!(rt; (well, count_left(&rt)?), (true, before), "{signal}");
+    }
+    Ok(())
+}
+
 /// How many bytes the commands of the rounds with reads print.
 const BYTES: usize = 1000;
 
@@ -325,70 +344,20 @@ fn napping<S: System>(
     nap.start(sys, pool)
 }
 
-/// What threads do with a handle that they share.
-#[derive(Clone, Copy)]
-enum Part {
-    /// Two threads wait, and a third one sends this signal or kills.
-    Orders(i32),
-    /// Eight threads poll, wait with and without deadlines, kill and get ids.
-    Eight(u32),
-}
-
-impl Part {
-    /// The part of a round: a kill, a signal, and then the rounds with eight threads.
-    fn of(round: u32) -> Part {
-        match round {
-            0 => Part::Orders(KILL),
-            1 => Part::Orders(15),
-            later => Part::Eight(later - 2),
-        }
-    }
-
-    /// Starts the commands.
-    fn start<S: System>(
-        self,
-        alloc: Global,
-        sys: &mut S,
-        pool: &mut Pool<S::Child>,
-    ) -> Result<Handle<S>, Error> {
-        match self {
-            Part::Orders(_) => asleep(alloc, sys, pool),
-            Part::Eight(round) => napping(alloc, round, sys, pool),
-        }
-    }
-
-    /// Whether all threads see what they should.
-    fn goes_well<H: SharedHandle + Played + Sync, R: Wait + Threads + rt::Clock + Sync>(
-        self,
-        rt: &R,
-        alloc: Global,
-        handle: &H,
-    ) -> bool {
-        match self {
-            Part::Orders(signal) => {
-                wait_and_order(rt, handle, signal) == ((true, true), (2, true, true))
-            }
-            Part::Eight(round) => eight_agree(rt, alloc, handle, round),
-        }
-    }
-}
-
-/// Checks that two threads that wait for a pipeline both see the kill or the signal of a third one.
-/// Then checks eight threads that poll, wait, kill and get ids, in many rounds that end at
-/// different moments, by themselves or by the kill: all threads get the same results. Nothing is
-/// left after any round.
+/// Checks eight threads that poll, wait with and without deadlines, kill and get ids, in many
+/// rounds that end at different moments, by themselves or by the kill. All threads get the same
+/// results, and nothing is left.
 #[test]
-fn threads_share_a_handle(rt: HostRuntime) -> Result<(), Fail> {
+fn eight_threads_are_told_the_same(rt: HostRuntime) -> Result<(), Fail> {
     let before = count_left(&rt)?;
-    for round in 0..ROUNDS + 2 {
-        let part = Part::of(round);
+    for round in 0..ROUNDS {
         let (well, kept) = {
             let mut host = Host::new(&rt, rt.alloc());
             let mut pool = Pool::new(rt.alloc());
-            let handle = part.start(rt.alloc(), &mut host, &mut pool)?;
-            let well = part.goes_well(&rt, rt.alloc(), &handle);
+            let handle = napping(rt.alloc(), round, &mut host, &mut pool)?;
+            let agree = eight_agree(&rt, rt.alloc(), &handle, round);
             handle.give_up(&mut pool);
-            (well, pool.len())
+            (agree, pool.len())
         };
         assert_eq!(rt; (well, kept), (true, 0), "{round}");
     }

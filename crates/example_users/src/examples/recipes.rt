@@ -30,18 +30,15 @@ where
     sh.run(&command.stdout_file(end)?)
 }
 
-/// Asks a program one question by its stdin while it runs, and returns its answer.
-pub fn ask<'r, R>(
-    sh: &mut Shell<Host<&'r R>, &'r R>,
-    program: &Expression<End>,
+/// Asks a program a question while it runs, and returns its answer. Its stdin is the other end of
+/// the pipe that the question is written to.
+pub fn ask<S: System, R: Wait + Clone + Drop, W: Write + Drop>(
+    sh: &mut Shell<S, R>,
+    program: &Expression<S::End>,
+    mut questions: W,
     question: &str,
-) -> Result<String, Failure>
-where
-    R: Processes + Files<File = File> + Env + Parents + Threads + Wait,
-{
-    let (input, mut questions) = io::pipe(sh.rt)?;
-    let input = sh.system.adopt_reader(input)?;
-    let handle = sh.reader(&program.stdin_file(input)?)?;
+) -> Result<String, Failure> {
+    let handle = sh.reader(program)?;
     let mut buffer = [0; 512];
     let answer = match questions.write_all(question.as_bytes()) {
         Ok(()) => handle.read_as(&mut buffer, &mut handle.seen()),
@@ -51,6 +48,20 @@ where
     handle.give_up(&mut sh.pool);
     let answer = buffer.get(..answer?).unwrap_or(&[]);
     Ok(String::from_utf8_lossy(sh.alloc, answer)?)
+}
+
+/// Asks a program one question by a pipe.
+pub fn ask_by_pipe<'r, R>(
+    sh: &mut Shell<Host<&'r R>, &'r R>,
+    program: &Expression<End>,
+    question: &str,
+) -> Result<String, Failure>
+where
+    R: Processes + Files<File = File> + Env + Parents + Threads + Wait,
+{
+    let (input, questions) = io::pipe(sh.rt)?;
+    let input = sh.system.adopt_reader(input)?;
+    ask(sh, &program.stdin_file(input)?, questions, question)
 }
 
 /// A command each of whose lines, of both streams, begins with this name.
@@ -75,6 +86,6 @@ fn recipes_over_the_machine(rt: HostRuntime) -> Result<(), Fail> {
         fs::read_to_string(&rt, "log")?.as_str(),
         "[a] out\n[a] err\nmore\n"
     );
-    assert_eq!(rt; ask(&mut sh, &cat, "why\n")?.as_str(), "why\n");
+    assert_eq!(rt; ask_by_pipe(&mut sh, &cat, "why\n")?.as_str(), "why\n");
     Ok(())
 }
