@@ -5,6 +5,8 @@
 #[cfg(test)]
 mod readers;
 #[cfg(test)]
+mod tasks;
+#[cfg(test)]
 mod threads;
 #[cfg(test)]
 mod workers;

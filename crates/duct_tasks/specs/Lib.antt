@@ -1,0 +1,4 @@
+pub mod AtFailure
+pub mod Counts
+pub mod RanAll
+pub mod Turns
