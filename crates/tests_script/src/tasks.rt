@@ -27,8 +27,16 @@ fn ran(
     at_failure: AtFailure,
 ) -> Result<String, TableError> {
     let (mut system, mut pool, mut text) = (system(alloc)?, Pool::new(alloc), String::new(alloc));
-    let all: [Expression<ScriptEnd>; 3] = [cmd(alloc, "a", &[])?, cmd(alloc, "b", &[])?, cmd(alloc, "c", &[])?];
-    let tasks = Tasks { all: &all, limit, at_failure };
+    let all: [Expression<ScriptEnd>; 3] = [
+        cmd(alloc, "a", &[])?,
+        cmd(alloc, "b", &[])?,
+        cmd(alloc, "c", &[])?,
+    ];
+    let tasks = Tasks {
+        all: &all,
+        limit,
+        at_failure,
+    };
     let ends = run_all(tasks, alloc, rt, |_, _| {}, &mut system, &mut pool)?;
     for end in ends.as_slice() {
         match end {
@@ -36,7 +44,11 @@ fn ran(
             Err(error) => write!(text, "{error}, ")?,
         }
     }
-    let spawns = system.journal().iter().filter(|it| matches!(it, Entry::Spawn(_, _, _))).count();
+    let spawns = system
+        .journal()
+        .iter()
+        .filter(|it| matches!(it, Entry::Spawn(_, _, _)))
+        .count();
     write!(text, "{spawns} started, {} given", pool.given())?;
     Ok(text)
 }
@@ -44,8 +56,14 @@ fn ran(
 #[test]
 fn tasks_end_in_their_places(rt: HostRuntime) -> Result<(), Fail> {
     let all = ran(&rt, rt.alloc(), 2, AtFailure::GoOn)?;
-    assert_eq!(rt; all.as_str(), "Code(0), command [\"b\"] exited with code 2, Code(0), 3 started, 1 given");
+    assert_eq!(rt;
+        all.as_str(),
+        "Code(0), command [\"b\"] exited with code 2, Code(0), 3 started, 1 given"
+    );
     let some = ran(&rt, rt.alloc(), 1, AtFailure::Wait)?;
-    assert_eq!(rt; some.as_str(), "Code(0), command [\"b\"] exited with code 2, 2 started, 1 given");
+    assert_eq!(rt;
+        some.as_str(),
+        "Code(0), command [\"b\"] exited with code 2, 2 started, 1 given"
+    );
     Ok(())
 }
