@@ -2,7 +2,7 @@
 use duct::{Entry, Fault, Port, Stdio};
 use duct_base::names::EnvNameString;
 use duct_base::spec::spec_of;
-use rows_table::{TableError, fault, first_word, pairs, side, texts};
+use rows_table::{TableError, fault, first_word, pairs, side};
 use std::alloc::{AllocError, Global};
 use std::collections::BTreeMap;
 use std::sync::Arc;
@@ -84,30 +84,30 @@ fn canonical(alloc: Global, path: &str, answer: &str) -> Result<Entry, TableErro
 
 fn spawn(alloc: Global, text: &str) -> Result<Entry, TableError> {
     let (words, rest) = text.split_once("->").ok_or("no streams")?;
+    let mut texts = Vec::new(alloc);
+    for word in words.split_whitespace() {
+        texts.push(String::from_str(alloc, word)?)?;
+    }
     let mut rest = rest.split_whitespace();
     let streams = [
         stream(rest.next())?,
         stream(rest.next())?,
         stream(rest.next())?,
     ];
-    let (mut folder, mut vars, mut answer) = (None, "", "90");
+    let [input, output, error] = streams;
+    let (mut folder, mut vars, mut answer) = (None, BTreeMap::new(alloc), Ok(90));
     for word in rest {
-        match word.split_once('=').ok_or("no value")? {
-            ("in", path) => folder = Some(path),
-            ("with", pairs) => vars = pairs,
-            ("as", number) => answer = number,
-            ("refused", _) => answer = word,
+        let (key, value) = word.split_once('=').ok_or("no value")?;
+        match key {
+            "in" => folder = Some(String::from_str(alloc, value)?),
+            "with" => vars = variables(alloc, value)?,
+            "as" => answer = Ok(value.parse()?),
+            "refused" => answer = Err(fault(value)?),
             _ => return Err(TableError::Text("no such word of a spawn")),
         }
     }
-    let [input, output, error] = streams;
-    let answer = number(answer)?;
-    let vars = variables(alloc, vars)?;
-    let words = texts(alloc, words.trim(), ' ')?;
-    let mut spec = spec_of(words, None, vars, port(input), port(output), port(error));
-    if let Some(folder) = folder {
-        spec.current_dir(folder)?;
-    }
+    let texts = Arc::new(alloc, texts)?;
+    let spec = spec_of(texts, folder, vars, port(input), port(output), port(error));
     Ok(Entry::Spawn(spec, streams, answer))
 }
 
