@@ -1,4 +1,6 @@
 //! Tests of tasks of which only so many run at once.
+ghost use Rattle.std.specs.Prelude.{◌<◌};
+
 use duct::{Expression, Pool, System, cmd};
 use duct_base::system::{Entry, ExitStatus};
 use duct_script::child::PollAnswer;
@@ -25,7 +27,9 @@ fn ran(
     alloc: Global,
     limit: usize,
     at_failure: AtFailure,
-) -> Result<String, TableError> {
+) -> Result<String, TableError>
+    requires { 0 < limit }
+{
     let (mut system, mut pool, mut text) = (system(alloc)?, Pool::new(alloc), String::new(alloc));
     let all: [Expression<ScriptEnd>; 3] = [
         cmd(alloc, "a", &[])?,
