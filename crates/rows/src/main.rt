@@ -34,7 +34,10 @@ fn tried<R: Real + Wait, W: Write>(rt: &R, file: File, out: &mut W) -> io::Resul
             Err(stop) => untried(file, stop, out),
         },
         "parts" => compare(alloc, &mut Parts::new(alloc), file, out),
-        table => on_host(rt, table, file, out),
+        table @ ("host calls" | "host requests" | "host rare calls" | "host rare requests") => {
+            on_host(rt, table, file, out)
+        }
+        _ => untried(file, TableError::Text("no such table"), out),
     }
 }
 
@@ -47,6 +50,8 @@ fn on_host<R: Real + Wait, W: Write>(
     out: &mut W,
 ) -> io::Result<Counts> {
     let text = filled(rt, file.text)?;
+    let script = Script::new(rt.alloc(), file.text)?;
+    let odd = Odd::new(rt.clone()?, script.clone()?);
     let file = File {
         name: file.name,
         text: text.as_str(),
@@ -55,25 +60,23 @@ fn on_host<R: Real + Wait, W: Write>(
     match table {
         "host calls" => calls(rt, HostMachine::new(rt, None), file, out),
         "host requests" => host_requests(rt.alloc(), HostMachine::new(rt, None), file, out),
-        _ => on_odd(rt, table, file, out),
+        _ => on_odd(rt, &odd, script, table, file, out),
     }
 }
 
 /// Tries the rows over a runtime with scripted results.
-fn on_odd<R: Real + Wait, W: Write>(
+fn on_odd<R: Real + Wait, P: Real, W: Write>(
     rt: &R,
+    odd: &P,
+    script: Script,
     table: &str,
     file: File,
     out: &mut W,
 ) -> io::Result<Counts> {
-    let script = Script::new(rt.alloc(), file.text)?;
-    let odd = Odd::new(rt.clone()?, script.clone()?);
+    let machine = HostMachine::new(odd, Some(script));
     match table {
-        "host rare calls" => calls(rt, HostMachine::new(&odd, Some(script)), file, out),
-        "host rare requests" => {
-            host_requests(rt.alloc(), HostMachine::new(&odd, Some(script)), file, out)
-        }
-        _ => untried(file, TableError::Text("no such table"), out),
+        "host rare calls" => calls(rt, machine, file, out),
+        _ => host_requests(rt.alloc(), machine, file, out),
     }
 }
 
