@@ -80,10 +80,10 @@ fn recipes_over_the_machine(rt: HostRuntime) -> Result<(), Fail> {
     let mut sh = Shell::new(&rt);
     let both = sh.cmd("sh", &["-c", "echo out; echo err >&2"])?;
     let (more, cat) = (sh.cmd("echo", &["more"])?, sh.cmd("cat", &[])?);
-    append(&mut sh, "log", &named(rt.alloc(), "a", &both)?)?;
-    append(&mut sh, "log", &more)?;
+    append(&mut sh, "appended", &named(rt.alloc(), "a", &both)?)?;
+    append(&mut sh, "appended", &more)?;
     assert_eq!(rt;
-        fs::read_to_string(&rt, "log")?.as_str(),
+        fs::read_to_string(&rt, "appended")?.as_str(),
         "[a] out\n[a] err\nmore\n"
     );
     assert_eq!(rt; ask_by_pipe(&mut sh, &cat, "why\n")?.as_str(), "why\n");
