@@ -23,8 +23,10 @@ pub fn kill_groups<S: System, R: Wait>(
 fn killed<S: System, R: Wait>(sh: &mut Shell<S, R>) -> Result<Output, Failure> {
     let left = cmd!(sh; "setsid", "sh", "-c", "sleep 1000 & sleep 1000")?;
     let handle = sh.start(&left.stdout_capture()?.unchecked()?)?;
+    let slept = run!(sh; "sleep", "0.5"); // until `setsid` has made the group
     let killed = kill_groups(sh, &handle);
     let output = sh.wait(handle);
+    slept?;
     killed?;
     output
 }
