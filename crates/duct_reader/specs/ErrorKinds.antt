@@ -3,19 +3,7 @@ use Rattle.std.specs.declared.io.ErrorKind.{ErrorKind}
 use Rattle.std.specs.declared.io.ErrorKind.TheVariants as kind
 use Rattle.duct_system.specs.declared.error.Error.{Error}
 use Rattle.duct_system.specs.declared.error.Error.TheVariants as error
-use Rattle.duct_system.specs.declared.system.Kind.{Kind}
-use Rattle.duct_system.specs.declared.system.Kind.TheVariants.{NotFound, PermissionDenied, BrokenPipe, WriteZero, InvalidInput, Unsupported, OutOfMemory, Other}
-
--- the kind of the same name
-abbrev pub name_of : Kind → ErrorKind
-name_of NotFound = kind.NotFound
-name_of PermissionDenied = kind.PermissionDenied
-name_of BrokenPipe = kind.BrokenPipe
-name_of WriteZero = kind.WriteZero
-name_of InvalidInput = kind.InvalidInput
-name_of Unsupported = kind.Unsupported
-name_of OutOfMemory = kind.OutOfMemory
-name_of Other = kind.Other
+use Rattle.duct_system.specs.Kinds.{name_of}
 
 -- the kind of a fault, `OutOfMemory` for an allocation failure, and `Other` for each other error
 abbrev pub kind_read : Error → ErrorKind

@@ -6,7 +6,7 @@ use Rattle.duct_system.specs.declared.error.Error.{Error}
 use Rattle.duct_system.specs.declared.error.Error.TheVariants.{System, Checked, NotUtf8, Hook, HookEnd, Deadline, Memory}
 use Rattle.duct_system.specs.declared.system.Fault.{Fault}
 use Rattle.duct_system.specs.declared.system.Kind.{Kind}
-use Rattle.duct_reader.specs.ErrorKinds.{name_of}
+use Rattle.duct_system.specs.Kinds.{name_of}
 
 -- the error is a fault of this kind
 abbrev pub IsFault : Kind → Error → Type 0

@@ -4,7 +4,6 @@ ghost use Rattle.std.specs.Prelude.{◌≡◌, map, None};
 ghost use Rattle.duct_system.specs.EntryView.{entry_view};
 ghost use Rattle.duct_system.specs.Kinds.{kind_of};
 ghost use Rattle.duct_system.specs.declared.error.Error.TheVariants.{Memory, System};
-ghost use Rattle.duct_reader.specs.ErrorKinds.{name_of};
 ghost use Rattle.duct_shell.specs.Converted.{IsFault, io_kind};
 ghost use Rattle.duct_shell.specs.Named.{Names};
 
@@ -128,26 +127,10 @@ fn io_kind(error: &Error) -> ErrorKind
     ensures { result ≡ io_kind error.now }
 {
     match error {
-        Error::System(fault) => name_of(fault.kind),
-        Error::Hook(fault) => name_of(fault.kind),
+        Error::System(fault) => ErrorKind::from(fault.kind),
+        Error::Hook(fault) => ErrorKind::from(fault.kind),
         Error::NotUtf8 => ErrorKind::InvalidData,
         Error::Memory => ErrorKind::OutOfMemory,
         Error::Checked(_) | Error::HookEnd(_) | Error::Deadline => ErrorKind::Other,
-    }
-}
-
-// Returns the kind of the same name.
-fn name_of(kind: Kind) -> ErrorKind
-    ensures { result ≡ name_of kind }
-{
-    match kind {
-        Kind::NotFound => ErrorKind::NotFound,
-        Kind::PermissionDenied => ErrorKind::PermissionDenied,
-        Kind::BrokenPipe => ErrorKind::BrokenPipe,
-        Kind::WriteZero => ErrorKind::WriteZero,
-        Kind::InvalidInput => ErrorKind::InvalidInput,
-        Kind::Unsupported => ErrorKind::Unsupported,
-        Kind::OutOfMemory => ErrorKind::OutOfMemory,
-        Kind::Other => ErrorKind::Other,
     }
 }

@@ -1,4 +1,4 @@
--- The kind of fault that an error of std becomes.
+-- The kind of fault that an error of std becomes, and the kind of std's error of a kind of fault.
 use Rattle.std.specs.declared.io.ErrorKind.{ErrorKind}
 use Rattle.std.specs.declared.io.ErrorKind.TheVariants as error
 use Rattle.duct_system.specs.declared.system.Kind.{Kind}
@@ -14,3 +14,14 @@ kind_of error.InvalidInput = InvalidInput
 kind_of error.Unsupported = Unsupported
 kind_of error.OutOfMemory = OutOfMemory
 kind_of _ = Other
+
+-- the kind with the same name
+abbrev pub name_of : Kind → ErrorKind
+name_of NotFound = error.NotFound
+name_of PermissionDenied = error.PermissionDenied
+name_of BrokenPipe = error.BrokenPipe
+name_of WriteZero = error.WriteZero
+name_of InvalidInput = error.InvalidInput
+name_of Unsupported = error.Unsupported
+name_of OutOfMemory = error.OutOfMemory
+name_of Other = error.Other

@@ -1,4 +1,4 @@
-//! The conversion of an error of std into a fault.
+//! The conversion of an error of std into a fault, and of a kind of fault into std's.
 use crate::system::{Fault, Kind};
 use std::io;
 use std::io::ErrorKind;
@@ -22,5 +22,26 @@ impl From<io::Error> for Fault {
             ErrorKind::OutOfMemory => Kind::OutOfMemory,
             _ => Kind::Other,
         })
+    }
+}
+
+/// The kind with the same name.
+impl From<Kind> for ErrorKind {
+    ghost use Rattle.std.specs.Prelude.{◌≡◌};
+    ghost use Rattle.duct_system.specs.Kinds.{name_of};
+
+    ghost from_gives = { λ kind named. named ≡ name_of kind };
+
+    fn from(kind: Kind) -> ErrorKind {
+        match kind {
+            Kind::NotFound => ErrorKind::NotFound,
+            Kind::PermissionDenied => ErrorKind::PermissionDenied,
+            Kind::BrokenPipe => ErrorKind::BrokenPipe,
+            Kind::WriteZero => ErrorKind::WriteZero,
+            Kind::InvalidInput => ErrorKind::InvalidInput,
+            Kind::Unsupported => ErrorKind::Unsupported,
+            Kind::OutOfMemory => ErrorKind::OutOfMemory,
+            Kind::Other => ErrorKind::Other,
+        }
     }
 }
