@@ -3,7 +3,7 @@
 #![tactic(auto)]
 
 pub use duct_status::{per_side, status};
-pub use duct_system::{error, journal, names, spec, system};
+pub use duct_system::{error, journal, names, spec, streams, system};
 
 pub mod exe;
 pub mod pool;

@@ -20,7 +20,7 @@ use Rattle.duct_system.specs.declared.system.Kind.{Kind}
 use Rattle.duct_system.specs.declared.system.Stdio.{Stdio}
 use Rattle.duct_guard.specs.Added.{AddsAll}
 use Rattle.duct_guard.specs.Allowed.{is_allowed, is_denial, AreAllowed, AreDenied}
-use Rattle.duct_guard.specs.Answer.{answer_of}
+use Rattle.duct_system.specs.EntryView.{answer_of}
 use Rattle.duct_guard.specs.Closed.{ClosesFirst}
 use Rattle.duct_guard.specs.Forwarded.{allows_spawn, may_ask, refusal, Forwards, Passed, Refused, Crowded, LostVars, LostPath, ForwardsAll, IsForwarded}
 use Rattle.duct_guard.specs.Held.{held_after, is_within, with_entry}

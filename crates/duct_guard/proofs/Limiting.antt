@@ -16,7 +16,7 @@ use Rattle.duct_system.specs.Trace.{fault_of}
 use Rattle.duct_system.specs.declared.system.Fault.{Fault}
 use Rattle.duct_system.specs.declared.system.Stdio.{Stdio}
 use Rattle.duct_guard.specs.Allowed.{is_allowed}
-use Rattle.duct_guard.specs.Answer.{answer_of}
+use Rattle.duct_system.specs.EntryView.{answer_of}
 use Rattle.duct_guard.specs.Crew.{IsCrew, Joins, Leaves}
 use Rattle.duct_guard.specs.Forwarded.{no_memory, refusal, Forwards, Passed, Refused, Crowded, LostVars, LostPath, ForwardsAll, IsForwarded}
 use Rattle.duct_guard.specs.Held.{child_of, started_by, with_entry, held_after, is_within, Fits, AlwaysFits}

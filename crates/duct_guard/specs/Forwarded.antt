@@ -11,7 +11,7 @@ use Rattle.duct_system.specs.declared.system.Kind.TheVariants.{OutOfMemory, Perm
 use Rattle.duct_system.specs.declared.system.Stdio.{Stdio}
 use Rattle.duct_guard.specs.Added.{AddsAll}
 use Rattle.duct_guard.specs.Allowed.{is_allowed}
-use Rattle.duct_guard.specs.Answer.{answer_of}
+use Rattle.duct_system.specs.EntryView.{answer_of}
 use Rattle.duct_guard.specs.Held.{is_within, with_entry}
 use Rattle.duct_guard.specs.Rules.{Rules}
 use Rattle.duct_guard.specs.declared.counts.Counts.{Counts}

@@ -1,6 +1,5 @@
 pub mod Added
 pub mod Allowed
-pub mod Answer
 pub mod Closed
 pub mod Crew
 pub mod Forwarded

@@ -3,7 +3,7 @@ ghost use Rattle.std.specs.Prelude.{◌≡◌, ◌≤◌, ◌<◌, ◌+◌, ◌-
 ghost use Rattle.duct_system.specs.EntryView.{entry_view};
 ghost use Rattle.duct_system.specs.declared.system.Kind.TheVariants.{OutOfMemory};
 ghost use Rattle.duct_guard.specs.Allowed.{AreAllowed, AreDenied};
-ghost use Rattle.duct_guard.specs.Answer.{answer_of};
+ghost use Rattle.duct_system.specs.EntryView.{answer_of};
 ghost use Rattle.duct_guard.specs.Closed.{ClosesFirst, SpendsEnds};
 ghost use Rattle.duct_guard.specs.Crew.{IsCrew};
 ghost use Rattle.duct_guard.specs.Forwarded.{ForwardsAll, allows_spawn};
@@ -18,9 +18,9 @@ use crate::requests::{
     canonicalize_twice, create_allowed, duplicate_allowed, environment_twice, no_memory,
     open_read_allowed, parent_allowed, pipe_allowed, spawn_allowed, start_shared_feed,
 };
-use crate::streams::{numbered_streams, prepare_spawn};
 use duct_system::journal::Journal;
 use duct_system::spec::CommandSpec;
+use duct_system::streams::{number_of, numbered_streams};
 use duct_system::system::{Entry, Fault, Numbered, Side, Stdio, System};
 use std::alloc::Global;
 use std::marker::Model;
@@ -165,16 +165,6 @@ impl<S: System, P: Policy> Guarded<S, P> {
     }
 }
 
-// Returns the number of what a request returned.
-fn number_of<T: Numbered>(made: &Result<T, Fault>) -> Result<u64, Fault>
-    ensures { result ≡ answer_of T.number_of made.now }
-{
-    match made {
-        Ok(it) => Ok(it.number()),
-        Err(fault) => Err(*fault),
-    }
-}
-
 // Returns whether a worker was started.
 fn done<T>(made: &Result<T, Fault>) -> Result<(), Fault>
     ensures { result ≡ answer_of (λ job. tt) made.now }
@@ -203,21 +193,6 @@ fn note_end<T>(journal: &mut Journal, held: &mut Counts, entry: Entry, made: &Re
         Err(_) => journal.give_back(1),
     }
     journal.add(entry);
-}
-
-// Makes room for an entry that names a path and for this many ends, and copies the path. Fails only
-// at an allocation failure, which leaves the journal as it was.
-fn prepare_named(journal: &mut Journal, path: &str, ends: usize) -> Result<String, Fault>
-    ensures ok { IfOk result (λ kept. (string_bytes kept ≡ path.now)
-        × (journal.new ≡ record journal.old { room = journal.old.room + ends + 1 })) }
-    ensures err { IfErr result
-        (λ fault. (fault.kind ≡ OutOfMemory) × (journal.new ≡ journal.old)) }
-{
-    let Ok(kept) = String::from_str(journal.allocator(), path) else {
-        return Err(no_memory());
-    };
-    journal.prepare(ends)?;
-    Ok(kept)
 }
 
 /// Where a request is forbidden, it fails with `PermissionDenied`; its entry is added, but nothing
@@ -310,7 +285,7 @@ impl<S: System, P: Policy> System for Guarded<S, P> {
             IsRefused (OpenRead path.now (Err fault)) 0 fault self.old.journal self.new.journal) }
         ensures below { OnlyForwards S.journal_view P.rules self.old self.new }
     {
-        let kept = prepare_named(&mut self.journal, path, 1)?;
+        let kept = self.journal.prepare_named(path, 1)?;
         let made = open_read_allowed(&self.policy, self.held, &mut self.inner, path);
         let entry = Entry::OpenRead(kept, number_of(&made));
         note_end(&mut self.journal, &mut self.held, entry, &made);
@@ -325,7 +300,7 @@ impl<S: System, P: Policy> System for Guarded<S, P> {
             IsRefused (Create path.now (Err fault)) 0 fault self.old.journal self.new.journal) }
         ensures below { OnlyForwards S.journal_view P.rules self.old self.new }
     {
-        let kept = prepare_named(&mut self.journal, path, 1)?;
+        let kept = self.journal.prepare_named(path, 1)?;
         let made = create_allowed(&self.policy, self.held, &mut self.inner, path);
         let entry = Entry::Create(kept, number_of(&made));
         note_end(&mut self.journal, &mut self.held, entry, &made);
@@ -373,7 +348,7 @@ impl<S: System, P: Policy> System for Guarded<S, P> {
             self.new.journal) }
         ensures below { OnlyForwards S.journal_view P.rules self.old self.new }
     {
-        let asked = prepare_named(&mut self.journal, path, 0)?;
+        let asked = self.journal.prepare_named(path, 0)?;
         let alloc = self.journal.allocator();
         match canonicalize_twice(alloc, &self.policy, &mut self.inner, path) {
             Ok((text, kept)) => {
@@ -413,7 +388,7 @@ impl<S: System, P: Policy> System for Guarded<S, P> {
     {
         let (streams, ends) = numbered_streams(&io);
         let room = self.journal.room();
-        prepare_spawn(&mut self.journal, ends)?;
+        self.journal.prepare_spawn(ends)?;
         let alloc = self.journal.allocator();
         let held = self.held;
         let started = spawn_allowed(

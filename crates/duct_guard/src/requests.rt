@@ -7,7 +7,7 @@ ghost use Rattle.duct_system.specs.Job.{unpolled_job};
 ghost use Rattle.duct_system.specs.Journal.{GetsEnds, IsNew, IsRefused};
 ghost use Rattle.duct_system.specs.SpecView.{pair_text};
 ghost use Rattle.duct_system.specs.Streams.{stream_of, ends_of};
-ghost use Rattle.duct_guard.specs.Answer.{answer_of};
+ghost use Rattle.duct_system.specs.EntryView.{answer_of};
 ghost use Rattle.duct_guard.specs.Closed.{ClosesFirst, SpendsEnds};
 ghost use Rattle.duct_guard.specs.Crew.{Joins, Leaves};
 ghost use Rattle.duct_guard.specs.Forwarded.{ForwardsEnd, IsForwarded, allows_spawn, may_ask, refusal};

@@ -13,10 +13,11 @@ use crate::fault::{ask, no_memory};
 use crate::opened::{canonical_twice, descriptor_of, names_of, open_to_read, open_to_write};
 use crate::parents::Parents;
 use crate::reader::Reader;
-use crate::spawn::{all_numbered, all_wired, count_of_ends, start};
+use crate::spawn::{all_wired, start};
 use crate::standard::Standard;
 use duct_base::journal::Journal;
 use duct_base::spec::CommandSpec;
+use duct_base::streams::{number_of, numbered_streams};
 use duct_base::system::{Entry, Fault, Kind, Numbered, Side, Stdio, System};
 use duct_worker::spawn::{spawn_numbered_drain, spawn_numbered_feed};
 use duct_worker::worker::Worker;
@@ -144,41 +145,6 @@ impl<R> Host<R> {
         }
     }
 
-    /// Makes room for an entry that names a path and for this many ends, and copies the path. At an
-    /// allocation failure the host is left as it was.
-    fn prepare_named(&mut self, path: &str, ends: usize) -> Result<String, Fault>
-        ensures ok { IfOk result
-            (λ kept. (string_bytes kept ≡ path.now)
-            × (self.new ≡ record self.old { room = self.old.room + ends + 1 })) }
-        ensures err { IfErr result (λ fault. (fault.kind ≡ OutOfMemory) × (self.new ≡ self.old)) }
-    {
-        let Ok(kept) = String::from_str(self.alloc, path) else {
-            return Err(no_memory());
-        };
-        self.journal.prepare(ends)?;
-        Ok(kept)
-    }
-
-    /// Gives back the room of a spawn's ends but for one entry, or makes room for that entry where
-    /// no stream is an end.
-    fn prepare_spawn(&mut self, ends: usize) -> Result<(), Fault>
-        requires { min 1 ends ≤ self.old.room }
-        ensures ok { OnOk result
-            (OnlyRoom self.old self.new × (0 < self.new.room)
-            × (self.old.room + 1 ≤ self.new.room + ends)) }
-        ensures err { IfErr result
-            (λ fault. (fault.kind ≡ OutOfMemory) × (self.new ≡ self.old) × (ends ≡ 0)) }
-    {
-        match ends.checked_sub(1) {
-            None => self.journal.prepare(0),
-            Some(others) => {
-                let spare = others.min(self.journal.room() - 1);
-                self.journal.give_back(spare);
-                Ok(())
-            }
-        }
-    }
-
     /// An end with the next number, if one is left and the machine gave its descriptor.
     fn numbered(&mut self, answer: Result<OwnedFd, Fault>) -> Result<End, Fault>
         ensures kept { OnlyCounts self.old self.new }
@@ -186,20 +152,6 @@ impl<R> Host<R> {
     {
         let fd = answer?;
         Ok(End::new(self.take_number()?, fd))
-    }
-
-    /// The result of a request. Where the request failed, the room that was made for an end is
-    /// given back.
-    fn got(&mut self, made: Result<End, Fault>) -> Result<End, Fault>
-        requires { 0 < self.old.room }
-        ensures same { result ≡ made }
-        ensures ok { OnOk result (self.new ≡ self.old) }
-        ensures err { OnErr result (self.new ≡ record self.old { room = self.old.room - 1 }) }
-    {
-        if made.is_err() {
-            self.journal.give_back(1);
-        }
-        made
     }
 }
 
@@ -331,19 +283,19 @@ impl<R: Processes + Files<File = File> + Env + Parents + Threads + Clone + Drop>
     }
 
     fn open_read(&mut self, path: &str) -> Result<End, Fault> {
-        let kept = self.prepare_named(path, 1)?;
+        let kept = self.journal.prepare_named(path, 1)?;
         let opened = open_to_read(&self.rt, &kept);
         let made = self.numbered(descriptor_of(opened, &kept));
         self.journal.add(Entry::OpenRead(kept, number_of(&made)));
-        self.got(made)
+        self.journal.got(made)
     }
 
     fn create(&mut self, path: &str) -> Result<End, Fault> {
-        let kept = self.prepare_named(path, 1)?;
+        let kept = self.journal.prepare_named(path, 1)?;
         let opened = open_to_write(&self.rt, &kept);
         let made = self.numbered(descriptor_of(opened, &kept));
         self.journal.add(Entry::Create(kept, number_of(&made)));
-        self.got(made)
+        self.journal.got(made)
     }
 
     fn duplicate(&mut self, end: &End) -> Result<End, Fault> {
@@ -351,7 +303,7 @@ impl<R: Processes + Files<File = File> + Env + Parents + Threads + Clone + Drop>
         let made = self.numbered(ask(|| end.descriptor().try_clone()));
         self.journal
             .add(Entry::Duplicate(end.number(), number_of(&made)));
-        self.got(made)
+        self.journal.got(made)
     }
 
     fn parent(&mut self, side: Side) -> Result<End, Fault> {
@@ -362,11 +314,11 @@ impl<R: Processes + Files<File = File> + Env + Parents + Threads + Clone + Drop>
         };
         let made = self.numbered(answer);
         self.journal.add(Entry::Parent(side, number_of(&made)));
-        self.got(made)
+        self.journal.got(made)
     }
 
     fn canonicalize(&mut self, path: &str) -> Result<String, Fault> {
-        let kept = self.prepare_named(path, 0)?;
+        let kept = self.journal.prepare_named(path, 0)?;
         let found = canonical_twice(&self.rt, self.alloc, &kept);
         match names_of(found, &kept) {
             Ok((text, noted)) => {
@@ -392,9 +344,8 @@ impl<R: Processes + Files<File = File> + Env + Parents + Threads + Clone + Drop>
             let entry = Spawn spec (map (stream_of (λ e. e)) io) (Err fault) in
             IsRefused entry (length (ends_of io)) fault self.old self.new) }
     {
-        let ends = count_of_ends(&io);
-        self.prepare_spawn(ends)?;
-        let kept = all_numbered(&io);
+        let (kept, ends) = numbered_streams(&io);
+        self.journal.prepare_spawn(ends)?;
         match self.new_child(&spec, io) {
             Ok(child) => {
                 self.journal
@@ -460,17 +411,6 @@ impl<R: Processes + Files<File = File> + Env + Parents + Threads + Clone + Drop>
     ghost same_bytes = { λ one other same. same };
 
     ghost feeds_say_again = { λ refusable. refusable };
-}
-
-/// The number of an end, if there is one.
-fn number_of(made: &Result<End, Fault>) -> Result<u64, Fault>
-    ensures ok { IfOk made.now (λ end. result ≡ Ok end) }
-    ensures err { IfErr made.now (λ fault. result ≡ Err fault) }
-{
-    match made {
-        Ok(end) => Ok(end.number()),
-        Err(fault) => Err(*fault),
-    }
 }
 
 /// The variables of the environment, and a copy of them for the journal.

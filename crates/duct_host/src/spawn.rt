@@ -132,25 +132,6 @@ fn set_folder(command: &mut Command, spec: &CommandSpec) -> Result<(), AllocErro
     Ok(())
 }
 
-/// Three streams as the journal has them.
-pub(crate) fn all_numbered(streams: &[Stdio<End>; 3]) -> [Stdio<u64>; 3]
-    ensures { result ≡ map (stream_of (λ e. e)) streams.now }
-{
-    let [input, output, error] = streams;
-    [numbered(input), numbered(output), numbered(error)]
-}
-
-/// A stream as the journal has it.
-fn numbered(stream: &Stdio<End>) -> Stdio<u64>
-    ensures { result ≡ stream_of (λ e. e) stream.now }
-{
-    match stream {
-        Stdio::Inherit => Stdio::Inherit,
-        Stdio::Null => Stdio::Null,
-        Stdio::End(end) => Stdio::End(end.number()),
-    }
-}
-
 /// Three streams as std takes them. Where this fails, each end among them is closed.
 pub(crate) fn all_wired(
     streams: [Stdio<End>; 3],
@@ -174,23 +155,5 @@ fn wired(stream: Stdio<End>, filled: &Option<File>) -> Result<process::Stdio, Fa
         },
         Stdio::Null => Ok(process::Stdio::null()),
         Stdio::End(end) => Ok(process::Stdio::from(end.into_descriptor())),
-    }
-}
-
-/// How many of three streams are ends.
-pub(crate) fn count_of_ends(streams: &[Stdio<End>; 3]) -> usize
-    ensures { result ≡ length (ends_of streams.now) }
-{
-    let [input, output, error] = streams;
-    one_if_end(input) + one_if_end(output) + one_if_end(error)
-}
-
-/// 1 for an end, and 0 for any other stream.
-fn one_if_end(stream: &Stdio<End>) -> usize
-    ensures { result ≡ length (ends_of (stream.now ∷ [])) }
-{
-    match stream {
-        Stdio::End(_) => 1,
-        _ => 0,
     }
 }

@@ -17,11 +17,6 @@ unrecorded = record { kind = Other }
 abbrev pub no_memory : Fault
 no_memory = record { kind = OutOfMemory }
 
--- a result with this function applied to what was returned
-abbrev pub answer_of : {T U : Type 0} → (T → U) → Result T Fault → Result U Fault
-answer_of f (Ok it) = Ok (f it)
-answer_of f (Err fault) = Err fault
-
 -- a number that can be given next
 pub record IsNext (next number : ℕ) : Type 0 where
   pub unused : next ≤ number

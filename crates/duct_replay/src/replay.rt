@@ -5,7 +5,7 @@ ghost use Rattle.duct_system.specs.EntryView.{entry_view};
 ghost use Rattle.duct_system.specs.Journal.{IsNew};
 ghost use Rattle.duct_system.specs.Streams.{stream_of, end_of, ends_of};
 ghost use Rattle.duct_system.specs.declared.system.Kind.TheVariants.{OutOfMemory};
-ghost use Rattle.duct_replay.specs.Answers.{FitsNumber, FitsPipe, IsNext, IsToldRight, answer_of, next_view, no_memory, unrecorded};
+ghost use Rattle.duct_replay.specs.Answers.{FitsNumber, FitsPipe, IsNext, IsToldRight, next_view, no_memory, unrecorded};
 ghost use Rattle.duct_replay.specs.Retraces.{Retraces};
 ghost use Rattle.duct_replay.specs.Replays.{difference_after, next_of, noted};
 
@@ -20,6 +20,7 @@ use crate::recording::Recording;
 use crate::worker::{ReplayDrain, ReplayFeed};
 use duct_system::journal::Journal;
 use duct_system::spec::CommandSpec;
+use duct_system::streams::numbered_streams;
 use duct_system::system::{Entry, Fault, Numbered, Side, Stdio, System};
 use std::alloc::Global;
 use std::marker::Model;
@@ -129,7 +130,7 @@ impl Replay {
         ensures err { IfErr result
             (λ fault. (fault ≡ no_memory) × (self.new ≡ self.old) × (ends ≡ 0)) }
     {
-        prepare_spawn(&mut self.journal, ends)
+        self.journal.prepare_spawn(ends)
     }
 
     // Returns the result of a request for an end or a child: what was found, and if nothing was,
@@ -229,61 +230,17 @@ fn count(journal: &mut Journal, answer: &Result<u64, Fault>, ends: usize)
     }
 }
 
-// Returns the stream with its end's number in place of the end, and how many ends it has.
-fn numbered(stream: Stdio<ReplayEnd>) -> (Stdio<u64>, usize)
-    ensures stream { result.0 ≡ stream_of (λ end. end.number) stream }
-    ensures ends { result.1 ≡ length (end_of stream) }
-    ensures one { result.1 ≤ 1 }
-{
-    match stream {
-        Stdio::Inherit => (Stdio::Inherit, 0),
-        Stdio::Null => (Stdio::Null, 0),
-        Stdio::End(end) => (Stdio::End(end.number), 1),
-    }
-}
-
-// Returns the streams with their ends' numbers in place of the ends, and how many ends they have.
-fn numbered_streams(io: [Stdio<ReplayEnd>; 3]) -> ([Stdio<u64>; 3], usize)
-    ensures streams { result.0 ≡ map (stream_of (λ end. end.number)) io }
-    ensures ends { result.1 ≡ length (ends_of io) }
-{
-    let [input, output, error] = io;
-    let (input, first) = numbered(input);
-    let (output, second) = numbered(output);
-    let (error, third) = numbered(error);
-    ([input, output, error], first + second + third)
-}
-
-// Takes the room of a spawn's ends but for one entry, and makes that room where no stream is an
-// end. Fails only at an allocation failure, which leaves the journal as it was.
-fn prepare_spawn(journal: &mut Journal, ends: usize) -> Result<(), Fault>
-    requires { min 1 ends ≤ journal.old.room }
-    ensures ok { OnOk result
-        (journal.new ≡ record journal.old { room = (journal.old.room - ends) + 1 }) }
-    ensures err { IfErr result
-        (λ fault. (fault.kind ≡ OutOfMemory) × (journal.new ≡ journal.old) × (ends ≡ 0)) }
-{
-    match ends.checked_sub(1) {
-        None => journal.prepare(0),
-        Some(others) => {
-            let spare = others.min(journal.room() - 1);
-            journal.give_back(spare);
-            Ok(())
-        }
-    }
-}
-
 impl System for Replay {
     ghost use Rattle.std.specs.Prelude.{◌≡◌, ◌≤◌, ◌<◌, Some, Ok, Err, length, map, min};
     ghost use Rattle.std.specs.Arc.{arc_value};
     ghost use Rattle.duct_system.specs.Child.{IsUnasked};
-    ghost use Rattle.duct_system.specs.EntryView.{Environment, Pipe, OpenRead, Create, Duplicate, Parent, Canonicalize, Spawn, Feed, Drain, Reader, Close};
+    ghost use Rattle.duct_system.specs.EntryView.{answer_of, Environment, Pipe, OpenRead, Create, Duplicate, Parent, Canonicalize, Spawn, Feed, Drain, Reader, Close};
     ghost use Rattle.duct_system.specs.Job.{unpolled_job};
     ghost use Rattle.duct_system.specs.Journal.{Asks, GetsEnd, GetsEnds, GivesEnds, IsCleared, IsNew, IsRefused};
     ghost use Rattle.duct_system.specs.SpecView.{pair_text};
     ghost use Rattle.duct_system.specs.Streams.{stream_of, ends_of};
     ghost use Rattle.std.proofs.Common.{lit<};
-    ghost use Rattle.duct_replay.specs.Answers.{Fits, FitsNumber, FitsPipe, FitsChild, answer_of};
+    ghost use Rattle.duct_replay.specs.Answers.{Fits, FitsNumber, FitsPipe, FitsChild};
     ghost use Rattle.duct_replay.specs.Left.{IsUnread, left_of};
     ghost use Rattle.duct_replay.specs.RecordingView.{status_of, output_of};
     ghost use Rattle.duct_replay.specs.Replays.{Replays, MayReplay, Steps};
@@ -470,7 +427,7 @@ impl System for Replay {
         ensures status { IfOk result
             (λ child. child.status ≡ status_of child.number self.old.recording) }
     {
-        let (streams, ends) = numbered_streams(io);
+        let (streams, ends) = numbered_streams(&io);
         self.prepare_spawn(ends)?;
         match found_spawn(self.next(), &spec, &streams, self.journal.next()) {
             Ok(found) => {

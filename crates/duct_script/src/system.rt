@@ -22,6 +22,7 @@ use crate::reader::{ReaderScript, ScriptReader};
 use crate::requests::{Requests, Sort};
 use duct_system::journal::Journal;
 use duct_system::spec::CommandSpec;
+use duct_system::streams::numbered_streams;
 use duct_system::system::{Entry, Fault, Kind, Numbered, Side, Stdio, System};
 use std::alloc::{AllocError, Global};
 use std::collections::{BTreeMap, VecDeque};
@@ -350,13 +351,8 @@ impl Script {
           journal = record self.old.journal { room = self.old.journal.room - 1 };
         }) }
     {
-        match answer {
-            Ok(number) => Ok(ScriptEnd { number }),
-            Err(fault) => {
-                self.journal.give_back(1);
-                Err(fault)
-            }
-        }
+        let number = self.journal.got(answer)?;
+        Ok(ScriptEnd { number })
     }
 
     /// Gives back the room of these ends, except for that of one: the entry that spent them has
@@ -486,31 +482,6 @@ fn copies_of(alloc: Global, variables: &[(String, String)]) -> Result<Vec<(Strin
     Ok(copies)
 }
 
-/// Returns the stream with its end's number in place of the end, and how many ends it has.
-fn numbered(stream: Stdio<ScriptEnd>) -> (Stdio<u64>, usize)
-    ensures stream { result.0 ≡ stream_of (λ e. e.number) stream }
-    ensures ends { result.1 ≡ length (end_of stream) }
-    ensures one { result.1 ≤ 1 }
-{
-    match stream {
-        Stdio::Inherit => (Stdio::Inherit, 0),
-        Stdio::Null => (Stdio::Null, 0),
-        Stdio::End(end) => (Stdio::End(end.number), 1),
-    }
-}
-
-/// Returns the streams with their ends' numbers in place of the ends, and how many ends they have.
-fn numbered_streams(io: [Stdio<ScriptEnd>; 3]) -> ([Stdio<u64>; 3], usize)
-    ensures streams { result.0 ≡ map (stream_of (λ e. e.number)) io }
-    ensures ends { result.1 ≡ length (ends_of io) }
-{
-    let [input, output, error] = io;
-    let (input, first) = numbered(input);
-    let (output, second) = numbered(output);
-    let (error, third) = numbered(error);
-    ([input, output, error], first + second + third)
-}
-
 impl System for Script {
     ghost use Rattle.std.specs.Prelude.{◌≤◌, min, length, map, Ok, Err, IfOk, IfErr};
     ghost use Rattle.duct_system.specs.Child.{IsUnasked};
@@ -622,7 +593,7 @@ impl System for Script {
             let entry = Spawn spec (map (stream_of (λ e. e.number)) io) (Err fault) in
             IsRefused entry (length (ends_of io)) fault self.old.journal self.new.journal) }
     {
-        let (streams, ends) = numbered_streams(io);
+        let (streams, ends) = numbered_streams(&io);
         let fault = if ends == 0 {
             self.begin(Sort::Spawn, 0)?
         } else {

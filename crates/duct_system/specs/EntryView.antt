@@ -25,6 +25,11 @@ pub data EntryView : Type 0 where
   Reader : ℕ → EntryView
   Close : ℕ → EntryView
 
+-- a result with this function applied to what was returned
+abbrev pub answer_of : {T U : Type 0} → (T → U) → Result T Fault → Result U Fault
+answer_of f (Ok it) = Ok (f it)
+answer_of f (Err fault) = Err fault
+
 -- what contracts see of an entry
 abbrev pub entry_view : Entry → EntryView
 entry_view (entry.Environment (Ok pairs)) = Environment (Ok (map pair_text pairs.items))

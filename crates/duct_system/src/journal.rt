@@ -1,5 +1,5 @@
 //! The journal of a system: its entries, the room for more entries, and the count of numbers.
-ghost use Rattle.std.specs.Prelude.{◌≡◌, ◌+◌, ◌-◌, ◌^◌, ◌<◌, ◌≤◌, [], ◌∷◌, ◌++◌, map, IfSome, IfNone, OnSome, OnOk, OnErr, IfErr};
+ghost use Rattle.std.specs.Prelude.{◌≡◌, ◌+◌, ◌-◌, ◌^◌, ◌<◌, ◌≤◌, [], ◌∷◌, ◌++◌, map, min, string_bytes, IfSome, IfNone, OnSome, IfOk, OnOk, OnErr, IfErr};
 ghost use Rattle.duct_system.specs.EntryView.{entry_view};
 ghost use Rattle.duct_system.specs.declared.system.Kind.TheVariants.{OutOfMemory};
 
@@ -84,6 +84,42 @@ impl Journal {
         }
     }
 
+    /// Reserves room as `prepare` does, and returns a copy of the path that the entry names. Fails
+    /// as `prepare` does, and with `OutOfMemory` if there is no memory for the copy. The journal is
+    /// then as it was.
+    pub fn prepare_named(&mut self, path: &str, ends: usize) -> Result<String, Fault>
+        ensures ok { IfOk result (λ kept. (string_bytes kept ≡ path.now)
+            × (self.new ≡ record self.old { room = self.old.room + ends + 1 })) }
+        ensures err { IfErr result
+            (λ fault. (fault.kind ≡ OutOfMemory) × (self.new ≡ self.old)) }
+    {
+        let Ok(kept) = String::from_str(self.allocator(), path) else {
+            return Err(Fault::new(Kind::OutOfMemory));
+        };
+        self.prepare(ends)?;
+        Ok(kept)
+    }
+
+    /// Leaves room for the entry of a spawn that takes this many ends: releases the room of the
+    /// other ends, or reserves it if there are none. Fails only in the latter case, as `prepare`
+    /// does. The journal is then as it was.
+    pub fn prepare_spawn(&mut self, ends: usize) -> Result<(), Fault>
+        requires { min 1 ends ≤ self.old.room }
+        ensures ok { OnOk result
+            (self.new ≡ record self.old { room = (self.old.room - ends) + 1 }) }
+        ensures err { IfErr result
+            (λ fault. (fault.kind ≡ OutOfMemory) × (self.new ≡ self.old) × (ends ≡ 0)) }
+    {
+        match ends.checked_sub(1) {
+            None => self.prepare(0),
+            Some(others) => {
+                let spare = others.min(self.room - 1);
+                self.give_back(spare);
+                Ok(())
+            }
+        }
+    }
+
     // Returns the room plus one entry and this many ends, or `None` if that many entries can't be
     // counted.
     fn room_with(&self, ends: usize) -> Option<usize>
@@ -115,6 +151,19 @@ impl Journal {
         ensures { self.new ≡ record self.old { room = self.old.room - ends } }
     {
         self.room -= ends;
+    }
+
+    /// Returns the result of a request for an end. If it failed, releases the room for the end.
+    pub fn got<T>(&mut self, made: Result<T, Fault>) -> Result<T, Fault>
+        requires { 0 < self.old.room }
+        ensures same { result ≡ made }
+        ensures ok { OnOk result (self.new ≡ self.old) }
+        ensures err { OnErr result (self.new ≡ record self.old { room = self.old.room - 1 }) }
+    {
+        if made.is_err() {
+            self.give_back(1);
+        }
+        made
     }
 
     /// Returns the number that is given next.

@@ -8,4 +8,5 @@ pub mod journal;
 pub mod names;
 pub mod same;
 pub mod spec;
+pub mod streams;
 pub mod system;

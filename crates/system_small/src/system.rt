@@ -9,6 +9,7 @@ use crate::child::SmallChild;
 use crate::worker::{SmallDrain, SmallFeed};
 use duct_system::journal::Journal;
 use duct_system::spec::CommandSpec;
+use duct_system::streams::numbered_streams;
 use duct_system::system::{Entry, Fault, Kind, Numbered, Side, Stdio, System};
 use std::alloc::{AllocError, Global};
 use std::io::Cursor;
@@ -81,27 +82,6 @@ fn hello(alloc: Global) -> Result<Arc<Vec<u8>>, AllocError>
 {
     let bytes = Vec::from_slice(alloc, b"hello")?;
     Ok(Arc::new(alloc, bytes)?)
-}
-
-// Returns the stream with its end's number in place of the end.
-fn numbered(stream: Stdio<SmallEnd>) -> Stdio<u64>
-    ensures { result ≡ stream_of (λ end. end.number) stream }
-{
-    match stream {
-        Stdio::Inherit => Stdio::Inherit,
-        Stdio::Null => Stdio::Null,
-        Stdio::End(end) => Stdio::End(end.number),
-    }
-}
-
-// Returns whether one of the streams is an end.
-fn holds_end(io: &[Stdio<SmallEnd>; 3]) -> bool
-    ensures { IsTrue result ↔ (0 < length (ends_of io.now)) }
-{
-    let [input, output, error] = io;
-    matches!(input, Stdio::End(_))
-        || matches!(output, Stdio::End(_))
-        || matches!(error, Stdio::End(_))
 }
 
 impl System for SmallSystem {
@@ -206,11 +186,10 @@ impl System for SmallSystem {
             let entry = Spawn spec (map (stream_of (λ end. end.number)) io) (Err fault) in
             IsRefused entry (length (ends_of io)) fault self.old self.new) }
     {
-        if !holds_end(&io) {
+        let (streams, ends) = numbered_streams(&io);
+        if ends == 0 {
             self.journal.prepare(0)?;
         }
-        let [input, output, error] = io;
-        let streams = [numbered(input), numbered(output), numbered(error)];
         let number = self.take(1);
         self.journal.add(Entry::Spawn(spec, streams, number));
         Ok(SmallChild::new(self.journal.allocator(), number?))
