@@ -70,6 +70,10 @@ module _ {E H : Type 0} where
       command_of first >>= λ left.
       commands_of others >>= λ commands. Ok (piped (command_tree left) commands)
 
+  -- a command with its redirections around it, or the error `EmptyCommand` if it has no words
+  abbrev pub worded_tree : CommandView → Result (TreeView E H) Usage
+  worded_tree read = worded read >>= λ said. Ok (command_tree said)
+
   -- the command that one piece means
   abbrev pub piece_tree : List (List ℕ) → Result (TreeView E H) Usage
   piece_tree piece = command_of piece >>= λ said. Ok (command_tree said)

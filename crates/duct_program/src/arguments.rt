@@ -2,8 +2,8 @@
 ghost use Rattle.std.specs.Prelude.{◌≡◌, map, Ok, string_bytes, IfOk, IsOkUnless};
 ghost use Rattle.duct_start.specs.TreeView.{around};
 ghost use Rattle.duct.specs.TreeView.{tree_view};
-ghost use Rattle.duct_program.specs.CommandView.{redirection_view};
-ghost use Rattle.duct_program.specs.Line.{meant, piece_tree, pipeline_of, redirected_tree, redirects, with_options};
+ghost use Rattle.duct_program.specs.CommandView.{command_view, redirection_view};
+ghost use Rattle.duct_program.specs.Line.{meant, piece_tree, pipeline_of, redirected_tree, redirects, with_options, worded_tree};
 ghost use Rattle.duct_program.specs.OptionsView.{options_view};
 ghost use Rattle.duct_program.specs.Parsed.{ParsesAs};
 ghost use Rattle.duct_program.specs.Pieces.{pieces};
@@ -52,10 +52,22 @@ fn redirected_command<E: Drop, H: Drop>(
 ) -> Result<Expression<E, H>, Usage>
     ensures { ParsesAs tree_view result (piece_tree (map string_bytes piece.now)) }
 {
+    command_expression(alloc, read_command(alloc, piece)?)
+}
+
+/// Returns the expression of a command: its words, with its redirections around them, the first one
+/// outermost. Nothing is started. Fails with `Usage::EmptyCommand` if it has no words, and with
+/// `Usage::Memory` at an allocation failure.
+pub fn command_expression<E: Drop, H: Drop>(
+    alloc: Global,
+    command: Command<'_>,
+) -> Result<Expression<E, H>, Usage>
+    ensures { ParsesAs tree_view result (worded_tree (command_view command.entry)) }
+{
     let Command {
         words,
         redirections,
-    } = read_command(alloc, piece)?;
+    } = command;
     let Some((program, arguments)) = words.split_first() else {
         return Err(Usage::EmptyCommand);
     };

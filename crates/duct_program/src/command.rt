@@ -10,14 +10,15 @@ use std::alloc::Global;
 
 /// A stream of a command that is read from or written to a file.
 #[derive(Clone, Copy)]
-pub(crate) struct Redirection<'a> {
+pub struct Redirection<'a> {
     pub stream: Stream,
     pub path: &'a str,
 }
 
-/// What the arguments between two `|` mean.
+/// A command of a line: what the arguments between two `|` mean.
 #[derive(Drop)]
-pub(crate) struct Command<'a> {
+pub struct Command<'a> {
+    /// The program and its arguments.
     pub words: Vec<&'a str>,
     /// In the order in which they were written.
     pub redirections: Vec<Redirection<'a>>,

@@ -9,7 +9,8 @@ mod pieces;
 mod program;
 mod usage;
 
-pub use arguments::line;
+pub use arguments::{command_expression, line};
+pub use command::{Command, Redirection};
 pub use failure::Failure;
 pub use program::{NoHook, answer, perform};
 pub use usage::Usage;
