@@ -126,10 +126,10 @@ impl<'t, 'r, R: Wait + Threads, M: Machine> Calls<'t, 'r, R, M> {
         let mut shell = Shell::with_hooks(self.rt, self.alloc, mem::replace(system, spare));
         mem::swap(&mut shell.pool, pool);
         shell.keeps_journal = self.keeps_journal;
-        let made = by_shell(&mut shell, clock, &tree, (call, text), &mut self.answers);
+        let (is_kept, answers) = (&mut self.is_kept, &mut self.answers);
+        let made = by_shell(&mut shell, clock, &tree, (call, text), is_kept, answers);
         (*system, *pool) = shell.into_parts();
-        self.is_kept = made?;
-        Ok(())
+        made
     }
 
     /// Runs the expression of the row over the traced system, and keeps its output.

@@ -6,6 +6,7 @@ use duct_deadline::{Late, LateRead, Until};
 use duct_script::hook::ScriptHook;
 use duct_shell::{Failure, Shell};
 use rows_table::{TableError, Tree, duration, first_word};
+use std::alloc::AllocError;
 use std::sync::Wait;
 use std::time::Duration;
 
@@ -13,32 +14,32 @@ use std::time::Duration;
 pub type Limits = Option<(Duration, Duration)>;
 
 /// Makes the call of a shell with this name on an expression, and adds its result. The text has its
-/// limits, or the call that spends the handle. Returns whether the call gives no child to the pool.
+/// limits, or the call that spends the handle. Notes whether the call gives no child to the pool.
 pub fn by_shell<S: System, R: Wait + Clone + Drop, C: Clock>(
     sh: &mut Shell<S, R, ScriptHook>,
     clock: &C,
     tree: &Tree<S::End>,
     (call, text): (&str, &str),
+    is_kept: &mut bool,
     answers: &mut String,
-) -> Result<bool, TableError> {
+) -> Result<(), TableError> {
     match call {
         "run" | "run_for" => {
-            let limits = limits(text)?;
-            let ran = run(sh, clock, tree, limits);
-            push_run(answers, &ran)?;
-            Ok(matches!(ran, Ok(Until::Done(_))))
+            let ran = run(sh, clock, tree, limits(text)?);
+            *is_kept = matches!(ran, Ok(Until::Done(_)));
+            Ok(push_run(answers, &ran)?)
         }
         "read" | "read_for" => {
             let limits = limits(text)?;
             let read = read(sh, clock, tree, limits);
-            push_read(answers, &read)?;
-            Ok(match &read {
+            *is_kept = match &read {
                 Ok(until) => matches!(until, Until::Done(_)),
                 Err(failure) => limits.is_some() && failure.error == Error::NotUtf8,
-            })
+            };
+            Ok(push_read(answers, &read)?)
         }
-        "start" => spend_start(sh, tree, text, answers),
-        "reader" => read_all(sh, tree, answers),
+        "start" => Ok(spend_start(sh, tree, text, is_kept, answers)?),
+        "reader" => Ok(read_all(sh, tree, answers)?),
         _ => Err(TableError::Text("no such call of a shell")),
     }
 }
@@ -74,25 +75,22 @@ fn spend_start<S: System, R: Wait + Drop>(
     sh: &mut Shell<S, R, ScriptHook>,
     tree: &Tree<S::End>,
     end: &str,
+    is_kept: &mut bool,
     answers: &mut String,
-) -> Result<bool, TableError> {
+) -> Result<(), AllocError> {
     let handle = match sh.start(tree) {
         Ok(handle) => handle,
-        Err(failure) => {
-            write!(answers, "{failure}. ")?;
-            return Ok(false);
-        }
+        Err(failure) => return write!(answers, "{failure}. "),
     };
     match end {
         "wait" => {
             let waited = sh.wait(handle).map(Until::Done);
-            push_run(answers, &waited)?;
-            return Ok(waited.is_ok());
+            *is_kept = waited.is_ok();
+            push_run(answers, &waited)
         }
-        "kill" => push_done(answers, &sh.kill(handle))?,
-        _ => sh.give_up(handle),
+        "kill" => push_done(answers, &sh.kill(handle)),
+        _ => Ok(sh.give_up(handle)),
     }
-    Ok(false)
 }
 
 /// Starts an expression, reads it to the end, and gives the handle up.
@@ -100,16 +98,15 @@ fn read_all<S: System, R: Wait + Clone + Drop>(
     sh: &mut Shell<S, R, ScriptHook>,
     tree: &Tree<S::End>,
     answers: &mut String,
-) -> Result<bool, TableError> {
+) -> Result<(), AllocError> {
     match sh.reader(tree) {
         Ok(handle) => {
             let pushed = push_all(answers, sh.alloc, &handle);
             handle.give_up(&mut sh.pool);
-            pushed?;
+            pushed
         }
-        Err(failure) => write!(answers, "{failure}. ")?,
+        Err(failure) => write!(answers, "{failure}. "),
     }
-    Ok(false)
 }
 
 /// Returns the limits in a text, if it has any.
