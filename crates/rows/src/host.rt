@@ -4,8 +4,11 @@
 use duct::{Clock, Entry, Place, Pool, System};
 use duct_base::pool::pool_take;
 use duct_host::{Child, End, Host};
-use rows_calls::{Bytes, Machine, PartsOf, PoolOf, Requests, TURNS, taken};
-use rows_table::{Lender, Real, Script, Table, TableError, first_word, named, open_descriptors};
+use rows_calls::{Machine, PartsOf, PoolOf, TURNS};
+use rows_table::{
+    Bytes, Lender, Real, Requests, Script, Table, TableError, first_word, named, open_descriptors,
+    taken,
+};
 use std::alloc::AllocError;
 use std::fs::{self, File, Permissions};
 use std::io::{self, PipeReader, Read, Write};

@@ -14,9 +14,9 @@
 mod host;
 
 use crate::host::HostMachine;
-use rows_calls::{Calls, Machine, Scripted, Scripts};
+use rows_calls::{Calls, Machine, Scripted};
 use rows_parts::Parts;
-use rows_table::{Counts, File, Odd, Real, Script, TableError, compare, filled, untried};
+use rows_table::{Counts, File, Odd, Real, Script, Scripts, TableError, compare, filled, untried};
 use std::alloc::Global;
 use std::io::{self, Write};
 use std::process::ExitCode;

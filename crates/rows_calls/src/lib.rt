@@ -1,14 +1,11 @@
-//! The tables of calls and of requests over any system (`docs/ROWS.md`): expressions that are
-//! started, with the results of the calls on what was started, and single requests; and the
-//! scripted system of a row.
+//! The tables of calls over any system (`docs/ROWS.md`): expressions that are started, with the
+//! results of the calls on what was started; and the scripted system of a row.
 //! Test support: the code is proved safe, and each function that can't block is proved to return.
 #![tactic(auto)]
 
 mod machine;
 mod programs;
-mod requests;
 mod scripted;
-mod scripts;
 mod shells;
 mod started;
 mod texts;
@@ -16,12 +13,9 @@ mod traced;
 
 pub use crate::machine::{Machine, PartsOf, PoolOf};
 use crate::programs::{Performed, push_line};
-pub use crate::requests::{Requests, taken};
 pub use crate::scripted::Scripted;
-pub use crate::scripts::Scripts;
 use crate::shells::{Limits, by_shell, limits};
 use crate::started::{Started, polled, start};
-pub use crate::texts::Bytes;
 use crate::texts::{push_done, push_polled, push_read, push_run};
 use crate::traced::run_traced;
 use duct::{Clock, Entry, Error, Handle, Output, System};

@@ -1,9 +1,8 @@
 //! The program: the expression that its arguments mean, and what it does.
-use crate::texts::Bytes;
 use duct::{Expression, System};
 use duct_program::{line, perform};
 use duct_script::hook::ScriptHook;
-use rows_table::arguments;
+use rows_table::{Bytes, arguments};
 use std::alloc::{AllocError, Global};
 use std::io::{self, Write};
 use std::sync::Wait;

@@ -3,10 +3,9 @@ ghost use Rattle.std.specs.Prelude.{◌≡◌};
 
 use crate::TURNS;
 use crate::machine::{Machine, PoolOf};
-use crate::texts::Bytes;
 use duct::unix::HandleExt;
 use duct::{Clock, Error, Handle, Output, ReaderHandle, Running, Seen, System};
-use rows_table::{TableError, Tree, duration, first_word};
+use rows_table::{Bytes, TableError, Tree, duration, first_word};
 use std::alloc::{AllocError, Global};
 use std::io::{self, Read};
 use std::sync::{Arc, Wait};

@@ -1,9 +1,9 @@
 //! A run over a traced system, whose output is kept.
-use crate::texts::{Bytes, push_output};
+use crate::texts::push_output;
 use duct::{Error, Pool, System};
 use duct_lines::{Captured, run_captured};
 use duct_traced::Traced;
-use rows_table::Tree;
+use rows_table::{Bytes, Tree};
 use std::alloc::{AllocError, Global};
 use std::sync::Wait;
 
