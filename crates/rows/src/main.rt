@@ -14,8 +14,9 @@
 mod host;
 
 use crate::host::HostMachine;
-use rows_calls::{Calls, Machine, Scripted};
+use rows_calls::Calls;
 use rows_parts::Parts;
+use rows_runs::{Machine, Scripted};
 use rows_table::{Counts, File, Odd, Real, Script, Scripts, TableError, compare, filled, untried};
 use std::alloc::Global;
 use std::io::{self, Write};

@@ -1,27 +1,19 @@
-//! The tables of calls over any system (`docs/ROWS.md`): expressions that are started, with the
-//! results of the calls on what was started; and the scripted system of a row.
+//! The tables of calls over any system (`docs/ROWS.md`): expressions that are run, read or started,
+//! with the results of the calls on what was started.
 //! Test support: the code is proved safe, and each function that can't block is proved to return.
 #![tactic(auto)]
 
-mod machine;
-mod programs;
-mod scripted;
-mod shells;
 mod started;
-mod texts;
-mod traced;
 
-pub use crate::machine::{Machine, PartsOf, PoolOf};
-use crate::programs::{Performed, push_line};
-pub use crate::scripted::Scripted;
-use crate::shells::{Limits, by_shell, limits};
 use crate::started::{Started, polled, start};
-use crate::texts::{push_done, push_polled, push_read, push_run};
-use crate::traced::run_traced;
-use duct::{Clock, Entry, Error, Handle, Output, System};
-use duct_deadline::{Late, LateRead, Until, read_until, run_until};
+use duct::{Entry, Error, Handle, System};
+use duct_deadline::Until;
 use duct_plan::is_balanced;
 use duct_shell::Shell;
+use rows_runs::{
+    Machine, Performed, TURNS, by_shell, limits, push_done, push_line, push_polled, push_read,
+    push_run, read, run, run_traced,
+};
 use rows_table::{
     Table, TableError, Tree, children_started, first_word, push_journal, push_pool, push_spec,
     push_trace, written_with,
@@ -30,9 +22,6 @@ use std::alloc::{AllocError, Global};
 use std::mem;
 use std::sync::Wait;
 use std::thread::{self, Threads};
-
-/// The greatest number of polls or sweeps while something still runs.
-pub const TURNS: u32 = 30_000;
 
 /// The room for what a program writes to a stream, in bytes.
 const ROOM: usize = 4096;
@@ -261,61 +250,27 @@ impl<'t, 'r, R: Wait + Threads, M: Machine> Calls<'t, 'r, R, M> {
         self.check_mark(mark, from)
     }
 
-    /// Returns until when an expression may run, and its grace, if the text has them.
-    fn limits(&mut self, text: &str) -> Result<Limits, TableError> {
-        match limits(text)? {
-            None => Ok(None),
-            Some((length, grace)) => {
-                let (_, _, clock) = self.machine.stage();
-                Ok(Some((clock.now().saturating_add(length), grace)))
-            }
-        }
-    }
-
-    /// Runs the expression of the row, until a moment if one is given with a grace.
-    fn run(&mut self, limits: &str) -> Result<(), TableError> {
-        let limits = self.limits(limits)?;
-        let ran = self.ran(limits)?;
+    /// Runs the expression of the row, for as long as its limits say if there are any.
+    fn run(&mut self, text: &str) -> Result<(), TableError> {
+        let limits = limits(text)?;
+        let tree = self.tree()?;
+        let (system, pool, clock) = self.machine.stage();
+        let ran = run(&tree, self.alloc, self.rt, clock, limits, system, pool);
         self.is_kept = matches!(ran, Ok(Until::Done(_)));
         Ok(push_run(&mut self.answers, &ran)?)
     }
 
-    fn ran(&mut self, limits: Limits) -> Result<Result<Until<Output, Late>, Error>, TableError> {
+    /// Reads the expression of the row, for as long as its limits say if there are any.
+    fn read(&mut self, text: &str) -> Result<(), TableError> {
+        let limits = limits(text)?;
         let tree = self.tree()?;
-        let (rt, alloc) = (self.rt, self.alloc);
         let (system, pool, clock) = self.machine.stage();
-        Ok(match limits {
-            None => tree.run(rt, system, pool).map(Until::Done),
-            Some((moment, grace)) => {
-                run_until(&tree, alloc, rt, clock, moment, grace, system, pool)
-            }
-        })
-    }
-
-    /// Reads the expression of the row, until a moment if one is given with a grace.
-    fn read(&mut self, limits: &str) -> Result<(), TableError> {
-        let limits = self.limits(limits)?;
-        let read = self.text_read(limits)?;
+        let read = read(&tree, self.alloc, self.rt, clock, limits, system, pool);
         self.is_kept = match &read {
-            Ok(ended) => matches!(ended, Until::Done(_)),
+            Ok(until) => matches!(until, Until::Done(_)),
             Err(error) => limits.is_some() && *error == Error::NotUtf8,
         };
         Ok(push_read(&mut self.answers, &read)?)
-    }
-
-    fn text_read(
-        &mut self,
-        limits: Limits,
-    ) -> Result<Result<Until<String, LateRead>, Error>, TableError> {
-        let tree = self.tree()?;
-        let (rt, alloc) = (self.rt, self.alloc);
-        let (system, pool, clock) = self.machine.stage();
-        Ok(match limits {
-            None => tree.read(rt, system, pool).map(Until::Done),
-            Some((moment, grace)) => {
-                read_until(&tree, alloc, rt, clock, moment, grace, system, pool)
-            }
-        })
     }
 
     /// Runs the expression of the row `times` times. Adds each result that differs from the one

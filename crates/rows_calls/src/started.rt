@@ -1,10 +1,9 @@
 //! What was started: a launch, a handle or a reader handle, and the calls on it.
 ghost use Rattle.std.specs.Prelude.{◌≡◌};
 
-use crate::TURNS;
-use crate::machine::{Machine, PoolOf};
 use duct::unix::HandleExt;
 use duct::{Clock, Error, Handle, Output, ReaderHandle, Running, Seen, System};
+use rows_runs::{Machine, PoolOf, TURNS, push_all};
 use rows_table::{Bytes, TableError, Tree, duration, first_word};
 use std::alloc::{AllocError, Global};
 use std::io::{self, Read};
@@ -242,18 +241,5 @@ fn push_prefix(text: &mut String, buffer: &[u8], count: usize) -> Result<(), All
     match buffer.split_at(count.min(buffer.len())) {
         ([], _) => write!(text, "{count}. "),
         (prefix, _) => write!(text, "{count} {}. ", Bytes(prefix)),
-    }
-}
-
-/// Reads to the end, and adds what was read, or the kind of the error.
-pub fn push_all<S: System, R: Wait>(
-    text: &mut String,
-    alloc: Global,
-    mut handle: &ReaderHandle<S, R>,
-) -> Result<(), AllocError> {
-    let mut bytes = Vec::new(alloc);
-    match handle.read_to_end(&mut bytes) {
-        Ok(_) => write!(text, "{}. ", Bytes(bytes.as_slice())),
-        Err(error) => write!(text, "{:?}. ", error.kind()),
     }
 }

@@ -2,6 +2,9 @@
 use duct::{Clock, Place, Pool, System};
 use rows_table::{Lender, TableError};
 
+/// The greatest number of polls or sweeps while something still runs.
+pub const TURNS: u32 = 30_000;
+
 /// The pool of a system's children.
 pub type PoolOf<S> = Pool<<S as System>::Child>;
 

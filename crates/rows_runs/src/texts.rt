@@ -1,10 +1,11 @@
 //! Texts for the results of calls.
-use duct::{Error, Output};
+use duct::{Error, Output, ReaderHandle, System};
 use duct_deadline::{Late, LateRead, Until};
 use rows_table::{Bytes, LONG};
-use std::alloc::AllocError;
+use std::alloc::{AllocError, Global};
 use std::fmt;
-use std::sync::Arc;
+use std::io::Read;
+use std::sync::{Arc, Wait};
 
 /// Adds the result of a poll: nothing, a status with what was captured, or the text of an error.
 pub fn push_polled(
@@ -78,4 +79,17 @@ pub fn push_output(text: &mut String, output: &Output) -> Result<(), AllocError>
     let out = Bytes(output.stdout.as_slice());
     let err = Bytes(output.stderr.as_slice());
     write!(text, "{:?} out={out} err={err}. ", output.status)
+}
+
+/// Reads to the end, and adds what was read, or the kind of the error.
+pub fn push_all<S: System, R: Wait>(
+    text: &mut String,
+    alloc: Global,
+    mut handle: &ReaderHandle<S, R>,
+) -> Result<(), AllocError> {
+    let mut bytes = Vec::new(alloc);
+    match handle.read_to_end(&mut bytes) {
+        Ok(_) => write!(text, "{}. ", Bytes(bytes.as_slice())),
+        Err(error) => write!(text, "{:?}. ", error.kind()),
+    }
 }

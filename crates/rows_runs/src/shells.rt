@@ -1,17 +1,13 @@
 //! The calls of a shell, on the expression of a row.
-use crate::started::push_all;
-use crate::texts::{push_done, push_read, push_run};
+use crate::runs::{Limits, limits};
+use crate::texts::{push_all, push_done, push_read, push_run};
 use duct::{Clock, Error, Output, System};
 use duct_deadline::{Late, LateRead, Until};
 use duct_script::hook::ScriptHook;
 use duct_shell::{Failure, Shell};
-use rows_table::{TableError, Tree, duration, first_word};
+use rows_table::{TableError, Tree};
 use std::alloc::AllocError;
 use std::sync::Wait;
-use std::time::Duration;
-
-/// For how long an expression may run, and its grace.
-pub type Limits = Option<(Duration, Duration)>;
 
 /// Makes the call of a shell with this name on an expression, and adds its result. The text has its
 /// limits, or the call that spends the handle. Notes whether the call gives no child to the pool.
@@ -107,13 +103,4 @@ fn read_all<S: System, R: Wait + Clone + Drop>(
         }
         Err(failure) => write!(answers, "{failure}. "),
     }
-}
-
-/// Returns the limits in a text, if it has any.
-pub fn limits(text: &str) -> Result<Limits, TableError> {
-    if text.is_empty() {
-        return Ok(None);
-    }
-    let (limit, grace) = first_word(text);
-    Ok(Some((duration(limit)?, duration(grace)?)))
 }
