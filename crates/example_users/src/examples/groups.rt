@@ -1,9 +1,8 @@
 //! A kill of what a command started.
 use duct::System;
 use duct::unix::HandleExt;
-use duct_shell::{ExitStatus, Failure, Handle, Output, Shell, cmd, run};
+use duct_shell::{Failure, Handle, Output, Shell, cmd, run};
 use std::sync::Wait;
-use std::test::Fail;
 
 /// Kills what a handle runs, with all that it started. Each of its commands began with `setsid`,
 /// so that it leads a group of its own.
@@ -20,7 +19,7 @@ pub fn kill_groups<S: System, R: Wait>(
 
 /// Kills the groups of a command that holds its stdout and left others that hold it too. Returns
 /// what it is told of the command's end, which comes once none of them is left.
-fn killed<S: System, R: Wait>(sh: &mut Shell<S, R>) -> Result<Output, Failure> {
+pub fn killed<S: System, R: Wait>(sh: &mut Shell<S, R>) -> Result<Output, Failure> {
     let left = cmd!(sh; "setsid", "sh", "-c", "sleep 1000 & sleep 1000")?;
     let handle = sh.start(&left.stdout_capture()?.unchecked()?)?;
     let slept = run!(sh; "sleep", "0.5"); // until `setsid` has made the group
@@ -29,10 +28,4 @@ fn killed<S: System, R: Wait>(sh: &mut Shell<S, R>) -> Result<Output, Failure> {
     slept?;
     killed?;
     output
-}
-
-#[test]
-fn a_group_is_killed(rt: HostRuntime) -> Result<(), Fail> {
-    assert_eq!(rt; killed(&mut Shell::new(&rt))?.status, ExitStatus::Signal(9));
-    Ok(())
 }

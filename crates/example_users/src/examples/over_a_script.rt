@@ -4,7 +4,6 @@ use super::script::{run_script, started};
 use super::supervisor::supervise;
 use duct::{Clock, Error, ExitStatus, Expression, Fault, Kind, Pool, System, cmd};
 use duct_attempts::run_attempts;
-use duct_host::HostClock;
 use duct_script::child::PollAnswer;
 use duct_script::requests::Sort;
 use duct_script::system::Script;
@@ -53,14 +52,15 @@ pub fn service_text<S: System, R: Wait>(
     Ok(format!(in sh.alloc; "{restarted:?}, {given} given")?)
 }
 
-#[test]
-fn a_service_succeeds_at_last(rt: HostRuntime) -> Result<(), Fail> {
-    let clock = HostClock::new(&rt)?;
-    let system = scripted(rt.alloc(), &[FAILS, FAILS, SUCCEEDS])?;
-    let mut sh = Shell::over(&rt, rt.alloc(), system);
-    let text = service_text(&mut sh, &clock, Duration::from_secs(60))?;
-    assert_eq!(rt; text.as_str(), "Some(2), 2 given");
-    Ok(())
+/// Supervises a service that fails twice.
+pub fn service_at_last<R: Wait + Drop>(
+    rt: R,
+    alloc: Global,
+    clock: &impl Clock,
+) -> Result<String, Failure> {
+    let system = scripted(alloc, &[FAILS, FAILS, SUCCEEDS])?;
+    let mut sh = Shell::over(rt, alloc, system);
+    service_text(&mut sh, clock, Duration::from_secs(60))
 }
 
 /// Starts a command at last, and runs one at last that fails at first. Returns whether both
@@ -83,8 +83,7 @@ fn busy(alloc: Global) -> Result<Script, AllocError> {
     Ok(system)
 }
 
-#[test]
-fn attempts_succeed_at_last(rt: HostRuntime) -> Result<(), Fail> {
-    assert!(rt; at_last(&rt, rt.alloc(), &mut busy(rt.alloc())?)?);
-    Ok(())
+/// Whether a command is started and run at last over that system.
+pub fn attempts_at_last(rt: &impl Wait, alloc: Global) -> Result<bool, Error> {
+    at_last(rt, alloc, &mut busy(alloc)?)
 }

@@ -5,10 +5,13 @@ use super::commands::{
 };
 use super::files::start_to_file;
 use super::first_steps::{filed, passes, piped};
+use super::groups::killed;
 use super::handles::{stopped, work_beside};
 use super::limits::build;
-use super::over_a_script::service_text;
+use super::machines::{words_there, write_ssh};
+use super::over_a_script::{attempts_at_last, service_at_last, service_text};
 use super::readers::{copied, counted, longest_line};
+use super::recipes::{appended, asked};
 use super::script::{run_script, started};
 use duct::{Clock, Error, Expression, Fault, Output, Pool, System, cmd};
 use duct_host::{End, Host, HostClock, Parents};
@@ -34,6 +37,8 @@ enum Example {
     BrokenScript,
     Kept,
     Service,
+    ServiceAtLast,
+    AttemptsAtLast,
     Listed,
     Fed,
     Merged,
@@ -41,6 +46,11 @@ enum Example {
     Failed,
     Unfound,
     Stopped,
+    KilledGroup,
+    WordsThere,
+    Appended,
+    Asked,
+    OpenFiles,
     Counted,
     Worked,
     InTime,
@@ -57,7 +67,7 @@ enum Example {
 }
 
 /// What each example comes to.
-const EXAMPLES: [(Example, &str); 28] = [
+const EXAMPLES: [(Example, &str); 35] = [
     (
         Example::Piped,
         "(Output { status: Code(0), stdout: [72, 69, 76, 76, 79, 10], \
@@ -74,6 +84,8 @@ Err(command [\"sh\", \"-c\", \"exit 3\"] exited with code 3))",
     ),
     (Example::Kept, "0"),
     (Example::Service, "None, 3 given"),
+    (Example::ServiceAtLast, "Some(2), 2 given"),
+    (Example::AttemptsAtLast, "true"),
     (Example::Listed, "foo bar baz"),
     (Example::Fed, "foo"),
     (Example::Merged, "out\nerr"),
@@ -84,6 +96,14 @@ Err(command [\"sh\", \"-c\", \"exit 3\"] exited with code 3))",
         Example::Stopped,
         "Output { status: Signal(15), stdout: [], stderr: [] }",
     ),
+    (
+        Example::KilledGroup,
+        "Output { status: Signal(9), stdout: [], stderr: [] }",
+    ),
+    (Example::WordsThere, "a b.it's.$HOME.."),
+    (Example::Appended, "[a] out\n[a] err\nmore\n"),
+    (Example::Asked, "why\n"),
+    (Example::OpenFiles, "bar\nfoo\n"),
     (Example::Counted, "3893"),
     (Example::Worked, "true"),
     (
@@ -206,7 +226,24 @@ fn logged_length<S: System, R: Wait>(
 }
 
 /// Returns what an example comes to.
-fn told<S: System, R: Wait>(
+fn told<'r, R>(
+    sh: &mut Shell<Host<&'r R>, &'r R>,
+    clock: &impl Clock,
+    example: Example,
+) -> Result<String, Failure>
+where
+    R: Processes + Files<File = File> + Env + Parents + Threads + Wait + AllocGlobal,
+{
+    match example {
+        Example::Appended => appended(sh),
+        Example::Asked => asked(sh),
+        Example::OpenFiles => open_files(sh),
+        other => told_anywhere(sh, clock, other),
+    }
+}
+
+/// The same for an example over any system.
+fn told_anywhere<S: System, R: Wait + Clone + Drop>(
     sh: &mut Shell<S, R>,
     clock: &impl Clock,
     example: Example,
@@ -221,6 +258,8 @@ fn told<S: System, R: Wait>(
         Example::BrokenScript => run_script(sh, "no-such-program\necho hi"),
         Example::Kept => Ok(format!(in alloc; "{}", sh.pool.len())?),
         Example::Service => service_text(sh, clock, Duration::from_millis(20)),
+        Example::ServiceAtLast => service_at_last(sh.rt.clone()?, alloc, clock),
+        Example::AttemptsAtLast => text(alloc, attempts_at_last(&sh.rt, alloc)),
         Example::Listed => sh.read(&listed(alloc)?),
         Example::Fed => sh.read(&fed(alloc)?),
         Example::Merged => sh.read(&merged(alloc)?),
@@ -228,6 +267,8 @@ fn told<S: System, R: Wait>(
         Example::Failed => Ok(failed(&sh.rt, alloc, &mut sh.system)?),
         Example::Unfound => Ok(unfound(&sh.rt, alloc, &mut sh.system)?),
         Example::Stopped => text(alloc, stopped(&sh.rt, alloc, &mut sh.system)),
+        Example::KilledGroup => text(alloc, killed(sh)),
+        Example::WordsThere => words_there(sh),
         Example::Counted => text(alloc, counted(&sh.rt, alloc, &mut sh.system)),
         Example::Worked => text(alloc, worked(&sh.rt, alloc, &mut sh.system)),
         Example::InTime => text(alloc, built(sh, clock, "0", Duration::from_secs(60))),
@@ -241,21 +282,8 @@ fn told<S: System, R: Wait>(
         Example::LongLog => text(alloc, logged_length(sh, &mut [0; 20])),
         Example::LongestLine => text(alloc, longest(sh, PIECES)),
         Example::FailingLines => text(alloc, longest(sh, "echo hi; exit 3")),
+        Example::Appended | Example::Asked | Example::OpenFiles => Ok(String::new(alloc)),
     }
-}
-
-#[test]
-fn examples_over_the_machine(rt: HostRuntime) -> Result<(), Fail> {
-    let clock = HostClock::new(&rt)?;
-    let mut sh = Shell::new(&rt);
-    for (example, wanted) in EXAMPLES {
-        let told = match told(&mut sh, &clock, example) {
-            Ok(text) => text,
-            Err(failure) => format!(in rt.alloc(); "{failure}")?,
-        };
-        assert_eq!(rt; told.as_str(), wanted);
-    }
-    Ok(())
 }
 
 /// Runs a command whose stderr is a log, whatever else is said of its streams.
@@ -281,7 +309,7 @@ where
     handle.into_output(rt, &mut pool).map(drop)
 }
 
-/// Writes a log and a file that are open.
+/// Writes a log and a file that are open, one after the other.
 fn write_open<R>(rt: &R, alloc: Global, host: &mut Host<R>) -> Result<(), Error>
 where
     R: Processes + Files<File = File> + Env + Parents + Threads + Wait + Clone + Drop,
@@ -292,10 +320,43 @@ where
     write_file(rt, alloc, file, host)
 }
 
+/// Returns what the log has then, and what the file has.
+fn open_files<'r, R>(sh: &mut Shell<Host<&'r R>, &'r R>) -> Result<String, Failure>
+where
+    R: Processes + Files<File = File> + Env + Parents + Threads + Wait + AllocGlobal,
+{
+    write_open(&sh.rt, sh.alloc, &mut sh.system)?;
+    let mut text = fs::read_to_string(sh.rt, "log")?;
+    text.push_str(fs::read_to_string(sh.rt, "file")?.as_str())?;
+    Ok(text)
+}
+
+/// Returns what the examples come to that come to something else than they should.
+fn differing<'r, R>(
+    sh: &mut Shell<Host<&'r R>, &'r R>,
+    clock: &impl Clock,
+) -> Result<String, Failure>
+where
+    R: Processes + Files<File = File> + Env + Parents + Threads + Wait + AllocGlobal,
+{
+    let mut differing = String::new(sh.alloc);
+    for (example, wanted) in EXAMPLES {
+        let told = match told(sh, clock, example) {
+            Ok(text) => text,
+            Err(failure) => format!(in sh.alloc; "{failure}")?,
+        };
+        if told.as_str() != wanted {
+            write!(differing, "{told:?}, not {wanted:?}; ")?;
+        }
+    }
+    Ok(differing)
+}
+
 #[test]
-fn open_files_are_written(rt: HostRuntime) -> Result<(), Fail> {
-    write_open(&&rt, rt.alloc(), &mut Host::new(&rt, rt.alloc()))?;
-    assert_eq!(rt; fs::read_to_string(&rt, "log")?.as_str(), "bar\n");
-    assert_eq!(rt; fs::read_to_string(&rt, "file")?.as_str(), "foo\n");
+fn examples_over_the_machine(rt: HostRuntime) -> Result<(), Fail> {
+    write_ssh(&rt)?;
+    let clock = HostClock::new(&rt)?;
+    let differing = differing(&mut Shell::new(&rt), &clock)?;
+    assert_eq!(rt; differing.as_str(), "");
     Ok(())
 }

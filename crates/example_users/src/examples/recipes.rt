@@ -9,7 +9,6 @@ use std::io::Write;
 use std::process::Processes;
 use std::rt::{Env, Files};
 use std::sync::Wait;
-use std::test::Fail;
 use std::thread::Threads;
 use std::{fs, io};
 
@@ -75,17 +74,24 @@ pub fn named<E: Drop>(
     command.stderr_to_stdout()?.pipe(&sed)
 }
 
-#[test]
-fn recipes_over_the_machine(rt: HostRuntime) -> Result<(), Fail> {
-    let mut sh = Shell::new(&rt);
+/// Appends what a command prints, with its name, and then what another one prints. Returns what the
+/// file has then.
+pub fn appended<'r, R>(sh: &mut Shell<Host<&'r R>, &'r R>) -> Result<String, Failure>
+where
+    R: Processes + Files<File = File> + Env + Parents + Threads + Wait + AllocGlobal,
+{
     let both = sh.cmd("sh", &["-c", "echo out; echo err >&2"])?;
-    let (more, cat) = (sh.cmd("echo", &["more"])?, sh.cmd("cat", &[])?);
-    append(&mut sh, "appended", &named(rt.alloc(), "a", &both)?)?;
-    append(&mut sh, "appended", &more)?;
-    assert_eq!(rt;
-        fs::read_to_string(&rt, "appended")?.as_str(),
-        "[a] out\n[a] err\nmore\n"
-    );
-    assert_eq!(rt; ask_by_pipe(&mut sh, &cat, "why\n")?.as_str(), "why\n");
-    Ok(())
+    append(sh, "appended", &named(sh.alloc, "a", &both)?)?;
+    let more = sh.cmd("echo", &["more"])?;
+    append(sh, "appended", &more)?;
+    Ok(fs::read_to_string(sh.rt, "appended")?)
+}
+
+/// Asks `cat`, which answers as it was asked.
+pub fn asked<'r, R>(sh: &mut Shell<Host<&'r R>, &'r R>) -> Result<String, Failure>
+where
+    R: Processes + Files<File = File> + Env + Parents + Threads + Wait,
+{
+    let cat = sh.cmd("cat", &[])?;
+    ask_by_pipe(sh, &cat, "why\n")
 }
