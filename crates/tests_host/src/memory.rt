@@ -134,12 +134,19 @@ fn all_made<R: Real>(rt: &R) -> Result<bool, Error> {
     Ok(created(rt, "all")? && killed(rt)? && spawned(rt)? && worked(rt)?)
 }
 
+/// Whether a create, a kill, a spawn and two workers are right.
+fn are_right<R: Real>(rt: &R) -> (bool, bool, bool, bool) {
+    (
+        is_right(created(rt, "created")),
+        is_right(killed(rt)),
+        is_right(spawned(rt)),
+        is_right(worked(rt)),
+    )
+}
+
 #[test]
 fn memory_of_requests(rt: HostRuntime) {
-    assert!(rt; is_right(created(&rt, "created")), "a create");
-    assert!(rt; is_right(killed(&rt)), "a kill");
-    assert!(rt; is_right(spawned(&rt)), "a spawn");
-    assert!(rt; is_right(worked(&rt)), "two workers");
+    assert_eq!(rt; are_right(&rt), (true, true, true, true));
 }
 
 /// Checks that all succeed if no allocation fails.

@@ -68,18 +68,13 @@ fn two_started<S: System>(
     }
 }
 
-/// Checks that two handles of one host run at once, and that both can be waited for, in any order.
-#[test]
-fn two_handles_of_one_host(rt: HostRuntime) -> Result<(), Fail> {
-    let before = count_left(&rt)?;
-    let (well, kept) = {
-        let mut host = Host::new(&rt, rt.alloc());
-        let mut pool = Pool::new(rt.alloc());
-        let well = two_started(&rt, rt.alloc(), &mut host, &mut pool)?;
-        (well, pool.len())
-    };
-    assert_eq!(rt; (well, kept, count_left(&rt)?), (true, 0, before));
-    Ok(())
+/// Whether two handles of one host run at once and both can be waited for, and how many children
+/// are left in the pool.
+fn two_handles<R: Real + Wait>(rt: &R, alloc: Global) -> Result<(bool, usize), Error> {
+    let mut host = Host::new(rt.clone()?, alloc);
+    let mut pool = Pool::new(alloc);
+    let well = two_started(rt, alloc, &mut host, &mut pool)?;
+    Ok((well, pool.len()))
 }
 
 /// How many times each thread starts commands.
@@ -203,12 +198,15 @@ impl<R: Real + Wait> Starts<R> for Apart {
     }
 }
 
-/// Checks that no child inherits the end of a pipe that another thread opens meanwhile. A command
-/// that sleeps would else hold a pipe open, and the commands that read it would not end.
+/// Checks that two handles of one host run at once, and that both can be waited for, in any order.
+/// Then checks that no child inherits the end of a pipe that another thread opens meanwhile. A
+/// command that sleeps would else hold a pipe open, and the commands that read it would not end.
 #[test]
-fn two_threads_have_a_host_each(rt: HostRuntime) -> Result<(), Fail> {
+fn hosts_of_two_commands_and_of_two_threads(rt: HostRuntime) -> Result<(), Fail> {
     let before = count_left(&rt)?;
-    let well = both_start(&&rt, rt.alloc(), &Apart);
-    assert_eq!(rt; (well, count_left(&rt)?), ((STARTS, STARTS), before));
+    let of_one = two_handles(&&rt, rt.alloc())?;
+    assert_eq!(rt; (of_one, count_left(&rt)?), ((true, 0), before));
+    let of_each = both_start(&&rt, rt.alloc(), &Apart);
+    assert_eq!(rt; (of_each, count_left(&rt)?), ((STARTS, STARTS), before));
     Ok(())
 }
