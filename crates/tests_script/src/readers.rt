@@ -74,17 +74,18 @@ fn count_and_ask<R: Wait + Threads + Sync>(
     thread::join(rt, || count(handle, 1), || ask_beside(handle, gate))
 }
 
-/// Checks that the ids, a poll and a kill return while another thread is blocked in a read.
-#[test]
-fn a_kill_passes_a_read(rt: HostRuntime) -> Result<(), Fail> {
-    let gate = Gate::new(rt.alloc())?;
-    let mut bench = Bench::new(rt.alloc())?;
-    let handle = handle_of(&rt, rt.alloc(), &mut bench, 3, &gate)?;
+/// Does this with a new reader handle.
+fn ask_in_a_read<R: Wait + Threads + Sync>(
+    rt: &R,
+    alloc: Global,
+) -> Result<(usize, (bool, usize, bool, bool)), TableError> {
+    let gate = Gate::new(alloc)?;
+    let mut bench = Bench::new(alloc)?;
+    let handle = handle_of(rt, alloc, &mut bench, 3, &gate)?;
     gate.shut();
-    let told = count_and_ask(&rt, &handle, &gate);
+    let told = count_and_ask(rt, &handle, &gate);
     handle.give_up(&mut bench.pool);
-    assert_eq!(rt; told, (3, (true, 1, true, true)));
-    Ok(())
+    Ok(told)
 }
 
 /// Returns how many bytes two threads read together.
@@ -93,15 +94,22 @@ fn count_together<R: Wait + Threads + Sync>(rt: &R, handle: &ReaderHandle<Script
     one.saturating_add(other)
 }
 
-/// Checks that two threads that read from one handle get as many bytes together as its reader has.
-#[test]
-fn two_threads_read(rt: HostRuntime) -> Result<(), Fail> {
-    let gate = Gate::new(rt.alloc())?;
-    let mut bench = Bench::new(rt.alloc())?;
-    let _ = bench.set(rt.alloc(), "children", "code 0")?;
-    let handle = handle_of(&rt, rt.alloc(), &mut bench, 1000, &gate)?;
-    let total = count_together(&rt, &handle);
+/// Does this with a new reader handle, whose reader has a thousand bytes.
+fn read_together<R: Wait + Threads + Sync>(rt: &R, alloc: Global) -> Result<usize, TableError> {
+    let gate = Gate::new(alloc)?;
+    let mut bench = Bench::new(alloc)?;
+    let _ = bench.set(alloc, "children", "code 0")?;
+    let handle = handle_of(rt, alloc, &mut bench, 1000, &gate)?;
+    let total = count_together(rt, &handle);
     handle.give_up(&mut bench.pool);
-    assert_eq!(rt; total, 1000);
+    Ok(total)
+}
+
+/// Checks that the ids, a poll and a kill return while another thread is blocked in a read, and
+/// that two threads that read from one handle get as many bytes together as its reader has.
+#[test]
+fn threads_share_a_reader_handle(rt: HostRuntime) -> Result<(), Fail> {
+    assert_eq!(rt; ask_in_a_read(&rt, rt.alloc())?, (3, (true, 1, true, true)));
+    assert_eq!(rt; read_together(&rt, rt.alloc())?, 1000);
     Ok(())
 }

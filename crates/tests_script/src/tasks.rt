@@ -59,14 +59,12 @@ fn ran(
 
 #[test]
 fn tasks_end_in_their_places(rt: HostRuntime) -> Result<(), Fail> {
-    let all = ran(&rt, rt.alloc(), 2, AtFailure::GoOn)?;
     assert_eq!(rt;
-        all.as_str(),
+        ran(&rt, rt.alloc(), 2, AtFailure::GoOn)?.as_str(),
         "Code(0), command [\"b\"] exited with code 2, Code(0), 3 started, 1 given"
     );
-    let some = ran(&rt, rt.alloc(), 1, AtFailure::Wait)?;
     assert_eq!(rt;
-        some.as_str(),
+        ran(&rt, rt.alloc(), 1, AtFailure::Wait)?.as_str(),
         "Code(0), command [\"b\"] exited with code 2, 2 started, 1 given"
     );
     Ok(())

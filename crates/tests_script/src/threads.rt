@@ -276,22 +276,14 @@ fn passes<R: Wait + Threads + Sync>(
     Ok(well && before.contains('p') && behind.contains('p'))
 }
 
-/// Checks that a kill goes through while two threads wait, with or without a deadline.
-#[test]
-fn a_kill_passes_two_waits(rt: HostRuntime) -> Result<(), Fail> {
-    for waiting in [Waiting::End, Waiting::Deadline, Waiting::Timeout] {
-        assert!(rt; passes(&rt, rt.alloc(), waiting)?);
-    }
-    Ok(())
-}
-
-/// Checks that waits with a token that knows the output return it while a kill holds the lock.
-#[test]
-fn known_outputs_pass_a_kill(rt: HostRuntime) -> Result<(), Fail> {
-    let play = play_of(rt.alloc(), Cast::Known)?;
-    let mut bench = greeting_bench(rt.alloc(), 0, &play.second)?;
-    assert!(rt; played(&rt, rt.alloc(), &mut bench, "a stdout_capture", &play)?);
-    Ok(())
+/// Whether waits with a token that knows the output return it while a kill holds the lock.
+fn knows_beside_a_kill<R: Wait + Threads + Sync>(
+    rt: &R,
+    alloc: Global,
+) -> Result<bool, TableError> {
+    let play = play_of(alloc, Cast::Known)?;
+    let mut bench = greeting_bench(alloc, 0, &play.second)?;
+    played(rt, alloc, &mut bench, "a stdout_capture", &play)
 }
 
 /// Whether both calls are polls, or both are orders, and that of the left child comes first.
@@ -363,13 +355,26 @@ fn told_by_tokens<R: Wait + Threads + Sync>(
     Ok((told, is_greeting(&own)))
 }
 
-/// Checks that the tokens of two threads agree, and that waits with the first one, and
-/// `into_output`, then return the same output.
+/// Does this with a new handle.
+fn tokens_agree<R: Wait + Threads + Sync>(
+    rt: &R,
+    alloc: Global,
+) -> Result<((bool, bool, bool), bool), TableError> {
+    let gate = Gate::new(alloc)?;
+    let mut bench = greeting_bench(alloc, 100, &gate)?;
+    told_by_tokens(rt, alloc, &mut bench)
+}
+
+/// Checks that a kill goes through while two threads wait, with or without a deadline, and that
+/// waits with a token that knows the output return it while a kill holds the lock. Then checks that
+/// the tokens of two threads agree, and that waits with the first one, and `into_output`, then
+/// return the same output.
 #[test]
-fn tokens_agree(rt: HostRuntime) -> Result<(), Fail> {
-    let gate = Gate::new(rt.alloc())?;
-    let mut bench = greeting_bench(rt.alloc(), 100, &gate)?;
-    let told = told_by_tokens(&rt, rt.alloc(), &mut bench)?;
-    assert_eq!(rt; told, ((true, true, true), true));
+fn threads_wait_on_a_handle(rt: HostRuntime) -> Result<(), Fail> {
+    for waiting in [Waiting::End, Waiting::Deadline, Waiting::Timeout] {
+        assert!(rt; passes(&rt, rt.alloc(), waiting)?);
+    }
+    assert!(rt; knows_beside_a_kill(&rt, rt.alloc())?);
+    assert_eq!(rt; tokens_agree(&rt, rt.alloc())?, ((true, true, true), true));
     Ok(())
 }

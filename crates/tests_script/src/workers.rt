@@ -60,25 +60,33 @@ fn workers_at_a_gate(
     Ok((feed, drain))
 }
 
-/// Checks that the caller and each worker go on while a worker is blocked in a write and another in
-/// a read. Once the gate is open, both finish, and each later poll returns the same.
-#[test]
-fn workers_run_beside_their_caller(rt: HostRuntime) -> Result<(), Fail> {
-    let gate = Gate::new(rt.alloc())?;
-    gate.shut();
-    let (mut feed, mut drain) = workers_at_a_gate(&rt, rt.alloc(), &gate)?;
-    assert!(rt; until(|| gate.standing() == 2));
-    assert!(rt; matches!((feed.poll(), drain.poll()), (Said::Running, Said::Running)));
-    gate.open();
-    assert_eq!(rt;
-        (heard(&rt, &mut feed)?, feed.poll()),
-        (Ok(()), Said::Done(()))
-    );
-    for _ in 0..2 {
-        assert_eq!(rt; heard(&rt, &mut drain)??.as_slice(), b"xyz".as_slice());
+/// Whether a feed finishes, and a later poll says so again.
+fn is_fed(rt: &impl Clock, feed: &mut Worker<()>) -> bool {
+    let first = matches!(heard(rt, feed), Ok(Ok(())));
+    first && feed.poll() == Said::Done(()) && feed.number() == 0
+}
+
+/// Whether a drain finishes with all that its reader has.
+fn is_drained(rt: &impl Clock, drain: &mut Worker<Arc<Vec<u8>>>) -> bool {
+    match heard(rt, drain) {
+        Ok(Ok(bytes)) => bytes.as_slice() == b"xyz".as_slice(),
+        Ok(Err(_)) | Err(_) => false,
     }
-    assert_eq!(rt; feed.number(), 0);
-    Ok(())
+}
+
+/// Whether the caller and each worker go on while a worker is blocked in a write and another in a
+/// read. Then opens their gate, and returns also whether each of them finishes, and a later poll
+/// returns the same.
+fn run_at_a_gate<R: Threads + Clock>(rt: &R, alloc: Global) -> Result<(bool, bool, bool), Fail> {
+    let gate = Gate::new(alloc)?;
+    gate.shut();
+    let (mut feed, mut drain) = workers_at_a_gate(rt, alloc, &gate)?;
+    let stand = until(|| gate.standing() == 2);
+    let run = matches!((feed.poll(), drain.poll()), (Said::Running, Said::Running));
+    gate.open();
+    let fed = is_fed(rt, &mut feed);
+    let drained = is_drained(rt, &mut drain) && is_drained(rt, &mut drain);
+    Ok((stand && run, fed, drained))
 }
 
 /// A writer whose writes fail.
@@ -102,12 +110,17 @@ fn fails_twice<J: Job>(rt: &impl Clock, worker: &mut J, kind: Kind) -> Result<bo
     Ok(first == Some(Fault::new(kind)) && again == Some(Fault::new(kind)))
 }
 
-/// Checks that each later poll returns the fault again.
+/// Whether each later poll of a feed, and of a drain, returns the fault again.
+fn faults_are_kept<R: Threads + Clock>(rt: &R, alloc: Global) -> Result<(bool, bool), Fail> {
+    let mut feed = fed(rt, alloc, Broken)?;
+    let of_feed = fails_twice(rt, &mut feed, Kind::PermissionDenied)?;
+    let mut drain = spawn_drain(rt, alloc, reader(alloc, "x, NotFound")?)?;
+    Ok((of_feed, fails_twice(rt, &mut drain, Kind::NotFound)?))
+}
+
 #[test]
-fn faults_are_kept(rt: HostRuntime) -> Result<(), Fail> {
-    let mut feed = fed(&rt, rt.alloc(), Broken)?;
-    assert!(rt; fails_twice(&rt, &mut feed, Kind::PermissionDenied)?);
-    let mut drain = spawn_drain(&rt, rt.alloc(), reader(rt.alloc(), "x, NotFound")?)?;
-    assert!(rt; fails_twice(&rt, &mut drain, Kind::NotFound)?);
+fn workers_run_and_tell_the_same(rt: HostRuntime) -> Result<(), Fail> {
+    assert_eq!(rt; run_at_a_gate(&rt, rt.alloc())?, (true, true, true));
+    assert_eq!(rt; faults_are_kept(&rt, rt.alloc())?, (true, true));
     Ok(())
 }
