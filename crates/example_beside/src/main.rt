@@ -14,8 +14,13 @@ use crate::steps::{Allowed, step_text};
 use crate::threads::{asleep, printing, read_or_kill, wait_or_kill};
 use crate::traced::failed_step;
 use duct::{Error, Pool};
-use duct_host::Host;
+use duct_host::{Host, Parents};
+use std::alloc::Global;
 use std::fs::File;
+use std::process::Processes;
+use std::rt::{Env, Files};
+use std::sync::Wait;
+use std::thread::Threads;
 use std::time::Duration;
 
 /// What each step may do, and its words.
@@ -31,18 +36,30 @@ const STEPS: [(Allowed, &str); 9] = [
     (Allowed::AtOnce(1), "echo in turn | cat"),
 ];
 
+/// Returns what comes of the steps, of the replays, and of the step with a log.
+fn told<R>(rt: &R, alloc: Global) -> Result<String, Error>
+where
+    R: Processes + Files<File = File> + Env + Parents + Threads + Wait + Clone + Drop,
+{
+    let mut text = String::new(alloc);
+    for (allowed, words) in STEPS {
+        let host = Host::new(rt.clone()?, alloc);
+        match step_text(rt, alloc, host, allowed, words) {
+            Ok(printed) => write!(text, "{allowed:?}, {words}: {printed}\n")?,
+            Err(error) => write!(text, "{allowed:?}, {words}: {error}\n")?,
+        }
+    }
+    write!(text, "made: {}\n", File::open(rt, "made").is_ok())?;
+    text.push_str(replays(rt, alloc, &mut Host::new(rt.clone()?, alloc))?.as_str())?;
+    let failed = failed_step(rt, alloc, Host::new(rt.clone()?, alloc))?;
+    write!(text, "{failed}\n")?;
+    Ok(text)
+}
+
 fn main(rt: HostRuntime) -> Result<(), Error> {
     let (alloc, limit) = (rt.alloc(), Duration::from_millis(200));
-    for (allowed, words) in STEPS {
-        let _ = match step_text(&rt, alloc, Host::new(&rt, alloc), allowed, words) {
-            Ok(text) => println!(rt; "{allowed:?}, {words}: {text}"),
-            Err(error) => println!(rt; "{allowed:?}, {words}: {error}"),
-        };
-    }
-    let _ = println!(rt; "made: {}", File::open(&rt, "made").is_ok());
+    let _ = print!(rt; "{}", told(&&rt, alloc)?);
     let (mut host, mut pool) = (Host::new(&rt, alloc), Pool::new(alloc));
-    let _ = print!(rt; "{}", replays(&rt, alloc, &mut host)?);
-    let _ = println!(rt; "{}", failed_step(&rt, alloc, Host::new(&rt, alloc))?);
     let handle = asleep(alloc, &mut host, &mut pool)?;
     let ended = wait_or_kill(&rt, &handle, limit);
     handle.give_up(&mut pool);
