@@ -1,4 +1,5 @@
-//! Tests of the examples over the scripted system, which runs no program.
+//! The examples over the scripted system, which runs no program: a test, and what the test over the
+//! machine tries too.
 use super::handles::started_at_last;
 use super::script::{run_script, started};
 use super::supervisor::supervise;
@@ -52,7 +53,7 @@ pub fn service_text<S: System, R: Wait>(
     Ok(format!(in sh.alloc; "{restarted:?}, {given} given")?)
 }
 
-/// Supervises a service that fails twice.
+/// Supervises a service that fails twice, over the scripted system.
 pub fn service_at_last<R: Wait + Drop>(
     rt: R,
     alloc: Global,
@@ -83,7 +84,7 @@ fn busy(alloc: Global) -> Result<Script, AllocError> {
     Ok(system)
 }
 
-/// Whether a command is started and run at last over that system.
+/// Whether a command is started at last, and run at last, over that system.
 pub fn attempts_at_last(rt: &impl Wait, alloc: Global) -> Result<bool, Error> {
     at_last(rt, alloc, &mut busy(alloc)?)
 }

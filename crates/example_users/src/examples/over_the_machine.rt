@@ -282,6 +282,7 @@ fn told_anywhere<S: System, R: Wait + Clone + Drop>(
         Example::LongLog => text(alloc, logged_length(sh, &mut [0; 20])),
         Example::LongestLine => text(alloc, longest(sh, PIECES)),
         Example::FailingLines => text(alloc, longest(sh, "echo hi; exit 3")),
+        // They come to nothing without files of the machine.
         Example::Appended | Example::Asked | Example::OpenFiles => Ok(String::new(alloc)),
     }
 }
