@@ -24,6 +24,7 @@ use Rattle.duct_system.specs.EntryView.{answer_of}
 use Rattle.duct_guard.specs.Closed.{ClosesFirst}
 use Rattle.duct_guard.specs.Forwarded.{allows_spawn, may_ask, refusal, Forwards, Passed, Refused, Crowded, LostVars, LostPath, ForwardsAll, IsForwarded}
 use Rattle.duct_guard.specs.Held.{held_after, is_within, with_entry}
+use Rattle.duct_guard.specs.Requests as request
 use Rattle.duct_guard.specs.Rules.{Rules}
 use Rattle.duct_guard.specs.declared.counts.Counts.{Counts}
 
@@ -237,7 +238,7 @@ module _ (rules : Rules) (held : Counts) where
   }
 
   pub lost_path : (path name : List ℕ) (fault : Fault) (old new : JournalView)
-      → rules.canonicalizes path ≡ true → fault ≡ refusal true
+      → rules.allows (request.canonicalize path) ≡ true → fault ≡ refusal true
       → Adds (Canonicalize path (Ok name)) 0 0 old new
       → IsForwarded rules held (Canonicalize path (Err fault)) old new
   lost_path path name fault old new allowed is adds = record {
@@ -296,7 +297,7 @@ module _ (rules : Rules) where
   entry_denied held entry asked (Refused count fault is) =
       denial (is_allowed rules entry) (is_within rules.limits held entry) (fault_of entry) fault
   entry_denied held entry asked (Crowded count spec io noted full is) =
-      rw noted (denied_anyway (rules.spawns spec))
+      rw noted (denied_anyway (rules.allows (request.spawn spec)))
   entry_denied held entry asked (LostVars vars noted is) = rw noted refl
   entry_denied held entry asked (LostPath path name allowed noted is) = rw (noted, allowed) refl
 

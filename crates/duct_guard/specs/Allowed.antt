@@ -8,18 +8,19 @@ use Rattle.duct_system.specs.Trace.{fault_of}
 use Rattle.duct_system.specs.declared.system.Fault.{Fault}
 use Rattle.duct_system.specs.declared.system.Kind.{Kind}
 use Rattle.duct_system.specs.declared.system.Kind.TheVariants.{PermissionDenied}
+use Rattle.duct_guard.specs.Requests as request
 use Rattle.duct_guard.specs.Rules.{Rules}
 
 -- whether an entry's request is allowed
 abbrev pub is_allowed : Rules → EntryView → Bool
 is_allowed rules (Environment answer) = true
 is_allowed rules (Pipe answer) = true
-is_allowed rules (OpenRead path answer) = rules.reads path
-is_allowed rules (Create path answer) = rules.creates path
-is_allowed rules (Duplicate lent answer) = true
-is_allowed rules (Parent side answer) = true
-is_allowed rules (Canonicalize path answer) = rules.canonicalizes path
-is_allowed rules (Spawn spec io answer) = rules.spawns spec
+is_allowed rules (OpenRead path answer) = rules.allows (request.read path)
+is_allowed rules (Create path answer) = rules.allows (request.create path)
+is_allowed rules (Duplicate lent answer) = rules.allows request.duplicate
+is_allowed rules (Parent side answer) = rules.allows (request.parent side)
+is_allowed rules (Canonicalize path answer) = rules.allows (request.canonicalize path)
+is_allowed rules (Spawn spec io answer) = rules.allows (request.spawn spec)
 is_allowed rules (Feed number bytes answer) = true
 is_allowed rules (Drain number answer) = true
 is_allowed rules (Reader number) = true

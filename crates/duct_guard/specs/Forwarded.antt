@@ -13,6 +13,7 @@ use Rattle.duct_guard.specs.Added.{AddsAll}
 use Rattle.duct_guard.specs.Allowed.{is_allowed}
 use Rattle.duct_system.specs.EntryView.{answer_of}
 use Rattle.duct_guard.specs.Held.{is_within, with_entry}
+use Rattle.duct_guard.specs.Requests as request
 use Rattle.duct_guard.specs.Rules.{Rules}
 use Rattle.duct_guard.specs.declared.counts.Counts.{Counts}
 
@@ -26,7 +27,8 @@ may_ask rules held entry = is_allowed rules entry && is_within rules.limits held
 
 -- whether a child may be started by a spec, where this is held
 abbrev pub allows_spawn : Rules → Counts → SpecView → Bool
-allows_spawn rules held spec = rules.spawns spec && nat_le (held.children + 1) rules.limits.children
+allows_spawn rules held spec =
+    rules.allows (request.spawn spec) && nat_le (held.children + 1) rules.limits.children
 
 -- the fault of a request that the guard doesn't forward: it is forbidden, or there was no memory
 abbrev pub refusal : Bool → Fault
@@ -48,7 +50,7 @@ pub data Forwards (rules : Rules) (held : Counts) (entry : EntryView) (below : L
       → below ≡ map Close (take count (spent_by entry)) → Forwards rules held entry below
   LostVars : (vars : Vars) → entry ≡ Environment (Err no_memory)
       → below ≡ Environment (Ok vars) ∷ [] → Forwards rules held entry below
-  LostPath : (path name : List ℕ) → rules.canonicalizes path ≡ true
+  LostPath : (path name : List ℕ) → rules.allows (request.canonicalize path) ≡ true
       → entry ≡ Canonicalize path (Err no_memory)
       → below ≡ Canonicalize path (Ok name) ∷ [] → Forwards rules held entry below
 

@@ -6,4 +6,5 @@ pub mod Forwarded
 pub mod GuardView
 pub mod Held
 pub mod Policies
+pub mod Requests
 pub mod Rules

@@ -2,6 +2,7 @@
 use Rattle.std.specs.Prelude.{ℕ, Bool, true, false, ◌&&◌, not, min, List, [], ◌∷◌, bytes_eq}
 use Rattle.std.specs.List.{list_any, starts_with}
 use Rattle.std.specs.Path.{path_components, parent_dir}
+use Rattle.duct_guard.specs.Requests.{RequestView, spawn, read, create}
 use Rattle.duct_guard.specs.Rules.{Rules}
 use Rattle.duct_guard.specs.declared.counts.Counts.{Counts}
 
@@ -16,17 +17,19 @@ unlimited = record { ends = no_limit; children = no_limit }
 -- everything
 abbrev pub all_allowed : Rules
 all_allowed = record {
-  spawns = λ spec. true;
-  reads = λ path. true;
-  creates = λ path. true;
-  canonicalizes = λ path. true;
+  allows = λ asked. true;
   limits = unlimited;
   at_once = no_limit;
 }
 
+-- whether a request isn't to create a file
+abbrev pub keeps_files : RequestView → Bool
+keeps_files (create path) = false
+keeps_files _ = true
+
 -- all but to create files
 abbrev pub read_only : Rules
-read_only = record all_allowed { creates = λ path. false }
+read_only = record all_allowed { allows = keeps_files }
 
 -- what keeps within two limits
 abbrev pub least : Counts → Counts → Counts
@@ -38,10 +41,7 @@ least one other = record {
 -- what both allow
 abbrev pub both_rules : Rules → Rules → Rules
 both_rules one other = record {
-  spawns = λ spec. one.spawns spec && other.spawns spec;
-  reads = λ path. one.reads path && other.reads path;
-  creates = λ path. one.creates path && other.creates path;
-  canonicalizes = λ path. one.canonicalizes path && other.canonicalizes path;
+  allows = λ asked. one.allows asked && other.allows asked;
   limits = least one.limits other.limits;
   at_once = min one.at_once other.at_once;
 }
@@ -63,9 +63,14 @@ abbrev pub is_program_of : List (List ℕ) → List (List ℕ) → Bool
 is_program_of names [] = false
 is_program_of names (program ∷ arguments) = is_listed names program
 
+-- whether a request starts no other program than these
+abbrev pub starts_listed : List (List ℕ) → RequestView → Bool
+starts_listed names (spawn spec) = is_program_of names spec.words
+starts_listed names _ = true
+
 -- all, but of children only those by these programs
 abbrev pub program_rules : List (List ℕ) → Rules
-program_rules names = record all_allowed { spawns = λ spec. is_program_of names spec.words }
+program_rules names = record all_allowed { allows = starts_listed names }
 
 -- whether a path has `..` among its names
 abbrev pub climbs : List ℕ → Bool
@@ -79,7 +84,12 @@ is_below path folder = starts_with bytes_eq (path_components path) (path_compone
 abbrev pub lies_within : List (List ℕ) → List ℕ → Bool
 lies_within folders path = not (climbs path) && list_any (is_below path) folders
 
+-- whether a request opens no file elsewhere
+abbrev pub opens_within : List (List ℕ) → RequestView → Bool
+opens_within folders (read path) = lies_within folders path
+opens_within folders (create path) = lies_within folders path
+opens_within folders _ = true
+
 -- all, but of files only those at or below these folders
 abbrev pub folder_rules : List (List ℕ) → Rules
-folder_rules folders =
-    record all_allowed { reads = lies_within folders; creates = lies_within folders }
+folder_rules folders = record all_allowed { allows = opens_within folders }

@@ -5,7 +5,7 @@ ghost use Rattle.duct_guard.specs.Policies.{all_allowed};
 
 use crate::counts::Counts;
 use crate::policy::Policy;
-use duct_system::spec::CommandSpec;
+use crate::request::Request;
 use std::marker::{Brand, PhantomData};
 
 /// Stands for rules that are known only while the program runs.
@@ -44,20 +44,8 @@ impl<P: Policy, K: FixedRules> Fixed<P, K> {
 impl<P: Policy, K: FixedRules> Policy for Fixed<P, K> {
     ghost rules = { λ _. K.rules };
 
-    fn allows_spawn(&self, spec: &CommandSpec) -> bool {
-        self.policy.allows_spawn(spec)
-    }
-
-    fn allows_read(&self, path: &str) -> bool {
-        self.policy.allows_read(path)
-    }
-
-    fn allows_create(&self, path: &str) -> bool {
-        self.policy.allows_create(path)
-    }
-
-    fn allows_canonicalize(&self, path: &str) -> bool {
-        self.policy.allows_canonicalize(path)
+    fn allows(&self, request: Request) -> bool {
+        self.policy.allows(request)
     }
 
     fn limits(&self) -> Counts {

@@ -8,6 +8,7 @@ mod fixed;
 mod guard;
 mod policies;
 mod policy;
+mod request;
 mod requests;
 mod streams;
 
@@ -17,3 +18,4 @@ pub use fixed::{Fixed, FixedRules};
 pub use guard::Guarded;
 pub use policies::{AtOnce, Both, Folders, Limits, Programs, ReadOnly};
 pub use policy::Policy;
+pub use request::Request;

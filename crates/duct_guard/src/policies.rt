@@ -5,7 +5,7 @@ ghost use Rattle.duct_guard.specs.Policies.{climbs, is_below, is_listed, lies_wi
 
 use crate::counts::Counts;
 use crate::policy::Policy;
-use duct_system::spec::CommandSpec;
+use crate::request::Request;
 use std::marker::Model;
 use std::path::Path;
 
@@ -41,23 +41,14 @@ impl Policy for Programs {
 
     ghost rules = { program_rules };
 
-    fn allows_spawn(&self, spec: &CommandSpec) -> bool {
-        match spec.words() {
-            [program, ..] => is_listed(self.names.as_slice(), program.as_str()),
-            [] => false,
+    fn allows(&self, request: Request) -> bool {
+        match request {
+            Request::Spawn(spec) => match spec.words() {
+                [program, ..] => is_listed(self.names.as_slice(), program.as_str()),
+                [] => false,
+            },
+            _ => true,
         }
-    }
-
-    fn allows_read(&self, _path: &str) -> bool {
-        true
-    }
-
-    fn allows_create(&self, _path: &str) -> bool {
-        true
-    }
-
-    fn allows_canonicalize(&self, _path: &str) -> bool {
-        true
     }
 
     fn limits(&self) -> Counts {
@@ -114,20 +105,13 @@ impl Policy for Folders {
 
     ghost rules = { folder_rules };
 
-    fn allows_spawn(&self, _spec: &CommandSpec) -> bool {
-        true
-    }
-
-    fn allows_read(&self, path: &str) -> bool {
-        lies_within(self.folders.as_slice(), path)
-    }
-
-    fn allows_create(&self, path: &str) -> bool {
-        lies_within(self.folders.as_slice(), path)
-    }
-
-    fn allows_canonicalize(&self, _path: &str) -> bool {
-        true
+    fn allows(&self, request: Request) -> bool {
+        match request {
+            Request::Read(path) | Request::Create(path) => {
+                lies_within(self.folders.as_slice(), path)
+            }
+            _ => true,
+        }
     }
 
     fn limits(&self) -> Counts {
@@ -187,20 +171,8 @@ impl Policy for ReadOnly {
 
     ghost rules = { λ _. read_only };
 
-    fn allows_spawn(&self, _spec: &CommandSpec) -> bool {
-        true
-    }
-
-    fn allows_read(&self, _path: &str) -> bool {
-        true
-    }
-
-    fn allows_create(&self, _path: &str) -> bool {
-        false
-    }
-
-    fn allows_canonicalize(&self, _path: &str) -> bool {
-        true
+    fn allows(&self, request: Request) -> bool {
+        !matches!(request, Request::Create(_))
     }
 
     fn limits(&self) -> Counts {
@@ -222,19 +194,7 @@ impl Policy for Limits {
 
     ghost rules = { λ limits. limit_rules limits.0 };
 
-    fn allows_spawn(&self, _spec: &CommandSpec) -> bool {
-        true
-    }
-
-    fn allows_read(&self, _path: &str) -> bool {
-        true
-    }
-
-    fn allows_create(&self, _path: &str) -> bool {
-        true
-    }
-
-    fn allows_canonicalize(&self, _path: &str) -> bool {
+    fn allows(&self, _request: Request) -> bool {
         true
     }
 
@@ -257,19 +217,7 @@ impl Policy for AtOnce {
 
     ghost rules = { λ children. at_once_rules children.0 };
 
-    fn allows_spawn(&self, _spec: &CommandSpec) -> bool {
-        true
-    }
-
-    fn allows_read(&self, _path: &str) -> bool {
-        true
-    }
-
-    fn allows_create(&self, _path: &str) -> bool {
-        true
-    }
-
-    fn allows_canonicalize(&self, _path: &str) -> bool {
+    fn allows(&self, _request: Request) -> bool {
         true
     }
 
@@ -294,20 +242,8 @@ impl<P: Policy, Q: Policy> Policy for Both<P, Q> {
 
     ghost rules = { λ both. both_rules (P.rules both.first) (Q.rules both.second) };
 
-    fn allows_spawn(&self, spec: &CommandSpec) -> bool {
-        self.first.allows_spawn(spec) && self.second.allows_spawn(spec)
-    }
-
-    fn allows_read(&self, path: &str) -> bool {
-        self.first.allows_read(path) && self.second.allows_read(path)
-    }
-
-    fn allows_create(&self, path: &str) -> bool {
-        self.first.allows_create(path) && self.second.allows_create(path)
-    }
-
-    fn allows_canonicalize(&self, path: &str) -> bool {
-        self.first.allows_canonicalize(path) && self.second.allows_canonicalize(path)
+    fn allows(&self, request: Request) -> bool {
+        self.first.allows(request) && self.second.allows(request)
     }
 
     fn limits(&self) -> Counts {

@@ -1,9 +1,10 @@
 //! What a guarded system may be asked.
 ghost use Rattle.std.specs.Prelude.{◌≡◌};
+ghost use Rattle.duct_guard.specs.Requests.{request_view};
 ghost use Rattle.duct_guard.specs.Rules.{Rules};
 
 use crate::counts::Counts;
-use duct_system::spec::CommandSpec;
+use crate::request::Request;
 
 /// Which requests a guard passes on. What it allows depends on the policy and on the request alone
 /// but for its limits, which the guard itself compares with what it holds. No method may block.
@@ -11,22 +12,9 @@ pub trait Policy {
     /// What it allows.
     ghost rules: { Self → Rules };
 
-    /// Returns whether a child may be started by this spec. The spec is that of the spawn, so hooks
-    /// have changed it already.
-    fn allows_spawn(&self, spec: &CommandSpec) -> bool
-        ensures { result ≡ (rules self.now).spawns spec.now };
-
-    /// Returns whether this file may be opened for reading.
-    fn allows_read(&self, path: &str) -> bool
-        ensures { result ≡ (rules self.now).reads path.now };
-
-    /// Returns whether this file may be opened for writing, which creates or truncates it.
-    fn allows_create(&self, path: &str) -> bool
-        ensures { result ≡ (rules self.now).creates path.now };
-
-    /// Returns whether the canonical path of this path may be requested.
-    fn allows_canonicalize(&self, path: &str) -> bool
-        ensures { result ≡ (rules self.now).canonicalizes path.now };
+    /// Returns whether this request is allowed.
+    fn allows(&self, request: Request) -> bool
+        ensures { result ≡ (rules self.now).allows (request_view request.entry) };
 
     /// Returns the greatest numbers of ends that are open at once and of children that are ever
     /// started.

@@ -1,6 +1,6 @@
 //! Requests to the system below, where a guard does more than to pass them on: it looks at its
 //! policy, or copies what the request takes or returns.
-ghost use Rattle.std.specs.Prelude.{◌≡◌, ℕ, ◌<◌, ◌≤◌, ◌+◌, false, true, ◌⊎◌, min, nat_le, length, map, string_bytes, vec_len, vec_capacity, IfOk, IfErr, OnOk, OnErr, Ok, Err};
+ghost use Rattle.std.specs.Prelude.{◌≡◌, ◌<◌, ◌≤◌, ◌+◌, false, true, ◌⊎◌, ◌&&◌, min, nat_le, length, map, string_bytes, vec_len, vec_capacity, IfOk, IfErr, OnOk, OnErr, Ok, Err};
 ghost use Rattle.duct_system.specs.Child.{IsUnasked};
 ghost use Rattle.duct_system.specs.EntryView.{Environment, Pipe, OpenRead, Create, Duplicate, Parent, Canonicalize, Spawn, Feed};
 ghost use Rattle.duct_system.specs.Job.{unpolled_job};
@@ -10,17 +10,17 @@ ghost use Rattle.duct_system.specs.Streams.{stream_of, ends_of};
 ghost use Rattle.duct_system.specs.EntryView.{answer_of};
 ghost use Rattle.duct_guard.specs.Closed.{ClosesFirst, SpendsEnds};
 ghost use Rattle.duct_guard.specs.Crew.{Joins, Leaves};
-ghost use Rattle.duct_guard.specs.Forwarded.{ForwardsEnd, IsForwarded, allows_spawn, may_ask, refusal};
+ghost use Rattle.duct_guard.specs.Forwarded.{ForwardsEnd, IsForwarded, allows_spawn, refusal};
+ghost use Rattle.duct_guard.specs.Requests.{request_view};
 ghost use Rattle.duct_guard.specs.Rules.{Rules};
 ghost use Rattle.duct_guard.specs.declared.counts.Counts.{Counts};
 ghost use Rattle.std.specs.Arc.{arc_value};
-ghost use Rattle.std.specs.declared.result.Result.{Result};
-ghost use Rattle.duct_system.specs.declared.system.Fault.{Fault};
 
 use crate::child::GuardedChild;
 use crate::counts::Counts;
 use crate::crew::{Member, Notes, forget_ended, join, prepare};
 use crate::policy::Policy;
+use crate::request::Request;
 use crate::streams::close_ends;
 use duct_system::copy::{copies_of, spec_copy};
 use duct_system::spec::CommandSpec;
@@ -84,22 +84,13 @@ fn allows_child<P: Policy>(policy: &P, held: Counts) -> bool
     held.children < policy.limits().children
 }
 
-// Returns whether this file may be opened for reading.
-fn may_read<P: Policy>(policy: &P, held: Counts, path: &str) -> bool
-    ensures allowed { (answer : Result ℕ Fault) →
-        result ≡ may_ask (P.rules policy.now) held (OpenRead path.now answer) }
+// Returns whether the policy allows a request that returns an end.
+fn may_open<P: Policy>(policy: &P, held: Counts, request: Request) -> bool
+    ensures allowed { result ≡ ((P.rules policy.now).allows (request_view request.entry)
+        && nat_le (held.ends + 1) (P.rules policy.now).limits.ends) }
     ensures counts { result ≡ true → held.ends + 1 ≤ 18446744073709551615 }
 {
-    policy.allows_read(path) && allows_ends(policy, held, 1)
-}
-
-// Returns whether this file may be opened for writing.
-fn may_create<P: Policy>(policy: &P, held: Counts, path: &str) -> bool
-    ensures allowed { (answer : Result ℕ Fault) →
-        result ≡ may_ask (P.rules policy.now) held (Create path.now answer) }
-    ensures counts { result ≡ true → held.ends + 1 ≤ 18446744073709551615 }
-{
-    policy.allows_create(path) && allows_ends(policy, held, 1)
+    policy.allows(request) && allows_ends(policy, held, 1)
 }
 
 // Returns whether a child may be started by this spec.
@@ -107,7 +98,7 @@ fn may_spawn<P: Policy>(policy: &P, held: Counts, spec: &CommandSpec) -> bool
     ensures allowed { result ≡ allows_spawn (P.rules policy.now) held spec.now }
     ensures counts { result ≡ true → held.children + 1 ≤ 18446744073709551615 }
 {
-    policy.allows_spawn(spec) && allows_child(policy, held)
+    policy.allows(Request::Spawn(spec)) && allows_child(policy, held)
 }
 
 /// Opens a pipe, if the policy allows two more ends.
@@ -147,7 +138,7 @@ pub(crate) fn open_read_allowed<S: System, P: Policy>(
         IsNew (S.journal_view sys.old) (S.journal_view sys.new) (S.End.number_of end)) }
     ensures counts { OnOk result (held.ends + 1 ≤ 18446744073709551615) }
 {
-    if may_read(policy, held, path) {
+    if may_open(policy, held, Request::Read(path)) {
         sys.open_read(path)
     } else {
         Err(forbidden())
@@ -167,14 +158,14 @@ pub(crate) fn create_allowed<S: System, P: Policy>(
         IsNew (S.journal_view sys.old) (S.journal_view sys.new) (S.End.number_of end)) }
     ensures counts { OnOk result (held.ends + 1 ≤ 18446744073709551615) }
 {
-    if may_create(policy, held, path) {
+    if may_open(policy, held, Request::Create(path)) {
         sys.create(path)
     } else {
         Err(forbidden())
     }
 }
 
-/// Returns one more end of what an end reads or writes, if the policy allows one more.
+/// Returns one more end of what an end reads or writes, if the policy allows it and one more end.
 pub(crate) fn duplicate_allowed<S: System, P: Policy>(
     policy: &P,
     held: Counts,
@@ -188,14 +179,14 @@ pub(crate) fn duplicate_allowed<S: System, P: Policy>(
         IsNew (S.journal_view sys.old) (S.journal_view sys.new) (S.End.number_of end)) }
     ensures counts { OnOk result (held.ends + 1 ≤ 18446744073709551615) }
 {
-    if allows_ends(policy, held, 1) {
+    if may_open(policy, held, Request::Duplicate) {
         sys.duplicate(end)
     } else {
         Err(forbidden())
     }
 }
 
-/// Returns one more end of the parent's own stream, if the policy allows one more.
+/// Returns one more end of the parent's own stream, if the policy allows it and one more end.
 pub(crate) fn parent_allowed<S: System, P: Policy>(
     policy: &P,
     held: Counts,
@@ -208,7 +199,7 @@ pub(crate) fn parent_allowed<S: System, P: Policy>(
         IsNew (S.journal_view sys.old) (S.journal_view sys.new) (S.End.number_of end)) }
     ensures counts { OnOk result (held.ends + 1 ≤ 18446744073709551615) }
 {
-    if allows_ends(policy, held, 1) {
+    if may_open(policy, held, Request::Parent(side)) {
         sys.parent(side)
     } else {
         Err(forbidden())
@@ -231,7 +222,7 @@ pub(crate) fn canonicalize_twice<S: System, P: Policy>(
         IsForwarded (P.rules policy.now) held (Canonicalize path.now (Err fault))
         (S.journal_view sys.old) (S.journal_view sys.new)) }
 {
-    if !policy.allows_canonicalize(path) {
+    if !policy.allows(Request::Canonicalize(path)) {
         return Err(forbidden());
     }
     let text = sys.canonicalize(path)?;

@@ -6,8 +6,8 @@ ghost use Rattle.duct_guard.specs.Held.{Fits};
 ghost use Rattle.duct_guard.specs.Policies.{at_once_rules, limit_rules, program_rules};
 ghost use Rattle.example_beside.specs.Tools.{tool_rules};
 
-use duct::{CommandSpec, Error, Expression, Pool, System};
-use duct_guard::{AtOnce, Counts, Fixed, FixedRules, Guarded, Limits, Policy, Programs};
+use duct::{Error, Expression, Pool, System};
+use duct_guard::{AtOnce, Counts, Fixed, FixedRules, Guarded, Limits, Policy, Programs, Request};
 use std::alloc::Global;
 use std::marker::Brand;
 use std::sync::Wait;
@@ -21,23 +21,15 @@ impl Policy for Tools {
 
     ghost rules = { λ _. tool_rules };
 
-    fn allows_spawn(&self, spec: &CommandSpec) -> bool {
-        match spec.words() {
-            [program, ..] => program.as_str() == "echo" || program.as_str() == "cat",
-            [] => false,
+    fn allows(&self, request: Request) -> bool {
+        match request {
+            Request::Spawn(spec) => match spec.words() {
+                [program, ..] => program.as_str() == "echo" || program.as_str() == "cat",
+                [] => false,
+            },
+            Request::Read(_) | Request::Create(_) => false,
+            _ => true,
         }
-    }
-
-    fn allows_read(&self, _path: &str) -> bool {
-        false
-    }
-
-    fn allows_create(&self, _path: &str) -> bool {
-        false
-    }
-
-    fn allows_canonicalize(&self, _path: &str) -> bool {
-        true
     }
 
     fn limits(&self) -> Counts {

@@ -1,17 +1,17 @@
-use Rattle.std.proofs.Common.{refl, sym, ◌∙◌, Ok}
+use Rattle.std.proofs.Common.{refl, sym, ◌∙◌}
 use Rattle.duct_system.specs.EntryView.{OpenRead}
 use Rattle.duct_guard.proofs.Guarding.{end_answered, forbidden}
 use Rattle.duct_guard.proofs.Limiting.{on_ok}
 use Rattle.duct_guard.proofs.requests.open_read_allowed.Goals as goal
 
-pub returns-then-may_read-clause-forwards : goal.returns-then-may_read-clause-forwards
-returns-then-may_read-clause-forwards g c =
-    end_answered _ c.args.held g.S.End.Numbered.number_of (λ answer. OpenRead c.args.path.now answer) _ _ c.open_read.result (λ answer. sym (c.may_read.ensures.allowed answer) ∙ c.if-may_read.true) (λ n. refl) (λ fault. refl) (λ answer. refl) (λ fault. refl) c.open_read.ensures.ok c.open_read.ensures.err
+pub returns-then-may_open-clause-forwards : goal.returns-then-may_open-clause-forwards
+returns-then-may_open-clause-forwards g c =
+    end_answered _ c.args.held g.S.End.Numbered.number_of (λ answer. OpenRead c.args.path.now answer) _ _ c.open_read.result (λ answer. sym c.may_open.ensures.allowed ∙ c.if-may_open.true) (λ n. refl) (λ fault. refl) (λ answer. refl) (λ fault. refl) c.open_read.ensures.ok c.open_read.ensures.err
 
-pub returns-then-may_read-clause-counts : goal.returns-then-may_read-clause-counts
-returns-then-may_read-clause-counts g c =
-    on_ok c.open_read.result (c.may_read.ensures.counts c.if-may_read.true)
+pub returns-then-may_open-clause-counts : goal.returns-then-may_open-clause-counts
+returns-then-may_open-clause-counts g c =
+    on_ok c.open_read.result (c.may_open.ensures.counts c.if-may_open.true)
 
-pub returns-else-may_read-clause-forwards : goal.returns-else-may_read-clause-forwards
-returns-else-may_read-clause-forwards g c =
-    forbidden _ _ _ _ _ (sym (c.may_read.ensures.allowed (Ok 0)) ∙ c.if-may_read.false) refl c.forbidden.ensures refl
+pub returns-else-may_open-clause-forwards : goal.returns-else-may_open-clause-forwards
+returns-else-may_open-clause-forwards g c =
+    forbidden _ _ _ _ _ (sym c.may_open.ensures.allowed ∙ c.if-may_open.false) refl c.forbidden.ensures refl

@@ -4,14 +4,14 @@ use Rattle.duct_guard.proofs.Guarding.{end_answered, forbidden}
 use Rattle.duct_guard.proofs.Limiting.{on_ok}
 use Rattle.duct_guard.proofs.requests.parent_allowed.Goals as goal
 
-pub returns-then-allows_ends-clause-forwards : goal.returns-then-allows_ends-clause-forwards
-returns-then-allows_ends-clause-forwards g c =
-    end_answered _ c.args.held g.S.End.Numbered.number_of (λ answer. Parent c.args.side answer) _ _ c.parent.result (λ answer. sym c.allows_ends.ensures.within ∙ c.if-allows_ends.true) (λ n. refl) (λ fault. refl) (λ answer. refl) (λ fault. refl) c.parent.ensures.ok c.parent.ensures.err
+pub returns-then-may_open-clause-forwards : goal.returns-then-may_open-clause-forwards
+returns-then-may_open-clause-forwards g c =
+    end_answered _ c.args.held g.S.End.Numbered.number_of (λ answer. Parent c.args.side answer) _ _ c.parent.result (λ answer. sym c.may_open.ensures.allowed ∙ c.if-may_open.true) (λ n. refl) (λ fault. refl) (λ answer. refl) (λ fault. refl) c.parent.ensures.ok c.parent.ensures.err
 
-pub returns-then-allows_ends-clause-counts : goal.returns-then-allows_ends-clause-counts
-returns-then-allows_ends-clause-counts g c =
-    on_ok c.parent.result (c.allows_ends.ensures.counts c.if-allows_ends.true)
+pub returns-then-may_open-clause-counts : goal.returns-then-may_open-clause-counts
+returns-then-may_open-clause-counts g c =
+    on_ok c.parent.result (c.may_open.ensures.counts c.if-may_open.true)
 
-pub returns-else-allows_ends-clause-forwards : goal.returns-else-allows_ends-clause-forwards
-returns-else-allows_ends-clause-forwards g c =
-    forbidden _ _ _ _ _ (sym c.allows_ends.ensures.within ∙ c.if-allows_ends.false) refl c.forbidden.ensures refl
+pub returns-else-may_open-clause-forwards : goal.returns-else-may_open-clause-forwards
+returns-else-may_open-clause-forwards g c =
+    forbidden _ _ _ _ _ (sym c.may_open.ensures.allowed ∙ c.if-may_open.false) refl c.forbidden.ensures refl
