@@ -1,7 +1,9 @@
 -- What the policies allow that come with the guard.
-use Rattle.std.specs.Prelude.{ℕ, Bool, true, false, ◌&&◌, not, min, List, [], ◌∷◌, bytes_eq}
+use Rattle.std.specs.Prelude.{ℕ, Bool, true, false, ◌&&◌, ◌||◌, ◌==◌, not, min, List, [], ◌∷◌, length, bytes_eq, codes, is_some, Some, None}
+use Rattle.std.specs.declared.option.Option.{Option}
 use Rattle.std.specs.List.{list_any, starts_with}
-use Rattle.std.specs.Path.{path_components, parent_dir}
+use Rattle.std.specs.Path.{path_components, parent_dir, slash}
+use Rattle.duct_system.specs.SpecView.{Vars, value_of}
 use Rattle.duct_guard.specs.Requests.{RequestView, spawn, read, create}
 use Rattle.duct_guard.specs.Rules.{Rules}
 use Rattle.duct_guard.specs.declared.counts.Counts.{Counts}
@@ -58,27 +60,76 @@ at_once_rules children = record all_allowed { at_once = children }
 abbrev pub is_listed : List (List ℕ) → List ℕ → Bool
 is_listed names text = list_any (λ name. bytes_eq name text) names
 
--- whether the first of some words is one of these
-abbrev pub is_program_of : List (List ℕ) → List (List ℕ) → Bool
-is_program_of names [] = false
-is_program_of names (program ∷ arguments) = is_listed names program
+-- whether there is a text, and it is this one
+abbrev pub is_text : List ℕ → Option (List ℕ) → Bool
+is_text text None = false
+is_text text (Some other) = bytes_eq other text
+
+-- whether a program is a name that is looked up on this PATH
+abbrev pub is_found : Option (List ℕ) → Vars → List ℕ → Bool
+is_found None vars program = false
+is_found (Some path) vars program =
+    not (list_any (λ byte. byte == slash) program) && is_text path (value_of (codes "PATH") vars)
+
+-- whether a text begins with `/`
+abbrev pub begins_with_slash : List ℕ → Bool
+begins_with_slash [] = false
+begins_with_slash (byte ∷ bytes) = byte == slash
+
+-- whether the file of a program doesn't depend on the child's folder
+abbrev pub is_fixed : Option (List ℕ) → Vars → List ℕ → Bool
+is_fixed path vars program = begins_with_slash program || is_found path vars program
+
+-- the allowed programs, and the PATH on which names are looked up
+pub record ProgramsView : Type 0 where
+  pub names : List (List ℕ)
+  pub path : Option (List ℕ)
+
+-- whether the first of some words is an allowed program
+abbrev pub is_program_of : ProgramsView → Vars → List (List ℕ) → Bool
+is_program_of programs vars [] = false
+is_program_of programs vars (program ∷ arguments) =
+    is_listed programs.names program && is_fixed programs.path vars program
 
 -- whether a request starts no other program than these
-abbrev pub starts_listed : List (List ℕ) → RequestView → Bool
-starts_listed names (spawn spec) = is_program_of names spec.words
-starts_listed names _ = true
+abbrev pub starts_listed : ProgramsView → RequestView → Bool
+starts_listed programs (spawn spec) = is_program_of programs spec.vars spec.words
+starts_listed programs _ = true
 
 -- all, but of children only those by these programs
-abbrev pub program_rules : List (List ℕ) → Rules
-program_rules names = record all_allowed { allows = starts_listed names }
+abbrev pub program_rules : ProgramsView → Rules
+program_rules programs = record all_allowed { allows = starts_listed programs }
+
+-- whether there is a variable with this name
+abbrev pub has_var : List ℕ → Vars → Bool
+has_var name vars = is_some (value_of name vars)
+
+-- whether some variables have one by which the loader adds code to a program
+abbrev pub adds_code : Vars → Bool
+adds_code vars =
+    has_var (codes "LD_PRELOAD") vars || has_var (codes "LD_AUDIT") vars
+    || has_var (codes "LD_LIBRARY_PATH") vars
+
+-- whether a request starts no child with such a variable
+abbrev pub starts_plain : RequestView → Bool
+starts_plain (spawn spec) = not (adds_code spec.vars)
+starts_plain _ = true
+
+-- all but such children
+abbrev pub no_preloads : Rules
+no_preloads = record all_allowed { allows = starts_plain }
 
 -- whether a path has `..` among its names
 abbrev pub climbs : List ℕ → Bool
 climbs path = list_any (λ name. bytes_eq name parent_dir) (path_components path)
 
--- whether the names of a path begin with those of a folder
+-- whether the names of a path begin with those of another one
+abbrev pub begins_with : List ℕ → List ℕ → Bool
+begins_with path folder = starts_with bytes_eq (path_components path) (path_components folder)
+
+-- whether a path lies at or below a folder, as both are written; nothing lies below an empty text
 abbrev pub is_below : List ℕ → List ℕ → Bool
-is_below path folder = starts_with bytes_eq (path_components path) (path_components folder)
+is_below path folder = not (length folder == 0) && begins_with path folder
 
 -- whether a path lies at or below one of these folders, as it is written
 abbrev pub lies_within : List (List ℕ) → List ℕ → Bool

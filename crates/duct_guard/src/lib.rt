@@ -4,6 +4,7 @@
 mod child;
 mod counts;
 mod crew;
+mod error;
 mod fixed;
 mod guard;
 mod policies;
@@ -14,8 +15,9 @@ mod streams;
 
 pub use child::GuardedChild;
 pub use counts::Counts;
+pub use error::PolicyError;
 pub use fixed::{Fixed, FixedRules};
 pub use guard::Guarded;
-pub use policies::{AtOnce, Both, Folders, Limits, Programs, ReadOnly};
+pub use policies::{AtOnce, Both, Folders, Limits, NoPreloads, Programs, ReadOnly};
 pub use policy::Policy;
 pub use request::Request;

@@ -1,38 +1,63 @@
 //! Policies that come with the guard.
-ghost use Rattle.std.specs.Prelude.{◌≡◌, map, string_bytes};
+ghost use Rattle.std.specs.Prelude.{◌≡◌, [], true, codes, map, string_bytes, Some, None, IfOk, OnErr};
+ghost use Rattle.std.specs.Option.{option_map};
 ghost use Rattle.std.specs.List.{list_any};
-ghost use Rattle.duct_guard.specs.Policies.{climbs, is_below, is_listed, lies_within};
+ghost use Rattle.duct_system.specs.SpecView.{value_of};
+ghost use Rattle.duct_guard.specs.Policies.{adds_code, begins_with, begins_with_slash, climbs, has_var, is_below, is_fixed, is_found, is_listed, is_text, lies_within};
 
 use crate::counts::Counts;
+use crate::error::PolicyError;
 use crate::policy::Policy;
 use crate::request::Request;
+use duct_system::spec::CommandSpec;
 use std::marker::Model;
 use std::path::Path;
 
 /// Allows to start the programs of a list alone: the first word of the spec, which names the
-/// program, has to be one of these texts. All other requests are allowed.
+/// program, has to be one of these texts. It has to be an absolute path, which begins with `/`, or a
+/// name without `/` where the child's `PATH` is the given one. Any other path depends on the folder
+/// that the child starts in, and is forbidden, also where it is listed. All other requests are
+/// allowed.
 ///
-/// A program without a slash is sought in the child's `PATH`: to allow one file alone, list its
-/// absolute path.
+/// Which file an absolute path is, is up to the machine, and so is what the program starts.
 #[derive(Drop)]
 pub struct Programs {
     names: Vec<String>,
+    path: Option<String>,
 }
 
 impl Model for Programs {
-    ghost use Rattle.std.specs.Prelude.{ℕ, List, map, string_bytes};
+    ghost use Rattle.std.specs.Prelude.{map, string_bytes};
+    ghost use Rattle.std.specs.Option.{option_map};
+    ghost use Rattle.duct_guard.specs.Policies.{ProgramsView};
 
-    ghost Value = { List (List ℕ) };
+    ghost Value = { ProgramsView };
 
-    ghost view = { λ p. map string_bytes p.names.items };
+    ghost view = { λ p. record {
+      names = map string_bytes p.names.items;
+      path = option_map string_bytes p.path;
+    } };
 }
 
 impl Programs {
-    /// Returns the policy that allows these programs.
+    /// Returns the policy that allows the absolute paths among these.
     pub fn new(names: Vec<String>) -> Programs
-        ensures { result ≡ map string_bytes names.items }
+        ensures { result ≡ record { names = map string_bytes names.items; path = None } }
     {
-        Programs { names }
+        Programs { names, path: None }
+    }
+
+    /// Returns the policy that allows the absolute paths among these, and the names without `/`
+    /// where the child has exactly this `PATH`, whose name is compared in any spelling. A folder in
+    /// it that isn't absolute depends on the folder that the child starts in.
+    pub fn on_path(names: Vec<String>, path: String) -> Programs
+        ensures { result ≡ record
+            { names = map string_bytes names.items; path = Some (string_bytes path) } }
+    {
+        Programs {
+            names,
+            path: Some(path),
+        }
     }
 }
 
@@ -44,7 +69,10 @@ impl Policy for Programs {
     fn allows(&self, request: Request) -> bool {
         match request {
             Request::Spawn(spec) => match spec.words() {
-                [program, ..] => is_listed(self.names.as_slice(), program.as_str()),
+                [program, ..] => {
+                    let program = program.as_str();
+                    is_listed(self.names.as_slice(), program) && is_fixed(&self.path, spec, program)
+                }
                 [] => false,
             },
             _ => true,
@@ -57,6 +85,39 @@ impl Policy for Programs {
 
     fn at_once(&self) -> usize {
         usize::MAX
+    }
+}
+
+// Returns whether a program is an absolute path, or a name that is looked up on this path.
+fn is_fixed(path: &Option<String>, spec: &CommandSpec, program: &str) -> bool
+    ensures { result ≡ is_fixed (option_map string_bytes path.now) spec.now.vars program.now }
+{
+    begins_with_slash(program) || is_found(path, spec, program)
+}
+
+fn begins_with_slash(text: &str) -> bool
+    ensures { result ≡ begins_with_slash text.now }
+{
+    matches!(text.as_bytes(), [b'/', ..])
+}
+
+// Returns whether a program is a name that is looked up on this path.
+fn is_found(path: &Option<String>, spec: &CommandSpec, program: &str) -> bool
+    ensures { result ≡ is_found (option_map string_bytes path.now) spec.now.vars program.now }
+{
+    match path {
+        Some(path) => !program.as_bytes().contains(&b'/') && has_path(spec, path.as_str()),
+        None => false,
+    }
+}
+
+// Returns whether this is the child's `PATH`.
+fn has_path(spec: &CommandSpec, path: &str) -> bool
+    ensures { result ≡ is_text path.now (value_of (codes "PATH") spec.now.vars) }
+{
+    match spec.var("PATH") {
+        Some(text) => text == path,
+        None => false,
     }
 }
 
@@ -73,11 +134,13 @@ fn is_listed(names: &[String], text: &str) -> bool
 }
 
 /// Allows to open files at or below some folders alone. Paths are compared name by name, as they
-/// are written: a path with `..` is forbidden, and a relative path lies below a relative folder
-/// alone. All other requests are allowed.
+/// are written: a path with `..` is forbidden, a relative path lies below a relative folder alone,
+/// and a path without a leading `./` doesn't lie below `.`. What a relative path is below is up to
+/// the parent's current folder. All other requests are allowed.
 ///
-/// Symbolic links are not followed: below a folder that others can change, open what
-/// `canonicalize` returns, and give the folders by their canonical paths.
+/// Symbolic links are followed by the machine, and not seen here: a link in such a folder opens what
+/// it points at. Open what `canonicalize` returns, and give the folders by their canonical paths;
+/// where others can change the folder, a link may still appear between the two.
 #[derive(Drop)]
 pub struct Folders {
     folders: Vec<String>,
@@ -92,11 +155,17 @@ impl Model for Folders {
 }
 
 impl Folders {
-    /// Returns the policy that allows files at or below these folders.
-    pub fn new(folders: Vec<String>) -> Folders
-        ensures { result ≡ map string_bytes folders.items }
+    /// Returns the policy that allows files at or below these folders. Without a folder it allows
+    /// none. Fails with `PolicyError::EmptyFolder` if one is the empty text; the folders are then
+    /// dropped. The folder that contains all absolute paths is `/`.
+    pub fn new(folders: Vec<String>) -> Result<Folders, PolicyError>
+        ensures ok { IfOk result (λ policy. policy ≡ map string_bytes folders.items) }
+        ensures err { OnErr result (is_listed (map string_bytes folders.items) [] ≡ true) }
     {
-        Folders { folders }
+        if is_listed(folders.as_slice(), "") {
+            return Err(PolicyError::EmptyFolder);
+        }
+        Ok(Folders { folders })
     }
 }
 
@@ -154,11 +223,63 @@ fn is_below_one(folders: &[String], path: &str) -> bool
     false
 }
 
-// Returns whether the names of a path begin with those of a folder.
+// Returns whether the names of a path begin with those of a folder, which isn't empty.
 fn is_below(path: &str, folder: &str) -> bool
     ensures { result ≡ is_below path.now folder.now }
 {
+    !folder.is_empty() && begins_with(path, folder)
+}
+
+// Returns whether the names of a path begin with those of another one.
+fn begins_with(path: &str, folder: &str) -> bool
+    ensures { result ≡ begins_with path.now folder.now }
+{
     Path::new(path).starts_with(folder)
+}
+
+/// Allows to start children without the variables by which the loader adds code to a program:
+/// `LD_PRELOAD`, `LD_AUDIT` and `LD_LIBRARY_PATH`, in any spelling. All other requests are allowed.
+///
+/// Programs read other variables too, as `BASH_ENV` and `PYTHONPATH`.
+#[derive(Drop)]
+pub struct NoPreloads;
+
+impl Policy for NoPreloads {
+    ghost use Rattle.duct_guard.specs.Policies.{no_preloads};
+
+    ghost rules = { λ _. no_preloads };
+
+    fn allows(&self, request: Request) -> bool {
+        match request {
+            Request::Spawn(spec) => !adds_code(spec),
+            _ => true,
+        }
+    }
+
+    fn limits(&self) -> Counts {
+        Counts::unlimited()
+    }
+
+    fn at_once(&self) -> usize {
+        usize::MAX
+    }
+}
+
+// Returns whether a child has a variable by which the loader adds code to its program.
+fn adds_code(spec: &CommandSpec) -> bool
+    ensures { result ≡ adds_code spec.now.vars }
+{
+    has_var(spec, "LD_PRELOAD") || has_var(spec, "LD_AUDIT") || has_var(spec, "LD_LIBRARY_PATH")
+}
+
+// Returns whether a child has a variable with this name.
+fn has_var(spec: &CommandSpec, name: &str) -> bool
+    ensures { result ≡ has_var name.now spec.now.vars }
+{
+    match spec.var(name) {
+        Some(_) => true,
+        None => false,
+    }
 }
 
 /// Allows no file to be created or truncated. All other requests are allowed, so what a child does

@@ -4,10 +4,11 @@ use Rattle.duct_guard.specs.Policies.{no_limit, unlimited}
 use Rattle.duct_guard.specs.Requests.{RequestView, spawn, read, create}
 use Rattle.duct_guard.specs.Rules.{Rules}
 
--- whether the first of some words is echo or cat
+-- whether the first of some words is /bin/echo or /bin/cat
 abbrev pub is_tool : List (List ℕ) → Bool
 is_tool [] = false
-is_tool (program ∷ arguments) = bytes_eq program (codes "echo") || bytes_eq program (codes "cat")
+is_tool (program ∷ arguments) =
+    bytes_eq program (codes "/bin/echo") || bytes_eq program (codes "/bin/cat")
 
 -- whether a request starts no other program and opens no file
 abbrev pub is_tool_request : RequestView → Bool

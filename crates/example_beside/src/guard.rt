@@ -1,6 +1,6 @@
 //! Build steps over a guard, of which a clause says what they may do, whatever their trees are and
 //! their hooks do.
-ghost use Rattle.std.specs.Prelude.{◌≡◌, ◌≤◌, [], map, string_bytes};
+ghost use Rattle.std.specs.Prelude.{◌≡◌, ◌≤◌, [], map, string_bytes, None};
 ghost use Rattle.duct_guard.specs.Allowed.{AreAllowed};
 ghost use Rattle.duct_guard.specs.Held.{Fits};
 ghost use Rattle.duct_guard.specs.Policies.{at_once_rules, limit_rules, program_rules};
@@ -12,7 +12,7 @@ use std::alloc::Global;
 use std::marker::Brand;
 use std::sync::Wait;
 
-/// Allows to start `echo` and `cat`, and to open no file.
+/// Allows to start `/bin/echo` and `/bin/cat`, and to open no file.
 #[derive(Drop)]
 pub struct Tools;
 
@@ -24,7 +24,9 @@ impl Policy for Tools {
     fn allows(&self, request: Request) -> bool {
         match request {
             Request::Spawn(spec) => match spec.words() {
-                [program, ..] => program.as_str() == "echo" || program.as_str() == "cat",
+                [program, ..] => {
+                    program.as_str() == "/bin/echo" || program.as_str() == "/bin/cat"
+                }
                 [] => false,
             },
             Request::Read(_) | Request::Create(_) => false,
@@ -41,7 +43,7 @@ impl Policy for Tools {
     }
 }
 
-/// Reads what a step prints. The system is asked to start `echo` and `cat` alone.
+/// Reads what a step prints. The system is asked to start `/bin/echo` and `/bin/cat` alone.
 pub fn read_step<S: System>(
     rt: &impl Wait,
     alloc: Global,
@@ -96,7 +98,7 @@ fn read_fixed<S: System, P: Policy + Drop, K: FixedRules>(
     (system, held, running, printed)
 }
 
-/// Reads what a step prints. The system is asked to start the programs of this list alone.
+/// Reads what a step prints. The system is asked to start the absolute paths of this list alone.
 pub fn read_listed<S: System>(
     rt: &impl Wait,
     alloc: Global,
@@ -105,7 +107,8 @@ pub fn read_listed<S: System>(
     step: &Expression<S::End>,
 ) -> (S, Result<String, Error>)
     requires { (S.journal_view system).entries ≡ [] }
-    ensures { AreAllowed (program_rules (map string_bytes programs.items))
+    ensures { AreAllowed
+        (program_rules (record { names = map string_bytes programs.items; path = None }))
         (S.journal_view result.0).entries }
 {
     let policy = Programs::new(programs);

@@ -24,12 +24,14 @@ use std::thread::Threads;
 use std::time::Duration;
 
 /// What each step may do, and its words.
-const STEPS: [(Allowed, &str); 9] = [
-    (Allowed::Tools, "echo compiled"),
-    (Allowed::Tools, "cat /dev/null"),
+const STEPS: [(Allowed, &str); 11] = [
+    (Allowed::Tools, "/bin/echo compiled"),
+    (Allowed::Tools, "/bin/cat /dev/null"),
     (Allowed::Tools, "touch made"),
-    (Allowed::Programs("echo cat"), "cat /dev/null"),
-    (Allowed::Programs("echo tee"), "cat /dev/null"),
+    (Allowed::Programs("/bin/cat"), "/bin/cat /dev/null"),
+    (Allowed::Programs("/bin/cat"), "/bin/echo refused"),
+    (Allowed::Programs("cat"), "cat /dev/null"),
+    (Allowed::Programs("./cat"), "./cat /dev/null"),
     (Allowed::Children(1), "echo piped | cat"),
     (Allowed::Children(2), "echo piped | cat"),
     (Allowed::AtOnce(1), "echo in turn"),

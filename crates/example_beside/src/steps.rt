@@ -10,9 +10,9 @@ use std::sync::Wait;
 /// What a step may do.
 #[derive(Clone, Copy, Debug)]
 pub enum Allowed<'t> {
-    /// Start `echo` and `cat`.
+    /// Start `/bin/echo` and `/bin/cat`.
     Tools,
-    /// Start these programs, with a space between them.
+    /// Start the absolute paths among these, with a space between them.
     Programs(&'t str),
     /// Start this many children.
     Children(usize),

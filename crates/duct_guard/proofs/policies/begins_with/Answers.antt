@@ -3,7 +3,7 @@ use Rattle.std.proofs.Common.{ap, ◌∙◌}
 use Rattle.std.specs.List.{starts_with}
 use Rattle.std.specs.Prelude.{bytes_eq}
 use Rattle.duct_guard.proofs.Prefixes.{prefix_test}
-use Rattle.duct_guard.proofs.policies.is_below.Goals as goal
+use Rattle.duct_guard.proofs.policies.begins_with.Goals as goal
 
 pub returns : goal.returns
 returns c =
