@@ -237,13 +237,13 @@ impl<R: Real> Machine for HostMachine<R> {
         (self.requests.system_alone(), &mut self.pool, &self.clock)
     }
 
-    /// Reads the line of a single request as well.
     fn spare(&self) -> Result<Host<R>, TableError> {
         let rt = self.clock.rt.clone()?;
         let alloc = rt.alloc();
         Ok(Host::new(rt, alloc))
     }
 
+    /// Reads the line of a single request as well.
     fn line(&mut self, key: &str, text: &str, out: &mut String) -> Result<bool, TableError> {
         if self.found(key, text, out)? {
             return Ok(true);
