@@ -1,5 +1,6 @@
 //! The examples of README and of docs/COOKBOOK.md, programs as any user writes them, over any
 //! system, and tests of them over the scripted system and over the real machine.
+mod builds;
 mod commands;
 mod files;
 mod first_steps;

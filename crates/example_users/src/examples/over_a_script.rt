@@ -1,5 +1,6 @@
 //! The examples over the scripted system, which runs no program: a test, and what the test over the
 //! machine tries too.
+use super::builds::make_all;
 use super::handles::started_at_last;
 use super::script::{run_script, started};
 use super::supervisor::supervise;
@@ -11,6 +12,7 @@ use duct_script::system::Script;
 use duct_shell::{Failure, Shell};
 use std::alloc::{AllocError, Global};
 use std::sync::Wait;
+use std::sync::atomic::{AtomicUsize, Ordering};
 use std::test::Fail;
 use std::time::Duration;
 
@@ -87,4 +89,13 @@ fn busy(alloc: Global) -> Result<Script, AllocError> {
 /// Whether a command is started at last, and run at last, over that system.
 pub fn attempts_at_last(rt: &impl Wait, alloc: Global) -> Result<bool, Error> {
     at_last(rt, alloc, &mut busy(alloc)?)
+}
+
+/// Makes two targets over a scripted system, of which the second fails. Returns what is reported of
+/// them, and how many are done.
+pub fn targets_made(rt: &impl Wait, alloc: Global) -> Result<String, Failure> {
+    let mut system = scripted(alloc, &[SUCCEEDS, FAILS])?;
+    let done = AtomicUsize::new(0);
+    let report = make_all(rt, alloc, &mut system, &["all", "docs"], &done)?;
+    Ok(format!(in alloc; "{report}{} done", done.load(Ordering::SeqCst))?)
 }

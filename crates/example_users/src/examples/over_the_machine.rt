@@ -9,7 +9,7 @@ use super::groups::killed;
 use super::handles::{stopped, work_beside};
 use super::limits::build;
 use super::machines::{words_there, write_ssh};
-use super::over_a_script::{attempts_at_last, service_at_last, service_text};
+use super::over_a_script::{attempts_at_last, service_at_last, service_text, targets_made};
 use super::readers::{copied, counted, longest_line};
 use super::recipes::{appended, asked};
 use super::script::{run_script, started};
@@ -39,6 +39,7 @@ enum Example {
     Service,
     ServiceAtLast,
     AttemptsAtLast,
+    TargetsMade,
     Listed,
     Fed,
     Merged,
@@ -67,7 +68,7 @@ enum Example {
 }
 
 /// What each example comes to.
-const EXAMPLES: [(Example, &str); 35] = [
+const EXAMPLES: [(Example, &str); 36] = [
     (
         Example::Piped,
         "(Output { status: Code(0), stdout: [72, 69, 76, 76, 79, 10], \
@@ -86,6 +87,10 @@ Err(command [\"sh\", \"-c\", \"exit 3\"] exited with code 3))",
     (Example::Service, "None, 3 given"),
     (Example::ServiceAtLast, "Some(2), 2 given"),
     (Example::AttemptsAtLast, "true"),
+    (
+        Example::TargetsMade,
+        "all is made\ndocs: command [\"make\", \"docs\"] exited with code 1\n2 done",
+    ),
     (Example::Listed, "foo bar baz"),
     (Example::Fed, "foo"),
     (Example::Merged, "out\nerr"),
@@ -260,6 +265,7 @@ fn told_anywhere<S: System, R: Wait + Clone + Drop>(
         Example::Service => service_text(sh, clock, Duration::from_millis(20)),
         Example::ServiceAtLast => service_at_last(sh.rt.clone()?, alloc, clock),
         Example::AttemptsAtLast => text(alloc, attempts_at_last(&sh.rt, alloc)),
+        Example::TargetsMade => targets_made(&sh.rt, alloc),
         Example::Listed => sh.read(&listed(alloc)?),
         Example::Fed => sh.read(&fed(alloc)?),
         Example::Merged => sh.read(&merged(alloc)?),
