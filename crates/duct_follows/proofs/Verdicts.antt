@@ -8,10 +8,12 @@ use Rattle.duct_start.specs.Chain.{Allows}
 use Rattle.duct_start.specs.Follows.{AnswersFromBy, Follows, StreamsRelation, GivesExactly}
 use Rattle.duct_start.specs.Plan.{Plan}
 use Rattle.duct_start.specs.Step.{Item}
+use Rattle.duct_follows.specs.Flaws.{first_flaw}
 use Rattle.duct_follows.specs.Unbalanced.{unbalanced}
-use Rattle.duct_follows.specs.Verdict.{FollowUpTo, IsDue, IsJudged, IsVerdict, IsWhole, verdict_by}
+use Rattle.duct_follows.specs.Verdict.{FollowUpTo, IsDue, IsJudged, IsVerdict, IsWhole, verdict_by, verdict_of_whole}
 use Rattle.duct_follows.specs.declared.verdict.Due.{Due}
 use Rattle.duct_follows.specs.declared.verdict.Due.TheVariants.{Request, Closes, Nothing}
+use Rattle.duct_follows.specs.declared.verdict.Flaw.{Flaw}
 use Rattle.duct_follows.specs.declared.verdict.Verdict.{Verdict}
 use Rattle.duct_follows.specs.declared.verdict.Verdict.TheVariants as verdicts
 use Rattle.duct_follows.proofs.Balance.{balanced_unless_found, unbalanced_if_found}
@@ -51,19 +53,28 @@ module _ {E H : Type 0} (allows : Allows H) (number_of : E → ℕ) (plan : Plan
       → IsWhole plan entries
   whole_at_end follows all clean = let fits = requests_fit follows in omega arith
 
+  -- what entries that follow the plan and are whole are found to be
+  whole_judged_by : (found : Option ℕ) (flaw : Option (ℕ × Flaw))
+      → Follows allows number_of plan entries → IsWhole plan entries → found ≡ unbalanced entries
+      → flaw ≡ first_flaw number_of plan entries
+      → IsVerdict allows number_of plan entries (verdict_of_whole found flaw)
+  whole_judged_by (Some number) flaw follows whole same first =
+      record { follows = follows; whole = whole; first = sym same }
+  whole_judged_by None (Some (entry, flaw)) follows whole same first =
+      record { follows = follows; whole = whole; balanced = balanced_unless_found entries (sym same); first = sym first }
+  whole_judged_by None None follows whole same first =
+      record { follows = follows; whole = whole; balanced = balanced_unless_found entries (sym same); flawless = sym first }
+
   -- what entries that follow the plan are found to be
-  pub judged_by : (due : Due) (found : Option ℕ) → Follows allows number_of plan entries
-      → IsDue plan entries due → found ≡ unbalanced entries
-      → IsVerdict allows number_of plan entries (verdict_by due found)
-  judged_by (Request place) found follows is same = record { follows = follows; was_due = is }
-  judged_by Closes (Some number) follows is same =
-      record { follows = follows; whole = whole_unless_clean is; first = sym same }
-  judged_by Closes None follows is same =
-      record { follows = follows; whole = whole_unless_clean is; balanced = balanced_unless_found entries (sym same) }
-  judged_by Nothing (Some number) follows is same =
-      record { follows = follows; whole = whole_at_end follows is.1; first = sym same }
-  judged_by Nothing None follows is same =
-      record { follows = follows; whole = whole_at_end follows is.1; balanced = balanced_unless_found entries (sym same) }
+  pub judged_by : (due : Due) (found : Option ℕ) (flaw : Option (ℕ × Flaw))
+      → Follows allows number_of plan entries → IsDue plan entries due → found ≡ unbalanced entries
+      → flaw ≡ first_flaw number_of plan entries
+      → IsVerdict allows number_of plan entries (verdict_by due found flaw)
+  judged_by (Request place) found flaw follows is same first = record { follows = follows; was_due = is }
+  judged_by Closes found flaw follows is same first =
+      whole_judged_by found flaw follows (whole_unless_clean is) same first
+  judged_by Nothing found flaw follows is same first =
+      whole_judged_by found flaw follows (whole_at_end follows is.1) same first
 
   -- a verdict is yes exactly where the entries are what a start must request
   pub decides : (verdict : Verdict) → IsVerdict allows number_of plan entries verdict
@@ -75,3 +86,5 @@ module _ {E H : Type 0} (allows : Allows H) (number_of : E → ℕ) (plan : Plan
       (λ is. cc, λ judged. let whole = judged.whole found.was_due.0 in let place = found.was_due.1 in let short = found.was_due.2 in absurd (omega arith))
   decides (verdicts.Unbalanced number) found =
       (λ is. cc, λ judged. absurd (unbalanced_if_found entries number found.first judged.balanced))
+  decides (verdicts.Flawed entry flaw) found =
+      (λ is. cc, λ judged. let none = judged.flawless in let some = found.first in cc)

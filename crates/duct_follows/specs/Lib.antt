@@ -1,4 +1,5 @@
 pub mod Cause
+pub mod Flaws
 pub mod Given
 pub mod Judgement
 pub mod Printed

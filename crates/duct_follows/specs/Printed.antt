@@ -4,7 +4,7 @@ use Rattle.duct_program.specs.Printed.{usage_text}
 use Rattle.duct_program.specs.declared.usage.Usage.{Usage}
 use Rattle.duct_program.specs.declared.usage.Usage.TheVariants.{EmptyCommand, MissingPath, MissingText, Memory}
 use Rattle.duct_follows.specs.declared.verdict.Verdict.{Verdict}
-use Rattle.duct_follows.specs.declared.verdict.Verdict.TheVariants.{Follows, Differs, Ends, Unbalanced}
+use Rattle.duct_follows.specs.declared.verdict.Verdict.TheVariants.{Follows, Differs, Ends, Unbalanced, Flawed}
 
 -- the status of a verdict: 0 for yes and 1 for no
 abbrev pub status_of : Verdict → ℕ
@@ -12,6 +12,7 @@ status_of Follows = 0
 status_of (Differs entry due) = 1
 status_of (Ends due) = 1
 status_of (Unbalanced number) = 1
+status_of (Flawed entry flaw) = 1
 
 -- the status of a usage error: 3 if an allocation failed, otherwise 2
 abbrev pub usage_status : Usage → ℕ

@@ -7,9 +7,11 @@ use Rattle.duct_system.specs.Trace.{IsClean, trace}
 use Rattle.duct_start.specs.Chain.{Allows}
 use Rattle.duct_start.specs.Follows.{Follows}
 use Rattle.duct_start.specs.Plan.{Plan}
+use Rattle.duct_follows.specs.Flaws.{first_flaw}
 use Rattle.duct_follows.specs.Unbalanced.{unbalanced}
 use Rattle.duct_follows.specs.declared.verdict.Due.{Due}
 use Rattle.duct_follows.specs.declared.verdict.Due.TheVariants.{Request, Closes, Nothing}
+use Rattle.duct_follows.specs.declared.verdict.Flaw.{Flaw}
 use Rattle.duct_follows.specs.declared.verdict.Verdict.{Verdict}
 use Rattle.duct_follows.specs.declared.verdict.Verdict.TheVariants as verdicts
 
@@ -18,12 +20,13 @@ abbrev pub IsWhole : {E H : Type 0} → Plan E H → List EntryView → Type 0
 IsWhole plan entries = IsClean entries → length (trace entries) ≡ length plan.items
 
 -- the entries are what a start with this plan must request: they follow it, to its end or up to the
--- first fault, and each end that was got was spent, once
+-- first fault, each end that was got was spent, once, and no entry has a flaw
 pub record IsJudged {E H : Type 0} (allows : Allows H) (number_of : E → ℕ) (plan : Plan E H)
     (entries : List EntryView) : Type 0 where
   pub follows : Follows allows number_of plan entries
   pub whole : IsWhole plan entries
   pub balanced : IsBalanced entries
+  pub flawless : first_flaw number_of plan entries ≡ None
 
 -- this may come next after these entries
 abbrev pub IsDue : {E H : Type 0} → Plan E H → List EntryView → Due → Type 0
@@ -59,6 +62,14 @@ pub record LeavesUnbalanced {E H : Type 0} (allows : Allows H) (number_of : E �
   pub whole : IsWhole plan entries
   pub first : unbalanced entries ≡ Some number
 
+-- the entries follow the plan, are whole and balance, but this is their first flaw
+pub record HasFlaw {E H : Type 0} (allows : Allows H) (number_of : E → ℕ) (plan : Plan E H)
+    (entries : List EntryView) (entry : ℕ) (flaw : Flaw) : Type 0 where
+  pub follows : Follows allows number_of plan entries
+  pub whole : IsWhole plan entries
+  pub balanced : IsBalanced entries
+  pub first : first_flaw number_of plan entries ≡ Some (entry, flaw)
+
 -- the entries are found to be this
 abbrev pub IsVerdict : {E H : Type 0} → Allows H → (E → ℕ) → Plan E H → List EntryView → Verdict
     → Type 0
@@ -69,12 +80,18 @@ IsVerdict allows number_of plan entries (verdicts.Ends due) =
     Ends allows number_of plan entries due
 IsVerdict allows number_of plan entries (verdicts.Unbalanced number) =
     LeavesUnbalanced allows number_of plan entries number
+IsVerdict allows number_of plan entries (verdicts.Flawed entry flaw) =
+    HasFlaw allows number_of plan entries entry flaw
 
--- the verdict on entries that follow a plan, by what may come next, and by the first end that was
--- not got once and spent once
-abbrev pub verdict_by : Due → Option ℕ → Verdict
-verdict_by (Request due) unbalanced = verdicts.Ends due
-verdict_by Closes (Some number) = verdicts.Unbalanced number
-verdict_by Closes None = verdicts.Follows
-verdict_by Nothing (Some number) = verdicts.Unbalanced number
-verdict_by Nothing None = verdicts.Follows
+-- the verdict on entries that follow a plan and are whole, by the first end that was not got once
+-- and spent once, and by their first flaw
+abbrev pub verdict_of_whole : Option ℕ → Option (ℕ × Flaw) → Verdict
+verdict_of_whole (Some number) flaw = verdicts.Unbalanced number
+verdict_of_whole None (Some (entry, flaw)) = verdicts.Flawed entry flaw
+verdict_of_whole None None = verdicts.Follows
+
+-- the verdict on entries that follow a plan, by what may come next too
+abbrev pub verdict_by : Due → Option ℕ → Option (ℕ × Flaw) → Verdict
+verdict_by (Request due) unbalanced flaw = verdicts.Ends due
+verdict_by Closes unbalanced flaw = verdict_of_whole unbalanced flaw
+verdict_by Nothing unbalanced flaw = verdict_of_whole unbalanced flaw

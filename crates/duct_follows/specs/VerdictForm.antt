@@ -8,8 +8,10 @@ use Rattle.duct_report.specs.EntryForm.{of_end}
 use Rattle.duct_plan.specs.PlanForm.{item_form}
 use Rattle.duct_follows.specs.declared.verdict.Due.{Due}
 use Rattle.duct_follows.specs.declared.verdict.Due.TheVariants.{Request, Closes, Nothing}
+use Rattle.duct_follows.specs.declared.verdict.Flaw.{Flaw}
+use Rattle.duct_follows.specs.declared.verdict.Flaw.TheVariants.{OldNumber, NotOpen, UnusedCopy}
 use Rattle.duct_follows.specs.declared.verdict.Verdict.{Verdict}
-use Rattle.duct_follows.specs.declared.verdict.Verdict.TheVariants.{Follows, Differs, Ends, Unbalanced}
+use Rattle.duct_follows.specs.declared.verdict.Verdict.TheVariants.{Follows, Differs, Ends, Unbalanced, Flawed}
 
 -- a request, if there is one
 unfoldable pub found_form : {E H : Type 0} → Option (Item E H) → Form
@@ -27,6 +29,12 @@ due_form items (Request place) = joined (request_form items place ∷ plain (cod
 due_form items Closes = plain (codes "only closes were")
 due_form items Nothing = plain (codes "no request was")
 
+-- what is wrong with an entry, as the end of a line
+abbrev pub flaw_text : Flaw → List ℕ
+flaw_text OldNumber = codes "returns a number that is not new\n"
+flaw_text NotOpen = codes "uses an end that is not open\n"
+flaw_text UnusedCopy = codes "closes a copy that no command got\n"
+
 -- the line of a verdict
 abbrev pub verdict_form : {E H : Type 0} → List (Item E H) → Verdict → Form
 verdict_form items Follows = plain (codes "yes\n")
@@ -39,6 +47,8 @@ verdict_form items (Ends due) =
 verdict_form items (Unbalanced number) =
     joined (of_end (codes "no: end ") number
     ∷ plain (codes " is not returned once and spent once\n") ∷ [])
+verdict_form items (Flawed entry flaw) =
+    joined (of_end (codes "no: entry ") entry ∷ plain (codes " ") ∷ plain (flaw_text flaw) ∷ [])
 
 -- the line of a verdict, where all texts of it are printable ASCII; else no promise
 abbrev pub verdict_text : {E H : Type 0} → Plan E H → Verdict → Option (List ℕ)

@@ -7,10 +7,11 @@ ghost use Rattle.duct_follows.specs.Verdict.{IsDue, IsJudged, IsVerdict, verdict
 ghost use Rattle.duct_follows.specs.declared.verdict.Verdict.TheVariants as verdicts;
 
 use crate::added::follows;
+use crate::flaws::first_flaw;
 use crate::stops::is_clean;
 use crate::unbalanced::unbalanced;
 use crate::untold::Untold;
-use crate::verdict::{Due, Verdict};
+use crate::verdict::{Due, Flaw, Verdict};
 use duct_base::spec::Hook;
 use duct_base::system::{Entry, Numbered};
 use duct_plan::{Plan, trace};
@@ -34,18 +35,21 @@ pub fn judge<E: Numbered>(
         return first_difference(alloc, plan, entries);
     }
     let due = due_after(alloc, plan, entries)?;
-    Ok(verdict_by(due, unbalanced(alloc, entries)?))
+    let unbalanced = unbalanced(alloc, entries)?;
+    let flaw = first_flaw(alloc, plan, entries)?;
+    Ok(verdict_by(due, unbalanced, flaw))
 }
 
-/// Returns the verdict on entries that follow a plan, by what may come next, and by the first end
-/// that was not returned once and spent once.
-fn verdict_by(due: Due, unbalanced: Option<u64>) -> Verdict
-    ensures { result ≡ verdict_by due unbalanced }
+/// Returns the verdict on entries that follow a plan, by what may come next, by the first end that
+/// was not returned once and spent once, and by their first flaw.
+fn verdict_by(due: Due, unbalanced: Option<u64>, flaw: Option<(usize, Flaw)>) -> Verdict
+    ensures { result ≡ verdict_by due unbalanced flaw }
 {
-    match (due, unbalanced) {
-        (Due::Request(due), _) => Verdict::Ends { due },
-        (Due::Closes | Due::Nothing, Some(number)) => Verdict::Unbalanced { number },
-        (Due::Closes | Due::Nothing, None) => Verdict::Follows,
+    match (due, unbalanced, flaw) {
+        (Due::Request(due), _, _) => Verdict::Ends { due },
+        (Due::Closes | Due::Nothing, Some(number), _) => Verdict::Unbalanced { number },
+        (Due::Closes | Due::Nothing, None, Some((entry, flaw))) => Verdict::Flawed { entry, flaw },
+        (Due::Closes | Due::Nothing, None, None) => Verdict::Follows,
     }
 }
 

@@ -70,7 +70,10 @@ fn status_of(verdict: Verdict) -> u8
 {
     match verdict {
         Verdict::Follows => 0,
-        Verdict::Differs { .. } | Verdict::Ends { .. } | Verdict::Unbalanced { .. } => 1,
+        Verdict::Differs { .. }
+        | Verdict::Ends { .. }
+        | Verdict::Unbalanced { .. }
+        | Verdict::Flawed { .. } => 1,
     }
 }
 

@@ -4,9 +4,9 @@ ghost use Rattle.std.specs.Fmt.{DisplaysOnOk};
 ghost use Rattle.std.specs.Option.{option_copied};
 ghost use Rattle.duct_tree.specs.Text.{printed};
 ghost use Rattle.duct_plan.specs.PlanView.{item_of, plan_view};
-ghost use Rattle.duct_follows.specs.VerdictForm.{due_form, found_form, request_form, verdict_form};
+ghost use Rattle.duct_follows.specs.VerdictForm.{due_form, flaw_text, found_form, request_form, verdict_form};
 
-use crate::verdict::{Due, Verdict};
+use crate::verdict::{Due, Flaw, Verdict};
 use duct_plan::{Item, Plan, write_item};
 use std::fmt;
 
@@ -51,6 +51,21 @@ fn write_verdict<E, H, W: fmt::Write>(
         Verdict::Unbalanced { number } => {
             writeln!(f, "no: end {number} is not returned once and spent once")
         }
+        Verdict::Flawed { entry, flaw } => {
+            write!(f, "no: entry {entry} ")?;
+            f.write_str(flaw_text(flaw))
+        }
+    }
+}
+
+// Returns what is wrong with an entry, as the end of a line.
+fn flaw_text(flaw: Flaw) -> &'static str
+    ensures { result.now ≡ flaw_text flaw }
+{
+    match flaw {
+        Flaw::OldNumber => "returns a number that is not new\n",
+        Flaw::NotOpen => "uses an end that is not open\n",
+        Flaw::UnusedCopy => "closes a copy that no command got\n",
     }
 }
 

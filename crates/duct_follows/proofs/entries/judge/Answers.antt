@@ -13,8 +13,8 @@ returns-clause-verdict g c =
     let entries = map entry_view c.args.entries.now in
     let yes : c.in_ok-follows.field-0 ≡ true = search rules in
     rw c.verdict_by.ensures
-    (judged_by allows number_of plan entries c.in_ok-due.due c.in_ok-unbalanced.field-0
-    (c.in_ok-follows.ensures.0 yes) c.in_ok-due.ensures c.in_ok-unbalanced.ensures)
+    (judged_by allows number_of plan entries c.in_ok-due.due c.in_ok-unbalanced.unbalanced c.in_ok-flaw.flaw
+    (c.in_ok-follows.ensures.0 yes) c.in_ok-due.ensures c.in_ok-unbalanced.ensures c.in_ok-flaw.ensures)
 
 pub returns-clause-follows : goal.returns-clause-follows
 returns-clause-follows g c =
@@ -24,5 +24,5 @@ returns-clause-follows g c =
     let yes : c.in_ok-follows.field-0 ≡ true = search rules in
     decides allows number_of plan entries c.verdict_by.result
     (rw c.verdict_by.ensures
-    (judged_by allows number_of plan entries c.in_ok-due.due c.in_ok-unbalanced.field-0
-    (c.in_ok-follows.ensures.0 yes) c.in_ok-due.ensures c.in_ok-unbalanced.ensures))
+    (judged_by allows number_of plan entries c.in_ok-due.due c.in_ok-unbalanced.unbalanced c.in_ok-flaw.flaw
+    (c.in_ok-follows.ensures.0 yes) c.in_ok-due.ensures c.in_ok-unbalanced.ensures c.in_ok-flaw.ensures))
