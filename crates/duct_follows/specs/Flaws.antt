@@ -1,6 +1,6 @@
 -- What no start over any system can have added to the journal, even if it follows the plan: a number
 -- that is not new, an end that is used but not open, and a copy of an end that no command got.
-use Rattle.std.specs.Prelude.{ℕ, ◌+◌, ◌==◌, ◌&&◌, ◌||◌, Bool, true, false, not, nat_lt, max, List, [], ◌∷◌, ◌++◌, Ok, Some, None, map, filter, flat_map, is_some, length, if◌then◌else◌}
+use Rattle.std.specs.Prelude.{ℕ, ◌+◌, ◌==◌, ◌&&◌, Bool, true, false, not, nat_lt, max, List, [], ◌∷◌, ◌++◌, Ok, Some, None, map, filter, flat_map, is_some, length, if◌then◌else◌}
 use Rattle.std.specs.List.{list_all, list_any}
 use Rattle.std.specs.Option.{option_map, option_or}
 use Rattle.std.specs.declared.option.Option.{Option}

@@ -12,6 +12,7 @@ use crate::verdict::Flaw;
 use duct_base::system::{Entry, Numbered};
 use duct_plan::{Item, Plan, Surroundings, Target, fault_of, opened_numbers, spent_numbers};
 use std::alloc::{AllocError, Global};
+use std::slice::from_ref;
 
 /// Returns the first flaw of the entries, with the place of its entry. Numbers are looked at first,
 /// then the ends that are used, then copies. Fails only on allocation failure.
@@ -42,10 +43,11 @@ fn first_old(entries: &[Entry]) -> Option<usize>
 {
     let mut greatest = None;
     for place in 0..entries.len() {
-        if !returns_new(greatest, &entries[place]) {
+        let entry = &entries[place];
+        if !returns_new(greatest, entry) {
             return Some(place);
         }
-        greatest = greatest_after(greatest, &entries[place]);
+        greatest = greatest_after(greatest, entry);
     }
     None
 }
@@ -104,16 +106,37 @@ fn first_not_open(
 {
     let mut open = Vec::new(alloc);
     for place in 0..entries.len() {
-        let entry = &entries[place..place + 1];
-        let spent = spent_numbers(alloc, entry)?;
-        if !uses_open(lent, open.as_slice(), &entries[place], spent.as_slice()) {
+        let entry = &entries[place];
+        let spent = spent_by(alloc, entry)?;
+        if !uses_open(lent, open.as_slice(), entry, spent.as_slice()) {
             return Ok(Some(place));
         }
-        let mut opened = opened_numbers(alloc, entry)?;
-        open.retain(|end| !is_in(spent.as_slice(), *end));
-        open.append(&mut opened)?;
+        advance(alloc, &mut open, entry, spent.as_slice())?;
     }
     Ok(None)
+}
+
+/// Returns the numbers of the ends that an entry's request took.
+fn spent_by(alloc: Global, entry: &Entry) -> Result<Vec<u64>, AllocError>
+    ensures { IfOk result (λ numbers. numbers.items ≡ spent_by (entry_view entry.now)) }
+{
+    spent_numbers(alloc, from_ref(entry))
+}
+
+/// Removes the ends that an entry's request took from the open ones, and adds those that it
+/// returned.
+fn advance(
+    alloc: Global,
+    open: &mut Vec<u64>,
+    entry: &Entry,
+    spent: &[u64],
+) -> Result<(), AllocError>
+    requires { spent.now ≡ spent_by (entry_view entry.now) }
+    ensures { OnOk result (open.new.items ≡ open_after open.old.items (entry_view entry.now)) }
+{
+    let mut opened = opened_numbers(alloc, from_ref(entry))?;
+    open.retain(|end| !is_in(spent, *end));
+    Ok(open.append(&mut opened)?)
 }
 
 /// Returns whether the ends that an entry's request took are open, and one that it borrowed is open
@@ -169,9 +192,17 @@ fn push_lent<E: Numbered, H>(
     push_target(lent, found.output)?;
     push_target(lent, found.error)?;
     for hook in &found.hooks {
-        for end in hook.1 {
-            lent.push(end.number())?;
-        }
+        push_ends(lent, hook.1)?;
+    }
+    Ok(())
+}
+
+/// Adds the numbers of the caller's ends that a hook has.
+fn push_ends<E: Numbered>(lent: &mut Vec<u64>, ends: &[E]) -> Result<(), AllocError>
+    ensures { OnOk result (lent.new.items ≡ lent.old.items ++ map E.number_of ends.now) }
+{
+    for end in ends {
+        lent.push(end.number())?;
     }
     Ok(())
 }
