@@ -10,13 +10,14 @@ mod names;
 mod statuses;
 mod texts;
 mod transfers;
+mod words;
 
 use rows_table::{Strangers, Table, TableError, Writing, first_word};
 use std::alloc::Global;
 
 /// The keys of the lines that set something up.
 const SET: &str = "shape captured events bytes room expression reader journal error record writes \
-    arguments";
+    arguments text";
 
 /// The table of parts.
 #[derive(Drop)]
@@ -57,6 +58,7 @@ impl<'t> Parts<'t> {
             ("spec", names) => checks::push_written(text, self, names),
             (call @ ("says" | "trace" | "origin"), end) => checks::push(text, self, call, end),
             ("follows" | "requests" | "cause" | "last", _) => follows::push(text, self, key),
+            ("tokens" | "meant" | "quoted", _) => words::push(text, self, key),
             ("requested" | "drawn" | "planned", _) => texts::push_planned(text, self, key),
             ("read" | "again" | "texts" | "failed" | "judged", _) => texts::push(text, self, key),
             (call, names) => names::push(text, self.alloc, call, names),
