@@ -1,2 +1,4 @@
 pub mod Line
+pub mod PartView
 pub mod ReaderView
+pub mod ShellText

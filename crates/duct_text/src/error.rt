@@ -1,6 +1,10 @@
-//! Why a text means no expression.
+//! Why a text means no expression, and why an expression has no text.
+ghost use Rattle.std.specs.Prelude.{◌≡◌};
+ghost use Rattle.duct_text.specs.declared.error.ShellTextError.TheVariants.{Memory};
+
 use duct_program::Usage;
 use duct_words::SplitError;
+use std::alloc::AllocError;
 use thiserror::Error;
 
 /// Why a text means no expression.
@@ -13,4 +17,52 @@ pub enum LineError {
     /// an allocation failed. The first error, from left to right, is named.
     #[error("{0}")]
     Usage(Usage),
+}
+
+/// Why an expression has no text. The first reason, from left to right, is named: a node comes
+/// before those inside it.
+#[derive(Clone, Copy, Debug, PartialEq, Eq, Drop, Error)]
+pub enum ShellTextError {
+    /// Bytes for stdin.
+    #[error("bytes for stdin have no text")]
+    Bytes,
+    /// A stream that goes to an end of the caller.
+    #[error("an end of the caller has no text")]
+    End,
+    /// A stream that is captured.
+    #[error("a capture has no text")]
+    Capture,
+    /// A variable that is removed, or all that are replaced.
+    #[error("a removal of variables has no text")]
+    Removal,
+    /// A hook.
+    #[error("a hook has no text")]
+    Hook,
+    /// A folder whose path is empty.
+    #[error("an empty path of a folder has no text")]
+    Folder,
+    /// A variable whose name is empty, begins with a `-` or has a `=`.
+    #[error("a variable's name has no text")]
+    Name,
+    /// A program whose name begins with a `-` or has a `=`.
+    #[error("a program's name has no text")]
+    Program,
+    /// A program in a folder of its own whose path is relative: it is relative to the folder of the
+    /// parent.
+    #[error("a relative path of a program in another folder has no text")]
+    RelativeProgram,
+    /// A NUL in a word, a path, or a variable's name or value.
+    #[error("a NUL has no text")]
+    Nul,
+    /// An allocation failed.
+    #[error("out of memory")]
+    Memory,
+}
+
+impl From<AllocError> for ShellTextError {
+    ghost from_gives = { λ _ error. error ≡ Memory };
+
+    fn from(_error: AllocError) -> ShellTextError {
+        ShellTextError::Memory
+    }
 }

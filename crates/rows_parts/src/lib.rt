@@ -58,7 +58,7 @@ impl<'t> Parts<'t> {
             ("spec", names) => checks::push_written(text, self, names),
             (call @ ("says" | "trace" | "origin"), end) => checks::push(text, self, call, end),
             ("follows" | "requests" | "cause" | "last", _) => follows::push(text, self, key),
-            ("tokens" | "meant" | "quoted", _) => words::push(text, self, key),
+            ("tokens" | "meant" | "quoted" | "shell", _) => words::push(text, self, key),
             ("requested" | "drawn" | "planned", _) => texts::push_planned(text, self, key),
             ("read" | "again" | "texts" | "failed" | "judged", _) => texts::push(text, self, key),
             (call, names) => names::push(text, self.alloc, call, names),

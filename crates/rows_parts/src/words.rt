@@ -1,23 +1,24 @@
-//! Texts of a shell: their tokens and expressions, and texts of words.
+//! Texts of a shell: their tokens and expressions, and texts of words and of expressions.
 use crate::Parts;
 use duct::{Error, Stream};
 use duct_program::Usage;
 use duct_script::system::ScriptEnd;
-use duct_text::{LineError, line};
+use duct_text::{LineError, ShellTextError, line, shell_text};
 use duct_words::{SplitError, Token, quote, split};
-use rows_table::{TableError, Tree, arguments};
+use rows_table::{TableError, Tree, arguments, written};
 use std::alloc::AllocError;
 
-/// Adds what is said of the text or the arguments of a row.
+/// Adds what is said of the text, the arguments or the expression of a row.
 pub fn push(text: &mut String, row: &Parts, key: &str) -> Result<(), TableError> {
     match key {
         "tokens" => push_tokens(text, row),
         "meant" => push_meant(text, row),
-        _ => {
+        "quoted" => {
             let words = arguments(row.alloc, row.text("arguments"))?;
             let quoted = quote(row.alloc, words.as_slice())?;
             Ok(text.push_str(quoted.as_str())?)
         }
+        _ => push_shell_text(text, row),
     }
 }
 
@@ -55,6 +56,17 @@ fn push_meant(text: &mut String, row: &Parts) -> Result<(), TableError> {
         Err(LineError::Split(SplitError::Memory) | LineError::Usage(Usage::Memory)) => {
             return Err(TableError::Error(Error::Memory));
         }
+        Err(error) => write!(text, "{error}")?,
+    }
+    Ok(())
+}
+
+/// Adds a shell's text of the expression of a row, or why it has none.
+fn push_shell_text(text: &mut String, row: &Parts) -> Result<(), TableError> {
+    let tree = written(row.alloc, row.text("expression"))?;
+    match shell_text(row.alloc, &tree) {
+        Ok(told) => text.push_str(told.as_str())?,
+        Err(ShellTextError::Memory) => return Err(TableError::Error(Error::Memory)),
         Err(error) => write!(text, "{error}")?,
     }
     Ok(())
