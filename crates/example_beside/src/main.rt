@@ -4,17 +4,19 @@
 #![tactic(auto)]
 
 mod guard;
+mod lines;
 mod replay;
 mod steps;
 mod threads;
 mod traced;
 
+use crate::lines::for_a_shell;
 use crate::replay::replays;
 use crate::steps::{Allowed, step_text};
 use crate::threads::{asleep, printing, read_or_kill, wait_or_kill};
 use crate::traced::failed_step;
 use duct::{Error, Pool};
-use duct_host::{Host, Parents};
+use duct_host::{End, Host, Parents};
 use std::alloc::Global;
 use std::fs::File;
 use std::process::Processes;
@@ -50,6 +52,9 @@ where
             Ok(printed) => write!(text, "{allowed:?}, {words}: {printed}\n")?,
             Err(error) => write!(text, "{allowed:?}, {words}: {error}\n")?,
         }
+    }
+    for words in ["grep 'a | b' < in | wc -l", "grep 'a"] {
+        write!(text, "{}\n", for_a_shell::<End>(alloc, words)?)?;
     }
     write!(text, "made: {}\n", File::open(rt, "made").is_ok())?;
     text.push_str(replays(rt, alloc, &mut Host::new(rt.clone()?, alloc))?.as_str())?;
