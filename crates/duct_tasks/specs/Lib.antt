@@ -1,4 +1,5 @@
 pub mod AtFailure
 pub mod Counts
+pub mod Kept
 pub mod RanAll
 pub mod Turns

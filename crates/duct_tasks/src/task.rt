@@ -53,9 +53,9 @@ fn polled<S: System>(running: &mut Running<S>) -> Result<Option<Arc<Output>>, Er
     polled
 }
 
-// Polls what runs, and returns how it ended, if it did. A fault is no end while a command says that
-// it runs.
-fn ended<S: System>(running: &mut Running<S>) -> Option<Result<Arc<Output>, Error>>
+/// Polls what runs, and returns how it ended, if it did. A fault is no end while a command says
+/// that it runs.
+pub(crate) fn ended<S: System>(running: &mut Running<S>) -> Option<Result<Arc<Output>, Error>>
     ensures alike { RunsAlike ⟦<S as Viewed>⟧.views running.old running.new }
     ensures ended { IfSome result
         (λ ended. ReturnsConclusion ⟦<S as Viewed>⟧.views running.old (at_end ended)) }
@@ -68,16 +68,16 @@ fn ended<S: System>(running: &mut Running<S>) -> Option<Result<Arc<Output>, Erro
     }
 }
 
-// Whether this is a failure.
-fn is_failure(end: &Result<Arc<Output>, Error>) -> bool
+/// Whether this is a failure.
+pub(crate) fn is_failure(end: &Result<Arc<Output>, Error>) -> bool
     ensures ok { result ≡ false → (output : Arc Output Global) × (end.now ≡ Ok output) }
     ensures err { result ≡ true → (e : Error) × (end.now ≡ Err e) }
 {
     matches!(end, Err(_))
 }
 
-// Spends what has ended. Where it has failed, its children are given to the pool.
-fn spend<S: System>(running: Running<S>, failed: bool, pool: &mut Pool<S::Child>)
+/// Spends what has ended. Where it has failed, its children are given to the pool.
+pub(crate) fn spend<S: System>(running: Running<S>, failed: bool, pool: &mut Pool<S::Child>)
     ensures kept { failed ≡ false → pool.new ≡ pool.old }
     ensures given { failed ≡ true
         → PoolGets ⟦<S as Viewed>⟧.views running.children pool.old pool.new }

@@ -3,6 +3,8 @@
 #![tactic(auto)]
 
 #[cfg(test)]
+mod keeper;
+#[cfg(test)]
 mod readers;
 #[cfg(test)]
 mod tasks;

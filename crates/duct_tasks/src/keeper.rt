@@ -1,0 +1,164 @@
+//! An expression that is started again each time that it ends.
+ghost use Rattle.std.specs.Prelude.{◌≡◌, true, false};
+ghost use Rattle.duct_tasks.specs.Kept.{Keeps, WhyAfter, last_of};
+ghost use Rattle.duct_tasks.specs.declared.keeper.Why.TheVariants.{GaveUp};
+
+use crate::many::Progress;
+use crate::once::{Run, is_over, pause, run_once, tell_end};
+use duct::Expression;
+use duct_base::error::Error;
+use duct_base::pool::Pool;
+use duct_base::spec::Hook;
+use duct_base::system::{Clock, Output, System};
+use duct_run::views::Viewed;
+use std::sync::{Arc, Wait};
+use std::time::Duration;
+
+/// How often an expression is started, and how it is stopped.
+#[derive(Clone, Copy, Debug, PartialEq, Eq, Drop)]
+pub struct Restarts {
+    /// How often it is started at most.
+    pub most: u32,
+    /// How long to pause before the second start. Each later pause is twice the one before.
+    pub pause: Duration,
+    /// How long to pause at most.
+    pub greatest: Duration,
+    /// How long it may run on after signal 15, where it is stopped, before it is killed.
+    pub grace: Duration,
+}
+
+/// Why an expression is not started again.
+#[derive(Clone, Copy, Debug, PartialEq, Eq, Drop)]
+pub enum Why {
+    /// The stop function said so.
+    Stopped,
+    /// It was started as often as it may be.
+    GaveUp,
+    /// It could not be started, or it can't be told how it ended: commands of it may still run.
+    Failed,
+}
+
+/// What came of an expression that was kept running.
+#[derive(Drop)]
+pub struct Kept {
+    /// How often it was started.
+    pub starts: u32,
+    /// Why it is not started again.
+    pub why: Why,
+    /// How it ended the last time, which is an error where `why` is `Failed`. It is `None` where it
+    /// never started, or was killed when it was stopped.
+    pub last: Option<Result<Arc<Output>, Error>>,
+}
+
+// The pause after this one.
+fn longer(pause: Duration, restarts: &Restarts) -> Duration {
+    if pause.is_zero() {
+        restarts.pause.min(restarts.greatest)
+    } else {
+        pause.saturating_mul(2).min(restarts.greatest)
+    }
+}
+
+/// Starts the expression as `Expression::launch` does, polls it each millisecond until it has
+/// ended, and then, after a pause, starts it again, whether it succeeded or failed. It never starts
+/// it while a command of it may still run, and never more than `restarts.most` times.
+///
+/// `stop` says whether to stop. It is asked before each start, at each poll, and each millisecond
+/// of a pause. What runs then is sent signal 15, and what is not known to have ended after the
+/// grace is killed. Nothing waits for what was killed.
+///
+/// `tell` is called with the place of a start, from 0 on, where it starts and where it ends. A kill
+/// is not told.
+///
+/// Returns how often it was started, why it is not started again, and how it ended the last time. A
+/// failure of the commands themselves (`Error::Checked`) is an end like a success. Every other
+/// error ends the keep, since a command may still run after it: a start that the system refuses, a
+/// poll that fails, or `Error::Memory`. The children of what failed or was killed are given to the
+/// pool, and it allocates nothing else.
+///
+/// It blocks until then.
+///
+/// Example: `keep(&server, &restarts, &rt, &clock, || stops.load(SeqCst), |_, _| {}, &mut host,
+/// &mut pool)`
+pub fn keep<H: Hook, S: System, C: Clock, F: Fn() -> bool, T: Fn(u32, Progress<'_>)>(
+    expression: &Expression<S::End, H>,
+    restarts: &Restarts,
+    rt: &impl Wait,
+    clock: &C,
+    stop: F,
+    tell: T,
+    sys: &mut S,
+    pool: &mut Pool<S::Child>,
+) -> Kept
+    requires asked { F.IsAlwaysCallable stop }
+    requires told { T.IsAlwaysCallable tell }
+    ensures { Keeps ⟦<S as Viewed>⟧.views H.allows H.refuses expression.now restarts.now.most
+        (F.post stop) result sys.old sys.new pool.old pool.new }
+{
+    let mut kept = Kept {
+        starts: 0,
+        why: Why::GaveUp,
+        last: None,
+    };
+    let mut next = Duration::ZERO;
+    for place in 0..restarts.most {
+        if pause(rt, clock, &stop, next) {
+            kept.why = Why::Stopped;
+            return kept;
+        }
+        let tell = |it: Progress<'_>| tell(place, it);
+        let run = run_once(
+            expression,
+            rt,
+            clock,
+            restarts.grace,
+            &stop,
+            &tell,
+            sys,
+            pool,
+        );
+        tell_end(&tell, &run);
+        kept = after(place + 1, run);
+        if !may_start(&kept) {
+            return kept;
+        }
+        next = longer(next, restarts);
+    }
+    kept
+}
+
+// Whether there may be a further start.
+fn may_start(kept: &Kept) -> bool
+    ensures yes { result ≡ true → kept.now.why ≡ GaveUp }
+    ensures no { result ≡ false → kept.now.why ≡ GaveUp → ⊥ }
+{
+    matches!(kept.why, Why::GaveUp)
+}
+
+// What is known after so many starts, of which the last ran like this: that it may not be started
+// again, if that is so.
+fn after(starts: u32, run: Run) -> Kept
+    ensures starts { result.starts ≡ starts }
+    ensures last { result.last ≡ last_of run }
+    ensures why { WhyAfter run result.why }
+{
+    match run {
+        Run::Stopped(last) => Kept {
+            starts,
+            why: Why::Stopped,
+            last,
+        },
+        Run::Ended(end) => {
+            let why = if is_over(&end) {
+                Why::GaveUp
+            } else {
+                Why::Failed
+            };
+            Kept {
+                starts,
+                why,
+                last: Some(end),
+            }
+        }
+    }
+}
