@@ -13,4 +13,5 @@ mod over_the_machine;
 mod readers;
 mod recipes;
 mod script;
+mod services;
 mod supervisor;

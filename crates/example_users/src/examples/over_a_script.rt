@@ -3,16 +3,18 @@
 use super::builds::make_all;
 use super::handles::started_at_last;
 use super::script::{run_script, started};
+use super::services::serve;
 use super::supervisor::supervise;
 use duct::{Clock, Error, ExitStatus, Expression, Fault, Kind, Pool, System, cmd};
 use duct_attempts::run_attempts;
 use duct_script::child::PollAnswer;
+use duct_script::clock::ScriptClock;
 use duct_script::requests::Sort;
 use duct_script::system::Script;
 use duct_shell::{Failure, Shell};
 use std::alloc::{AllocError, Global};
 use std::sync::Wait;
-use std::sync::atomic::{AtomicUsize, Ordering};
+use std::sync::atomic::{AtomicBool, AtomicUsize, Ordering};
 use std::test::Fail;
 use std::time::Duration;
 
@@ -98,4 +100,16 @@ pub fn targets_made(rt: &impl Wait, alloc: Global) -> Result<String, Failure> {
     let done = AtomicUsize::new(0);
     let report = make_all(rt, alloc, &mut system, &["all", "docs"], &done)?;
     Ok(format!(in alloc; "{report}{} done", done.load(Ordering::SeqCst))?)
+}
+
+/// Keeps a service running over a scripted system, which fails each time. Returns how often it was
+/// started, why not again, and how many children were given to the pool.
+pub fn served(rt: &impl Wait, alloc: Global) -> Result<String, Failure> {
+    let mut system = scripted(alloc, &[FAILS; 5])?;
+    let clock = ScriptClock::new(Vec::from_slice(alloc, &[Duration::ZERO, Duration::MAX])?);
+    let service = cmd!(in alloc; "server")?;
+    let mut pool = Pool::new(alloc);
+    let stops = AtomicBool::new(false);
+    let kept = serve(rt, &clock, &mut system, &mut pool, &service, &stops);
+    Ok(format!(in alloc; "{} {:?}, {} given", kept.starts, kept.why, pool.given())?)
 }

@@ -9,7 +9,7 @@ use super::groups::killed;
 use super::handles::{stopped, work_beside};
 use super::limits::build;
 use super::machines::{words_there, write_ssh};
-use super::over_a_script::{attempts_at_last, service_at_last, service_text, targets_made};
+use super::over_a_script::{attempts_at_last, served, service_at_last, service_text, targets_made};
 use super::readers::{copied, counted, longest_line};
 use super::recipes::{appended, asked};
 use super::script::{run_script, started};
@@ -40,6 +40,7 @@ enum Example {
     ServiceAtLast,
     AttemptsAtLast,
     TargetsMade,
+    Served,
     Listed,
     Fed,
     Merged,
@@ -68,7 +69,7 @@ enum Example {
 }
 
 /// What each example comes to.
-const EXAMPLES: [(Example, &str); 36] = [
+const EXAMPLES: [(Example, &str); 37] = [
     (
         Example::Piped,
         "(Output { status: Code(0), stdout: [72, 69, 76, 76, 79, 10], \
@@ -91,6 +92,7 @@ Err(command [\"sh\", \"-c\", \"exit 3\"] exited with code 3))",
         Example::TargetsMade,
         "all is made\ndocs: command [\"make\", \"docs\"] exited with code 1\n2 done",
     ),
+    (Example::Served, "5 GaveUp, 5 given"),
     (Example::Listed, "foo bar baz"),
     (Example::Fed, "foo"),
     (Example::Merged, "out\nerr"),
@@ -266,6 +268,7 @@ fn told_anywhere<S: System, R: Wait + Clone + Drop>(
         Example::ServiceAtLast => service_at_last(sh.rt.clone()?, alloc, clock),
         Example::AttemptsAtLast => text(alloc, attempts_at_last(&sh.rt, alloc)),
         Example::TargetsMade => targets_made(&sh.rt, alloc),
+        Example::Served => served(&sh.rt, alloc),
         Example::Listed => sh.read(&listed(alloc)?),
         Example::Fed => sh.read(&fed(alloc)?),
         Example::Merged => sh.read(&merged(alloc)?),
