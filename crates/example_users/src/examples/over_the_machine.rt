@@ -356,7 +356,7 @@ where
             Err(failure) => format!(in sh.alloc; "{failure}")?,
         };
         if told.as_str() != wanted {
-            write!(differing, "{told:?}, not {wanted:?}; ")?;
+            write!(differing, "{told:?}; ")?;
         }
     }
     Ok(differing)
