@@ -15,7 +15,7 @@ use crate::replay::replays;
 use crate::steps::{Allowed, step_text};
 use crate::threads::{asleep, printing, read_or_kill, wait_or_kill};
 use crate::traced::failed_step;
-use duct::{Error, HookBox, Pool};
+use duct::{Error, Pool};
 use duct_host::{End, Host, Parents};
 use std::alloc::Global;
 use std::fs::File;
@@ -54,7 +54,7 @@ where
         }
     }
     for words in ["grep 'a | b' < in | wc -l", "grep 'a"] {
-        write!(text, "{}\n", for_a_shell::<End, HookBox>(alloc, words)?)?;
+        write!(text, "{}\n", for_a_shell::<End, ()>(alloc, words)?)?;
     }
     write!(text, "made: {}\n", File::open(rt, "made").is_ok())?;
     text.push_str(replays(rt, alloc, &mut Host::new(rt.clone()?, alloc))?.as_str())?;
