@@ -8,7 +8,7 @@ use Rattle.std.specs.Prelude.{◌≢◌, ◌==◌, ◌&&◌, if◌then◌else◌
 use Rattle.std.specs.declared.result.Result.{Result}
 use Rattle.duct_words.proofs.Characters.{between_one}
 use Rattle.duct_words.specs.Kind.{is_plain, kind_of}
-use Rattle.duct_words.specs.Quote.{between, further, is_bare, is_bare_byte, quote_of, quoted}
+use Rattle.duct_words.specs.Quote.{between, further, has_no_quotes, is_bare, is_bare_byte, is_reserved, quote_of, quoted}
 use Rattle.duct_words.specs.Split.{◌>>=◌, State, TokenView, bare, ordinary, read, single, split_of, word}
 use Rattle.duct_words.specs.declared.error.SplitError.{SplitError}
 use Rattle.duct_words.specs.declared.kind.Kind.TheVariants.{Ordinary}
@@ -142,8 +142,10 @@ word_by : (place : ℕ) (tokens : List TokenView) (is_first : Bool) (w rest : Li
 unfolding kind_of
 word_by place tokens is_first [] rest true is = absurd (cc)
 word_by place tokens is_first (b ∷ bytes) rest true is =
-    let parts = and_parts (not (length (b ∷ bytes) == 0)) (list_all (is_bare_byte is_first) (b ∷ bytes)) is in
-    inl (bare_word place tokens is_first b bytes rest parts.1)
+    let parts = and_parts (not (length (b ∷ bytes) == 0)) (has_no_quotes is_first (b ∷ bytes)) is in
+    let need_none = and_parts (not (is_first && is_reserved (b ∷ bytes)))
+    (list_all (is_bare_byte is_first) (b ∷ bytes)) parts.1 in
+    inl (bare_word place tokens is_first b bytes rest need_none.1)
 word_by place tokens is_first w rest false is = inr (quoted_rest (suc place) place tokens is_first [] w rest)
 
 -- all words

@@ -257,7 +257,8 @@ impl Lexer {
 
     // Returns the tokens at the end of the text.
     fn end(mut self) -> Result<Vec<Token>, SplitError>
-        ensures { ParsesAs (λ tokens. map token_view tokens.items) result (end_of (lexer_view self)) }
+        ensures { ParsesAs (λ tokens. map token_view tokens.items) result
+            (end_of (lexer_view self)) }
     {
         match self.mode {
             Mode::Bare => {

@@ -1,7 +1,7 @@
 //! The text of some words.
-ghost use Rattle.std.specs.Prelude.{◌≡◌, ◌++◌, map, string_bytes, IfOk, OnOk};
+ghost use Rattle.std.specs.Prelude.{◌≡◌, ◌++◌, ◌&&◌, map, string_bytes, IfOk, OnOk};
 ghost use Rattle.std.specs.List.{list_all};
-ghost use Rattle.duct_words.specs.Quote.{is_bare_byte, quote_of, quoted};
+ghost use Rattle.duct_words.specs.Quote.{begins_list, has_no_quotes, is_bare_byte, is_of_bash, is_reserved, is_within_list, quote_of, quoted};
 ghost use Rattle.duct_words.specs.Split.{split_of, word};
 
 use crate::kind::is_plain;
@@ -9,9 +9,10 @@ use std::alloc::{AllocError, Global};
 use std::convert::AsStr;
 
 /// Returns a text that a POSIX shell and [`split`](crate::split) read as these words, with a space
-/// between two. A word stands as it is where it has only letters and digits of ASCII and `@%+:,./-_`,
-/// or a `=` that isn't in the first word; else it stands in single quotes, with `'\''` for each
-/// single quote in it. The empty word is `''`. Fails only at an allocation failure.
+/// between two. A word stands as it is where it has only letters and digits of ASCII and
+/// `@%+:,./-_`, or a `=` that isn't in the first word, and where it isn't the first word and one
+/// that a shell obeys there, as `if` and bash's `time`. Else it stands in single quotes, with
+/// `'\''` for each single quote in it. The empty word is `''`. Fails only at an allocation failure.
 ///
 /// Example: `quote(alloc, &["grep", "a b"])?` is `grep 'a b'`.
 #[tactic(auto, using(crate::proofs::RoundTrip::round_trip))]
@@ -43,7 +44,8 @@ pub(crate) fn push_words<W: AsStr>(text: &mut String, words: &[W]) -> Result<(),
 
 /// Adds the text of a word, which is the first of its command or not.
 pub(crate) fn push_word(text: &mut String, word: &str, is_first: bool) -> Result<(), AllocError>
-    ensures { OnOk result (string_bytes text.new ≡ string_bytes text.old ++ quoted is_first word.now) }
+    ensures { OnOk result
+        (string_bytes text.new ≡ string_bytes text.old ++ quoted is_first word.now) }
 {
     if !word.is_empty() && is_bare(word, is_first) {
         return text.push_str(word);
@@ -59,10 +61,59 @@ pub(crate) fn push_word(text: &mut String, word: &str, is_first: bool) -> Result
     text.push('\'')
 }
 
-// Whether no byte of a word needs quotes.
+// Whether a word needs no quotes as the first of its command, nor do its bytes.
 fn is_bare(word: &str, is_first: bool) -> bool
+    ensures { result ≡ has_no_quotes is_first word.now }
+{
+    !is_obeyed(word, is_first) && has_bare_bytes(word, is_first)
+}
+
+// Whether no byte of a word needs quotes.
+fn has_bare_bytes(word: &str, is_first: bool) -> bool
     ensures { result ≡ list_all (is_bare_byte is_first) word.now }
 {
     word.bytes()
         .all(|b| is_plain(char::from(b)) || b == b'=' && !is_first)
+}
+
+// Whether a shell obeys a word, which is the first of its command or not.
+fn is_obeyed(word: &str, is_first: bool) -> bool
+    ensures { result ≡ (is_first && is_reserved word.now) }
+{
+    is_first && is_reserved(word)
+}
+
+// Whether a shell obeys a word as the first of its command.
+fn is_reserved(word: &str) -> bool
+    ensures { result ≡ is_reserved word.now }
+{
+    begins_list(word) || is_within_list(word) || is_of_bash(word)
+}
+
+// Whether a word begins a compound command.
+fn begins_list(word: &str) -> bool
+    ensures { result ≡ begins_list word.now }
+{
+    word == "if" || word == "for" || word == "case" || word == "while" || word == "until"
+}
+
+// Whether a word continues or ends a compound command.
+fn is_within_list(word: &str) -> bool
+    ensures { result ≡ is_within_list word.now }
+{
+    word == "then"
+        || word == "elif"
+        || word == "else"
+        || word == "fi"
+        || word == "in"
+        || word == "do"
+        || word == "done"
+        || word == "esac"
+}
+
+// Whether a word is one of bash's own.
+fn is_of_bash(word: &str) -> bool
+    ensures { result ≡ is_of_bash word.now }
+{
+    word == "function" || word == "select" || word == "time" || word == "coproc"
 }
