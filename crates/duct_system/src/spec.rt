@@ -10,6 +10,7 @@ use crate::error::Error;
 use crate::names::EnvNameString;
 use crate::system::Fault;
 use std::collections::BTreeMap;
+use std::collections::btree_map::Iter;
 use std::convert::AsStr;
 use std::marker::Model;
 use std::sync::Arc;
@@ -131,6 +132,13 @@ impl CommandSpec {
             }
         }
         None
+    }
+
+    /// Returns an iterator over all variables of the child, each in its spelling, in order of name.
+    pub fn iter_vars(&self) -> Iter<'_, EnvNameString, String>
+        ensures { map var_view result ≡ self.now.vars }
+    {
+        self.vars.iter()
     }
 
     /// Returns all variables of the child, each in its spelling, in order of name. Fails only with
