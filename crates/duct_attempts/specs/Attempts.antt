@@ -9,8 +9,8 @@ module _ {P T E : Type 0} (attempt : P → Result T E → P → Type 0) (tells :
   FailsFor before e after = attempt before (Err e) after × tells e true
 
   -- there were at most so many attempts, each from where the one before had ended; all but the last
-  -- failed with an error that was called transient, and the result is that of the last, which either
-  -- is no error, or one that was not called transient, or was the last that was allowed
+  -- failed with an error that was called transient, and the result is that of the last, which
+  -- either is no error, or one that was not called transient, or was the last that was allowed
   pub record Attempts (most : ℕ) (before : P) (result : Result T E) (after : P) : Type 0 where
     pub errors : List E
     pub between : P

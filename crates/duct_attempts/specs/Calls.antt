@@ -3,7 +3,8 @@ use Rattle.std.specs.Prelude.{◌≡◌}
 use Rattle.std.specs.Borrow.{MutBor}
 use Rattle.std.specs.Fn.{Shared}
 
--- a call of f through a `&`, at a `&mut` to each of two values, may return r, and leave two others there
+-- a call of f through a `&`, at a `&mut` to each of two values, may return r, and leave two others
+-- there
 pub record FnReturnsAtPairMut {F A B R : Type 0}
     (g : Shared F (MutBor A × (MutBor B × Unit {0})) (R × (MutBor A × (MutBor B × Unit {0}))))
     (f : F) (before : A × B) (r : R) (after : A × B) : Type 0 where

@@ -34,8 +34,8 @@ module _ (may : ℕ → Order → Bool → Obeyed → Type 0) where
       × (child.orders ≡ []))
       ⊎ ((is_some child.ending ≡ true) × (child.orders ≡ []))
 
-  -- these children were sent signal 15 alone, and then each that had not ended was killed once, with
-  -- this as the result
+  -- these children were sent signal 15 alone, and then each that had not ended was killed once,
+  -- with this as the result
   abbrev pub AreStopped : Result (Unit {0}) Error → List ChildView → Type 0
   AreStopped killed children =
       (signalled : List ChildView) × All IsSignalled signalled

@@ -1,5 +1,6 @@
--- What no start over any system can have added to the journal, even if it follows the plan: a number
--- that is not new, an end that is used but not open, and a copy of an end that no command got.
+-- What no start over any system can have added to the journal, even if it follows the plan: a
+-- number that is not new, an end that is used but not open, and a copy of an end that no command
+-- got.
 use Rattle.std.specs.Prelude.{ℕ, ◌+◌, ◌==◌, ◌&&◌, Bool, true, false, not, nat_lt, max, List, [], ◌∷◌, ◌++◌, Ok, Some, None, map, filter, flat_map, is_some, length, if◌then◌else◌}
 use Rattle.std.specs.List.{list_all, list_any}
 use Rattle.std.specs.Option.{option_map, option_or}
@@ -39,7 +40,8 @@ greatest_after greatest (Parent side (Ok end)) = Some end
 greatest_after greatest (Spawn spec io (Ok child)) = Some child
 greatest_after greatest entry = greatest
 
--- the first entry whose request returned a number that is not new, where the first one has this place
+-- the first entry whose request returned a number that is not new, where the first one has this
+-- place
 abbrev pub old_from : ℕ → Option ℕ → List EntryView → Option ℕ
 old_from place greatest [] = None
 old_from place greatest (entry ∷ entries) =
@@ -55,8 +57,8 @@ abbrev pub borrowed_by : EntryView → List ℕ
 borrowed_by (Duplicate lent answer) = lent ∷ []
 borrowed_by entry = []
 
--- whether the ends that an entry's request took are open, and one that it borrowed is open or one of
--- the caller's
+-- whether the ends that an entry's request took are open, and one that it borrowed is open or one
+-- of the caller's
 abbrev pub uses_open : List ℕ → List ℕ → EntryView → Bool
 uses_open lent held entry =
     list_all (is_in held) (spent_by entry) && list_all (is_in (lent ++ held)) (borrowed_by entry)
@@ -98,8 +100,9 @@ lent_to number_of target = []
 
 abbrev pub lent_in : {E H : Type 0} → (E → ℕ) → Surroundings E H → List ℕ
 lent_in number_of found =
-    lent_to number_of found.input ++ (lent_to number_of found.output ++ (lent_to number_of found.error
-    ++ flat_map (λ hook. map number_of hook.1) found.hooks))
+    lent_to number_of found.input
+    ++ (lent_to number_of found.output
+    ++ (lent_to number_of found.error ++ flat_map (λ hook. map number_of hook.1) found.hooks))
 
 -- the caller's ends that an item's request may use
 abbrev pub lent_by : {E H : Type 0} → (E → ℕ) → Item E H → List ℕ

@@ -24,8 +24,8 @@ abbrev pub AreAnswered : Option Wired → SpecView → List (Stdio Origin) → T
 AreAnswered (Some given) spec streams = AreThese given spec streams
 AreAnswered None spec streams = ⊥
 
--- this spec is that of the result, and `gives` holds for the streams of the result; without a result
--- there are none
+-- this spec is that of the result, and `gives` holds for the streams of the result; without a
+-- result there are none
 abbrev pub IsAnsweredBy : (List (Stdio Origin) → Type 0) → Option Wired → SpecView → Type 0
 IsAnsweredBy gives (Some given) spec =
     (spec ≡ given.spec) × gives (map (stream_of origin_of) given.streams)

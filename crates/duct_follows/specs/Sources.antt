@@ -1,4 +1,5 @@
--- Where the streams of a spawn come from, by each way to tell the streams that go to a caller's end.
+-- Where the streams of a spawn come from, by each way to tell the streams that go to a caller's
+-- end.
 use Rattle.std.specs.Prelude.{ℕ, List, ◌≡◌, ◌==◌, Ok, Some, None, if◌then◌else◌}
 use Rattle.std.specs.declared.option.Option.{Option}
 use Rattle.duct_system.specs.EntryView.{EntryView, Duplicate}

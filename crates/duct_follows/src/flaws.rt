@@ -218,7 +218,8 @@ fn push_target<E: Numbered>(lent: &mut Vec<u64>, target: Target<'_, E>) -> Resul
     }
 }
 
-/// Returns the first entry before a fault that closes a copy of an end, where the plan has no hooks.
+/// Returns the first entry before a fault that closes a copy of an end, where the plan has no
+/// hooks.
 fn first_unused<E, H>(
     alloc: Global,
     plan: &Plan<'_, E, H>,

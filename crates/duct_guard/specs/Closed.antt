@@ -14,8 +14,8 @@ abbrev pub ClosesFirst : ℕ → List ℕ → JournalView → JournalView → Ty
 ClosesFirst room numbers old new =
     AddsAll (map Close (take room numbers)) 0 (length (take room numbers)) old new
 
--- a spawn by this spec, with these streams, was asked and failed with this fault; or it was not asked,
--- and its ends were closed
+-- a spawn by this spec, with these streams, was asked and failed with this fault; or it was not
+-- asked, and its ends were closed
 abbrev pub SpendsEnds : ℕ → SpecView → List (Stdio ℕ) → Fault → JournalView → JournalView → Type 0
 SpendsEnds room spec io fault old new =
     IsRefused (Spawn spec io (Err fault)) (length (ends_of io)) fault old new

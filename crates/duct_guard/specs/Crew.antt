@@ -36,8 +36,8 @@ pub record Joins (may_answer : ℕ → Answer → Type 0) (limit : ℕ) (old : L
   pub few : length kept + 1 ≤ limit
   pub new_is : new ≡ kept ++ number ∷ []
 
--- the running children of a guard, of which there are no more than this limit: all that were started
--- but those that have ended; so many were started before the journal was cleared last
+-- the running children of a guard, of which there are no more than this limit: all that were
+-- started but those that have ended; so many were started before the journal was cleared last
 pub record IsCrew (may_answer : ℕ → Answer → Type 0) (limit earlier : ℕ)
     (entries : List EntryView) (running : List ℕ) : Type 0 where
   pub before : List ℕ

@@ -1,5 +1,5 @@
 //! Policies that come with the guard.
-ghost use Rattle.std.specs.Prelude.{◌≡◌, [], true, codes, map, string_bytes, Some, None, IfOk, OnErr};
+ghost use Rattle.std.specs.Prelude.{◌≡◌, [], true, false, codes, map, string_bytes, Some, None, IfOk, OnOk, OnErr};
 ghost use Rattle.std.specs.Option.{option_map};
 ghost use Rattle.std.specs.List.{list_any};
 ghost use Rattle.duct_system.specs.SpecView.{value_of};
@@ -14,10 +14,10 @@ use std::marker::Model;
 use std::path::Path;
 
 /// Allows to start the programs of a list alone: the first word of the spec, which names the
-/// program, has to be one of these texts. It has to be an absolute path, which begins with `/`, or a
-/// name without `/` where the child's `PATH` is the given one. Any other path depends on the folder
-/// that the child starts in, and is forbidden, also where it is listed. All other requests are
-/// allowed.
+/// program, has to be one of these texts. It has to be an absolute path, which begins with `/`, or
+/// a name without `/` where the child's `PATH` is the given one. Any other path depends on the
+/// folder that the child starts in, and is forbidden, also where it is listed. All other requests
+/// are allowed.
 ///
 /// Which file an absolute path is, is up to the machine, and so is what the program starts.
 #[derive(Drop)]
@@ -138,9 +138,9 @@ fn is_listed(names: &[String], text: &str) -> bool
 /// and a path without a leading `./` doesn't lie below `.`. What a relative path is below is up to
 /// the parent's current folder. All other requests are allowed.
 ///
-/// Symbolic links are followed by the machine, and not seen here: a link in such a folder opens what
-/// it points at. Open what `canonicalize` returns, and give the folders by their canonical paths;
-/// where others can change the folder, a link may still appear between the two.
+/// Symbolic links are followed by the machine, and not seen here: a link in such a folder opens
+/// what it points at. Open what `canonicalize` returns, and give the folders by their canonical
+/// paths; where others can change the folder, a link may still appear between the two.
 #[derive(Drop)]
 pub struct Folders {
     folders: Vec<String>,
@@ -160,6 +160,7 @@ impl Folders {
     /// dropped. The folder that contains all absolute paths is `/`.
     pub fn new(folders: Vec<String>) -> Result<Folders, PolicyError>
         ensures ok { IfOk result (λ policy. policy ≡ map string_bytes folders.items) }
+        ensures filled { OnOk result (is_listed (map string_bytes folders.items) [] ≡ false) }
         ensures err { OnErr result (is_listed (map string_bytes folders.items) [] ≡ true) }
     {
         if is_listed(folders.as_slice(), "") {

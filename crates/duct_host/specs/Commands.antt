@@ -20,7 +20,8 @@ kill_line signal id = codes "kill -" ++ signed_decimal signal ++ codes " " ++ de
 -- the same as std prints its parts
 abbrev pub printed_line : ℤ → ℕ → Option (List ℕ)
 printed_line signal id =
-    Some (codes "kill -") ++? Some (signed_decimal signal) ++? Some (codes " ") ++? Some (decimal id)
+    Some (codes "kill -") ++? Some (signed_decimal signal) ++? Some (codes " ")
+    ++? Some (decimal id)
 
 -- a command has the system's shell run a line, in the parent's folder and without variables
 pub record RunsLine (line : List ℕ) (command : Command Global) : Type 0 where

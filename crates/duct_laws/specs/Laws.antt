@@ -60,9 +60,11 @@ InnerVariableHides E H =
     (pairs : Vars) (inside between outside : Path E H) (p q : ℕ) (inner value outer hidden : List ℕ)
     → is_same_name inner outer ≡ true → (name : List ℕ)
     → value_found pairs
-    (changes_on (inside ++ within p (env inner value) ∷ (between ++ within q (env outer hidden) ∷ outside)))
+    (changes_on (inside ++ within p (env inner value)
+    ∷ (between ++ within q (env outer hidden) ∷ outside)))
     name
-    ≡ value_found pairs (changes_on (inside ++ within p (env inner value) ∷ (between ++ outside))) name
+    ≡ value_found pairs
+    (changes_on (inside ++ within p (env inner value) ∷ (between ++ outside))) name
 
 -- a full environment that is set inside hides the changes of variables outside, and the variables
 -- of the parent

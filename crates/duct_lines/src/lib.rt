@@ -1,5 +1,5 @@
-//! What an expression prints: read while it runs, by lines or with a copy for a writer; and kept for
-//! the error of a run that fails.
+//! What an expression prints: read while it runs, by lines or with a copy for a writer; and kept
+//! for the error of a run that fails.
 #![tactic(auto)]
 
 mod capture;

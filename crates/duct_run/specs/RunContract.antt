@@ -59,7 +59,8 @@ LeadToSomePlan {E} {H} number_of actions =
 abbrev pub OpenOutputCapture : {E H : Type 0} → (E → ℕ) → List (Action E H) → Type 0
 OpenOutputCapture {E} {H} number_of actions =
     (base bound : ℕ) (plan : Plan E H)
-    → Leads number_of base bound (with_plan initial_plan) actions (with_plan plan) → IsSome plan.pipes.out
+    → Leads number_of base bound (with_plan initial_plan) actions (with_plan plan)
+    → IsSome plan.pipes.out
 
 -- the actions and the tail succeeded: whatever plan they lead to, its requests were made
 abbrev pub ActionsSucceed : {E H : Type 0} → Allows H → (E → ℕ) → PlanTail E H → List (Action E H)

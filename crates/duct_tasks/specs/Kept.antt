@@ -76,8 +76,8 @@ module _ {S E C F D : Type 0} (views : SystemViews S E C F D (Unit {0}) Bytes) w
         × (given ≡ length numbers.children)
 
     -- so many starts, each from where the one before had left the system, and once nothing ran any
-    -- more of that one; the last one, if there is one, ended like this. They gave this many children
-    -- to the pool
+    -- more of that one; the last one, if there is one, ended like this. They gave this many
+    -- children to the pool
     abbrev pub InSuccession : ℕ → Option End → ℕ → S → S → Type 0
     InSuccession zero last given sys after = (last ≡ None) × (given ≡ 0) × (after ≡ sys)
     InSuccession (suc starts) last given sys after =

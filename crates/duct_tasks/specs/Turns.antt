@@ -47,9 +47,9 @@ module _ {S E C F D : Type 0} (views : SystemViews S E C F D (Unit {0}) Bytes) w
     pub shape_is : shape_view after.shape ≡ shape_view before.shape
     pub numbers_are : numbers_of views after ≡ numbers_of views before
 
-  -- a task that ran still does; or how it ended was concluded from what its children and workers may
-  -- return, and at an error its children, of which there are this many, were given to the pool. One
-  -- that had ended is as before
+  -- a task that ran still does; or how it ended was concluded from what its children and workers
+  -- may return, and at an error its children, of which there are this many, were given to the pool.
+  -- One that had ended is as before
   abbrev pub Advances : Task (RunningView C F D) → Task (RunningView C F D) → ℕ → Type 0
   Advances (Running before) (Running after) given = RunsAlike before after × (given ≡ 0)
   Advances (Running before) (Ended (Ok output)) given =

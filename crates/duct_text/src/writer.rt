@@ -16,8 +16,8 @@ use std::alloc::{AllocError, Global};
 use std::convert::AsStr;
 
 /// Returns a text that a POSIX shell runs as this expression is run: with the same words, files and
-/// streams, and with the same variables but for those that a shell sets itself, as `PWD`. Names that
-/// differ only in the case of ASCII letters are one variable here, and two to a shell.
+/// streams, and with the same variables but for those that a shell sets itself, as `PWD`. Names
+/// that differ only in the case of ASCII letters are one variable here, and two to a shell.
 ///
 /// Each program stands behind `env`, with the variables that the expression sets, so a shell takes
 /// it for no function and no command of its own. `unchecked` is `|| true`, a folder is that of

@@ -4,10 +4,10 @@
 use duct::{Clock, Entry, Place, Pool, System};
 use duct_base::pool::pool_take;
 use duct_host::{Child, End, Host};
+use rows_parts::{Requests, taken};
 use rows_runs::{Machine, PartsOf, PoolOf, TURNS};
 use rows_table::{
-    Bytes, Lender, Real, Requests, Script, Table, TableError, first_word, named, open_descriptors,
-    taken,
+    Bytes, Lender, Real, Script, Table, TableError, first_word, named, open_descriptors,
 };
 use std::alloc::AllocError;
 use std::fs::{self, File, Permissions};

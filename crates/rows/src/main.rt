@@ -15,9 +15,9 @@ mod host;
 
 use crate::host::HostMachine;
 use rows_calls::Calls;
-use rows_parts::Parts;
+use rows_parts::{Parts, Scripts};
 use rows_runs::{Machine, Scripted};
-use rows_table::{Counts, File, Odd, Real, Script, Scripts, TableError, compare, filled, untried};
+use rows_table::{Counts, File, Odd, Real, Script, TableError, compare, filled, untried};
 use std::alloc::Global;
 use std::io::{self, Write};
 use std::process::ExitCode;

@@ -1,5 +1,6 @@
-//! The table `parts`: parts of the library that make no request, and journals and plans as they
-//! stand (`docs/ROWS.md`).
+//! The tables `parts`, of parts of the library that make no request and of journals and plans as
+//! they stand, and `scripts`, of requests of the scripted system; and single requests over any
+//! system (`docs/ROWS.md`).
 //! Test support: the code is proved safe, and each function that can't block is proved to return.
 #![tactic(auto)]
 
@@ -7,10 +8,15 @@ mod checks;
 mod follows;
 mod journals;
 mod names;
+mod requests;
+mod scripts;
 mod statuses;
 mod texts;
 mod transfers;
 mod words;
+
+pub use requests::{Requests, taken};
+pub use scripts::Scripts;
 
 use rows_table::{Strangers, Table, TableError, Writing, first_word};
 use std::alloc::Global;

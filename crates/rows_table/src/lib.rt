@@ -1,6 +1,6 @@
 //! What all tables of rows share: the reader of files of rows, the notation of expressions, hooks,
-//! journals and scripted systems, texts for what came of them, single requests over any system, and
-//! the real machine with a runtime that wraps it; and the table `scripts`.
+//! journals and scripted systems, texts for what came of them, and the real machine with a runtime
+//! that wraps it.
 //! Test support: the code is proved safe, and each function that can't block is proved to return.
 #![tactic(auto)]
 
@@ -9,9 +9,7 @@ mod expressions;
 mod hooks;
 mod odd;
 mod real;
-mod requests;
 mod scenes;
-mod scripts;
 mod stop;
 mod table;
 mod told;
@@ -23,9 +21,7 @@ pub use expressions::{Lender, Log, Strangers, Tree, Writing, written, written_wi
 pub use hooks::hook;
 pub use odd::{Odd, Script};
 pub use real::{Left, Real, count_left, filled, open_descriptors};
-pub use requests::{Requests, taken};
 pub use scenes::{Answer, Bench, set_system};
-pub use scripts::Scripts;
 pub use stop::{TableError, is_memory};
 pub use table::{Counts, File, Table, compare, untried};
 pub use told::{

@@ -1,4 +1,5 @@
 //! Tests of an expression that is started again each time that it ends.
+use crate::tasks::system;
 use duct::{Expression, Pool, System, cmd};
 use duct_base::system::{ExitStatus, Fault, Kind};
 use duct_script::child::PollAnswer;
@@ -12,16 +13,6 @@ use std::sync::Wait;
 use std::sync::atomic::{AtomicU32, Ordering};
 use std::test::Fail;
 use std::time::Duration;
-
-/// A system whose first child runs for a while and succeeds, whose second fails, whose third
-/// succeeds, and whose fourth runs on.
-fn system(alloc: Global) -> Result<Script, TableError> {
-    let mut system = Script::new(alloc)?;
-    system.polls(&[PollAnswer::Running, PollAnswer::Ended(ExitStatus::Code(0))])?;
-    system.polls(&[PollAnswer::Ended(ExitStatus::Code(2))])?;
-    system.polls(&[PollAnswer::Ended(ExitStatus::Code(0))])?;
-    Ok(system)
-}
 
 /// What came of a keep over this system with at most so many starts, which is to stop once it was
 /// asked this often.

@@ -11,9 +11,9 @@ use std::alloc::Global;
 use std::sync::Wait;
 use std::test::Fail;
 
-/// A system whose first child runs for a while and succeeds, whose second fails, and whose third
-/// succeeds.
-fn system(alloc: Global) -> Result<Script, TableError> {
+/// A system whose first child runs for a while and succeeds, whose second fails, whose third
+/// succeeds, and whose others run on.
+pub(crate) fn system(alloc: Global) -> Result<Script, TableError> {
     let mut system = Script::new(alloc)?;
     system.polls(&[PollAnswer::Running, PollAnswer::Ended(ExitStatus::Code(0))])?;
     system.polls(&[PollAnswer::Ended(ExitStatus::Code(2))])?;

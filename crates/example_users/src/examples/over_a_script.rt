@@ -1,12 +1,10 @@
 //! The examples over the scripted system, which runs no program: a test, and what the test over the
 //! machine tries too.
 use super::builds::make_all;
-use super::handles::started_at_last;
 use super::script::{run_script, started};
 use super::services::serve;
 use super::supervisor::supervise;
 use duct::{Clock, Error, ExitStatus, Expression, Fault, Kind, Pool, System, cmd};
-use duct_attempts::run_attempts;
 use duct_script::child::PollAnswer;
 use duct_script::clock::ScriptClock;
 use duct_script::requests::Sort;
@@ -66,31 +64,6 @@ pub fn service_at_last<R: Wait + Drop>(
     let system = scripted(alloc, &[FAILS, FAILS, SUCCEEDS])?;
     let mut sh = Shell::over(rt, alloc, system);
     service_text(&mut sh, clock, Duration::from_secs(60))
-}
-
-/// Starts a command at last, and runs one at last that fails at first. Returns whether both
-/// succeeded.
-fn at_last<S: System>(rt: &impl Wait, alloc: Global, system: &mut S) -> Result<bool, Error> {
-    let mut pool = Pool::new(alloc);
-    let command: Expression<S::End> = cmd!(in alloc; "server")?;
-    let started = started_at_last(rt, system, &mut pool, &command)?.status;
-    let failed = |error: &Error| matches!(error, Error::Checked(_));
-    let ran = run_attempts(3, failed, rt, &command, system, &mut pool)?.status;
-    Ok(started.success() && ran.success())
-}
-
-/// A scripted system that refuses the first two starts, and one of whose next children fails.
-fn busy(alloc: Global) -> Result<Script, AllocError> {
-    let mut system = scripted(alloc, &[SUCCEEDS, FAILS, SUCCEEDS])?;
-    let busy = Fault::new(Kind::Other);
-    system.refuse_sort(Sort::Spawn, 1, busy)?;
-    system.refuse_sort(Sort::Spawn, 2, busy)?;
-    Ok(system)
-}
-
-/// Whether a command is started at last, and run at last, over that system.
-pub fn attempts_at_last(rt: &impl Wait, alloc: Global) -> Result<bool, Error> {
-    at_last(rt, alloc, &mut busy(alloc)?)
 }
 
 /// Makes two targets over a scripted system, of which the second fails. Returns what is reported of

@@ -1,5 +1,5 @@
-//! Recipes over the machine: a file that grows, a talk with a program, and lines that say whose they
-//! are.
+//! Recipes over the machine: a file that grows, a talk with a program, and lines that say whose
+//! they are.
 use duct::{Error, Expression, System, cmd};
 use duct_host::{End, Host, Parents};
 use duct_shell::{Failure, Output, Shell};

@@ -1,13 +1,10 @@
 //! The table `scripts`: requests of the scripted system (`docs/ROWS.md`). Each row has a system of
 //! its own.
 use crate::requests::Requests;
-use crate::scenes::set_system;
-use crate::stop::TableError;
-use crate::table::Table;
-use crate::words::{fault, first_word};
 use duct_base::system::{Child, Job, Numbered, Said, System};
 use duct_script::calls::CallLog;
 use duct_script::system::Script;
+use rows_table::{Table, TableError, fault, first_word, set_system};
 use std::alloc::{AllocError, Global};
 use std::fmt::{Debug, Write};
 use std::rt::Clock;

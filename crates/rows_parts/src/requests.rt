@@ -2,13 +2,9 @@
 ghost use Rattle.std.specs.Prelude.{◌≡◌, ◌+◌, ◌<◌, ◌≤◌, [], ◌∷◌, length, vec_len, IfOk, OnOk, OnErr};
 ghost use Rattle.duct_system.specs.Streams.{ends_of};
 
-use crate::bytes::Bytes;
-use crate::stop::TableError;
-use crate::told::push_journal;
-use crate::waits::heard;
-use crate::words::{fault, first_word, side, texts};
 use duct_base::spec::{CommandSpec, Port, spec_of};
 use duct_base::system::{Child, ExitStatus, Fault, Kind, Numbered, Stdio, System};
+use rows_table::{Bytes, TableError, fault, first_word, heard, push_journal, side, texts};
 use std::alloc::Global;
 use std::collections::BTreeMap;
 use std::fmt::{Debug, Write};

@@ -1,7 +1,7 @@
 use Rattle.std.proofs.lemmas.Result.{IfOk-weaker}
 use Rattle.duct.specs.TreeView.{tree_view}
-use Rattle.example_users.proofs.WholeStart.{whole_to}
-use Rattle.example_users.proofs.examples.files.start_to.Goals as goal
+use Rattle.example_calls.proofs.WholeStart.{whole_to}
+use Rattle.example_calls.proofs.files.start_to.Goals as goal
 
 pub returns : goal.returns
 returns g c =
