@@ -3,7 +3,6 @@ pub mod Closing
 pub mod Counting
 pub mod Crews
 pub mod Guarding
-pub mod Listed
 pub mod Prefixes
 pub mod Limiting
 pub mod Threads

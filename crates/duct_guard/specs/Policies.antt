@@ -1,7 +1,7 @@
 -- What the policies allow that come with the guard.
 use Rattle.std.specs.Prelude.{ℕ, Bool, true, false, ◌&&◌, ◌||◌, ◌==◌, not, min, List, [], ◌∷◌, length, bytes_eq, codes, is_some, Some, None}
 use Rattle.std.specs.declared.option.Option.{Option}
-use Rattle.std.specs.List.{list_any, starts_with}
+use Rattle.std.specs.List.{list_all, list_any, starts_with}
 use Rattle.std.specs.Path.{path_components, parent_dir, slash}
 use Rattle.duct_system.specs.SpecView.{Vars, value_of}
 use Rattle.duct_guard.specs.Requests.{RequestView, spawn, read, create}
@@ -60,16 +60,19 @@ at_once_rules children = record all_allowed { at_once = children }
 abbrev pub is_listed : List (List ℕ) → List ℕ → Bool
 is_listed names text = list_any (λ name. bytes_eq name text) names
 
--- whether there is a text, and it is this one
-abbrev pub is_text : List ℕ → Option (List ℕ) → Bool
-is_text text None = false
-is_text text (Some other) = bytes_eq other text
+-- whether a variable has exactly this name and this value
+abbrev pub is_variable : List ℕ → List ℕ → List ℕ × List ℕ → Bool
+is_variable name value pair = bytes_eq pair.0 name && bytes_eq pair.1 value
+
+-- whether one of some variables has exactly this name and this value
+abbrev pub has_value : List ℕ → List ℕ → Vars → Bool
+has_value name value vars = list_any (is_variable name value) vars
 
 -- whether a program is a name that is looked up on this PATH
 abbrev pub is_found : Option (List ℕ) → Vars → List ℕ → Bool
 is_found None vars program = false
 is_found (Some path) vars program =
-    not (list_any (λ byte. byte == slash) program) && is_text path (value_of (codes "PATH") vars)
+    not (list_any (λ byte. byte == slash) program) && has_value (codes "PATH") path vars
 
 -- whether a text begins with `/`
 abbrev pub begins_with_slash : List ℕ → Bool
@@ -100,24 +103,28 @@ starts_listed programs _ = true
 abbrev pub program_rules : ProgramsView → Rules
 program_rules programs = record all_allowed { allows = starts_listed programs }
 
--- whether there is a variable with this name
-abbrev pub has_var : List ℕ → Vars → Bool
-has_var name vars = is_some (value_of name vars)
+-- the given variables, and the names of those that a child may have with other values
+pub record VariablesView : Type 0 where
+  pub given : Vars
+  pub free : List (List ℕ)
 
--- whether some variables have one by which the loader adds code to a program
-abbrev pub adds_code : Vars → Bool
-adds_code vars =
-    has_var (codes "LD_PRELOAD") vars || has_var (codes "LD_AUDIT") vars
-    || has_var (codes "LD_LIBRARY_PATH") vars
+-- whether a variable has a free name, or is among these
+abbrev pub is_kept : List (List ℕ) → Vars → List ℕ × List ℕ → Bool
+is_kept free vars pair = is_listed free pair.0 || has_value pair.0 pair.1 vars
 
--- whether a request starts no child with such a variable
-abbrev pub starts_plain : RequestView → Bool
-starts_plain (spawn spec) = not (adds_code spec.vars)
-starts_plain _ = true
+-- whether all of some variables have free names, or are among these
+abbrev pub are_kept : List (List ℕ) → Vars → Vars → Bool
+are_kept free vars some = list_all (is_kept free vars) some
 
--- all but such children
-abbrev pub no_preloads : Rules
-no_preloads = record all_allowed { allows = starts_plain }
+-- whether a child has the given variables and no others, but for those with free names
+abbrev pub keeps_variables : VariablesView → RequestView → Bool
+keeps_variables policy (spawn spec) =
+    are_kept policy.free policy.given spec.vars && are_kept policy.free spec.vars policy.given
+keeps_variables policy _ = true
+
+-- all but other children
+abbrev pub variable_rules : VariablesView → Rules
+variable_rules policy = record all_allowed { allows = keeps_variables policy }
 
 -- whether a path has `..` among its names
 abbrev pub climbs : List ℕ → Bool

@@ -18,6 +18,6 @@ pub use counts::Counts;
 pub use error::PolicyError;
 pub use fixed::{Fixed, FixedRules};
 pub use guard::Guarded;
-pub use policies::{AtOnce, Both, Folders, Limits, NoPreloads, Programs, ReadOnly};
+pub use policies::{AtOnce, Both, Folders, Limits, Programs, ReadOnly, Variables};
 pub use policy::Policy;
 pub use request::Request;

@@ -2,14 +2,15 @@
 ghost use Rattle.std.specs.Prelude.{◌≡◌, [], true, false, codes, map, string_bytes, Some, None, IfOk, OnOk, OnErr};
 ghost use Rattle.std.specs.Option.{option_map};
 ghost use Rattle.std.specs.List.{list_any};
-ghost use Rattle.duct_system.specs.SpecView.{value_of};
-ghost use Rattle.duct_guard.specs.Policies.{adds_code, begins_with, begins_with_slash, climbs, has_var, is_below, is_fixed, is_found, is_listed, is_text, lies_within};
+ghost use Rattle.duct_system.specs.SpecView.{pair_text};
+ghost use Rattle.duct_guard.specs.Policies.{are_kept, begins_with, begins_with_slash, climbs, has_value, is_below, is_fixed, is_found, is_listed, lies_within};
 
 use crate::counts::Counts;
 use crate::error::PolicyError;
 use crate::policy::Policy;
 use crate::request::Request;
 use duct_system::spec::CommandSpec;
+use std::convert::AsStr;
 use std::marker::Model;
 use std::path::Path;
 
@@ -48,8 +49,8 @@ impl Programs {
     }
 
     /// Returns the policy that allows the absolute paths among these, and the names without `/`
-    /// where the child has exactly this `PATH`, whose name is compared in any spelling. A folder in
-    /// it that isn't absolute depends on the folder that the child starts in.
+    /// where the child has exactly this `PATH`. A folder in it that isn't absolute depends on the
+    /// folder that the child starts in.
     pub fn on_path(names: Vec<String>, path: String) -> Programs
         ensures { result ≡ record
             { names = map string_bytes names.items; path = Some (string_bytes path) } }
@@ -106,19 +107,23 @@ fn is_found(path: &Option<String>, spec: &CommandSpec, program: &str) -> bool
     ensures { result ≡ is_found (option_map string_bytes path.now) spec.now.vars program.now }
 {
     match path {
-        Some(path) => !program.as_bytes().contains(&b'/') && has_path(spec, path.as_str()),
+        Some(path) => {
+            !program.as_bytes().contains(&b'/') && has_value(spec, "PATH", path.as_str())
+        }
         None => false,
     }
 }
 
-// Returns whether this is the child's `PATH`.
-fn has_path(spec: &CommandSpec, path: &str) -> bool
-    ensures { result ≡ is_text path.now (value_of (codes "PATH") spec.now.vars) }
+// Returns whether a child has a variable with exactly this name and this value.
+fn has_value(spec: &CommandSpec, name: &str, value: &str) -> bool
+    ensures { result ≡ has_value name.now value.now spec.now.vars }
 {
-    match spec.var("PATH") {
-        Some(text) => text == path,
-        None => false,
+    for (other, found) in spec.iter_vars() {
+        if other.as_str() == name && found.as_str() == value {
+            return true;
+        }
     }
+    false
 }
 
 // Returns whether a text is one of these.
@@ -238,21 +243,54 @@ fn begins_with(path: &str, folder: &str) -> bool
     Path::new(path).starts_with(folder)
 }
 
-/// Allows to start children without the variables by which the loader adds code to a program:
-/// `LD_PRELOAD`, `LD_AUDIT` and `LD_LIBRARY_PATH`, in any spelling. All other requests are allowed.
+/// Allows to start children that have exactly the given variables: each variable of a child has to
+/// be one of them, with the same spelling and value, and none of them may be missing. Variables with
+/// some names are free: a child may have them with any value, or not have them. All other requests
+/// are allowed.
 ///
-/// Programs read other variables too, as `BASH_ENV` and `PYTHONPATH`.
+/// `PATH` and names that begin with `LD_` choose the code that a child runs, so they aren't free
+/// unless they are listed.
 #[derive(Drop)]
-pub struct NoPreloads;
+pub struct Variables {
+    given: Vec<(String, String)>,
+    free: Vec<String>,
+}
 
-impl Policy for NoPreloads {
-    ghost use Rattle.duct_guard.specs.Policies.{no_preloads};
+impl Model for Variables {
+    ghost use Rattle.std.specs.Prelude.{map, string_bytes};
+    ghost use Rattle.duct_system.specs.SpecView.{pair_text};
+    ghost use Rattle.duct_guard.specs.Policies.{VariablesView};
 
-    ghost rules = { λ _. no_preloads };
+    ghost Value = { VariablesView };
+
+    ghost view = { λ v. record {
+      given = map pair_text v.given.items;
+      free = map string_bytes v.free.items;
+    } };
+}
+
+impl Variables {
+    /// Returns the policy with these given variables, as `System::environment` returns them, and
+    /// these free names.
+    pub fn new(given: Vec<(String, String)>, free: Vec<String>) -> Variables
+        ensures { result ≡ record
+            { given = map pair_text given.items; free = map string_bytes free.items } }
+    {
+        Variables { given, free }
+    }
+}
+
+impl Policy for Variables {
+    ghost use Rattle.duct_guard.specs.Policies.{variable_rules};
+
+    ghost rules = { variable_rules };
 
     fn allows(&self, request: Request) -> bool {
         match request {
-            Request::Spawn(spec) => !adds_code(spec),
+            Request::Spawn(spec) => {
+                adds_none(self.free.as_slice(), self.given.as_slice(), spec)
+                    && misses_none(self.free.as_slice(), self.given.as_slice(), spec)
+            }
             _ => true,
         }
     }
@@ -266,21 +304,42 @@ impl Policy for NoPreloads {
     }
 }
 
-// Returns whether a child has a variable by which the loader adds code to its program.
-fn adds_code(spec: &CommandSpec) -> bool
-    ensures { result ≡ adds_code spec.now.vars }
+// Returns whether each variable of a child has a free name, or is a given one.
+fn adds_none(free: &[String], given: &[(String, String)], spec: &CommandSpec) -> bool
+    ensures { result ≡ are_kept (map string_bytes free.now) (map pair_text given.now)
+        spec.now.vars }
 {
-    has_var(spec, "LD_PRELOAD") || has_var(spec, "LD_AUDIT") || has_var(spec, "LD_LIBRARY_PATH")
+    for (name, value) in spec.iter_vars() {
+        if !is_listed(free, name.as_str()) && !is_given(given, name.as_str(), value.as_str()) {
+            return false;
+        }
+    }
+    true
 }
 
-// Returns whether a child has a variable with this name.
-fn has_var(spec: &CommandSpec, name: &str) -> bool
-    ensures { result ≡ has_var name.now spec.now.vars }
+// Returns whether each given variable has a free name, or the child has it.
+fn misses_none(free: &[String], given: &[(String, String)], spec: &CommandSpec) -> bool
+    ensures { result ≡ are_kept (map string_bytes free.now) spec.now.vars
+        (map pair_text given.now) }
 {
-    match spec.var(name) {
-        Some(_) => true,
-        None => false,
+    for (name, value) in given {
+        if !is_listed(free, name.as_str()) && !has_value(spec, name.as_str(), value.as_str()) {
+            return false;
+        }
     }
+    true
+}
+
+// Returns whether one of some variables has exactly this name and this value.
+fn is_given(given: &[(String, String)], name: &str, value: &str) -> bool
+    ensures { result ≡ has_value name.now value.now (map pair_text given.now) }
+{
+    for (other, found) in given {
+        if other.as_str() == name && found.as_str() == value {
+            return true;
+        }
+    }
+    false
 }
 
 /// Allows no file to be created or truncated. All other requests are allowed, so what a child does

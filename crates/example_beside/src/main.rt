@@ -53,7 +53,7 @@ where
             Err(error) => write!(text, "{allowed:?}, {words}: {error}\n")?,
         }
     }
-    for words in ["grep 'a | b' < in | wc -l", "grep 'a"] {
+    for words in ["grep 'a | b' < log | wc -l", "grep 'a"] {
         write!(text, "{}\n", for_a_shell::<End, ()>(alloc, words)?)?;
     }
     write!(text, "made: {}\n", File::open(rt, "made").is_ok())?;
