@@ -24,7 +24,7 @@ use duct_base::system::{Entry, Kind, Numbered, Stdio};
 use duct_plan::{
     Item, Plan, Source, Surroundings, Wired, asked_at, first_end, origin, second_end, trace,
 };
-use duct_script::hook::ScriptHook;
+use duct_script::ScriptHook;
 use duct_system::same::same_spec;
 use std::alloc::{AllocError, Global};
 

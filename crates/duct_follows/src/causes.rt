@@ -20,7 +20,7 @@ use duct_base::error::Error;
 use duct_base::spec::Hook;
 use duct_base::system::{Entry, Fault, Kind, Numbered};
 use duct_plan::{Item, Plan, Surroundings, Wired, asked_at, fault_of, trace};
-use duct_script::hook::ScriptHook;
+use duct_script::ScriptHook;
 use std::alloc::Global;
 
 /// Returns whether the error of a failed start has a cause, given the plan and the entries that the

@@ -15,7 +15,7 @@ use crate::verdict::{Due, Flaw, Verdict};
 use duct_base::spec::Hook;
 use duct_base::system::{Entry, Numbered};
 use duct_plan::{Plan, trace};
-use duct_script::hook::ScriptHook;
+use duct_script::ScriptHook;
 use std::alloc::{AllocError, Global};
 
 /// Judges the entries that a start added to the journal by its plan. To do so, the hooks of the

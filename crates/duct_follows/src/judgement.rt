@@ -16,7 +16,7 @@ use duct_base::spec::Hook;
 use duct_base::system::{Entry, Numbered};
 use duct_plan::plan_of_reader;
 use duct_program::{Usage, line};
-use duct_script::hook::ScriptHook;
+use duct_script::ScriptHook;
 use std::alloc::Global;
 
 /// The type of a line's ends of the caller, of which it has none.

@@ -14,7 +14,7 @@ use crate::verdict::Verdict;
 use duct_base::spec::Hook;
 use duct_base::system::{Entry, Numbered};
 use duct_program::Usage;
-use duct_script::hook::ScriptHook;
+use duct_script::ScriptHook;
 use std::alloc::Global;
 use std::io;
 use std::io::Write;

@@ -2,15 +2,28 @@
 //! contracts of the interface to the operating system.
 #![tactic(auto)]
 
-pub mod answers;
-pub mod calls;
-pub mod child;
-pub mod clock;
-pub mod gate;
-pub mod gated;
-pub mod hook;
-pub mod job;
-pub mod reader;
-pub mod requests;
-pub mod system;
-pub mod text;
+mod answers;
+mod calls;
+mod child;
+mod clock;
+mod gate;
+mod gated;
+mod hook;
+mod job;
+mod reader;
+mod requests;
+mod system;
+mod text;
+
+pub use answers::Answers;
+pub use calls::{Call, CallLog};
+pub use child::{ChildScript, PollAnswer, ScriptChild};
+pub use clock::ScriptClock;
+pub use gate::Gate;
+pub use gated::Gated;
+pub use hook::{HookAnswer, ScriptHook, SpecChange, Target};
+pub use job::{DrainScript, FeedScript, ScriptDrain, ScriptFeed};
+pub use reader::{ReadStep, ReaderScript, ScriptReader};
+pub use requests::{Requests, Sort};
+pub use system::{Script, ScriptEnd};
+pub use text::Words;

@@ -4,7 +4,7 @@ use crate::journals::journal;
 use duct::{CommandSpec, Entry, Error, Hook, Stream};
 use duct_base::spec::give;
 use duct_plan::{is_balanced, open_count, opened_numbers, origin, spent_numbers, trace};
-use duct_script::text::Words;
+use duct_script::Words;
 use rows_table::{TableError, hook, pieces, push_source, push_spec};
 use std::alloc::Global;
 

@@ -7,8 +7,7 @@ use duct_follows::{
     stops_at_fault,
 };
 use duct_plan::{Plan, plan, plan_of_reader, trace};
-use duct_script::hook::ScriptHook;
-use duct_script::system::ScriptEnd;
+use duct_script::{ScriptEnd, ScriptHook};
 use rows_table::{TableError, fault, first_word, written};
 use std::alloc::Global;
 

@@ -2,8 +2,7 @@
 //! its own.
 use crate::requests::Requests;
 use duct_base::system::{Child, Job, Numbered, Said, System};
-use duct_script::calls::CallLog;
-use duct_script::system::Script;
+use duct_script::{CallLog, Script};
 use rows_table::{Table, TableError, fault, first_word, set_system};
 use std::alloc::{AllocError, Global};
 use std::fmt::{Debug, Write};

@@ -1,7 +1,7 @@
 //! A core that is told events.
 use crate::Parts;
 use duct_base::status::{Core, Drains, Event, Reply, Shape, Word};
-use duct_script::child::PollAnswer;
+use duct_script::PollAnswer;
 use rows_table::{Answer, TableError, first_word, side, texts};
 use std::alloc::{AllocError, Global};
 

@@ -2,7 +2,7 @@
 use crate::Parts;
 use duct::{Error, Stream};
 use duct_program::Usage;
-use duct_script::system::ScriptEnd;
+use duct_script::ScriptEnd;
 use duct_text::{LineError, ShellTextError, line, shell_text};
 use duct_words::{SplitError, Token, quote, split};
 use rows_table::{TableError, Tree, arguments, written};

@@ -1,7 +1,7 @@
 //! The program: the expression that its arguments mean, and what it does.
 use duct::{Expression, System};
 use duct_program::{line, perform};
-use duct_script::hook::ScriptHook;
+use duct_script::ScriptHook;
 use rows_table::{Bytes, arguments};
 use std::alloc::{AllocError, Global};
 use std::io::{self, Write};

@@ -1,9 +1,7 @@
 //! The table of calls over the scripted system (`docs/ROWS.md`).
 use crate::machine::{Machine, PartsOf, PoolOf};
 use duct::{Numbered, System};
-use duct_script::child::ScriptChild;
-use duct_script::clock::ScriptClock;
-use duct_script::system::{Script, ScriptEnd};
+use duct_script::{Script, ScriptChild, ScriptClock, ScriptEnd};
 use rows_table::{
     Bench, Lender, Log, Strangers, TableError, duration, most_held, program, push_lent, push_noted,
     push_turns,

@@ -3,7 +3,7 @@ use crate::runs::{Limits, limits};
 use crate::texts::{push_all, push_done, push_read, push_run};
 use duct::{Clock, Error, Output, System};
 use duct_deadline::{Late, LateRead, Until};
-use duct_script::hook::ScriptHook;
+use duct_script::ScriptHook;
 use duct_shell::{Failure, Shell};
 use rows_table::{TableError, Tree};
 use std::alloc::AllocError;

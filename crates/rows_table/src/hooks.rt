@@ -2,7 +2,7 @@
 use crate::expressions::Log;
 use crate::stop::TableError;
 use crate::words::{fault, stream};
-use duct_script::hook::{HookAnswer, ScriptHook, SpecChange, Target};
+use duct_script::{HookAnswer, ScriptHook, SpecChange, Target};
 use std::alloc::Global;
 use std::sync::Arc;
 

@@ -3,13 +3,10 @@ use crate::stop::TableError;
 use crate::words::{ERROR_KINDS, fault, first_word, named, pairs};
 use duct::{ExitStatus, Fault, Pool, Said};
 use duct_base::pool::{place_new, pool_take, reservation_new};
-use duct_script::answers::Answers;
-use duct_script::calls::CallLog;
-use duct_script::child::{ChildScript, PollAnswer, ScriptChild};
-use duct_script::job::DrainScript;
-use duct_script::reader::{ReadStep, ReaderScript};
-use duct_script::requests::Sort;
-use duct_script::system::Script;
+use duct_script::{
+    Answers, CallLog, ChildScript, DrainScript, PollAnswer, ReadStep, ReaderScript, Script,
+    ScriptChild, Sort,
+};
 use std::alloc::Global;
 use std::sync::Arc;
 

@@ -4,9 +4,7 @@ use crate::scenes::{Bench, FIRST};
 use crate::stop::TableError;
 use duct::{CommandSpec, Entry, Pool, Stdio, Stream, System};
 use duct_plan::{Source, fault_of, opened_numbers, origin, spent_numbers, trace};
-use duct_script::calls::{Call, CallLog};
-use duct_script::requests::Sort;
-use duct_script::text::Words;
+use duct_script::{Call, CallLog, Sort, Words};
 use std::alloc::{AllocError, Global};
 use std::slice;
 

@@ -2,10 +2,7 @@
 use crate::tasks::system;
 use duct::{Expression, Pool, System, cmd};
 use duct_base::system::{ExitStatus, Fault, Kind};
-use duct_script::child::PollAnswer;
-use duct_script::clock::ScriptClock;
-use duct_script::requests::Sort;
-use duct_script::system::{Script, ScriptEnd};
+use duct_script::{PollAnswer, Script, ScriptClock, ScriptEnd, Sort};
 use duct_tasks::{Progress, Restarts, keep};
 use rows_table::TableError;
 use std::alloc::Global;

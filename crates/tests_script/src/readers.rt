@@ -1,9 +1,7 @@
 //! Tests of threads that share a reader handle. A thread that waits for another one checks a
 //! limited number of times, and then goes on.
 use duct::ReaderHandle;
-use duct_script::gate::Gate;
-use duct_script::reader::ReaderScript;
-use duct_script::system::Script;
+use duct_script::{Gate, ReaderScript, Script};
 use rows_table::{Bench, TableError, until, written};
 use std::alloc::{AllocError, Global};
 use std::sync::Wait;

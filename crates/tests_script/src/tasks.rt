@@ -3,8 +3,7 @@ ghost use Rattle.std.specs.Prelude.{◌<◌};
 
 use duct::{Expression, Pool, System, cmd};
 use duct_base::system::{Entry, ExitStatus};
-use duct_script::child::PollAnswer;
-use duct_script::system::{Script, ScriptEnd};
+use duct_script::{PollAnswer, Script, ScriptEnd};
 use duct_tasks::{AtFailure, Tasks, run_all};
 use rows_table::TableError;
 use std::alloc::Global;

@@ -4,11 +4,7 @@ ghost use Rattle.std.specs.Prelude.{◌≡◌};
 
 use duct::unix::HandleExt;
 use duct::{Clock, Error, ExitStatus, Handle, Output, Seen};
-use duct_script::answers::Answers;
-use duct_script::calls::{Call, CallLog};
-use duct_script::child::{ChildScript, PollAnswer};
-use duct_script::gate::Gate;
-use duct_script::system::Script;
+use duct_script::{Answers, Call, CallLog, ChildScript, Gate, PollAnswer, Script};
 use rows_table::{Bench, TableError, push_turns, set_system, until, written};
 use std::alloc::{AllocError, Global};
 use std::sync::{Arc, Wait};

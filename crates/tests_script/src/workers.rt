@@ -1,10 +1,7 @@
 //! Tests of workers on their threads: they run beside their caller, and each later poll returns the
 //! same result.
 use duct_base::system::{Fault, Job, Kind, Numbered, Said, System};
-use duct_script::gate::Gate;
-use duct_script::gated::Gated;
-use duct_script::reader::ScriptReader;
-use duct_script::system::Script;
+use duct_script::{Gate, Gated, Script, ScriptReader};
 use duct_worker::spawn::{spawn_drain, spawn_feed};
 use duct_worker::worker::Worker;
 use rows_table::{heard, set_system, until};
