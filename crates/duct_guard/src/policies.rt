@@ -1,5 +1,5 @@
 //! Policies that come with the guard.
-ghost use Rattle.std.specs.Prelude.{◌≡◌, [], true, false, codes, map, string_bytes, Some, None, IfOk, OnOk, OnErr};
+ghost use Rattle.std.specs.Prelude.{◌≡◌, ◌&&◌, [], true, false, codes, map, string_bytes, Some, None, IfOk, OnOk, OnErr};
 ghost use Rattle.std.specs.Option.{option_map};
 ghost use Rattle.std.specs.List.{list_any};
 ghost use Rattle.duct_system.specs.SpecView.{pair_text};
@@ -278,6 +278,15 @@ impl Variables {
     {
         Variables { given, free }
     }
+
+    // Returns whether a child has the given variables and no others, but for those with free names.
+    fn are_kept_by(&self, spec: &CommandSpec) -> bool
+        ensures { result ≡ (are_kept self.now.free self.now.given spec.now.vars
+            && are_kept self.now.free spec.now.vars self.now.given) }
+    {
+        adds_none(self.free.as_slice(), self.given.as_slice(), spec)
+            && misses_none(self.free.as_slice(), self.given.as_slice(), spec)
+    }
 }
 
 impl Policy for Variables {
@@ -287,10 +296,7 @@ impl Policy for Variables {
 
     fn allows(&self, request: Request) -> bool {
         match request {
-            Request::Spawn(spec) => {
-                adds_none(self.free.as_slice(), self.given.as_slice(), spec)
-                    && misses_none(self.free.as_slice(), self.given.as_slice(), spec)
-            }
+            Request::Spawn(spec) => self.are_kept_by(spec),
             _ => true,
         }
     }
