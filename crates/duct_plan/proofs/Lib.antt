@@ -2,3 +2,4 @@ pub mod AskedThere
 pub mod Balance
 pub mod Changed
 pub mod Counted
+pub mod Written

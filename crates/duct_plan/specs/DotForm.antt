@@ -6,8 +6,8 @@ use Rattle.duct_system.specs.declared.spec.Stream.TheVariants.{In, Out, Err}
 use Rattle.duct_start.specs.Plan.{Plan, program_of}
 use Rattle.duct_start.specs.Step.{Item, AskEnvironment, AskPipe, AskOpenRead, AskCreate, AskCanonicalize, AskSpawn, AskFeed, AskDrain, AskReader}
 use Rattle.duct_start.specs.Surroundings.{Surroundings, Target, Parents, Nothing, ReaderAt, WriterAt, FileAt, Lends}
-use Rattle.duct_tree.specs.Text.{Form, plain, quote, joined, form_text, is_form_printable}
-use Rattle.duct_report.specs.EntryForm.{of_end}
+use Rattle.duct_tree.specs.Text.{Form, plain, quote, before, joined, form_text, is_form_printable}
+use Rattle.duct_report.specs.EntryForm.{of_end, of_text}
 
 -- the name of a stream
 abbrev pub stream_name : Stream → List ℕ
@@ -52,7 +52,7 @@ streams_form place found =
 abbrev pub arguments_form : List (List ℕ) → Form
 arguments_form [] = plain []
 arguments_form (argument ∷ others) =
-    joined (plain (codes " + \" \" + ") ∷ quote argument ∷ arguments_form others ∷ [])
+    before (of_text (codes " + \" \" + ") argument) (arguments_form others)
 
 -- the words of a command as one text
 unfoldable pub words_form : List (List ℕ) → Form
@@ -112,11 +112,15 @@ edges_form place (AskFeed pipe bytes) = edge_form place pipe
 edges_form place (AskDrain pipe) = edge_form pipe place
 edges_form place (AskReader pipe) = edge_form pipe place
 
--- the nodes of some requests, the first of which has this place, and their edges
+-- the node of the request at this place, and its edges
+unfoldable pub statement_form : {E H : Type 0} → ℕ → Item E H → Form
+statement_form place item = before (node_form place item) (edges_form place item)
+
+-- those of some requests, the first of which has this place
 abbrev pub statements_form : {E H : Type 0} → ℕ → List (Item E H) → Form
 statements_form place [] = plain []
 statements_form place (item ∷ items) =
-    joined (node_form place item ∷ edges_form place item ∷ statements_form (place + 1) items ∷ [])
+    before (statement_form place item) (statements_form (place + 1) items)
 
 -- the graph of a plan, from left to right
 abbrev pub graph_form : {E H : Type 0} → Plan E H → Form

@@ -8,7 +8,7 @@ use Rattle.duct_system.specs.declared.spec.Stream.TheVariants.{In, Out, Err}
 use Rattle.duct_start.specs.Plan.{Plan, is_canonical, program_of}
 use Rattle.duct_start.specs.Step.{Item, AskEnvironment, AskPipe, AskOpenRead, AskCreate, AskCanonicalize, AskSpawn, AskFeed, AskDrain, AskReader}
 use Rattle.duct_start.specs.Surroundings.{Surroundings, Target, Parents, Nothing, ReaderAt, WriterAt, FileAt, Lends, VariableChange, Sets, Removes, Replaces}
-use Rattle.duct_tree.specs.Text.{Form, plain, quote, joined, form_text, is_form_printable}
+use Rattle.duct_tree.specs.Text.{Form, plain, quote, before, joined, form_text, is_form_printable}
 use Rattle.duct_report.specs.EntryForm.{of_text, of_end, folder_form}
 
 -- where a stream goes that goes to this stream of the parent
@@ -53,7 +53,7 @@ changes_form (change ∷ further) = joined (change_form change ∷ changes_form 
 abbrev pub arguments_form : List (List ℕ) → Form
 arguments_form [] = plain []
 arguments_form (argument ∷ others) =
-    joined (of_text (codes " ") argument ∷ arguments_form others ∷ [])
+    before (of_text (codes " ") argument) (arguments_form others)
 
 -- a program: unknown where its canonical path is requested first
 unfoldable pub program_form : {E H : Type 0} → Surroundings E H → List (List ℕ) → Form
@@ -103,12 +103,15 @@ item_form (AskFeed place bytes) = of_end (codes "input worker of pipe ") place
 item_form (AskDrain place) = of_end (codes "capture worker of pipe ") place
 item_form (AskReader place) = of_end (codes "reader of pipe ") place
 
+-- the line of the request at this place
+unfoldable pub line_form : {E H : Type 0} → ℕ → Item E H → Form
+line_form place item =
+    joined (of_end [] place ∷ plain (codes " ") ∷ item_form item ∷ plain (codes "\n") ∷ [])
+
 -- a line for each request, the first of which has this place
 abbrev pub lines_form : {E H : Type 0} → ℕ → List (Item E H) → Form
 lines_form place [] = plain []
-lines_form place (item ∷ items) =
-    joined (of_end [] place ∷ plain (codes " ") ∷ item_form item ∷ plain (codes "\n")
-    ∷ lines_form (place + 1) items ∷ [])
+lines_form place (item ∷ items) = before (line_form place item) (lines_form (place + 1) items)
 
 -- the lines of a plan
 abbrev pub plan_form : {E H : Type 0} → Plan E H → Form

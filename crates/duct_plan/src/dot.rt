@@ -1,10 +1,10 @@
 //! The drawing of a plan: a graph in the DOT language of Graphviz.
-ghost use Rattle.std.specs.Prelude.{◌≡◌, ◌≤◌, ◌+◌, length, map, string_bytes};
+ghost use Rattle.std.specs.Prelude.{◌≡◌, map, string_bytes};
 ghost use Rattle.std.specs.Fmt.{DisplaysOnOk};
 ghost use Rattle.duct_tree.specs.Text.{printed};
 ghost use Rattle.duct_plan.specs.Found.{found_of, target_of};
 ghost use Rattle.duct_plan.specs.PlanView.{item_of, plan_view};
-ghost use Rattle.duct_plan.specs.DotForm.{arguments_form, box_end, box_form, command_form, edge_form, edges_form, end_text, graph_form, input_form, node_form, output_form, statements_form, stream_name, streams_form, target_form, words_form};
+ghost use Rattle.duct_plan.specs.DotForm.{arguments_form, box_end, box_form, command_form, edge_form, edges_form, end_text, graph_form, input_form, node_form, output_form, statement_form, statements_form, stream_name, streams_form, target_form, words_form};
 
 use crate::found::{Surroundings, Target};
 use crate::items::{Item, Plan};
@@ -44,28 +44,38 @@ fn write_graph<E, H, W: fmt::Write>(plan: &Plan<'_, E, H>, f: &mut fmt::Formatte
         (printed (graph_form (plan_view plan.now))) f.new }
 {
     f.write_str("digraph plan {\n  rankdir=LR;\n")?;
-    write_statements(plan.items.as_slice(), 0, f)?;
+    write_statements(plan.items.as_slice(), f)?;
     f.write_str("}\n")
 }
 
-// Writes the nodes of some requests, the first of which has this place, and their edges.
+// Writes the nodes of some requests, and their edges.
 fn write_statements<E, H, W: fmt::Write>(
     items: &[Item<'_, E, H>],
+    f: &mut fmt::Formatter<W>,
+) -> fmt::Result
+    ensures { DisplaysOnOk W.write_str_gives f.old result
+        (printed (statements_form 0 (map item_of items.now))) f.new }
+{
+    let mut place = 0;
+    for item in items {
+        write_statement(item, place, f)?;
+        place += 1;
+    }
+    Ok(())
+}
+
+// Writes the node of the request at this place, and its edges.
+#[tactic(auto, unfolding(crate::specs::DotForm::statement_form))]
+fn write_statement<E, H, W: fmt::Write>(
+    item: &Item<'_, E, H>,
     place: usize,
     f: &mut fmt::Formatter<W>,
 ) -> fmt::Result
-    requires { place + length items.now ≤ 9223372036854775807 }
     ensures { DisplaysOnOk W.write_str_gives f.old result
-        (printed (statements_form place (map item_of items.now))) f.new }
+        (printed (statement_form place (item_of item.now))) f.new }
 {
-    match items.split_first() {
-        None => Ok(()),
-        Some((item, rest)) => {
-            write_node(item, place, f)?;
-            write_edges(item, place, f)?;
-            write_statements(rest, place + 1, f)
-        }
-    }
+    write_node(item, place, f)?;
+    write_edges(item, place, f)
 }
 
 // Writes the node of the request at this place, if it has one.
@@ -139,13 +149,10 @@ fn write_arguments<W: fmt::Write>(arguments: &[String], f: &mut fmt::Formatter<W
     ensures { DisplaysOnOk W.write_str_gives f.old result
         (printed (arguments_form (map string_bytes arguments.now))) f.new }
 {
-    match arguments.split_first() {
-        None => Ok(()),
-        Some((argument, others)) => {
-            write!(f, " + \" \" + {argument:?}")?;
-            write_arguments(others, f)
-        }
+    for argument in arguments {
+        write!(f, " + \" \" + {argument:?}")?;
     }
+    Ok(())
 }
 
 // Writes the edges of the request at this place, if it has some.

@@ -1,5 +1,5 @@
 //! The text of a plan: a line for each request, with its place.
-ghost use Rattle.std.specs.Prelude.{◌≡◌, ◌≤◌, ◌+◌, length, map, string_bytes};
+ghost use Rattle.std.specs.Prelude.{◌≡◌, map, string_bytes};
 ghost use Rattle.std.specs.Fmt.{DisplaysOnOk};
 ghost use Rattle.std.specs.Option.{option_copied};
 ghost use Rattle.duct_system.specs.SpecView.{var_view};
@@ -7,7 +7,7 @@ ghost use Rattle.duct_tree.specs.Text.{printed};
 ghost use Rattle.duct_report.specs.EntryForm.{folder_form};
 ghost use Rattle.duct_plan.specs.Found.{change_of, found_of, target_of};
 ghost use Rattle.duct_plan.specs.PlanView.{item_of, plan_view};
-ghost use Rattle.duct_plan.specs.PlanForm.{arguments_form, change_form, changes_form, command_form, hooks_form, item_form, lines_form, parents_text, plan_form, program_form, settings_form, spawn_form, stream_form, streams_form, target_form, variables_form};
+ghost use Rattle.duct_plan.specs.PlanForm.{arguments_form, change_form, changes_form, command_form, hooks_form, item_form, line_form, lines_form, parents_text, plan_form, program_form, settings_form, spawn_form, stream_form, streams_form, target_form, variables_form};
 
 use crate::found::{Surroundings, Target, VariableChange};
 use crate::items::{Item, Plan};
@@ -41,28 +41,38 @@ fn write_plan<E, H, W: fmt::Write>(plan: &Plan<'_, E, H>, f: &mut fmt::Formatter
     ensures { DisplaysOnOk W.write_str_gives f.old result
         (printed (plan_form (plan_view plan.now))) f.new }
 {
-    write_lines(plan.items.as_slice(), 0, f)
+    write_lines(plan.items.as_slice(), f)
 }
 
-// Writes a line for each request, the first of which has this place.
+// Writes a line for each request.
 fn write_lines<E, H, W: fmt::Write>(
     items: &[Item<'_, E, H>],
+    f: &mut fmt::Formatter<W>,
+) -> fmt::Result
+    ensures { DisplaysOnOk W.write_str_gives f.old result
+        (printed (lines_form 0 (map item_of items.now))) f.new }
+{
+    let mut place = 0;
+    for item in items {
+        write_line(item, place, f)?;
+        place += 1;
+    }
+    Ok(())
+}
+
+// Writes the line of the request at this place.
+#[tactic(auto, unfolding(crate::specs::PlanForm::line_form))]
+fn write_line<E, H, W: fmt::Write>(
+    item: &Item<'_, E, H>,
     place: usize,
     f: &mut fmt::Formatter<W>,
 ) -> fmt::Result
-    requires { place + length items.now ≤ 9223372036854775807 }
     ensures { DisplaysOnOk W.write_str_gives f.old result
-        (printed (lines_form place (map item_of items.now))) f.new }
+        (printed (line_form place (item_of item.now))) f.new }
 {
-    match items.split_first() {
-        None => Ok(()),
-        Some((item, rest)) => {
-            write!(f, "{place} ")?;
-            write_item(item, f)?;
-            f.write_str("\n")?;
-            write_lines(rest, place + 1, f)
-        }
-    }
+    write!(f, "{place} ")?;
+    write_item(item, f)?;
+    f.write_str("\n")
 }
 
 /// Writes one request as a plan's line has it, without its place. Fails where the write fails.
@@ -153,13 +163,10 @@ fn write_arguments<W: fmt::Write>(arguments: &[String], f: &mut fmt::Formatter<W
     ensures { DisplaysOnOk W.write_str_gives f.old result
         (printed (arguments_form (map string_bytes arguments.now))) f.new }
 {
-    match arguments.split_first() {
-        None => Ok(()),
-        Some((argument, others)) => {
-            write!(f, " {argument:?}")?;
-            write_arguments(others, f)
-        }
+    for argument in arguments {
+        write!(f, " {argument:?}")?;
     }
+    Ok(())
 }
 
 // Writes a folder, if there is one.
