@@ -1,6 +1,6 @@
 //! Commands in the background, and commands that are started again.
 use duct::unix::HandleExt;
-use duct::{Error, Expression, Output, Pool, System, cmd};
+use duct::{Error, Expression, Handle, Output, Pool, System, cmd};
 use duct_attempts::start_attempts;
 use std::alloc::Global;
 use std::sync::Wait;
@@ -17,6 +17,45 @@ pub fn stopped<S: System>(rt: &impl Wait, alloc: Global, system: &mut S) -> Resu
             Err(error)
         }
     }
+}
+
+// Starts commands, and keeps their handles, as far as all can be started.
+fn start_each<S: System>(
+    system: &mut S,
+    pool: &mut Pool<S::Child>,
+    commands: &[Expression<S::End>],
+    handles: &mut Vec<Handle<S>>,
+) -> Result<(), Error> {
+    for command in commands {
+        let handle = command.start(system, pool)?;
+        if let Err(failed) = handles.push(handle) {
+            failed.value.give_up(pool);
+            return Err(Error::Memory);
+        }
+    }
+    Ok(())
+}
+
+/// Runs commands side by side, and waits for each. Returns how many succeeded. Fails if one can't
+/// be started; those before it are waited for too.
+pub fn count_successes<S: System>(
+    rt: &impl Wait,
+    alloc: Global,
+    system: &mut S,
+    pool: &mut Pool<S::Child>,
+    commands: &[Expression<S::End>],
+) -> Result<usize, Error> {
+    let mut handles = Vec::new(alloc);
+    let started = start_each(system, pool, commands, &mut handles);
+    let mut successes = 0_usize;
+    while let Some(handle) = handles.pop() {
+        if handle.into_output(rt, pool).is_ok() {
+            successes = successes.saturating_add(1);
+        }
+    }
+    handles.destroy_empty(); // handles can't be dropped, nor can a `Vec` of them
+    started?;
+    Ok(successes)
 }
 
 /// Starts a job, and does pieces of work until the job has ended or no piece is left. Then waits

@@ -4,7 +4,7 @@ use crate::commands::{
     unfound,
 };
 use crate::files::start_to_file;
-use crate::handles::{started_at_last, stopped, work_beside};
+use crate::handles::{count_successes, started_at_last, stopped, work_beside};
 use crate::readers::{copied, counted, longest_line};
 use duct::{Error, ExitStatus, Expression, Fault, Kind, Pool, System, cmd};
 use duct_attempts::run_attempts;
@@ -32,6 +32,7 @@ enum Example {
     Unfound,
     Stopped,
     OpenFiles,
+    Successes,
     Counted,
     Worked,
     Silenced,
@@ -46,7 +47,7 @@ enum Example {
 }
 
 /// What each example comes to.
-const EXAMPLES: [(Example, &str); 20] = [
+const EXAMPLES: [(Example, &str); 21] = [
     (Example::AttemptsAtLast, "true"),
     (Example::Listed, "foo bar baz"),
     (Example::Fed, "foo"),
@@ -59,6 +60,7 @@ const EXAMPLES: [(Example, &str); 20] = [
         "Output { status: Signal(15), stdout: [], stderr: [] }",
     ),
     (Example::OpenFiles, "bar\nfoo\n"),
+    (Example::Successes, "2"),
     (Example::Counted, "3893"),
     (Example::Worked, "true"),
     (Example::Silenced, "bar\n; foo\n; ; "),
@@ -123,6 +125,16 @@ fn silent_pipes<E: Drop>(alloc: Global) -> Result<[Expression<E>; 3], Error> {
 /// Two pipes of which one side may fail, and one of which both may.
 fn failing_pipes<E: Drop>(alloc: Global) -> Result<[Expression<E>; 3], Error> {
     excused(&script(alloc, "exit 2")?, &script(alloc, "exit 3")?)
+}
+
+/// Runs three commands side by side, of which one fails.
+fn successes<S: System>(rt: &impl Wait, alloc: Global, system: &mut S) -> Result<usize, Error> {
+    let commands = [
+        script(alloc, "exit 0")?,
+        script(alloc, "exit 1")?,
+        script(alloc, "exit 0")?,
+    ];
+    count_successes(rt, alloc, system, &mut Pool::new(alloc), &commands)
 }
 
 /// A pipeline that is made in a loop.
@@ -221,6 +233,7 @@ fn told_anywhere<S: System>(
         Example::Failed => failed(rt, alloc, system),
         Example::Unfound => unfound(rt, alloc, system),
         Example::Stopped => text(alloc, stopped(rt, alloc, system)),
+        Example::Successes => text(alloc, successes(rt, alloc, system)),
         Example::Counted => text(alloc, counted(rt, alloc, system)),
         Example::Worked => text(alloc, worked(rt, alloc, system)),
         Example::Silenced => errors(rt, alloc, system, &silent_pipes(alloc)?),
