@@ -12,6 +12,7 @@ mod policy;
 mod request;
 mod requests;
 mod streams;
+mod under;
 
 pub use child::GuardedChild;
 pub use counts::Counts;
@@ -21,3 +22,4 @@ pub use guard::Guarded;
 pub use policies::{AtOnce, Both, Folders, Limits, Programs, ReadOnly, Variables};
 pub use policy::Policy;
 pub use request::Request;
+pub use under::{Under, read_under, run_under};

@@ -1,0 +1,129 @@
+//! A read and a run under a policy, also where its rules are known only while the program runs.
+ghost use Rattle.std.specs.Prelude.{◌≡◌, ◌≤◌, []};
+ghost use Rattle.duct_guard.specs.Allowed.{AreAllowed};
+ghost use Rattle.duct_guard.specs.Held.{Fits};
+
+use crate::child::GuardedChild;
+use crate::counts::Counts;
+use crate::fixed::{Fixed, FixedRules};
+use crate::guard::Guarded;
+use crate::policy::Policy;
+use duct::{Error, Expression, Hook, Output, Pool, System};
+use std::alloc::Global;
+use std::marker::Brand;
+use std::sync::Wait;
+
+/// What came of an expression under a policy.
+#[derive(Drop)]
+pub struct Under<S, T> {
+    /// The system below the guard. It was asked only what the policy allows.
+    pub system: S,
+    /// How many ends are open, and how many children were started.
+    pub held: Counts,
+    /// How many children run still, as far as the guard knows.
+    pub running: usize,
+    /// What the expression returned, or why it failed.
+    pub returned: Result<T, Error>,
+}
+
+/// Reads what an expression prints, as `Expression::read` does, over a guard of this system with
+/// this policy. What is forbidden fails with `PermissionDenied`; the system is asked nothing else
+/// than what the policy allows, and nothing more is held than its limits. The policy is dropped.
+///
+/// Example: `read_under(Programs::new(tools), &rt, alloc, system, &mut pool, &step)`
+pub fn read_under<S: System, P: Policy + Drop, H: Hook>(
+    policy: P,
+    rt: &impl Wait,
+    alloc: Global,
+    system: S,
+    pool: &mut Pool<GuardedChild<S::Child>>,
+    expression: &Expression<S::End, H>,
+) -> Under<S, String>
+    requires { (S.journal_view system).entries ≡ [] }
+    ensures allowed { AreAllowed (P.rules policy) (S.journal_view result.system).entries }
+    ensures fits { Fits (P.rules policy).limits result.held }
+    ensures few { result.running ≤ (P.rules policy).at_once }
+{
+    read_fixed::<S, P, H, Brand>(policy, rt, alloc, system, pool, expression)
+}
+
+/// Runs an expression, as `Expression::run` does, under the same conditions.
+///
+/// Example: `run_under(ReadOnly, &rt, alloc, system, &mut pool, &step)`
+pub fn run_under<S: System, P: Policy + Drop, H: Hook>(
+    policy: P,
+    rt: &impl Wait,
+    alloc: Global,
+    system: S,
+    pool: &mut Pool<GuardedChild<S::Child>>,
+    expression: &Expression<S::End, H>,
+) -> Under<S, Output>
+    requires { (S.journal_view system).entries ≡ [] }
+    ensures allowed { AreAllowed (P.rules policy) (S.journal_view result.system).entries }
+    ensures fits { Fits (P.rules policy).limits result.held }
+    ensures few { result.running ≤ (P.rules policy).at_once }
+{
+    run_fixed::<S, P, H, Brand>(policy, rt, alloc, system, pool, expression)
+}
+
+// Reads by a policy whose rules are those of the mark.
+fn read_fixed<S: System, P: Policy + Drop, H: Hook, K: FixedRules>(
+    policy: P,
+    rt: &impl Wait,
+    alloc: Global,
+    system: S,
+    pool: &mut Pool<GuardedChild<S::Child>>,
+    expression: &Expression<S::End, H>,
+) -> Under<S, String>
+    requires fixed { P.rules policy ≡ K.rules }
+    requires empty { (S.journal_view system).entries ≡ [] }
+    ensures allowed { AreAllowed K.rules (S.journal_view result.system).entries }
+    ensures fits { Fits K.rules.limits result.held }
+    ensures few { result.running ≤ K.rules.at_once }
+{
+    let policy: Fixed<P, K> = Fixed::new(policy);
+    let mut guarded = Guarded::new(alloc, system, policy);
+    let text = expression.read(rt, &mut guarded, pool);
+    ended(guarded, text)
+}
+
+// Runs by a policy whose rules are those of the mark.
+fn run_fixed<S: System, P: Policy + Drop, H: Hook, K: FixedRules>(
+    policy: P,
+    rt: &impl Wait,
+    alloc: Global,
+    system: S,
+    pool: &mut Pool<GuardedChild<S::Child>>,
+    expression: &Expression<S::End, H>,
+) -> Under<S, Output>
+    requires fixed { P.rules policy ≡ K.rules }
+    requires empty { (S.journal_view system).entries ≡ [] }
+    ensures allowed { AreAllowed K.rules (S.journal_view result.system).entries }
+    ensures fits { Fits K.rules.limits result.held }
+    ensures few { result.running ≤ K.rules.at_once }
+{
+    let policy: Fixed<P, K> = Fixed::new(policy);
+    let mut guarded = Guarded::new(alloc, system, policy);
+    let output = expression.run(rt, &mut guarded, pool);
+    ended(guarded, output)
+}
+
+// Takes a guard apart.
+fn ended<S: System, P: Policy + Drop, K: FixedRules, T>(
+    mut guarded: Guarded<S, Fixed<P, K>>,
+    returned: Result<T, Error>,
+) -> Under<S, T>
+    ensures allowed { AreAllowed K.rules (S.journal_view result.system).entries }
+    ensures fits { Fits K.rules.limits result.held }
+    ensures few { result.running ≤ K.rules.at_once }
+    ensures returned { result.returned ≡ returned }
+{
+    let (held, running) = (guarded.held(), guarded.running());
+    let (system, _policy) = guarded.into_parts();
+    Under {
+        system,
+        held,
+        running,
+        returned,
+    }
+}
