@@ -12,7 +12,8 @@ use Rattle.duct_system.specs.Child.{Answer}
 use Rattle.duct_system.specs.EntryView.{EntryView}
 use Rattle.duct_guard.specs.Crew.{HasEnded, HaveEnded, children_of, Leaves, Joins, IsCrew}
 use Rattle.duct_guard.specs.Held.{child_of, held_after, with_entry}
-use Rattle.duct_guard.specs.declared.counts.Counts.{Counts}
+use Rattle.duct_guard.specs.declared.counts.Held.{Held}
+use Rattle.duct_guard.proofs.Holding.{children_now}
 
 -- an element that was read twice
 pub read_twice : {M : Type 0} (crew : List M) (place : ℕ) (one other : M) → place < length crew
@@ -27,13 +28,13 @@ children_append (e ∷ es) entry =
     ap (λ l. child_of e ++ l) (children_append es entry) ∙ sym (append_assoc (child_of e) (children_of es) (child_of entry))
 
 -- the count of children, by those that were started
-held_children : (held : Counts) (entries : List EntryView)
+held_children : (held : Held) (entries : List EntryView)
     → (held_after held entries).children ≡ held.children + length (children_of entries)
 held_children held [] = omega arith
 held_children held (e ∷ es) =
     let rest = held_children (with_entry held e) es in
     let parts = length-append (child_of e) (children_of es) in
-    omega (arith, rest, parts)
+    let now = children_now held e in omega (arith, rest, parts, now)
 
 module _ (may_answer : ℕ → Answer → Type 0) where
   both_ended : (one other : List ℕ) → HaveEnded may_answer one → HaveEnded may_answer other
@@ -179,7 +180,7 @@ module _ (may_answer : ℕ → Answer → Type 0) where
         omega (arith, few, long))
 
     -- no more run than were started
-    pub crew_started : {M : Type 0} (number : M → ℕ) (earlier_held held : Counts)
+    pub crew_started : {M : Type 0} (number : M → ℕ) (earlier_held held : Held)
         (own : List EntryView) (crew : List M)
         → ∥ IsCrew may_answer limit earlier own (map number crew) ∥₁
         → earlier ≡ earlier_held.children → held ≡ held_after earlier_held own
@@ -189,12 +190,12 @@ module _ (may_answer : ℕ → Answer → Type 0) where
         let fewer = fewer_left (was.before ++ children_of own) (map number members) was.leaves in
         let long = length-map members number in
         let parts = length-append was.before (children_of own) in
-        let all = ap (λ (h : Counts). h.children) counted ∙ held_children earlier_held own in
+        let all = ap (λ (h : Held). h.children) counted ∙ held_children earlier_held own in
         let before = was.counted in
         omega (arith, fewer, long, parts, all, before, first))
 
   -- a journal that was cleared
-  pub crew_cleared : (limit : ℕ) (earlier held : Counts) (own none : List EntryView)
+  pub crew_cleared : (limit : ℕ) (earlier held : Held) (own none : List EntryView)
       (running : List ℕ) → ∥ IsCrew may_answer limit earlier.children own running ∥₁
       → held ≡ held_after earlier own → none ≡ []
       → ∥ IsCrew may_answer limit held.children none running ∥₁
@@ -202,7 +203,7 @@ module _ (may_answer : ℕ → Answer → Type 0) where
     before = was.before ++ children_of own;
     counted =
         length-append was.before (children_of own) ∙ ap (λ n. n + length (children_of own)) was.counted
-        ∙ sym (ap (λ (h : Counts). h.children) counted ∙ held_children earlier own);
+        ∙ sym (ap (λ (h : Held). h.children) counted ∙ held_children earlier own);
     leaves = rw is (subst (λ l. Leaves may_answer l running) (sym (append-nil (was.before ++ children_of own))) was.leaves);
     few = was.few;
   })

@@ -26,10 +26,10 @@ use Rattle.duct_guard.specs.Forwarded.{allows_spawn, may_ask, refusal, Forwards,
 use Rattle.duct_guard.specs.Held.{held_after, is_within, with_entry}
 use Rattle.duct_guard.specs.Requests as request
 use Rattle.duct_guard.specs.Rules.{Rules}
-use Rattle.duct_guard.specs.declared.counts.Counts.{Counts}
+use Rattle.duct_guard.specs.declared.counts.Held.{Held}
 
 module _ (rules : Rules) where
-  append_one : (held : Counts) (entries below : List EntryView) (entry : EntryView)
+  append_one : (held : Held) (entries below : List EntryView) (entry : EntryView)
       (asked : List EntryView) → ForwardsAll rules held entries below
       → Forwards rules (held_after held entries) entry asked
       → ForwardsAll rules held (entries ++ entry ∷ []) (below ++ asked)
@@ -39,12 +39,12 @@ module _ (rules : Rules) where
       (all.0, all.1 ++ asked, ap (λ l. l ++ asked) all.2 ∙ append_assoc all.0 all.1 asked, all.3, append_one (with_entry held e) es all.1 entry asked all.4 one)
 
   -- a guard that noted nothing yet, over an empty journal
-  pub nothing_noted : (held : Counts) (own below : List EntryView) → own ≡ [] → below ≡ []
+  pub nothing_noted : (held : Held) (own below : List EntryView) → own ≡ [] → below ≡ []
       → ∥ ForwardsAll rules held own below ∥₁
   nothing_noted held own below none empty = ∣ subst (λ l. ForwardsAll rules held l below) (sym none) empty ∣₁
 
   -- a guard that noted one more entry
-  pub one_noted : (earlier held : Counts) (own more : List EntryView) (entry : EntryView)
+  pub one_noted : (earlier held : Held) (own more : List EntryView) (entry : EntryView)
       (old new : JournalView) → ∥ ForwardsAll rules earlier own old.entries ∥₁
       → held ≡ held_after earlier own → IsForwarded rules held entry old new
       → more ≡ own ++ entry ∷ [] → ∥ ForwardsAll rules earlier more new.entries ∥₁
@@ -82,7 +82,7 @@ some_closed room numbers old new closes = record {
       let kept = closes.room_is in let few = length-take room numbers in omega (arith, kept, few);
 }
 
-module _ (rules : Rules) (held : Counts) where
+module _ (rules : Rules) (held : Held) where
   -- an allowed request that was passed on
   pub passed : (entry : EntryView) (old new : JournalView) → may_ask rules held entry ≡ true
       → Adds entry (length (opened_by entry)) (length (spent_by entry)) old new
@@ -260,7 +260,7 @@ module _ (rules : Rules) where
   closes_allowed [] = refl
   closes_allowed (n ∷ ns) = closes_allowed ns
 
-  asked_allowed : (held : Counts) (entry : EntryView) (asked : List EntryView) → Forwards rules held entry asked
+  asked_allowed : (held : Held) (entry : EntryView) (asked : List EntryView) → Forwards rules held entry asked
       → AreAllowed rules asked
   asked_allowed held entry asked (Passed allowed is) =
       rw (is, (and_parts (is_allowed rules entry) (is_within rules.limits held entry) allowed).0) refl
@@ -275,7 +275,7 @@ module _ (rules : Rules) where
       → AreAllowed rules (one ++ other)
   both_allowed one other first second = rw (list_all-append (is_allowed rules) one other, first) second
 
-  all_allowed : (held : Counts) (entries below : List EntryView) → ForwardsAll rules held entries below
+  all_allowed : (held : Held) (entries below : List EntryView) → ForwardsAll rules held entries below
       → AreAllowed rules below
   all_allowed held [] below none = rw none refl
   all_allowed held (e ∷ es) below all =
@@ -290,7 +290,7 @@ module _ (rules : Rules) where
   denied_anyway true = refl
   denied_anyway false = refl
 
-  entry_denied : (held : Counts) (entry : EntryView) (asked : List EntryView) → Forwards rules held entry asked
+  entry_denied : (held : Held) (entry : EntryView) (asked : List EntryView) → Forwards rules held entry asked
       → (is_allowed rules entry || is_denial (fault_of entry)) ≡ true
   entry_denied held entry asked (Passed allowed is) =
       rw (and_parts (is_allowed rules entry) (is_within rules.limits held entry) allowed).0 refl
@@ -301,17 +301,17 @@ module _ (rules : Rules) where
   entry_denied held entry asked (LostVars vars noted is) = rw noted refl
   entry_denied held entry asked (LostPath path name allowed noted is) = rw (noted, allowed) refl
 
-  all_denied : (held : Counts) (entries below : List EntryView) → ForwardsAll rules held entries below
+  all_denied : (held : Held) (entries below : List EntryView) → ForwardsAll rules held entries below
       → AreDenied rules entries
   all_denied held [] below none = refl
   all_denied held (e ∷ es) below all = rw (entry_denied held e all.0 all.3) (all_denied (with_entry held e) es all.1 all.4)
 
   -- the journal below has allowed requests alone
-  pub below_allowed : (held : Counts) (own below : List EntryView) → ∥ ForwardsAll rules held own below ∥₁
+  pub below_allowed : (held : Held) (own below : List EntryView) → ∥ ForwardsAll rules held own below ∥₁
       → AreAllowed rules below
   below_allowed held own below forwards = ∥∥₁_elim forwards (Bool-set _ _) (all_allowed held own below)
 
   -- each forbidden request of the guard was denied
-  pub own_denied : (held : Counts) (own below : List EntryView) → ∥ ForwardsAll rules held own below ∥₁
+  pub own_denied : (held : Held) (own below : List EntryView) → ∥ ForwardsAll rules held own below ∥₁
       → AreDenied rules own
   own_denied held own below forwards = ∥∥₁_elim forwards (Bool-set _ _) (all_denied held own below)

@@ -3,6 +3,7 @@ pub mod Closing
 pub mod Counting
 pub mod Crews
 pub mod Guarding
+pub mod Holding
 pub mod Prefixes
 pub mod Limiting
 pub mod Threads

@@ -15,18 +15,18 @@ use Rattle.duct_system.specs.EntryView.{answer_of}
 use Rattle.duct_guard.specs.Held.{is_within, with_entry}
 use Rattle.duct_guard.specs.Requests as request
 use Rattle.duct_guard.specs.Rules.{Rules}
-use Rattle.duct_guard.specs.declared.counts.Counts.{Counts}
+use Rattle.duct_guard.specs.declared.counts.Held.{Held}
 
 -- the fault at an allocation failure
 abbrev pub no_memory : Fault
 no_memory = record { kind = OutOfMemory }
 
 -- whether the request of an entry is allowed, where this is held
-abbrev pub may_ask : Rules → Counts → EntryView → Bool
+abbrev pub may_ask : Rules → Held → EntryView → Bool
 may_ask rules held entry = is_allowed rules entry && is_within rules.limits held entry
 
 -- whether a child may be started by a spec, where this is held
-abbrev pub allows_spawn : Rules → Counts → SpecView → Bool
+abbrev pub allows_spawn : Rules → Held → SpecView → Bool
 allows_spawn rules held spec =
     rules.allows (request.spawn spec) && nat_le (held.children + 1) rules.limits.children
 
@@ -40,7 +40,7 @@ refusal allowed = record { kind = if allowed then OutOfMemory else PermissionDen
 -- close ends that it took, from the first;
 -- or the same of a spawn that was refused while as many children may run as are allowed at once;
 -- or the environment or an allowed path, where there was no memory for a copy of the result
-pub data Forwards (rules : Rules) (held : Counts) (entry : EntryView) (below : List EntryView)
+pub data Forwards (rules : Rules) (held : Held) (entry : EntryView) (below : List EntryView)
     : Type 0 where
   Passed : may_ask rules held entry ≡ true → below ≡ entry ∷ [] → Forwards rules held entry below
   Refused : (count : ℕ) → fault_of entry ≡ Some (refusal (may_ask rules held entry))
@@ -56,7 +56,7 @@ pub data Forwards (rules : Rules) (held : Counts) (entry : EntryView) (below : L
 
 -- what it was asked, all in all: for each entry of the guard, which held this before the first, in
 -- their order
-abbrev pub ForwardsAll : Rules → Counts → List EntryView → List EntryView → Type 0
+abbrev pub ForwardsAll : Rules → Held → List EntryView → List EntryView → Type 0
 ForwardsAll rules held [] below = below ≡ []
 ForwardsAll rules held (entry ∷ entries) below =
     (asked rest : List EntryView)
@@ -65,14 +65,14 @@ ForwardsAll rules held (entry ∷ entries) below =
 
 -- the journal below before and after a request of the guard with this entry, which held this: what
 -- the guard forwards was added
-pub record IsForwarded (rules : Rules) (held : Counts) (entry : EntryView) (old new : JournalView)
+pub record IsForwarded (rules : Rules) (held : Held) (entry : EntryView) (old new : JournalView)
     : Type 0 where
   pub asked : List EntryView
   pub forwards : Forwards rules held entry asked
   pub adds : AddsAll asked (length (opened_by entry)) (length (spent_by entry)) old new
 
 -- the same for a request for an end that returned this
-abbrev pub ForwardsEnd : {E : Type 0} → Rules → Counts → (E → ℕ) → (Result ℕ Fault → EntryView)
+abbrev pub ForwardsEnd : {E : Type 0} → Rules → Held → (E → ℕ) → (Result ℕ Fault → EntryView)
     → Result E Fault → JournalView → JournalView → Type 0
 ForwardsEnd rules held number_of entry made old new =
     IsForwarded rules held (entry (answer_of number_of made)) old new

@@ -4,7 +4,7 @@ use Rattle.duct_system.specs.EntryView.{EntryView}
 use Rattle.duct_system.specs.Journal.{JournalView}
 use Rattle.duct_guard.specs.Forwarded.{ForwardsAll}
 use Rattle.duct_guard.specs.Rules.{Rules}
-use Rattle.duct_guard.specs.declared.counts.Counts.{Counts}
+use Rattle.duct_guard.specs.declared.counts.Held.{Held}
 
 -- the system below, the policy, and the guard's own journal with the count of numbers of the system
 -- below; what was held when the journal was cleared last, and what is held now; and the numbers of
@@ -13,8 +13,8 @@ pub record GuardView (S P : Type 0) : Type 0 where
   pub inner : S
   pub policy : P
   pub journal : JournalView
-  pub earlier : Counts
-  pub held : Counts
+  pub earlier : Held
+  pub held : Held
   pub running : List ℕ
 
 -- the system below was asked what the guard forwards of the entries that were added to its own

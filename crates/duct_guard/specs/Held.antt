@@ -1,12 +1,37 @@
 -- What a guard holds: how many ends are open, by its journal, and how many children were started.
-use Rattle.std.specs.Prelude.{ℕ, Bool, true, ◌+◌, ◌-◌, ◌≤◌, List, [], ◌∷◌, length, nat_le, Ok, Err}
+use Rattle.std.specs.Prelude.{ℕ, Bool, true, ◌+◌, ◌-◌, ◌≤◌, List, [], ◌∷◌, length, min, nat_le, Ok, Err, if◌then◌else◌}
 use Rattle.duct_system.specs.EntryView.{EntryView, Environment, Pipe, OpenRead, Create, Duplicate, Parent, Canonicalize, Spawn, Feed, Drain, Reader, Close}
 use Rattle.duct_system.specs.Ledger.{opened_by, spent_by}
 use Rattle.duct_guard.specs.declared.counts.Counts.{Counts}
+use Rattle.duct_guard.specs.declared.counts.Held.{Held}
 
--- nothing
-abbrev pub nothing_held : Counts
-nothing_held = record { ends = 0; children = 0 }
+-- nothing; the first number is greater than that of any end
+abbrev pub nothing_held : Held
+nothing_held = record { ends = 0; children = 0; first = 18446744073709551615 }
+
+-- how many ends are open, and how many children were started
+abbrev pub counts_of : Held → Counts
+counts_of held = record { ends = held.ends; children = held.children }
+
+-- what is held after requests returned these ends
+abbrev pub with_ends : Held → List ℕ → Held
+with_ends held [] = held
+with_ends held (number ∷ numbers) =
+    with_ends (record held { ends = held.ends + 1; first = min held.first number }) numbers
+
+-- what is held after a request took an end: one with a lower number than all that were returned came
+-- by another way, and doesn't count
+abbrev pub without_end : Held → ℕ → Held
+without_end held number =
+    if nat_le held.first number then record held { ends = held.ends - 1 } else held
+
+abbrev pub without_ends : Held → List ℕ → Held
+without_ends held [] = held
+without_ends held (number ∷ numbers) = without_ends (without_end held number) numbers
+
+-- what is held after so many children were started
+abbrev pub with_children : Held → ℕ → Held
+with_children held count = record held { children = held.children + count }
 
 -- the child that the request of an entry started
 abbrev pub child_of : EntryView → List ℕ
@@ -28,21 +53,20 @@ child_of (Close number) = []
 abbrev pub started_by : EntryView → ℕ
 started_by entry = length (child_of entry)
 
--- what is held after one more entry: ends that its request returned are open, and those that it
--- took are not any more; a child counts also after it has ended
-abbrev pub with_entry : Counts → EntryView → Counts
-with_entry held entry = record {
-  ends = (held.ends + length (opened_by entry)) - length (spent_by entry);
-  children = held.children + started_by entry;
-}
+-- what is held after one more entry: ends that its request returned are open, and those of them
+-- that it took are not any more; a child counts also after it has ended
+abbrev pub with_entry : Held → EntryView → Held
+with_entry held entry =
+    with_children (without_ends (with_ends held (opened_by entry)) (spent_by entry))
+    (started_by entry)
 
 -- what is held after some more entries
-abbrev pub held_after : Counts → List EntryView → Counts
+abbrev pub held_after : Held → List EntryView → Held
 held_after held [] = held
 held_after held (entry ∷ entries) = held_after (with_entry held entry) entries
 
 -- whether the request of an entry keeps within these limits, where this is held
-abbrev pub is_within : Counts → Counts → EntryView → Bool
+abbrev pub is_within : Counts → Held → EntryView → Bool
 is_within limits held (Environment answer) = true
 is_within limits held (Pipe answer) = nat_le (held.ends + 2) limits.ends
 is_within limits held (OpenRead path answer) = nat_le (held.ends + 1) limits.ends
@@ -62,7 +86,7 @@ pub record Fits (limits held : Counts) : Type 0 where
   pub children : held.children ≤ limits.children
 
 -- no more is held, neither before nor after any of these entries
-abbrev pub AlwaysFits : Counts → Counts → List EntryView → Type 0
-AlwaysFits limits held [] = Fits limits held
+abbrev pub AlwaysFits : Counts → Held → List EntryView → Type 0
+AlwaysFits limits held [] = Fits limits (counts_of held)
 AlwaysFits limits held (entry ∷ entries) =
-    Fits limits held × AlwaysFits limits (with_entry held entry) entries
+    Fits limits (counts_of held) × AlwaysFits limits (with_entry held entry) entries

@@ -1,9 +1,9 @@
 -- What the policies allow that come with the guard.
-use Rattle.std.specs.Prelude.{ℕ, Bool, true, false, ◌&&◌, ◌||◌, ◌==◌, not, min, List, [], ◌∷◌, length, bytes_eq, codes, is_some, Some, None}
+use Rattle.std.specs.Prelude.{ℕ, Bool, true, false, ◌&&◌, ◌||◌, ◌==◌, not, min, List, [], ◌∷◌, length, bytes_eq, codes, Some, None}
 use Rattle.std.specs.declared.option.Option.{Option}
 use Rattle.std.specs.List.{list_all, list_any, starts_with}
 use Rattle.std.specs.Path.{path_components, parent_dir, slash}
-use Rattle.duct_system.specs.SpecView.{Vars, value_of}
+use Rattle.duct_system.specs.SpecView.{Vars}
 use Rattle.duct_guard.specs.Requests.{RequestView, spawn, read, create}
 use Rattle.duct_guard.specs.Rules.{Rules}
 use Rattle.duct_guard.specs.declared.counts.Counts.{Counts}

@@ -8,10 +8,10 @@ ghost use Rattle.duct_guard.specs.Closed.{ClosesFirst, SpendsEnds};
 ghost use Rattle.duct_guard.specs.Crew.{IsCrew};
 ghost use Rattle.duct_guard.specs.Forwarded.{ForwardsAll, allows_spawn};
 ghost use Rattle.duct_guard.specs.GuardView.{GuardView};
-ghost use Rattle.duct_guard.specs.Held.{AlwaysFits, Fits, held_after, nothing_held};
+ghost use Rattle.duct_guard.specs.Held.{AlwaysFits, Fits, counts_of, held_after, nothing_held, with_ends};
 
 use crate::child::GuardedChild;
-use crate::counts::Counts;
+use crate::counts::{Counts, Held};
 use crate::crew::{Member, forget_ended};
 use crate::policy::Policy;
 use crate::requests::{
@@ -39,14 +39,14 @@ pub struct Guarded<S: System, P: Policy> {
     inner: S,
     policy: P,
     journal: Journal,
-    earlier: Counts,
-    held: Counts,
+    earlier: Held,
+    held: Held,
     crew: Vec<Member<S::Child>>,
     ghost within: { journal.room ≤ (S.journal_view inner).room },
     ghost forwards: { ∥ ForwardsAll (P.rules policy) earlier journal.entries
         (S.journal_view inner).entries ∥₁ },
     ghost counted: { held ≡ held_after earlier journal.entries },
-    ghost fits: { Fits (P.rules policy).limits earlier },
+    ghost fits: { Fits (P.rules policy).limits (counts_of earlier) },
     ghost knows: { ∥ IsCrew S.Child.may_answer (P.rules policy).at_once earlier.children
         journal.entries (map (λ m. m.number) crew.items) ∥₁ },
 }
@@ -84,8 +84,8 @@ impl<S: System, P: Policy> Guarded<S, P> {
             inner,
             policy,
             journal: Journal::new(alloc),
-            earlier: Counts::nothing(),
-            held: Counts::nothing(),
+            earlier: Held::nothing(),
+            held: Held::nothing(),
             crew: Vec::new(alloc),
         }
     }
@@ -124,11 +124,12 @@ impl<S: System, P: Policy> Guarded<S, P> {
     /// Returns how many ends are open and how many children were started, by all requests of the
     /// guard. It is never more than the policy's limits.
     pub fn held(&self) -> Counts
-        ensures same { result ≡ self.now.held }
-        ensures counted { result ≡ held_after self.now.earlier self.now.journal.entries }
+        ensures same { result ≡ counts_of self.now.held }
+        ensures counted { result
+            ≡ counts_of (held_after self.now.earlier self.now.journal.entries) }
         ensures fits { Fits (P.rules self.now.policy).limits result }
     {
-        self.held
+        self.held.counts()
     }
 
     /// Returns how many children run, as far as the guard knows: it started them, and no poll of
@@ -177,19 +178,24 @@ fn done<T>(made: &Result<T, Fault>) -> Result<(), Fault>
 
 // Adds the entry of a request for an end, and counts the end. If it failed, the room for the end is
 // released.
-fn note_end<T>(journal: &mut Journal, held: &mut Counts, entry: Entry, made: &Result<T, Fault>)
+fn note_end<E: Numbered>(
+    journal: &mut Journal,
+    held: &mut Held,
+    entry: Entry,
+    made: &Result<E, Fault>,
+)
     requires room { 1 < journal.old.room }
     requires count { OnOk made.now (held.old.ends + 1 ≤ 18446744073709551615) }
     ensures entries { journal.new.entries ≡ journal.old.entries ++ entry_view entry ∷ [] }
     ensures added { journal.new.added ≡ journal.old.added + 1 }
     ensures ok { OnOk made.now (journal.new.room ≡ journal.old.room - 1) }
     ensures err { OnErr made.now (journal.new.room ≡ journal.old.room - 2) }
-    ensures one { OnOk made.now (held.new.ends ≡ held.old.ends + 1) }
-    ensures none { OnErr made.now (held.new.ends ≡ held.old.ends) }
-    ensures children { held.new.children ≡ held.old.children }
+    ensures one { IfOk made.now
+        (λ end. held.new ≡ with_ends held.old (E.number_of end ∷ [])) }
+    ensures none { OnErr made.now (held.new ≡ held.old) }
 {
     match made {
-        Ok(_) => held.ends += 1,
+        Ok(end) => held.open(end.number()),
         Err(_) => journal.give_back(1),
     }
     journal.add(entry);
@@ -264,9 +270,10 @@ impl<S: System, P: Policy> System for Guarded<S, P> {
         self.journal.prepare(2)?;
         match pipe_allowed(&self.policy, self.held, &mut self.inner) {
             Ok((reader, writer)) => {
-                self.held.ends += 2;
-                let entry = Entry::Pipe(Ok((reader.number(), writer.number())));
-                self.journal.add(entry);
+                let (read, write) = (reader.number(), writer.number());
+                self.held.open(read);
+                self.held.open(write);
+                self.journal.add(Entry::Pipe(Ok((read, write))));
                 Ok((reader, writer))
             }
             Err(fault) => {
@@ -401,7 +408,7 @@ impl<S: System, P: Policy> System for Guarded<S, P> {
             io,
             room,
         );
-        self.held.count_spawn(ends, &started);
+        self.held.count_spawn(&streams, &started);
         self.journal
             .add(Entry::Spawn(spec, streams, number_of(&started)));
         started
@@ -420,7 +427,7 @@ impl<S: System, P: Policy> System for Guarded<S, P> {
         ensures below { OnlyForwards S.journal_view P.rules self.old self.new }
     {
         let number = end.number();
-        self.held.spend(1);
+        self.held.spend(number);
         let started = start_shared_feed(&mut self.inner, end, &bytes);
         self.journal.add(Entry::Feed(number, bytes, done(&started)));
         started
@@ -438,7 +445,7 @@ impl<S: System, P: Policy> System for Guarded<S, P> {
         ensures below { OnlyForwards S.journal_view P.rules self.old self.new }
     {
         let number = end.number();
-        self.held.spend(1);
+        self.held.spend(number);
         let started = self.inner.start_drain(end);
         self.journal.add(Entry::Drain(number, done(&started)));
         started
@@ -451,8 +458,9 @@ impl<S: System, P: Policy> System for Guarded<S, P> {
         ensures told { S.may_read (S.End.number_of end) result }
         ensures below { OnlyForwards S.journal_view P.rules self.old self.new }
     {
-        self.held.spend(1);
-        self.journal.add(Entry::Reader(end.number()));
+        let number = end.number();
+        self.held.spend(number);
+        self.journal.add(Entry::Reader(number));
         self.inner.reader(end)
     }
 
@@ -462,8 +470,9 @@ impl<S: System, P: Policy> System for Guarded<S, P> {
             self.new.journal }
         ensures below { OnlyForwards S.journal_view P.rules self.old self.new }
     {
-        self.held.spend(1);
-        self.journal.add(Entry::Close(end.number()));
+        let number = end.number();
+        self.held.spend(number);
+        self.journal.add(Entry::Close(number));
         self.inner.close(end);
     }
 

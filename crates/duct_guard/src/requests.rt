@@ -13,11 +13,11 @@ ghost use Rattle.duct_guard.specs.Crew.{Joins, Leaves};
 ghost use Rattle.duct_guard.specs.Forwarded.{ForwardsEnd, IsForwarded, allows_spawn, refusal};
 ghost use Rattle.duct_guard.specs.Requests.{request_view};
 ghost use Rattle.duct_guard.specs.Rules.{Rules};
-ghost use Rattle.duct_guard.specs.declared.counts.Counts.{Counts};
+ghost use Rattle.duct_guard.specs.declared.counts.Held.{Held};
 ghost use Rattle.std.specs.Arc.{arc_value};
 
 use crate::child::GuardedChild;
-use crate::counts::Counts;
+use crate::counts::Held;
 use crate::crew::{Member, Notes, forget_ended, join, prepare};
 use crate::policy::Policy;
 use crate::request::Request;
@@ -50,10 +50,10 @@ pub(crate) fn environment_twice<S: System>(
 ) -> Result<(Vec<(String, String)>, Vec<(String, String)>), Fault>
     ensures same { IfOk result
         (λ both. map pair_text both.1.items ≡ map pair_text both.0.items) }
-    ensures ok { IfOk result (λ both. (rules : Rules) (held : Counts) →
+    ensures ok { IfOk result (λ both. (rules : Rules) (held : Held) →
         IsForwarded rules held (Environment (Ok (map pair_text both.0.items)))
         (S.journal_view sys.old) (S.journal_view sys.new)) }
-    ensures err { IfErr result (λ fault. (rules : Rules) (held : Counts) →
+    ensures err { IfErr result (λ fault. (rules : Rules) (held : Held) →
         IsForwarded rules held (Environment (Err fault)) (S.journal_view sys.old)
         (S.journal_view sys.new)) }
 {
@@ -65,7 +65,7 @@ pub(crate) fn environment_twice<S: System>(
 }
 
 // Returns whether the policy allows this many more ends to be open.
-fn allows_ends<P: Policy>(policy: &P, held: Counts, more: usize) -> bool
+fn allows_ends<P: Policy>(policy: &P, held: Held, more: usize) -> bool
     ensures within { result ≡ nat_le (held.ends + more) (P.rules policy.now).limits.ends }
     ensures counts { result ≡ true → held.ends + more ≤ 18446744073709551615 }
 {
@@ -77,7 +77,7 @@ fn allows_ends<P: Policy>(policy: &P, held: Counts, more: usize) -> bool
 }
 
 // Returns whether the policy allows one more child to be started.
-fn allows_child<P: Policy>(policy: &P, held: Counts) -> bool
+fn allows_child<P: Policy>(policy: &P, held: Held) -> bool
     ensures within { result ≡ nat_le (held.children + 1) (P.rules policy.now).limits.children }
     ensures counts { result ≡ true → held.children + 1 ≤ 18446744073709551615 }
 {
@@ -85,7 +85,7 @@ fn allows_child<P: Policy>(policy: &P, held: Counts) -> bool
 }
 
 // Returns whether the policy allows a request that returns an end.
-fn may_open<P: Policy>(policy: &P, held: Counts, request: Request) -> bool
+fn may_open<P: Policy>(policy: &P, held: Held, request: Request) -> bool
     ensures allowed { result ≡ ((P.rules policy.now).allows (request_view request.entry)
         && nat_le (held.ends + 1) (P.rules policy.now).limits.ends) }
     ensures counts { result ≡ true → held.ends + 1 ≤ 18446744073709551615 }
@@ -94,7 +94,7 @@ fn may_open<P: Policy>(policy: &P, held: Counts, request: Request) -> bool
 }
 
 // Returns whether a child may be started by this spec.
-fn may_spawn<P: Policy>(policy: &P, held: Counts, spec: &CommandSpec) -> bool
+fn may_spawn<P: Policy>(policy: &P, held: Held, spec: &CommandSpec) -> bool
     ensures allowed { result ≡ allows_spawn (P.rules policy.now) held spec.now }
     ensures counts { result ≡ true → held.children + 1 ≤ 18446744073709551615 }
 {
@@ -104,7 +104,7 @@ fn may_spawn<P: Policy>(policy: &P, held: Counts, spec: &CommandSpec) -> bool
 /// Opens a pipe, if the policy allows two more ends.
 pub(crate) fn pipe_allowed<S: System, P: Policy>(
     policy: &P,
-    held: Counts,
+    held: Held,
     sys: &mut S,
 ) -> Result<(S::End, S::End), Fault>
     ensures ok { IfOk result (λ ends.
@@ -128,7 +128,7 @@ pub(crate) fn pipe_allowed<S: System, P: Policy>(
 /// Opens a file for reading, if the policy allows it and one more end.
 pub(crate) fn open_read_allowed<S: System, P: Policy>(
     policy: &P,
-    held: Counts,
+    held: Held,
     sys: &mut S,
     path: &str,
 ) -> Result<S::End, Fault>
@@ -148,7 +148,7 @@ pub(crate) fn open_read_allowed<S: System, P: Policy>(
 /// Opens a file for writing, if the policy allows it and one more end.
 pub(crate) fn create_allowed<S: System, P: Policy>(
     policy: &P,
-    held: Counts,
+    held: Held,
     sys: &mut S,
     path: &str,
 ) -> Result<S::End, Fault>
@@ -168,7 +168,7 @@ pub(crate) fn create_allowed<S: System, P: Policy>(
 /// Returns one more end of what an end reads or writes, if the policy allows it and one more end.
 pub(crate) fn duplicate_allowed<S: System, P: Policy>(
     policy: &P,
-    held: Counts,
+    held: Held,
     sys: &mut S,
     end: &S::End,
 ) -> Result<S::End, Fault>
@@ -189,7 +189,7 @@ pub(crate) fn duplicate_allowed<S: System, P: Policy>(
 /// Returns one more end of the parent's own stream, if the policy allows it and one more end.
 pub(crate) fn parent_allowed<S: System, P: Policy>(
     policy: &P,
-    held: Counts,
+    held: Held,
     sys: &mut S,
     side: Side,
 ) -> Result<S::End, Fault>
@@ -215,10 +215,10 @@ pub(crate) fn canonicalize_twice<S: System, P: Policy>(
     path: &str,
 ) -> Result<(String, String), Fault>
     ensures same { IfOk result (λ both. string_bytes both.1 ≡ string_bytes both.0) }
-    ensures ok { IfOk result (λ both. (held : Counts) →
+    ensures ok { IfOk result (λ both. (held : Held) →
         IsForwarded (P.rules policy.now) held (Canonicalize path.now (Ok (string_bytes both.0)))
         (S.journal_view sys.old) (S.journal_view sys.new)) }
-    ensures err { IfErr result (λ fault. (held : Counts) →
+    ensures err { IfErr result (λ fault. (held : Held) →
         IsForwarded (P.rules policy.now) held (Canonicalize path.now (Err fault))
         (S.journal_view sys.old) (S.journal_view sys.new)) }
 {
@@ -238,7 +238,7 @@ pub(crate) fn canonicalize_twice<S: System, P: Policy>(
 pub(crate) fn spawn_allowed<S: System, P: Policy>(
     alloc: Global,
     policy: &P,
-    held: Counts,
+    held: Held,
     crew: &mut Vec<Member<S::Child>>,
     sys: &mut S,
     spec: &CommandSpec,
@@ -287,7 +287,7 @@ pub(crate) fn spawn_allowed<S: System, P: Policy>(
 fn prepared<P: Policy, C: Child>(
     alloc: Global,
     policy: &P,
-    held: Counts,
+    held: Held,
     crew: &mut Vec<Member<C>>,
     spec: &CommandSpec,
 ) -> Result<(CommandSpec, Notes<C>), Fault>
@@ -319,7 +319,7 @@ pub(crate) fn start_shared_feed<S: System>(
     bytes: &Arc<Vec<u8>>,
 ) -> Result<S::Feed, Fault>
     requires { 0 < (S.journal_view sys.old).room }
-    ensures forwards { (rules : Rules) (held : Counts) →
+    ensures forwards { (rules : Rules) (held : Held) →
         let entry = Feed (S.End.number_of end) (arc_value bytes.now).items
         (answer_of (λ job. tt) result) in
         IsForwarded rules held entry (S.journal_view sys.old) (S.journal_view sys.new) }

@@ -13,7 +13,7 @@ invariant_of-self-inside-in-Ok g c =
     let room = ap (λ (j : JournalView). j.room) c.add.ensures in
     let noted = ap (λ (j : JournalView). j.entries) c.add.ensures in (
       omega (arith, ready, room, sent.adds.room_is, c.self.inside.within),
-      one_held _ _ _ _ _ _ _ _ _ c.self.inside.forwards c.self.inside.counted c.self.inside.fits c.self.inside.knows sent refl (cc (same, noted, c.in-Ok.ensures.same, c.in_ok-asked.ensures.ok.0)) (omega arith) (omega arith),
+      one_held _ _ _ _ _ _ _ _ _ _ _ c.self.inside.forwards c.self.inside.counted c.self.inside.fits c.self.inside.knows sent refl (cc (same, noted, c.in-Ok.ensures.same, c.in_ok-asked.ensures.ok.0)) refl refl refl,
     )
 
 pub invariant_of-self-inside-in-Err : goal.invariant_of-self-inside-in-Err
@@ -24,7 +24,7 @@ invariant_of-self-inside-in-Err g c =
     let room = ap (λ (j : JournalView). j.room) c.add-in-Err.ensures in
     let noted = ap (λ (j : JournalView). j.entries) c.add-in-Err.ensures in (
       omega (arith, ready, room, sent.adds.room_is, c.self.inside.within),
-      one_held _ _ _ _ _ _ _ _ _ c.self.inside.forwards c.self.inside.counted c.self.inside.fits c.self.inside.knows sent refl (cc (same, noted, c.in_ok-asked.ensures.ok.0)) (omega arith) (omega arith),
+      one_held _ _ _ _ _ _ _ _ _ _ _ c.self.inside.forwards c.self.inside.counted c.self.inside.fits c.self.inside.knows sent refl (cc (same, noted, c.in_ok-asked.ensures.ok.0)) refl refl refl,
     )
 
 pub returns-in-Ok-clause-ok : goal.returns-in-Ok-clause-ok

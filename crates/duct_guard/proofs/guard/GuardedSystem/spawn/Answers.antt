@@ -20,7 +20,7 @@ invariant_of-self-inside-2 g c =
     let room = ap (λ (j : JournalView). j.room) c.add.ensures in
     let noted = ap (λ (j : JournalView). j.entries) c.add.ensures in (
       omega (arith, ready, room, below, c.numbered_streams-ends.ensures.ends, c.self.inside.within),
-      one_spawned _ _ _ _ _ _ number c.args.spec (map (stream_of g.S.End.Numbered.number_of) c.args.io) c.spawn_allowed-started.result _ _ c.self.inside.forwards c.self.inside.counted c.self.inside.fits c.self.inside.knows c.spawn_allowed-started.ensures.joins c.spawn_allowed-started.ensures.stays sent (cc (same, noted, c.numbered_streams-ends.ensures.streams)) (child_held number c.args.spec (map (stream_of g.S.End.Numbered.number_of) c.args.io) _ _ _ c.spawn_allowed-started.result (streams_count g.S.End.Numbered.number_of c.args.io) (omega (arith, c.count_spawn.ensures.ends, c.numbered_streams-ends.ensures.ends)) c.count_spawn.ensures.one c.count_spawn.ensures.none),
+      one_spawned _ _ _ _ _ _ number c.args.spec (map (stream_of g.S.End.Numbered.number_of) c.args.io) c.spawn_allowed-started.result _ _ c.self.inside.forwards c.self.inside.counted c.self.inside.fits c.self.inside.knows c.spawn_allowed-started.ensures.joins c.spawn_allowed-started.ensures.stays sent (cc (same, noted, c.numbered_streams-ends.ensures.streams)) (child_held number c.args.spec (map (stream_of g.S.End.Numbered.number_of) c.args.io) _ _ c.spawn_allowed-started.result (rw c.numbered_streams-ends.ensures.streams at c.count_spawn.ensures.one) (rw c.numbered_streams-ends.ensures.streams at c.count_spawn.ensures.none)),
     )
 
 pub spawn_allowed-started-requires : goal.spawn_allowed-started-requires

@@ -11,7 +11,7 @@ invariant_of-self-inside g c =
     let room = ap (λ (j : JournalView). j.room) c.add.ensures in
     let noted = ap (λ (j : JournalView). j.entries) c.add.ensures in (
       omega (arith, room, sent.adds.room_is, c.self.inside.within),
-      one_held _ _ _ _ _ _ _ _ _ c.self.inside.forwards c.self.inside.counted c.self.inside.fits c.self.inside.knows sent refl (cc noted) (omega (arith, c.spend.ensures.ends)) (omega (arith, c.spend.ensures.children)),
+      one_held _ _ _ _ _ _ _ _ _ _ _ c.self.inside.forwards c.self.inside.counted c.self.inside.fits c.self.inside.knows sent refl (cc noted) refl refl (rw c.number-number.ensures at c.spend.ensures),
     )
 
 pub returns-clause-ok : goal.returns-clause-ok

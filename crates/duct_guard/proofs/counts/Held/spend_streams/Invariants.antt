@@ -1,0 +1,11 @@
+-- The streams that are left complete what is held.
+use Rattle.std.proofs.Common.{◌≡◌, drop}
+use Rattle.duct_system.specs.Streams.{ends_of}
+use Rattle.duct_guard.specs.Held.{without_ends}
+use Rattle.duct_guard.proofs.counts.Held.spend_streams.Given as goal
+
+abbrev pub invariant-loop-stream : goal.invariant-loop-stream
+invariant-loop-stream l = record {
+  ends : without_ends l.self (ends_of (drop l.stream-index l.streams)) ≡ without_ends l.fn.self (ends_of l.fn.streams);
+  children : l.self.children ≡ l.fn.self.children;
+}

@@ -1,0 +1,23 @@
+use Rattle.std.proofs.Common.{arith, ap, rules}
+use Rattle.std.proofs.lemmas.Grind.{common_steps}
+use Rattle.duct_system.specs.Journal.{JournalView}
+use Rattle.duct_guard.specs.declared.counts.Held.{Held}
+use Rattle.duct_guard.proofs.Crews.{no_crew}
+use Rattle.duct_guard.proofs.Guarding.{nothing_noted}
+use Rattle.duct_guard.proofs.guard.Guarded.new.Goals as goal
+
+pub invariant_of-result : goal.invariant_of-result
+invariant_of-result g c =
+    let room = ap (λ (j : JournalView). j.room) c.new.ensures in
+    let none = ap (λ (j : JournalView). j.entries) c.new.ensures in
+    let ends = ap (λ (h : Held). h.ends) c.nothing.ensures in
+    let children = ap (λ (h : Held). h.children) c.nothing.ensures in (
+      omega (arith, room),
+      (
+        nothing_noted _ _ _ _ none c.requires,
+        (
+          search (rules, common_steps),
+          (record { ends = omega (arith, ends); children = omega (arith, children) }, (rw c.new-2.ensures.items (no_crew g.S.Child.Child.may_answer _ _ _ none children), tt)),
+        ),
+      ),
+    )
