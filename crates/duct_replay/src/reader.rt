@@ -1,25 +1,26 @@
 //! The readers of a replay.
 ghost use Rattle.std.specs.Prelude.{◌≡◌, ◌≤◌, ◌++◌, [], min, take, drop, length};
 ghost use Rattle.std.specs.Option.{ForSome};
-ghost use Rattle.duct_replay.specs.Same.{bytes_of};
+ghost use Rattle.duct_replay.specs.Same.{bytes_of, had};
 
+use duct_system::system::Fault;
 use std::io;
 use std::io::{ErrorKind, Read};
 use std::sync::Arc;
 
-/// A reader that reads what was recorded of its end. Where the recorded bytes could have no further
-/// owner, each read fails with `OutOfMemory`.
+/// A reader that reads what was recorded of its end. Where nothing is recorded, each read fails with
+/// `Other`, and where the bytes could have no further owner, with `OutOfMemory`.
 #[derive(Drop)]
 pub struct ReplayReader {
     number: u64,
-    bytes: Option<Arc<Vec<u8>>>,
+    bytes: Result<Option<Arc<Vec<u8>>>, Fault>,
     given: usize,
-    ghost within: { ForSome bytes (λ bytes. given ≤ length (bytes_of bytes)) },
+    ghost within: { ForSome (had bytes) (λ bytes. given ≤ length (bytes_of bytes)) },
 }
 
 impl ReplayReader {
     /// Returns the reader of these bytes, before anything is read.
-    pub fn new(number: u64, bytes: Option<Arc<Vec<u8>>>) -> ReplayReader
+    pub fn new(number: u64, bytes: Result<Option<Arc<Vec<u8>>>, Fault>) -> ReplayReader
         ensures number { result.number ≡ number }
         ensures bytes { result.bytes ≡ bytes }
         ensures given { result.given ≡ 0 }
@@ -49,8 +50,10 @@ impl Read for ReplayReader {
     ghost remaining = { left_of };
 
     fn read(&mut self, buf: &mut [u8]) -> io::Result<usize> {
-        let Some(bytes) = &self.bytes else {
-            return Err(io::Error::from(ErrorKind::OutOfMemory));
+        let bytes = match &self.bytes {
+            Ok(Some(bytes)) => bytes,
+            Ok(None) => return Err(io::Error::from(ErrorKind::Other)),
+            Err(_) => return Err(io::Error::from(ErrorKind::OutOfMemory)),
         };
         let count = give(&bytes.as_slice()[self.given..], buf);
         self.given += count;

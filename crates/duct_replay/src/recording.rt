@@ -1,11 +1,13 @@
 //! What a replay answers from.
-ghost use Rattle.std.specs.Prelude.{◌≡◌, [], ◌∷◌, ◌++◌, map, IfOk, IfSome, OnOk, OnErr};
-ghost use Rattle.std.specs.Option.{option_copied};
+ghost use Rattle.std.specs.Prelude.{◌≡◌, [], ◌∷◌, ◌++◌, map, IfOk, IfErr, OnOk, OnErr};
+ghost use Rattle.std.specs.Option.{option_copied, option_map};
 ghost use Rattle.duct_system.specs.EntryView.{entry_view};
+ghost use Rattle.duct_replay.specs.Answers.{no_memory};
 ghost use Rattle.duct_replay.specs.RecordingView.{listed, status_of, output_of};
 ghost use Rattle.duct_replay.specs.Same.{bytes_of};
 
-use duct_system::system::{Entry, ExitStatus};
+use crate::found::no_memory;
+use duct_system::system::{Entry, ExitStatus, Fault};
 use std::alloc::{AllocError, Global};
 use std::marker::Model;
 use std::sync::Arc;
@@ -17,8 +19,6 @@ pub struct Recording {
     entries: Vec<Entry>,
     endings: Vec<(u64, ExitStatus)>,
     outputs: Vec<(u64, Arc<Vec<u8>>)>,
-    nothing: Arc<Vec<u8>>,
-    ghost empty: { bytes_of nothing ≡ [] },
 }
 
 impl Model for Recording {
@@ -36,18 +36,17 @@ impl Model for Recording {
 }
 
 impl Recording {
-    /// Returns the recording with these entries, in which each child exited with code 0 and nothing
-    /// was read. Fails at an allocation failure.
-    pub fn new(alloc: Global, entries: Vec<Entry>) -> Result<Recording, AllocError>
-        ensures { IfOk result (λ recording. recording
-            ≡ record { entries = map entry_view entries.items; endings = []; outputs = [] }) }
+    /// Returns the recording with these entries, in which nothing is recorded yet of how children
+    /// ended and of what was read.
+    pub fn new(alloc: Global, entries: Vec<Entry>) -> Recording
+        ensures { result
+            ≡ record { entries = map entry_view entries.items; endings = []; outputs = [] } }
     {
-        Ok(Recording {
+        Recording {
             entries,
             endings: Vec::new(alloc),
             outputs: Vec::new(alloc),
-            nothing: Arc::new(alloc, Vec::new(alloc))?,
-        })
+        }
     }
 
     /// Sets how the child with this number ended. Only the first call for a number counts. Fails at
@@ -81,24 +80,25 @@ impl Recording {
         self.entries.as_slice()
     }
 
-    /// Returns how the child with this number ended.
-    pub fn status(&self, number: u64) -> ExitStatus
+    /// Returns how the child with this number ended, or `None` if that isn't recorded.
+    pub fn status(&self, number: u64) -> Option<ExitStatus>
         ensures { result ≡ status_of number self.now }
     {
-        match listed(self.endings.as_slice(), number) {
-            Some(status) => *status,
-            None => ExitStatus::Code(0),
-        }
+        listed(self.endings.as_slice(), number).copied()
     }
 
-    /// Returns what was read of the end with this number, or `None` where the bytes can have no
-    /// further owner.
-    pub fn output(&self, number: u64) -> Option<Arc<Vec<u8>>>
-        ensures { IfSome result (λ shared. bytes_of shared ≡ output_of number self.now) }
+    /// Returns what was read of the end with this number, or `None` if that isn't recorded. Fails
+    /// only with `OutOfMemory`, where the bytes can have no further owner.
+    pub fn output(&self, number: u64) -> Result<Option<Arc<Vec<u8>>>, Fault>
+        ensures ok { IfOk result (λ found. option_map bytes_of found ≡ output_of number self.now) }
+        ensures err { IfErr result (λ fault. fault ≡ no_memory) }
     {
         match listed(self.outputs.as_slice(), number) {
-            Some(bytes) => Arc::try_clone(bytes).ok(),
-            None => Arc::try_clone(&self.nothing).ok(),
+            Some(bytes) => match Arc::try_clone(bytes) {
+                Ok(shared) => Ok(Some(shared)),
+                Err(_) => Err(no_memory()),
+            },
+            None => Ok(None),
         }
     }
 }

@@ -473,17 +473,17 @@ impl System for Replay {
         ensures replayed { MayReplay (Drain end.number) Fits self.old
             (answer_of (λ job. tt) result) self.new }
         ensures read { IfOk result
-            (λ job. bytes_of job.bytes ≡ output_of end.number self.old.recording) }
+            (λ job. option_map bytes_of job.bytes ≡ output_of end.number self.old.recording) }
     {
         match found_drain(self.next(), end.number) {
             Some(Ok(())) => match self.recording.output(end.number) {
-                Some(bytes) => {
+                Ok(bytes) => {
                     self.note(Entry::Drain(end.number, Ok(())), true);
                     Ok(ReplayDrain::new(end.number, bytes))
                 }
-                None => {
-                    self.note(Entry::Drain(end.number, Err(no_memory())), false);
-                    Err(no_memory())
+                Err(fault) => {
+                    self.note(Entry::Drain(end.number, Err(fault)), false);
+                    Err(fault)
                 }
             },
             Some(Err(fault)) => {
@@ -504,7 +504,7 @@ impl System for Replay {
         ensures told { IsUnread end.number result }
         ensures steps { Steps self.old self.new }
         ensures read { IfSome (left_of result)
-            (λ bytes. bytes ≡ output_of end.number self.old.recording) }
+            (λ bytes. Some bytes ≡ output_of end.number self.old.recording) }
     {
         let agrees = is_reader(self.next(), end.number);
         self.note(Entry::Reader(end.number), agrees);

@@ -1,8 +1,10 @@
 //! The workers of a replay.
 ghost use Rattle.std.specs.Prelude.{◌≡◌};
 ghost use Rattle.duct_system.specs.Job.{unpolled_job};
+ghost use Rattle.std.specs.Option.{option_map};
 ghost use Rattle.duct_replay.specs.Same.{SaysBytes, bytes_of};
 
+use crate::found::unrecorded;
 use duct_system::system::{Job, Numbered, Said};
 use std::snapshot::Snapshot;
 use std::sync::Arc;
@@ -64,22 +66,23 @@ impl Job for ReplayFeed {
 }
 
 /// A worker that has read what was recorded of its end: each poll returns these bytes, or `Running`
-/// where they can have no further owner.
+/// where they can have no further owner. Where nothing is recorded, each poll fails with `Other`.
 #[derive(Drop)]
 pub struct ReplayDrain {
     number: u64,
-    bytes: Arc<Vec<u8>>,
+    bytes: Option<Arc<Vec<u8>>>,
     polls: u64,
     is_done: bool,
     kept: Snapshot<Said<Arc<Vec<u8>>>>,
-    ghost same_bytes: { SaysBytes is_done (bytes_of bytes) kept.value },
+    ghost same_bytes: { SaysBytes is_done (option_map bytes_of bytes) kept.value },
 }
 
 impl ReplayDrain {
     ghost use Rattle.duct_replay.specs.Views.{drain_view};
 
-    /// Returns the worker of the end with this number, before any poll. It has read these bytes.
-    pub fn new(number: u64, bytes: Arc<Vec<u8>>) -> ReplayDrain
+    /// Returns the worker of the end with this number, before any poll. It has read these bytes, if
+    /// they are recorded.
+    pub fn new(number: u64, bytes: Option<Arc<Vec<u8>>>) -> ReplayDrain
         ensures job { drain_view result ≡ unpolled_job number }
         ensures bytes { result.bytes ≡ bytes }
     {
@@ -105,7 +108,8 @@ impl Job for ReplayDrain {
     ghost use Rattle.std.specs.Prelude.{◌≡◌};
     ghost use Rattle.std.proofs.Common.{refl};
     ghost use Rattle.duct_system.specs.Job.{PollsJob};
-    ghost use Rattle.duct_replay.specs.Ended.{NeverFails};
+    ghost use Rattle.std.specs.Option.{option_map};
+    ghost use Rattle.duct_replay.specs.Ended.{MayRead};
     ghost use Rattle.duct_replay.specs.Same.{SameBytes, HasRead, bytes_of};
     ghost use Rattle.duct_replay.specs.Views.{drain_view};
 
@@ -115,21 +119,24 @@ impl Job for ReplayDrain {
 
     ghost refusable = { Unit {0} };
 
-    ghost may_say = { NeverFails };
+    ghost may_say = { MayRead };
 
     ghost job_view = { drain_view };
 
     fn poll(&mut self) -> Said<Arc<Vec<u8>>>
-        ensures polled { PollsJob NeverFails SameBytes (Unit {0}) (drain_view self.old) result
+        ensures polled { PollsJob MayRead SameBytes (Unit {0}) (drain_view self.old) result
             (drain_view self.new) }
-        ensures read { HasRead (bytes_of self.old.bytes) result }
+        ensures read { HasRead (option_map bytes_of self.old.bytes) result }
         ensures bytes { self.new.bytes ≡ self.old.bytes }
     {
         self.polls = self.polls.saturating_add(1);
-        let Ok(bytes) = Arc::try_clone(&self.bytes) else {
-            return Said::Running;
+        let said = match &self.bytes {
+            Some(bytes) => match Arc::try_clone(bytes) {
+                Ok(shared) => Said::Done(shared),
+                Err(_) => return Said::Running,
+            },
+            None => Said::Fault(unrecorded()),
         };
-        let said = Said::Done(bytes);
         if !self.is_done {
             self.is_done = true;
             self.kept = Snapshot::of(&said);

@@ -3,7 +3,7 @@
 ghost use Rattle.std.specs.Prelude.{◌≡◌, map, IfOk};
 ghost use Rattle.duct_system.specs.EntryView.{entry_view};
 
-use duct::{Entry, Error, Expression, Output, Pool, System, cmd};
+use duct::{Entry, Error, ExitStatus, Expression, Output, Pool, System, cmd};
 use duct_host::End;
 use duct_plan::{PlanText, plan};
 use duct_record::{Variables, journal_text, read_journal};
@@ -49,7 +49,7 @@ fn recorded<S: System>(
 fn recording_of(alloc: Global, entries: &[Entry], output: &Output) -> Result<Recording, AllocError>
     ensures { IfOk result (λ recording. recording.entries ≡ map entry_view entries.now) }
 {
-    let mut recording = Recording::new(alloc, copies_of_entries(alloc, entries)?)?;
+    let mut recording = Recording::new(alloc, copies_of_entries(alloc, entries)?);
     let mut last = None;
     for entry in entries {
         if let Entry::Drain(end, _) = entry {
@@ -57,6 +57,9 @@ fn recording_of(alloc: Global, entries: &[Entry], output: &Output) -> Result<Rec
             recording.reads(*end, Arc::new(alloc, bytes)?)?;
         }
         if let Entry::Spawn(_, _, Ok(child)) = entry {
+            if let Some(earlier) = last {
+                recording.ends_with(earlier, ExitStatus::Code(0))?;
+            }
             last = Some(*child);
         }
     }
@@ -101,8 +104,8 @@ fn replayed_text(
 }
 
 /// Runs a pipeline that fails, and then over its recording, with no process; then another pipeline
-/// over the same recording. Returns what its start will request, what each comes to, and the first
-/// entry that differs.
+/// over the same recording, and the first one over its journal alone. Returns what its start will
+/// request, what each comes to, and the first entry that differs.
 pub fn replays<S: System>(rt: &impl Wait, alloc: Global, system: &mut S) -> Result<String, Error> {
     let command = pipeline(alloc, FAILS)?;
     let mut text = previewed(alloc, &pipeline(alloc, FAILS)?)?;
@@ -116,5 +119,8 @@ pub fn replays<S: System>(rt: &impl Wait, alloc: Global, system: &mut S) -> Resu
         let recording = recording_of(alloc, entries.as_slice(), &output)?;
         text.push_str(replayed_text(rt, alloc, recording, script)?.as_str())?;
     }
+    text.push_str("with no ending recorded: ")?;
+    let journal = Recording::new(alloc, copies_of_entries(alloc, entries.as_slice())?);
+    text.push_str(replayed_text(rt, alloc, journal, FAILS)?.as_str())?;
     Ok(text)
 }
