@@ -1,15 +1,16 @@
 //! Build steps over a guard, of which a clause says what they may do, whatever their trees are and
 //! their hooks do.
-ghost use Rattle.std.specs.Prelude.{◌≡◌, ◌≤◌, [], map, string_bytes, None};
+ghost use Rattle.std.specs.Prelude.{◌≡◌, [], map, string_bytes, None};
 ghost use Rattle.duct_guard.specs.Allowed.{AreAllowed};
 ghost use Rattle.duct_guard.specs.Held.{Fits};
-ghost use Rattle.duct_guard.specs.Policies.{at_once_rules, limit_rules, program_rules};
+ghost use Rattle.duct_guard.specs.Policies.{program_rules};
 ghost use Rattle.example_beside.specs.Tools.{tool_rules};
 
 use duct::{Error, Expression, Pool, System};
-use duct_guard::{AtOnce, Counts, Fixed, FixedRules, Guarded, Limits, Policy, Programs, Request};
+use duct_guard::{
+    AtOnce, Counts, Guarded, Limits, Policy, Programs, Request, Variables, read_under,
+};
 use std::alloc::Global;
-use std::marker::Brand;
 use std::sync::Wait;
 
 /// Allows to start `/bin/echo` and `/bin/cat`, and to open no file.
@@ -60,44 +61,6 @@ pub fn read_step<S: System>(
     (system, printed)
 }
 
-// Reads what each step prints, one after the other. Returns what the last one prints.
-fn read_last<S: System>(
-    rt: &impl Wait,
-    alloc: Global,
-    system: &mut S,
-    steps: &[&Expression<S::End>],
-) -> Result<String, Error> {
-    let mut pool = Pool::new(alloc);
-    let mut printed = String::new(alloc);
-    for step in steps {
-        printed = step.read(rt, system, &mut pool)?;
-    }
-    Ok(printed)
-}
-
-// Does the same by a policy whose rules are those of the mark. Returns also what is held at the
-// end, and how many children run.
-fn read_fixed<S: System, P: Policy + Drop, K: FixedRules>(
-    rt: &impl Wait,
-    alloc: Global,
-    system: S,
-    policy: P,
-    steps: &[&Expression<S::End>],
-) -> (S, Counts, usize, Result<String, Error>)
-    requires fixed { P.rules policy ≡ K.rules }
-    requires empty { (S.journal_view system).entries ≡ [] }
-    ensures allowed { AreAllowed K.rules (S.journal_view result.0).entries }
-    ensures fits { Fits K.rules.limits result.1 }
-    ensures few { result.2 ≤ K.rules.at_once }
-{
-    let policy: Fixed<P, K> = Fixed::new(policy);
-    let mut guarded = Guarded::new(alloc, system, policy);
-    let printed = read_last(rt, alloc, &mut guarded, steps);
-    let (held, running) = (guarded.held(), guarded.running());
-    let (system, _policy) = guarded.into_parts();
-    (system, held, running, printed)
-}
-
 /// Reads what a step prints. The system is asked to start the absolute paths of this list alone.
 pub fn read_listed<S: System>(
     rt: &impl Wait,
@@ -111,10 +74,24 @@ pub fn read_listed<S: System>(
         (program_rules (record { names = map string_bytes programs.items; path = None }))
         (S.journal_view result.0).entries }
 {
-    let policy = Programs::new(programs);
-    let read = read_fixed::<S, Programs, Brand>(rt, alloc, system, policy, &[step]);
-    let (system, _held, _running, printed) = read;
-    (system, printed)
+    let mut pool = Pool::new(alloc);
+    let read = read_under(Programs::new(programs), rt, alloc, system, &mut pool, step);
+    (read.system, read.returned)
+}
+
+/// Reads what a step prints that has the given variables and no others, but for those with free
+/// names. The system is asked to start nothing else.
+pub fn read_kept<S: System + Drop>(
+    rt: &impl Wait,
+    alloc: Global,
+    mut system: S,
+    free: Vec<String>,
+    step: &Expression<S::End>,
+) -> Result<String, Error> {
+    let given = system.environment()?;
+    system.clear_journal();
+    let policy = Variables::new(given, free);
+    read_under(policy, rt, alloc, system, &mut Pool::new(alloc), step).returned
 }
 
 /// Reads what a step prints. No more ends are open at once and no more children are started than
@@ -130,26 +107,40 @@ pub fn read_limited<S: System>(
     requires { (S.journal_view system).entries ≡ [] }
     ensures { Fits limits result.1 }
 {
-    let read = read_fixed::<S, Limits, Brand>(rt, alloc, system, Limits(limits), &[step]);
-    let (system, held, _running, printed) = read;
-    (system, held, printed)
+    let mut pool = Pool::new(alloc);
+    let read = read_under(Limits(limits), rt, alloc, system, &mut pool, step);
+    (read.system, read.held, read.returned)
 }
 
-/// Reads two steps, one after the other, and returns what the second prints. No more than this many
-/// of their children run at once. Returns also how many run at the end.
-pub fn read_in_turn<S: System>(
+/// Reads two steps, one after the other, where no more than this many children may run at once.
+/// Returns what the second prints.
+pub fn read_in_turn<S: System + Drop>(
     rt: &impl Wait,
     alloc: Global,
     system: S,
     children: usize,
     first: &Expression<S::End>,
     second: &Expression<S::End>,
-) -> (S, usize, Result<String, Error>)
+) -> Result<String, Error>
     requires { (S.journal_view system).entries ≡ [] }
-    ensures { result.1 ≤ children }
 {
-    let policy = AtOnce(children);
-    let read = read_fixed::<S, AtOnce, Brand>(rt, alloc, system, policy, &[first, second]);
-    let (system, _held, running, printed) = read;
-    (system, running, printed)
+    let mut guarded = Guarded::new(alloc, system, AtOnce(children));
+    let mut pool = Pool::new(alloc);
+    let _first = first.read(rt, &mut guarded, &mut pool)?;
+    second.read(rt, &mut guarded, &mut pool)
+}
+
+/// Opens a file where one end may be open, closes an end that is lent, and returns whether another
+/// file can be opened then.
+pub fn makes_room<S: System + Drop>(alloc: Global, system: S, lent: S::End) -> Result<bool, Error>
+    requires { (S.journal_view system).entries ≡ [] }
+{
+    let limits = Counts {
+        ends: 1,
+        children: 1,
+    };
+    let mut guarded = Guarded::new(alloc, system, Limits(limits));
+    let _open = guarded.open_read("/dev/null")?;
+    guarded.close(lent);
+    Ok(guarded.open_read("/dev/null").is_ok())
 }

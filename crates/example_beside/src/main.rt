@@ -10,12 +10,13 @@ mod steps;
 mod threads;
 mod traced;
 
+use crate::guard::makes_room;
 use crate::lines::for_a_shell;
 use crate::replay::replays;
 use crate::steps::{Allowed, step_text};
 use crate::threads::{asleep, printing, read_or_kill, wait_or_kill};
 use crate::traced::failed_step;
-use duct::{Error, Pool};
+use duct::{Error, Fault, Pool};
 use duct_host::{End, Host, Parents};
 use std::alloc::Global;
 use std::fs::File;
@@ -26,7 +27,7 @@ use std::thread::Threads;
 use std::time::Duration;
 
 /// What each step may do, and its words.
-const STEPS: [(Allowed, &str); 11] = [
+const STEPS: [(Allowed, &str); 14] = [
     (Allowed::Tools, "/bin/echo compiled"),
     (Allowed::Tools, "/bin/cat /dev/null"),
     (Allowed::Tools, "touch made"),
@@ -34,6 +35,9 @@ const STEPS: [(Allowed, &str); 11] = [
     (Allowed::Programs("/bin/cat"), "/bin/echo refused"),
     (Allowed::Programs("cat"), "cat /dev/null"),
     (Allowed::Programs("./cat"), "./cat /dev/null"),
+    (Allowed::Variables(""), "echo kept"),
+    (Allowed::Variables("LANG"), "LD_PRELOAD=x echo set"),
+    (Allowed::Variables("LANG"), "LANG=C echo free"),
     (Allowed::Children(1), "echo piped | cat"),
     (Allowed::Children(2), "echo piped | cat"),
     (Allowed::AtOnce(1), "echo in turn"),
@@ -57,6 +61,10 @@ where
         write!(text, "{}\n", for_a_shell::<End, ()>(alloc, words)?)?;
     }
     write!(text, "made: {}\n", File::open(rt, "made").is_ok())?;
+    let (mut host, file) = (Host::new(rt.clone()?, alloc), File::open(rt, "/dev/null"));
+    let lent = host.adopt_file(file.map_err(Fault::from)?)?;
+    let makes_room = makes_room(alloc, host, lent)?;
+    write!(text, "a lent end that is closed makes room: {makes_room}\n")?;
     text.push_str(replays(rt, alloc, &mut Host::new(rt.clone()?, alloc))?.as_str())?;
     let failed = failed_step(rt, alloc, Host::new(rt.clone()?, alloc))?;
     write!(text, "{failed}\n")?;

@@ -1,7 +1,7 @@
 //! Steps of a build, and what each of them may do.
 ghost use Rattle.std.specs.Prelude.{◌≡◌, []};
 
-use crate::guard::{read_in_turn, read_limited, read_listed, read_step};
+use crate::guard::{read_in_turn, read_kept, read_limited, read_listed, read_step};
 use duct::{Error, Expression, System, cmd};
 use duct_guard::Counts;
 use std::alloc::{AllocError, Global};
@@ -14,6 +14,8 @@ pub enum Allowed<'t> {
     Tools,
     /// Start the absolute paths among these, with a space between them.
     Programs(&'t str),
+    /// Start children with the given variables, of which those among these may be set.
+    Variables(&'t str),
     /// Start this many children.
     Children(usize),
     /// Let this many children run at once, after another step whose child has ended.
@@ -41,6 +43,10 @@ pub fn step_text<S: System + Drop>(
             let (_system, printed) = read_listed(rt, alloc, system, programs, &step);
             printed
         }
+        Allowed::Variables(free) => {
+            let free = listed(alloc, free)?;
+            read_kept(rt, alloc, system, free, &step)
+        }
         Allowed::Children(children) => {
             let limits = Counts { ends: 8, children };
             let (_system, _held, printed) = read_limited(rt, alloc, system, limits, &step);
@@ -48,10 +54,7 @@ pub fn step_text<S: System + Drop>(
         }
         Allowed::AtOnce(children) => {
             let first = cmd!(in alloc; "echo", "first")?;
-            let (_system, _running, printed) = read_in_turn(
-                rt, alloc, system, children, &first, &step,
-            );
-            printed
+            read_in_turn(rt, alloc, system, children, &first, &step)
         }
     }
 }
@@ -64,8 +67,17 @@ fn step_of<E: Drop>(alloc: Global, words: &str) -> Result<Expression<E>, Error> 
     }
 }
 
-// Returns the command of a program and an argument.
+// Returns the command of a program and an argument, with a variable before them if there is one.
 fn command<E: Drop>(alloc: Global, words: &str) -> Result<Expression<E>, Error> {
+    if let Some((name, rest)) = words.split_once('=') {
+        let (value, words) = rest.split_once(' ').unwrap_or((rest, ""));
+        return plain(alloc, words)?.env(name, value);
+    }
+    plain(alloc, words)
+}
+
+// Returns the command of a program and an argument.
+fn plain<E: Drop>(alloc: Global, words: &str) -> Result<Expression<E>, Error> {
     let (program, argument) = words.split_once(' ').unwrap_or((words, "-"));
     cmd!(in alloc; program, argument)
 }
