@@ -44,11 +44,7 @@ pub(crate) fn number(value: &Value) -> Result<u64, Refusal>
 }
 
 /// The items of an array.
-#[tactic(
-    auto,
-    using(crate::proofs::Lists::list_of_items),
-    unfolding(crate::specs::Meant::list_meant)
-)]
+#[tactic(auto, using(crate::proofs::Lists::list_of_items), unfolding(crate::specs::Meant::list_meant))]
 pub(crate) fn list(value: &Value) -> Result<&[Value], Refusal>
     ensures { ParsesAs (λ items. map view items.now) result (list_meant (view value.now)) }
 {

@@ -151,7 +151,10 @@ fn errors<S: System>(
 ) -> Result<String, Error> {
     let mut text = String::new(alloc);
     for expression in expressions {
-        match expression.stderr_capture()?.run(rt, system, &mut Pool::new(alloc)) {
+        match expression
+            .stderr_capture()?
+            .run(rt, system, &mut Pool::new(alloc))
+        {
             Ok(output) => write!(text, "{}; ", str::from_utf8(&output.stderr).unwrap_or("?"))?,
             Err(error) => write!(text, "{error}; ")?,
         }
@@ -202,12 +205,7 @@ fn attempts_at_last(rt: &impl Wait, alloc: Global) -> Result<bool, Error> {
 }
 
 /// Returns what an example comes to.
-fn told<R>(
-    rt: &R,
-    alloc: Global,
-    host: &mut Host<R>,
-    example: Example,
-) -> Result<String, Error>
+fn told<R>(rt: &R, alloc: Global, host: &mut Host<R>, example: Example) -> Result<String, Error>
 where
     R: Processes + Files<File = File> + Env + Parents + Threads + Wait + Clone + Drop + AllocGlobal,
 {
@@ -291,7 +289,11 @@ where
 {
     write_open(rt, alloc, host)?;
     let mut text = fs::read_to_string(rt, "log").map_err(Fault::from)?;
-    text.push_str(fs::read_to_string(rt, "file").map_err(Fault::from)?.as_str())?;
+    text.push_str(
+        fs::read_to_string(rt, "file")
+            .map_err(Fault::from)?
+            .as_str(),
+    )?;
     Ok(text)
 }
 

@@ -16,9 +16,8 @@ mod transfers;
 mod words;
 
 pub use requests::{Requests, taken};
-pub use scripts::Scripts;
-
 use rows_table::{Strangers, Table, TableError, Writing, first_word};
+pub use scripts::Scripts;
 use std::alloc::Global;
 
 /// The keys of the lines that set something up.

@@ -9,12 +9,12 @@ pub loop-item-preserved : goal.loop-item-preserved
 loop-item-preserved g c = (
   omega arith,
   continues_more g.W.Write.write_str_gives
-    (λ place items. printed (lines_form place (map item_of items)))
-    (λ place item. printed (line_form place (item_of item)))
-    _ _ _ c.args.items.now c.loop-item.item-index c.write_line.new.f c.item-item.result
-    (λ place item items. refl) c.loop-item-test.true c.item-item.is
-    (rw c.loop-item.invariant.0 at c.in_ok-write_line.ensures)
-    c.loop-item.invariant.1,
+      (λ place items. printed (lines_form place (map item_of items)))
+      (λ place item. printed (line_form place (item_of item)))
+      _ _ _ c.args.items.now c.loop-item.item-index c.write_line.new.f c.item-item.result
+      (λ place item items. refl) c.loop-item-test.true c.item-item.is
+      (rw c.loop-item.invariant.0 at c.in_ok-write_line.ensures)
+      c.loop-item.invariant.1,
 )
 
 pub returns : goal.returns
