@@ -1,3 +1,4 @@
+pub mod Beginning
 pub mod Below
 pub mod Closing
 pub mod Counting
@@ -7,3 +8,4 @@ pub mod Holding
 pub mod Prefixes
 pub mod Limiting
 pub mod Threads
+pub mod Reading

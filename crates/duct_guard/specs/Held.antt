@@ -1,5 +1,5 @@
 -- What a guard holds: how many ends are open, by its journal, and how many children were started.
-use Rattle.std.specs.Prelude.{ℕ, Bool, true, ◌+◌, ◌-◌, ◌≤◌, List, [], ◌∷◌, length, min, nat_le, Ok, Err, if◌then◌else◌}
+use Rattle.std.specs.Prelude.{ℕ, Bool, true, ◌+◌, ◌-◌, ◌≤◌, ◌≡◌, List, [], ◌∷◌, length, min, nat_le, Ok, Err, if◌then◌else◌}
 use Rattle.duct_system.specs.EntryView.{EntryView, Environment, Pipe, OpenRead, Create, Duplicate, Parent, Canonicalize, Spawn, Feed, Drain, Reader, Close}
 use Rattle.duct_system.specs.Ledger.{opened_by, spent_by}
 use Rattle.duct_guard.specs.declared.counts.Counts.{Counts}
@@ -90,3 +90,9 @@ abbrev pub AlwaysFits : Counts → Held → List EntryView → Type 0
 AlwaysFits limits held [] = Fits limits (counts_of held)
 AlwaysFits limits held (entry ∷ entries) =
     Fits limits (counts_of held) × AlwaysFits limits (with_entry held entry) entries
+
+-- what was held when a journal was cleared last, by how many entries were ever added to it, and
+-- those that it has: if it has them all, nothing
+pub record IsBegun (earlier : Held) (added : ℕ) (entries : List EntryView) : Type 0 where
+  pub long : length entries ≤ added
+  pub nothing : added ≡ length entries → earlier ≡ nothing_held

@@ -8,3 +8,4 @@ pub mod Held
 pub mod Policies
 pub mod Requests
 pub mod Rules
+pub mod Under

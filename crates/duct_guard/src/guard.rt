@@ -8,7 +8,7 @@ ghost use Rattle.duct_guard.specs.Closed.{ClosesFirst, SpendsEnds};
 ghost use Rattle.duct_guard.specs.Crew.{IsCrew};
 ghost use Rattle.duct_guard.specs.Forwarded.{ForwardsAll, allows_spawn};
 ghost use Rattle.duct_guard.specs.GuardView.{GuardView};
-ghost use Rattle.duct_guard.specs.Held.{AlwaysFits, Fits, counts_of, held_after, nothing_held, with_ends};
+ghost use Rattle.duct_guard.specs.Held.{AlwaysFits, Fits, IsBegun, counts_of, held_after, nothing_held, with_ends};
 
 use crate::child::GuardedChild;
 use crate::counts::{Counts, Held};
@@ -43,6 +43,7 @@ pub struct Guarded<S: System, P: Policy> {
     held: Held,
     crew: Vec<Member<S::Child>>,
     ghost within: { journal.room ≤ (S.journal_view inner).room },
+    ghost begun: { IsBegun earlier journal.added journal.entries },
     ghost forwards: { ∥ ForwardsAll (P.rules policy) earlier journal.entries
         (S.journal_view inner).entries ∥₁ },
     ghost counted: { held ≡ held_after earlier journal.entries },
@@ -151,6 +152,7 @@ impl<S: System, P: Policy> Guarded<S, P> {
         ensures inner { result.0 ≡ self.inner }
         ensures policy { result.1 ≡ self.policy }
         ensures allowed { AreAllowed (P.rules result.1) (S.journal_view result.0).entries }
+        ensures begun { IsBegun self.earlier self.journal.added self.journal.entries }
         ensures forwards { ∥ ForwardsAll (P.rules result.1) self.earlier self.journal.entries
             (S.journal_view result.0).entries ∥₁ }
     {

@@ -1,7 +1,8 @@
 //! A read and a run under a policy, also where its rules are known only while the program runs.
 ghost use Rattle.std.specs.Prelude.{◌≡◌, ◌≤◌, []};
 ghost use Rattle.duct_guard.specs.Allowed.{AreAllowed};
-ghost use Rattle.duct_guard.specs.Held.{Fits};
+ghost use Rattle.duct_guard.specs.Held.{Fits, IsBegun};
+ghost use Rattle.duct_guard.specs.Under.{Guards, IsLeft, IsRead, IsRun, guard_views};
 
 use crate::child::GuardedChild;
 use crate::counts::Counts;
@@ -9,6 +10,7 @@ use crate::fixed::{Fixed, FixedRules};
 use crate::guard::Guarded;
 use crate::policy::Policy;
 use duct::{Error, Expression, Hook, Output, Pool, System};
+use duct_run::views::Viewed;
 use std::alloc::Global;
 use std::marker::Brand;
 use std::sync::Wait;
@@ -28,7 +30,8 @@ pub struct Under<S, T> {
 
 /// Reads what an expression prints, as `Expression::read` does, over a guard of this system with
 /// this policy. What is forbidden fails with `PermissionDenied`; the system is asked nothing else
-/// than what the policy allows, and nothing more is held than its limits. The policy is dropped.
+/// than what the policy allows, and nothing more is held than its limits. The policy is dropped. It
+/// returns what `Expression::read` returns there, and leaves the same in the pool.
 ///
 /// Example: `read_under(Programs::new(tools), &rt, alloc, system, &mut pool, &step)`
 pub fn read_under<S: System, P: Policy + Drop, H: Hook>(
@@ -43,6 +46,10 @@ pub fn read_under<S: System, P: Policy + Drop, H: Hook>(
     ensures allowed { AreAllowed (P.rules policy) (S.journal_view result.system).entries }
     ensures fits { Fits (P.rules policy).limits result.held }
     ensures few { result.running ≤ (P.rules policy).at_once }
+    ensures read { Guards {K = Brand} ⟦<S as Viewed>⟧.views P.Policy.own
+        (record { rules = P.rules policy }) system result (λ begun ended.
+        IsRead (guard_views ⟦<S as Viewed>⟧.views) H.allows H.refuses expression.now S.may_read
+        S.Reader.remaining (begun, pool.old) result.returned (ended, pool.new)) }
 {
     read_fixed::<S, P, H, Brand>(policy, rt, alloc, system, pool, expression)
 }
@@ -62,6 +69,10 @@ pub fn run_under<S: System, P: Policy + Drop, H: Hook>(
     ensures allowed { AreAllowed (P.rules policy) (S.journal_view result.system).entries }
     ensures fits { Fits (P.rules policy).limits result.held }
     ensures few { result.running ≤ (P.rules policy).at_once }
+    ensures run { Guards {K = Brand} ⟦<S as Viewed>⟧.views P.Policy.own
+        (record { rules = P.rules policy }) system result (λ begun ended.
+        IsRun (guard_views ⟦<S as Viewed>⟧.views) H.allows H.refuses expression.now
+        (begun, pool.old) result.returned (ended, pool.new)) }
 {
     run_fixed::<S, P, H, Brand>(policy, rt, alloc, system, pool, expression)
 }
@@ -80,6 +91,10 @@ fn read_fixed<S: System, P: Policy + Drop, H: Hook, K: FixedRules>(
     ensures allowed { AreAllowed K.rules (S.journal_view result.system).entries }
     ensures fits { Fits K.rules.limits result.held }
     ensures few { result.running ≤ K.rules.at_once }
+    ensures read { Guards ⟦<S as Viewed>⟧.views P.Policy.own K.FixedRules.own system result
+        (λ begun ended. IsRead (guard_views ⟦<S as Viewed>⟧.views) H.allows H.refuses
+        expression.now S.may_read S.Reader.remaining (begun, pool.old) result.returned
+        (ended, pool.new)) }
 {
     let policy: Fixed<P, K> = Fixed::new(policy);
     let mut guarded = Guarded::new(alloc, system, policy);
@@ -101,6 +116,9 @@ fn run_fixed<S: System, P: Policy + Drop, H: Hook, K: FixedRules>(
     ensures allowed { AreAllowed K.rules (S.journal_view result.system).entries }
     ensures fits { Fits K.rules.limits result.held }
     ensures few { result.running ≤ K.rules.at_once }
+    ensures run { Guards ⟦<S as Viewed>⟧.views P.Policy.own K.FixedRules.own system result
+        (λ begun ended. IsRun (guard_views ⟦<S as Viewed>⟧.views) H.allows H.refuses
+        expression.now (begun, pool.old) result.returned (ended, pool.new)) }
 {
     let policy: Fixed<P, K> = Fixed::new(policy);
     let mut guarded = Guarded::new(alloc, system, policy);
@@ -116,6 +134,9 @@ fn ended<S: System, P: Policy + Drop, K: FixedRules, T>(
     ensures allowed { AreAllowed K.rules (S.journal_view result.system).entries }
     ensures fits { Fits K.rules.limits result.held }
     ensures few { result.running ≤ K.rules.at_once }
+    ensures left { IsLeft ⟦<S as Viewed>⟧.views P.Policy.own K.FixedRules.own guarded.earlier
+        guarded result }
+    ensures begun { IsBegun guarded.earlier guarded.journal.added guarded.journal.entries }
     ensures returned { result.returned ≡ returned }
 {
     let (held, running) = (guarded.held(), guarded.running());

@@ -2,6 +2,7 @@ use Rattle.std.proofs.Common.{arith, ap, rules}
 use Rattle.std.proofs.lemmas.Grind.{common_steps}
 use Rattle.duct_system.specs.Journal.{JournalView}
 use Rattle.duct_guard.specs.declared.counts.Held.{Held}
+use Rattle.duct_guard.proofs.Beginning.{begun_first}
 use Rattle.duct_guard.proofs.Crews.{no_crew}
 use Rattle.duct_guard.proofs.Guarding.{nothing_noted}
 use Rattle.duct_guard.proofs.guard.Guarded.new.Goals as goal
@@ -14,10 +15,13 @@ invariant_of-result g c =
     let children = ap (λ (h : Held). h.children) c.nothing.ensures in (
       omega (arith, room),
       (
-        nothing_noted _ _ _ _ none c.requires,
+        begun_first _ _ _ none c.nothing.ensures,
         (
-          search (rules, common_steps),
-          (record { ends = omega (arith, ends); children = omega (arith, children) }, (rw c.new-2.ensures.items (no_crew g.S.Child.Child.may_answer _ _ _ none children), tt)),
+          nothing_noted _ _ _ _ none c.requires,
+          (
+            search (rules, common_steps),
+            (record { ends = omega (arith, ends); children = omega (arith, children) }, (rw c.new-2.ensures.items (no_crew g.S.Child.Child.may_answer _ _ _ none children), tt)),
+          ),
         ),
       ),
     )

@@ -6,10 +6,13 @@ pub invariant_of-self-inside : goal.invariant_of-self-inside
 invariant_of-self-inside g c = (
   c.self.inside.within,
   (
-    c.self.inside.forwards,
+    c.self.inside.begun,
     (
-      c.self.inside.counted,
-      (c.self.inside.fits, (crew_left _ _ _ _ _ _ c.self.inside.knows c.forget_ended.ensures, tt)),
+      c.self.inside.forwards,
+      (
+        c.self.inside.counted,
+        (c.self.inside.fits, (crew_left _ _ _ _ _ _ c.self.inside.knows c.forget_ended.ensures, tt)),
+      ),
     ),
   ),
 )

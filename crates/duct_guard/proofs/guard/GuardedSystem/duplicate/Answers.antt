@@ -3,6 +3,7 @@ use Rattle.std.specs.declared.result.Result.{Result}
 use Rattle.duct_system.specs.EntryView.{Duplicate}
 use Rattle.duct_system.specs.Journal.{JournalView}
 use Rattle.duct_system.specs.declared.system.Fault.{Fault}
+use Rattle.duct_guard.proofs.Beginning.{begun_still}
 use Rattle.duct_guard.proofs.Below.{none_asked, one_asked}
 use Rattle.duct_guard.proofs.Guarding.{end_room}
 use Rattle.duct_guard.proofs.Limiting.{end_held, one_more}
@@ -17,7 +18,10 @@ invariant_of-self-inside-2 g c =
     let ready = ap (λ (j : JournalView). j.room) c.in_ok-prepare.ensures.ok in
     let same = ap (λ (j : JournalView). j.entries) c.in_ok-prepare.ensures.ok in (
       end_room rules c.self.inside.held number entry _ _ c.duplicate_allowed-made.result _ _ _ (λ n. refl) (λ fault. refl) (λ answer. refl) c.self.inside.within ready c.note_end.ensures.ok c.note_end.ensures.err sent,
-      one_more _ _ _ _ _ _ _ _ _ c.self.inside.forwards c.self.inside.counted c.self.inside.fits c.self.inside.knows sent refl (cc (same, c.note_end.ensures.entries)) (end_held number entry _ _ c.duplicate_allowed-made.result (λ n. refl) (λ fault. refl) (λ answer. refl) (λ answer. refl) c.note_end.ensures.one c.note_end.ensures.none),
+      (
+        begun_still _ _ _ _ _ _ _ _ c.self.inside.begun same (ap (λ (j : JournalView). j.added) c.in_ok-prepare.ensures.ok) c.note_end.ensures.entries c.note_end.ensures.added,
+        one_more _ _ _ _ _ _ _ _ _ c.self.inside.forwards c.self.inside.counted c.self.inside.fits c.self.inside.knows sent refl (cc (same, c.note_end.ensures.entries)) (end_held number entry _ _ c.duplicate_allowed-made.result (λ n. refl) (λ fault. refl) (λ answer. refl) (λ answer. refl) c.note_end.ensures.one c.note_end.ensures.none),
+      ),
     )
 
 pub returns-in_err-prepare-clause-below : goal.returns-in_err-prepare-clause-below

@@ -1,6 +1,7 @@
 use Rattle.std.proofs.Common.{refl, rules, ap, arith}
 use Rattle.std.proofs.lemmas.Grind.{common_steps}
 use Rattle.duct_system.specs.Journal.{JournalView}
+use Rattle.duct_guard.proofs.Beginning.{begun_still}
 use Rattle.duct_guard.proofs.Below.{none_asked, one_asked}
 use Rattle.duct_guard.proofs.Counting.{one_held}
 use Rattle.duct_guard.proofs.guard.GuardedSystem.environment.Goals as goal
@@ -13,7 +14,10 @@ invariant_of-self-inside-in-Ok g c =
     let room = ap (λ (j : JournalView). j.room) c.add.ensures in
     let noted = ap (λ (j : JournalView). j.entries) c.add.ensures in (
       omega (arith, ready, room, sent.adds.room_is, c.self.inside.within),
-      one_held _ _ _ _ _ _ _ _ _ _ _ c.self.inside.forwards c.self.inside.counted c.self.inside.fits c.self.inside.knows sent refl (cc (same, noted, c.in-Ok.ensures.same)) refl refl refl,
+      (
+        begun_still _ _ _ _ _ _ _ _ c.self.inside.begun same (ap (λ (j : JournalView). j.added) c.in_ok-prepare.ensures.ok) noted (ap (λ (j : JournalView). j.added) c.add.ensures),
+        one_held _ _ _ _ _ _ _ _ _ _ _ c.self.inside.forwards c.self.inside.counted c.self.inside.fits c.self.inside.knows sent refl (cc (same, noted, c.in-Ok.ensures.same)) refl refl refl,
+      ),
     )
 
 pub invariant_of-self-inside-in-Err : goal.invariant_of-self-inside-in-Err
@@ -24,7 +28,10 @@ invariant_of-self-inside-in-Err g c =
     let room = ap (λ (j : JournalView). j.room) c.add-in-Err.ensures in
     let noted = ap (λ (j : JournalView). j.entries) c.add-in-Err.ensures in (
       omega (arith, ready, room, sent.adds.room_is, c.self.inside.within),
-      one_held _ _ _ _ _ _ _ _ _ _ _ c.self.inside.forwards c.self.inside.counted c.self.inside.fits c.self.inside.knows sent refl (cc (same, noted)) refl refl refl,
+      (
+        begun_still _ _ _ _ _ _ _ _ c.self.inside.begun same (ap (λ (j : JournalView). j.added) c.in_ok-prepare.ensures.ok) noted (ap (λ (j : JournalView). j.added) c.add-in-Err.ensures),
+        one_held _ _ _ _ _ _ _ _ _ _ _ c.self.inside.forwards c.self.inside.counted c.self.inside.fits c.self.inside.knows sent refl (cc (same, noted)) refl refl refl,
+      ),
     )
 
 pub returns-in-Ok-clause-ok : goal.returns-in-Ok-clause-ok

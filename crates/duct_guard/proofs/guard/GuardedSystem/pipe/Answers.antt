@@ -1,6 +1,7 @@
 use Rattle.std.proofs.Common.{refl, ap, arith, [], ◌∷◌, ◌∙◌}
 use Rattle.duct_system.specs.Journal.{JournalView}
 use Rattle.duct_guard.specs.Held.{with_ends}
+use Rattle.duct_guard.proofs.Beginning.{begun_still}
 use Rattle.duct_guard.proofs.Below.{none_asked, one_asked}
 use Rattle.duct_guard.proofs.Counting.{one_held}
 use Rattle.duct_guard.proofs.guard.GuardedSystem.pipe.Goals as goal
@@ -13,7 +14,10 @@ invariant_of-self-inside-in-Ok g c =
     let room = ap (λ (j : JournalView). j.room) c.add.ensures in
     let noted = ap (λ (j : JournalView). j.entries) c.add.ensures in (
       omega (arith, ready, room, sent.adds.room_is, c.self.inside.within),
-      one_held _ _ _ _ _ _ _ _ _ _ _ c.self.inside.forwards c.self.inside.counted c.self.inside.fits c.self.inside.knows sent refl (cc (same, noted)) refl refl (rw (c.number-read.ensures, c.number-write.ensures) at (c.open-in-Ok.ensures ∙ ap (λ held. with_ends held (c.number-write.result ∷ [])) c.open.ensures)),
+      (
+        begun_still _ _ _ _ _ _ _ _ c.self.inside.begun same (ap (λ (j : JournalView). j.added) c.in_ok-prepare.ensures.ok) noted (ap (λ (j : JournalView). j.added) c.add.ensures),
+        one_held _ _ _ _ _ _ _ _ _ _ _ c.self.inside.forwards c.self.inside.counted c.self.inside.fits c.self.inside.knows sent refl (cc (same, noted)) refl refl (rw (c.number-read.ensures, c.number-write.ensures) at (c.open-in-Ok.ensures ∙ ap (λ held. with_ends held (c.number-write.result ∷ [])) c.open.ensures)),
+      ),
     )
 
 pub invariant_of-self-inside-in-Err : goal.invariant_of-self-inside-in-Err
@@ -26,7 +30,10 @@ invariant_of-self-inside-in-Err g c =
     let room = ap (λ (j : JournalView). j.room) c.add-in-Err.ensures in
     let noted = ap (λ (j : JournalView). j.entries) c.add-in-Err.ensures in (
       omega (arith, ready, back, room, sent.adds.room_is, c.self.inside.within),
-      one_held _ _ _ _ _ _ _ _ _ _ _ c.self.inside.forwards c.self.inside.counted c.self.inside.fits c.self.inside.knows sent refl (cc (same, kept, noted)) refl refl refl,
+      (
+        begun_still _ _ _ _ _ _ _ _ c.self.inside.begun (kept ∙ same) (ap (λ (j : JournalView). j.added) c.give_back.ensures ∙ ap (λ (j : JournalView). j.added) c.in_ok-prepare.ensures.ok) noted (ap (λ (j : JournalView). j.added) c.add-in-Err.ensures),
+        one_held _ _ _ _ _ _ _ _ _ _ _ c.self.inside.forwards c.self.inside.counted c.self.inside.fits c.self.inside.knows sent refl (cc (same, kept, noted)) refl refl refl,
+      ),
     )
 
 pub returns-in_err-prepare-clause-below : goal.returns-in_err-prepare-clause-below

@@ -4,6 +4,7 @@ use Rattle.duct_system.specs.Journal.{JournalView}
 use Rattle.duct_system.specs.Streams.{stream_of, ends_of}
 use Rattle.duct_guard.specs.declared.child.GuardedChild.{GuardedChild}
 use Rattle.duct_guard.specs.GuardView.{GuardView}
+use Rattle.duct_guard.proofs.Beginning.{begun_still}
 use Rattle.duct_guard.proofs.Below.{none_asked, one_asked}
 use Rattle.duct_guard.proofs.Closing.{nothing_closed, on_err, streams_count}
 use Rattle.duct_guard.proofs.Crews.{crew_started}
@@ -20,7 +21,10 @@ invariant_of-self-inside-2 g c =
     let room = ap (λ (j : JournalView). j.room) c.add.ensures in
     let noted = ap (λ (j : JournalView). j.entries) c.add.ensures in (
       omega (arith, ready, room, below, c.numbered_streams-ends.ensures.ends, c.self.inside.within),
-      one_spawned _ _ _ _ _ _ number c.args.spec (map (stream_of g.S.End.Numbered.number_of) c.args.io) c.spawn_allowed-started.result _ _ c.self.inside.forwards c.self.inside.counted c.self.inside.fits c.self.inside.knows c.spawn_allowed-started.ensures.joins c.spawn_allowed-started.ensures.stays sent (cc (same, noted, c.numbered_streams-ends.ensures.streams)) (child_held number c.args.spec (map (stream_of g.S.End.Numbered.number_of) c.args.io) _ _ c.spawn_allowed-started.result (rw c.numbered_streams-ends.ensures.streams at c.count_spawn.ensures.one) (rw c.numbered_streams-ends.ensures.streams at c.count_spawn.ensures.none)),
+      (
+        begun_still _ _ _ _ _ _ _ _ c.self.inside.begun same (ap (λ (j : JournalView). j.added) c.in_ok-prepare_spawn.ensures.ok) noted (ap (λ (j : JournalView). j.added) c.add.ensures),
+        one_spawned _ _ _ _ _ _ number c.args.spec (map (stream_of g.S.End.Numbered.number_of) c.args.io) c.spawn_allowed-started.result _ _ c.self.inside.forwards c.self.inside.counted c.self.inside.fits c.self.inside.knows c.spawn_allowed-started.ensures.joins c.spawn_allowed-started.ensures.stays sent (cc (same, noted, c.numbered_streams-ends.ensures.streams)) (child_held number c.args.spec (map (stream_of g.S.End.Numbered.number_of) c.args.io) _ _ c.spawn_allowed-started.result (rw c.numbered_streams-ends.ensures.streams at c.count_spawn.ensures.one) (rw c.numbered_streams-ends.ensures.streams at c.count_spawn.ensures.none)),
+      ),
     )
 
 pub spawn_allowed-started-requires : goal.spawn_allowed-started-requires

@@ -3,6 +3,7 @@ use Rattle.std.specs.declared.result.Result.{Result}
 use Rattle.duct_system.specs.EntryView.{Drain}
 use Rattle.duct_system.specs.Journal.{JournalView}
 use Rattle.duct_system.specs.declared.system.Fault.{Fault}
+use Rattle.duct_guard.proofs.Beginning.{begun_still}
 use Rattle.duct_guard.proofs.Below.{one_asked}
 use Rattle.duct_guard.proofs.Counting.{one_held}
 use Rattle.duct_guard.proofs.Guarding.{worker_answered}
@@ -17,7 +18,10 @@ invariant_of-self-inside g c =
     let room = ap (λ (j : JournalView). j.room) c.add.ensures in
     let noted = ap (λ (j : JournalView). j.entries) c.add.ensures in (
       omega (arith, room, sent.adds.room_is, c.self.inside.within),
-      one_held _ _ _ _ _ _ _ _ _ _ _ c.self.inside.forwards c.self.inside.counted c.self.inside.fits c.self.inside.knows sent refl (cc noted) refl refl (rw c.number-number.ensures at c.spend.ensures),
+      (
+        begun_still _ _ _ _ _ _ _ _ c.self.inside.begun refl refl noted (ap (λ (j : JournalView). j.added) c.add.ensures),
+        one_held _ _ _ _ _ _ _ _ _ _ _ c.self.inside.forwards c.self.inside.counted c.self.inside.fits c.self.inside.knows sent refl (cc noted) refl refl (rw c.number-number.ensures at c.spend.ensures),
+      ),
     )
 
 pub returns-clause-below : goal.returns-clause-below
