@@ -5,6 +5,7 @@ pub mod Given
 pub mod LastFault
 pub mod SameStop
 pub mod ScriptHooks
+pub mod Sets
 pub mod Specs
 pub mod Stopped
 pub mod Variables

@@ -2,6 +2,7 @@ pub mod Cause
 pub mod Flaws
 pub mod Given
 pub mod Judgement
+pub mod Numbers
 pub mod Printed
 pub mod ScriptHooks
 pub mod Sources

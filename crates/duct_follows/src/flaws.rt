@@ -1,17 +1,21 @@
 //! What no start over any system can have added to the journal, even if it follows the plan.
-ghost use Rattle.std.specs.Prelude.{◌≡◌, ◌++◌, None, [], flat_map, map, IfOk, OnOk};
-ghost use Rattle.std.specs.Option.{option_to_list};
+ghost use Rattle.std.specs.Prelude.{ℕ, List, ◌≡◌, ◌++◌, None, [], flat_map, map, IfOk, OnOk};
+ghost use Rattle.std.specs.BTreeSet.{contains};
 ghost use Rattle.std.specs.List.{list_any};
+ghost use Rattle.std.specs.Ordering.{nat_cmp};
 ghost use Rattle.duct_system.specs.EntryView.{entry_view};
-ghost use Rattle.duct_system.specs.Ledger.{spent_by};
+ghost use Rattle.duct_system.specs.Ledger.{opened_by, spent_by};
 ghost use Rattle.duct_plan.specs.Found.{found_of, target_of};
 ghost use Rattle.duct_plan.specs.PlanView.{item_of, plan_view};
-ghost use Rattle.duct_follows.specs.Flaws.{closes_one, copied_by, first_flaw, greatest_after, has_hooks, is_in, is_new, lent_by, lent_in, lent_to, old_from, open_after, returns_new, shut_from, unused, unused_from, uses_open};
+ghost use Rattle.duct_follows.specs.Flaws.{closes_one, copied_by, first_flaw, greatest_after, has_hooks, is_new, lent_by, lent_in, lent_to, old_from, open_after, returns_new, shut_from, unused, unused_from};
+ghost use Rattle.duct_follows.specs.Numbers.{HasThese, uses_within};
 
+use crate::numbers::{add, has, has_all, remove, set_of};
 use crate::verdict::Flaw;
 use duct_base::system::{Entry, Numbered};
 use duct_plan::{Item, Plan, Surroundings, Target, fault_of, opened_numbers, spent_numbers};
 use std::alloc::{AllocError, Global};
+use std::collections::BTreeSet;
 use std::slice::from_ref;
 
 /// Returns the first flaw of the entries, with the place of its entry. Numbers are looked at first,
@@ -104,14 +108,15 @@ fn first_not_open(
 ) -> Result<Option<usize>, AllocError>
     ensures { IfOk result (λ found. found ≡ shut_from 0 lent.now [] (map entry_view entries.now)) }
 {
-    let mut open = Vec::new(alloc);
+    let callers = set_of(alloc, lent)?;
+    let mut held = BTreeSet::new(alloc);
     for place in 0..entries.len() {
         let entry = &entries[place];
         let spent = spent_by(alloc, entry)?;
-        if !uses_open(lent, open.as_slice(), entry, spent.as_slice()) {
+        if !uses_open(&callers, &held, entry, spent.as_slice()) {
             return Ok(Some(place));
         }
-        advance(alloc, &mut open, entry, spent.as_slice())?;
+        advance(alloc, &mut held, entry, spent.as_slice())?;
     }
     Ok(None)
 }
@@ -127,40 +132,38 @@ fn spent_by(alloc: Global, entry: &Entry) -> Result<Vec<u64>, AllocError>
 /// returned.
 fn advance(
     alloc: Global,
-    open: &mut Vec<u64>,
+    held: &mut BTreeSet<u64>,
     entry: &Entry,
     spent: &[u64],
 ) -> Result<(), AllocError>
     requires { spent.now ≡ spent_by (entry_view entry.now) }
-    ensures { OnOk result (open.new.items ≡ open_after open.old.items (entry_view entry.now)) }
+    ensures { OnOk result ((ends : List ℕ) → HasThese held.old ends
+        → HasThese held.new (open_after ends (entry_view entry.now))) }
 {
-    let mut opened = opened_numbers(alloc, from_ref(entry))?;
-    open.retain(|end| !is_in(spent, *end));
-    Ok(open.append(&mut opened)?)
+    let opened = opened_by(alloc, entry)?;
+    remove(held, spent);
+    add(held, opened.as_slice())
+}
+
+/// Returns the numbers of the ends that an entry's request returned.
+fn opened_by(alloc: Global, entry: &Entry) -> Result<Vec<u64>, AllocError>
+    ensures { IfOk result (λ numbers. numbers.items ≡ opened_by (entry_view entry.now)) }
+{
+    opened_numbers(alloc, from_ref(entry))
 }
 
 /// Returns whether the ends that an entry's request took are open, and one that it borrowed is open
 /// or lent by the caller.
-fn uses_open(lent: &[u64], open: &[u64], entry: &Entry, spent: &[u64]) -> bool
+fn uses_open(lent: &BTreeSet<u64>, held: &BTreeSet<u64>, entry: &Entry, spent: &[u64]) -> bool
     requires { spent.now ≡ spent_by (entry_view entry.now) }
-    ensures { result ≡ uses_open lent.now open.now (entry_view entry.now) }
+    ensures { result
+        ≡ uses_within (contains nat_cmp lent.now) (contains nat_cmp held.now) (entry_view entry.now) }
 {
-    for end in spent {
-        if !is_in(open, *end) {
-            return false;
+    has_all(held, spent)
+        && match entry {
+            Entry::Duplicate(end, _) => has(lent, *end) || has(held, *end),
+            _ => true,
         }
-    }
-    match entry {
-        Entry::Duplicate(end, _) => is_in(lent, *end) || is_in(open, *end),
-        _ => true,
-    }
-}
-
-/// Returns whether a number is in a list.
-fn is_in(numbers: &[u64], number: u64) -> bool
-    ensures { result ≡ is_in numbers.now number }
-{
-    numbers.iter().any(|other| *other == number)
 }
 
 /// Returns the numbers of the caller's ends that the requests of a plan may use.
@@ -231,18 +234,16 @@ fn first_unused<E, H>(
     if has_hooks(plan.items.as_slice()) {
         return Ok(None);
     }
-    let mut copies = Vec::new(alloc);
+    let mut copies = BTreeSet::new(alloc);
     for place in 0..entries.len() {
         let entry = &entries[place];
         if fault_of(entry).is_some() {
             return Ok(None);
         }
-        if closes_one(copies.as_slice(), entry) {
+        if closes_one(&copies, entry) {
             return Ok(Some(place));
         }
-        if let Some(copy) = copied_by(entry) {
-            copies.push(copy)?;
-        }
+        add_copy(&mut copies, entry)?;
     }
     Ok(None)
 }
@@ -262,22 +263,25 @@ fn has_hooks<E, H>(items: &[Item<'_, E, H>]) -> bool
 }
 
 /// Returns whether an entry closes one of these ends.
-fn closes_one(copies: &[u64], entry: &Entry) -> bool
-    ensures { result ≡ closes_one copies.now (entry_view entry.now) }
+fn closes_one(copies: &BTreeSet<u64>, entry: &Entry) -> bool
+    ensures { (ends : List ℕ) → HasThese copies.now ends
+        → result ≡ closes_one ends (entry_view entry.now) }
 {
     match entry {
-        Entry::Close(end) => is_in(copies, *end),
+        Entry::Close(end) => has(copies, *end),
         _ => false,
     }
 }
 
-/// Returns the copy of an end or of a stream of the parent that an entry's request returned.
-fn copied_by(entry: &Entry) -> Option<u64>
-    ensures { option_to_list result ≡ copied_by (entry_view entry.now) }
+/// Adds the copy of an end or of a stream of the parent that an entry's request returned, if it
+/// returned one.
+fn add_copy(copies: &mut BTreeSet<u64>, entry: &Entry) -> Result<(), AllocError>
+    ensures { OnOk result ((made : List ℕ) → HasThese copies.old made
+        → HasThese copies.new (made ++ copied_by (entry_view entry.now))) }
 {
     match entry {
-        Entry::Duplicate(_, Ok(end)) => Some(*end),
-        Entry::Parent(_, Ok(end)) => Some(*end),
-        _ => None,
+        Entry::Duplicate(_, Ok(end)) => add(copies, from_ref(end)),
+        Entry::Parent(_, Ok(end)) => add(copies, from_ref(end)),
+        _ => Ok(()),
     }
 }

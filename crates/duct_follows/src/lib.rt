@@ -7,6 +7,7 @@ mod chain;
 mod entries;
 mod flaws;
 mod judgement;
+mod numbers;
 mod program;
 mod sources;
 mod stops;

@@ -1,13 +1,19 @@
--- The ends that are kept are those that the entry's request did not take.
-use Rattle.std.proofs.Common.{◌≡◌, filter, not, rules, arith}
-use Rattle.std.proofs.lemmas.Fn.{filter_same}
-use Rattle.std.proofs.lemmas.Grind.{common_steps}
+-- The set has the ends that are open after the entry.
+use Rattle.std.proofs.Common.{◌≡◌, ◌&&◌, ℕ, not}
+use Rattle.std.proofs.lemmas.Result.{on_ok_weaker}
+use Rattle.std.specs.BTreeSet.{contains}
+use Rattle.std.specs.Ordering.{nat_cmp}
+use Rattle.duct_system.specs.EntryView.{entry_view}
+use Rattle.duct_system.specs.Ledger.{spent_by}
 use Rattle.duct_follows.specs.Flaws.{is_in}
+use Rattle.duct_follows.proofs.Sets.{open_set}
 use Rattle.duct_follows.proofs.flaws.advance.Goals as goal
 
 pub returns : goal.returns
 returns c =
-    let kept : c.retain.new.self.items ≡ filter (λ end. not (is_in c.args.spent.now end)) c.args.open.now.items =
-    filter_same _ _ _ (λ x b f' k. search rules) _ _ c.retain.ensures.filtered in
-    let kept_too = rw c.requires at kept in
-    grind (arith, common_steps, kept_too)
+    let was = c.args.held.now in
+    let kept = c.remove.new.set in
+    let entry = entry_view c.args.entry.now in
+    let removed : (number : ℕ) → contains nat_cmp kept number ≡ (contains nat_cmp was number && not (is_in (spent_by entry) number)) = rw c.requires at c.remove.ensures in
+    on_ok_weaker c.add.result
+    (λ added. open_set was kept c.add.new.set entry removed (rw (c.as_slice.ensures.value, c.in_ok-opened.ensures) at added)) c.add.ensures
