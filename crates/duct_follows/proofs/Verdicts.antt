@@ -19,7 +19,7 @@ use Rattle.duct_follows.specs.declared.verdict.Verdict.TheVariants as verdicts
 use Rattle.duct_follows.proofs.Balance.{balanced_unless_found, unbalanced_if_found}
 
 -- entries that match items one by one are no more than these
-answers_fit : {E H : Type 0} (gives : StreamsRelation) (allows : Allows H) (number_of : E → ℕ)
+pub answers_fit : {E H : Type 0} (gives : StreamsRelation) (allows : Allows H) (number_of : E → ℕ)
     (added : List EntryView) (place : ℕ) (items : List (Item E H)) (entries : List EntryView)
     → AnswersFromBy gives allows number_of added place items entries → length entries ≤ length items
 answers_fit gives allows number_of added place items [] all = omega arith

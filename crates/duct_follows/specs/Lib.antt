@@ -5,6 +5,7 @@ pub mod Judgement
 pub mod Numbers
 pub mod Printed
 pub mod ScriptHooks
+pub mod Seen
 pub mod Sources
 pub mod Unbalanced
 pub mod Verdict

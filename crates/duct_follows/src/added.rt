@@ -1,6 +1,6 @@
 //! Whether what a start added to the journal follows a plan, for hooks of the scripted system.
-ghost use Rattle.std.specs.Prelude.{◌≡◌, ◌+◌, ◌↔◌, ◌<◌, ◌≤◌, ◌^◌, length, map, string_bytes, IfOk, IfErr, IsTrue, List};
-ghost use Rattle.duct_system.specs.EntryView.{entry_view};
+ghost use Rattle.std.specs.Prelude.{◌≡◌, ◌↔◌, ◌≤◌, length, map, string_bytes, IfOk, IfErr, IsTrue, List};
+ghost use Rattle.duct_system.specs.EntryView.{EntryView, entry_view};
 ghost use Rattle.duct_system.specs.Origin.{Origin, origin, Opened};
 ghost use Rattle.duct_system.specs.SpecView.{SpecView};
 ghost use Rattle.duct_system.specs.Trace.{trace};
@@ -9,21 +9,21 @@ ghost use Rattle.duct_start.specs.Asked.{end_at};
 ghost use Rattle.duct_start.specs.Follows.{AnswersBy, AnswersFromBy, AsksPlan, Follows, FollowsWhole, IsSpawnedAt};
 ghost use Rattle.duct_follows.specs.Given.{AreAnswered, FoundNoMemory, Decides, IsAnsweredBy, IsUntoldBy};
 ghost use Rattle.duct_follows.specs.ScriptHooks.{allows};
+ghost use Rattle.duct_follows.specs.Seen.{IsSeenIn};
 ghost use Rattle.duct_follows.specs.Sources.{gives};
 ghost use Rattle.duct_plan.specs.Found.{found_of};
 ghost use Rattle.duct_plan.specs.EntryViews.{entry_views};
 ghost use Rattle.duct_plan.specs.PlanView.{item_of, plan_view};
 
 use crate::chain::wired;
-use crate::sources::{CallerEnds, are_given};
+use crate::seen::{Seen, origin_in, seen_in};
+use crate::sources::{CallerEnds, are_given_in};
 use crate::stops::{is_clean, stops_at_fault};
 use crate::untold::Untold;
 use duct_base::error::Error;
 use duct_base::spec::{CommandSpec, Hook};
 use duct_base::system::{Entry, Kind, Numbered, Stdio};
-use duct_plan::{
-    Item, Plan, Source, Surroundings, Wired, asked_at, first_end, origin, second_end, trace,
-};
+use duct_plan::{Item, Plan, Source, Surroundings, Wired, asked_at, first_end, second_end, trace};
 use duct_script::ScriptHook;
 use duct_system::same::same_spec;
 use std::alloc::{AllocError, Global};
@@ -42,10 +42,9 @@ pub fn follows<E: Numbered>(
         (λ yes. IsTrue yes ↔ Follows ⟦<ScriptHook as Hook>⟧.allows E.number_of (plan_view plan.now)
         (map entry_view added.now)) }
 {
-    let trace = trace(alloc, added)?;
-    let items = plan.items.as_slice();
+    let seen = seen_in(alloc, added)?;
     let ends = CallerEnds::ByOrigin;
-    let answered = answers_from(alloc, ends, added, 0, items, trace.as_slice())?;
+    let answered = answers_all(alloc, ends, added, &seen, plan.items.as_slice())?;
     Ok(answered && stops_at_fault(added))
 }
 
@@ -78,37 +77,34 @@ pub fn asks_plan<E: Numbered>(
         (λ yes. IsTrue yes ↔ AsksPlan ⟦<ScriptHook as Hook>⟧.allows E.number_of (plan_view plan.now)
         (map entry_view added.now)) }
 {
-    let trace = trace(alloc, added)?;
-    let items = plan.items.as_slice();
+    let seen = seen_in(alloc, added)?;
     let ends = CallerEnds::ByNumber;
-    answers_from(alloc, ends, added, 0, items, trace.as_slice())
+    answers_all(alloc, ends, added, &seen, plan.items.as_slice())
 }
 
-/// Returns whether the entries from a place of the trace on match the items from that place on, as
-/// far as there are entries.
-fn answers_from<E: Numbered>(
+/// Returns whether the entries of the trace match the items, as far as there are entries.
+fn answers_all<E: Numbered>(
     alloc: Global,
     ends: CallerEnds,
     added: &[Entry],
-    place: usize,
+    seen: &Seen<'_>,
     items: &[Item<'_, E, ScriptHook>],
-    entries: &[&Entry],
 ) -> Result<bool, Untold>
-    requires fits { place + length entries.now < 2 ^ 64 }
-    requires last { place + length entries.now ≡ length (trace (map entry_view added.now)) }
+    requires { IsSeenIn seen.now (map entry_view added.now) }
     ensures { IfOk result (λ yes. IsTrue yes
         ↔ AnswersFromBy (gives ends (map entry_view added.now)) allows E.number_of
-        (map entry_view added.now) place (map item_of items.now) (entry_views entries.now)) }
+        (map entry_view added.now) 0 (map item_of items.now) (trace (map entry_view added.now))) }
 {
-    match (items.split_first(), entries.split_first()) {
-        (_, None) => Ok(true),
-        (None, Some(_)) => Ok(false),
-        (Some((item, items)), Some((entry, entries))) => {
-            let first = answers(alloc, ends, added, place, item, entry)?;
-            let rest = answers_from(alloc, ends, added, place + 1, items, entries)?;
-            Ok(first && rest)
+    let trace = seen.trace.as_slice();
+    for place in 0..trace.len() {
+        if place >= items.len() {
+            return Ok(false);
+        }
+        if !answers(alloc, ends, added, seen, place, &items[place], trace[place])? {
+            return Ok(false);
         }
     }
+    Ok(true)
 }
 
 /// Returns whether an entry of the trace matches the item at its place.
@@ -116,11 +112,13 @@ fn answers<E: Numbered>(
     alloc: Global,
     ends: CallerEnds,
     added: &[Entry],
+    seen: &Seen<'_>,
     place: usize,
     item: &Item<'_, E, ScriptHook>,
     entry: &Entry,
 ) -> Result<bool, Untold>
-    requires { place ≤ length (trace (map entry_view added.now)) }
+    requires within { place ≤ length (trace (map entry_view added.now)) }
+    requires seen { IsSeenIn seen.now (map entry_view added.now) }
     ensures { IfOk result (λ yes. IsTrue yes
         ↔ AnswersBy (gives ends (map entry_view added.now)) allows E.number_of
         (map entry_view added.now) place (item_of item.now) (entry_view entry.now)) }
@@ -132,40 +130,34 @@ fn answers<E: Numbered>(
         (Item::Create(path), Entry::Create(made, _)) => Ok(made.as_str() == *path),
         (Item::Canonicalize(name), Entry::Canonicalize(path, _)) => Ok(path.as_str() == *name),
         (Item::Spawn(found, words), Entry::Spawn(spec, io, _)) => {
-            let given = given(alloc, added, place, found, words)?;
-            Ok(is_answered(ends, added, spec, io, given)?)
+            let given = given(alloc, seen, place, found, words)?;
+            Ok(is_answered(ends, added, seen, spec, io, given)?)
         }
         (Item::Feed(pipe, bytes), Entry::Feed(end, fed, _)) => {
-            Ok(fed.as_slice() == *bytes && is_writer(alloc, added, *pipe, *end)?)
+            Ok(fed.as_slice() == *bytes && is_writer(seen, *pipe, *end))
         }
-        (Item::Drain(pipe), Entry::Drain(end, _)) => Ok(is_reader(alloc, added, *pipe, *end)?),
-        (Item::Reader(pipe), Entry::Reader(end)) => Ok(is_reader(alloc, added, *pipe, *end)?),
+        (Item::Drain(pipe), Entry::Drain(end, _)) => Ok(is_reader(seen, *pipe, *end)),
+        (Item::Reader(pipe), Entry::Reader(end)) => Ok(is_reader(seen, *pipe, *end)),
         _ => Ok(false),
     }
 }
 
 /// Returns whether an end comes from the read end of the pipe that the entry at this place of the
 /// trace opened.
-fn is_reader(alloc: Global, added: &[Entry], pipe: usize, end: u64) -> Result<bool, AllocError>
-    ensures { IfOk result
-        (λ yes. IsTrue yes ↔
-        (origin (map entry_view added.now) end
-        ≡ Opened (end_at (trace (map entry_view added.now)) pipe 0))) }
+fn is_reader(seen: &Seen<'_>, pipe: usize, end: u64) -> bool
+    ensures { (entries : List EntryView) → IsSeenIn seen.now entries
+        → IsTrue result ↔ (origin entries end ≡ Opened (end_at (trace entries) pipe 0)) }
 {
-    let trace = trace(alloc, added)?;
-    Ok(origin(added, end) == Source::Opened(first_end(trace.as_slice(), pipe)))
+    origin_in(seen, end) == Source::Opened(first_end(seen.trace.as_slice(), pipe))
 }
 
 /// Returns whether an end comes from the write end of the pipe that the entry at this place of the
 /// trace opened.
-fn is_writer(alloc: Global, added: &[Entry], pipe: usize, end: u64) -> Result<bool, AllocError>
-    ensures { IfOk result
-        (λ yes. IsTrue yes ↔
-        (origin (map entry_view added.now) end
-        ≡ Opened (end_at (trace (map entry_view added.now)) pipe 1))) }
+fn is_writer(seen: &Seen<'_>, pipe: usize, end: u64) -> bool
+    ensures { (entries : List EntryView) → IsSeenIn seen.now entries
+        → IsTrue result ↔ (origin entries end ≡ Opened (end_at (trace entries) pipe 1)) }
 {
-    let trace = trace(alloc, added)?;
-    Ok(origin(added, end) == Source::Opened(second_end(trace.as_slice(), pipe)))
+    origin_in(seen, end) == Source::Opened(second_end(seen.trace.as_slice(), pipe))
 }
 
 /// Returns whether a spawn was given the spec that it must be given, and ends that come from where
@@ -173,10 +165,12 @@ fn is_writer(alloc: Global, added: &[Entry], pipe: usize, end: u64) -> Result<bo
 fn is_answered(
     ends: CallerEnds,
     added: &[Entry],
+    seen: &Seen<'_>,
     spec: &CommandSpec,
     io: &[Stdio<u64>; 3],
     given: Option<Wired>,
 ) -> Result<bool, AllocError>
+    requires { IsSeenIn seen.now (map entry_view added.now) }
     ensures { IfOk result
         (λ yes. IsTrue yes
         ↔ IsAnsweredBy (gives ends (map entry_view added.now) io.now) given spec.now) }
@@ -184,7 +178,8 @@ fn is_answered(
     match given {
         None => Ok(false),
         Some(given) => {
-            Ok(same_spec(spec, &given.spec)? && are_given(ends, added, io, &given.streams))
+            let streams = &given.streams;
+            Ok(same_spec(spec, &given.spec)? && are_given_in(ends, added, seen, io, streams))
         }
     }
 }
@@ -194,19 +189,18 @@ fn is_answered(
 /// start.
 fn given<E: Numbered>(
     alloc: Global,
-    added: &[Entry],
+    seen: &Seen<'_>,
     place: usize,
     found: &Surroundings<'_, E, ScriptHook>,
     words: &[String],
 ) -> Result<Option<Wired>, Untold>
-    requires { place ≤ length (trace (map entry_view added.now)) }
+    requires { place ≤ length seen.now.trace.items }
     ensures { IfOk result (λ given. (spec : SpecView) (streams : List (Stdio Origin)) →
-        IsSpawnedAt allows E.number_of (trace (map entry_view added.now)) place (found_of found.now)
+        IsSpawnedAt allows E.number_of (entry_views seen.now.trace.items) place (found_of found.now)
         (map string_bytes words.now) spec streams
         ↔ AreAnswered given spec streams) }
 {
-    let trace = trace(alloc, added)?;
-    let asked = asked_at(alloc, trace.as_slice(), place, found, words)?;
+    let asked = asked_at(alloc, seen.trace.as_slice(), place, found, words)?;
     decided(wired(asked, found.hooks.as_slice()))
 }
 

@@ -9,6 +9,7 @@ mod flaws;
 mod judgement;
 mod numbers;
 mod program;
+mod seen;
 mod sources;
 mod stops;
 mod text;

@@ -1,12 +1,15 @@
 //! Whether the streams of a spawn come from the places that they should come from.
-ghost use Rattle.std.specs.Prelude.{◌≡◌, ◌↔◌, map, IsTrue};
-ghost use Rattle.duct_system.specs.EntryView.{entry_view};
+ghost use Rattle.std.specs.Prelude.{List, ◌≡◌, ◌↔◌, map, IsTrue};
+ghost use Rattle.duct_system.specs.EntryView.{EntryView, entry_view};
 ghost use Rattle.duct_system.specs.Origin.{origin};
 ghost use Rattle.duct_system.specs.Streams.{stream_of};
 ghost use Rattle.duct_start.specs.Sources.{IsDuplicate};
+ghost use Rattle.duct_follows.specs.Seen.{IsSeenIn};
 ghost use Rattle.duct_follows.specs.Sources.{IsFrom, IsGiven, duplicated_as, gives};
+ghost use Rattle.duct_follows.specs.declared.sources.CallerEnds.TheVariants.{ByOrigin};
 ghost use Rattle.duct_plan.specs.Source.{origin_of};
 
+use crate::seen::{Seen, origin_in};
 use duct_base::system::{Entry, Stdio};
 use duct_plan::{Source, origin};
 
@@ -35,6 +38,43 @@ pub fn are_given(
     is_given(ends, entries, input, from_input)
         && is_given(ends, entries, output, from_output)
         && is_given(ends, entries, error, from_error)
+}
+
+/// Does what `are_given` does, with what the entries show already read.
+pub(crate) fn are_given_in(
+    ends: CallerEnds,
+    entries: &[Entry],
+    seen: &Seen<'_>,
+    io: &[Stdio<u64>; 3],
+    streams: &[Stdio<Source>; 3],
+) -> bool
+    requires { IsSeenIn seen.now (map entry_view entries.now) }
+    ensures { IsTrue result ↔ gives ends (map entry_view entries.now) io.now
+        (map (stream_of origin_of) streams.now) }
+{
+    match ends {
+        CallerEnds::ByOrigin => {
+            let [input, output, error] = *io;
+            let [from_input, from_output, from_error] = *streams;
+            is_given_in(seen, input, from_input)
+                && is_given_in(seen, output, from_output)
+                && is_given_in(seen, error, from_error)
+        }
+        CallerEnds::ByNumber => are_given(ends, entries, io, streams),
+    }
+}
+
+/// Returns whether a stream has this source as its origin.
+fn is_given_in(seen: &Seen<'_>, stream: Stdio<u64>, source: Stdio<Source>) -> bool
+    ensures { (entries : List EntryView) → IsSeenIn seen.now entries
+        → IsTrue result ↔ IsGiven ByOrigin entries stream (stream_of origin_of source) }
+{
+    match (stream, source) {
+        (Stdio::Inherit, Stdio::Inherit) => true,
+        (Stdio::Null, Stdio::Null) => true,
+        (Stdio::End(number), Stdio::End(source)) => origin_in(seen, number) == source,
+        _ => false,
+    }
 }
 
 /// Returns whether a stream comes from this source.

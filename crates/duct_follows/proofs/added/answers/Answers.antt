@@ -13,6 +13,6 @@ returns-in_ok-is_answered-in-Spawn-Spawn g c =
     let words = map string_bytes c.in-Spawn-Spawn.words.now in
     let given = given_by (trace entries) g.E.Numbered.number_of c.args.place found words
     (gives c.args.ends entries c.in-Spawn-Spawn.io) c.in_ok-given-in-Spawn-Spawn.given c.in-Spawn-Spawn.spec
-    c.in_ok-given-in-Spawn-Spawn.ensures in
+    (rw c.requires.seen.trace_is at c.in_ok-given-in-Spawn-Spawn.ensures) in
     let same = c.in_ok-is_answered-in-Spawn-Spawn.ensures in
     rw (c.in-Spawn-Spawn.is-0, c.in-Spawn-Spawn.is-1) (λ is. given.1 (same.0 is), λ spawned. same.1 (given.0 spawned))
