@@ -156,8 +156,8 @@ fn opened_by(alloc: Global, entry: &Entry) -> Result<Vec<u64>, AllocError>
 /// or lent by the caller.
 fn uses_open(lent: &BTreeSet<u64>, held: &BTreeSet<u64>, entry: &Entry, spent: &[u64]) -> bool
     requires { spent.now ≡ spent_by (entry_view entry.now) }
-    ensures { result
-        ≡ uses_within (contains nat_cmp lent.now) (contains nat_cmp held.now) (entry_view entry.now) }
+    ensures { result ≡ uses_within (contains nat_cmp lent.now) (contains nat_cmp held.now)
+        (entry_view entry.now) }
 {
     has_all(held, spent)
         && match entry {
