@@ -1,6 +1,7 @@
 pub mod Answers
 pub mod Ended
 pub mod Left
+pub mod Noted
 pub mod RecordingView
 pub mod Replays
 pub mod Retraces

@@ -45,11 +45,19 @@ fn give(bytes: &[u8], buf: &mut [u8]) -> usize
 }
 
 impl Read for ReplayReader {
-    ghost use Rattle.duct_replay.specs.Left.{left_of};
+    ghost use Rattle.std.specs.Prelude.{◌≡◌, length};
+    ghost use Rattle.std.specs.Io.{ReadsAtMost};
+    ghost use Rattle.std.specs.Io.KnownBytes.{ReadConsumes};
+    ghost use Rattle.duct_replay.specs.Left.{ReadsLeft, left_of};
 
     ghost remaining = { left_of };
 
-    fn read(&mut self, buf: &mut [u8]) -> io::Result<usize> {
+    fn read(&mut self, buf: &mut [u8]) -> io::Result<usize>
+        ensures bound { ReadsAtMost result buf.new }
+        ensures bytes { ReadConsumes (left_of self.old) (left_of self.new) result buf.new }
+        ensures told { ReadsLeft self.old (length buf.new) result }
+        ensures same { self.new.bytes ≡ self.old.bytes }
+    {
         let bytes = match &self.bytes {
             Ok(Some(bytes)) => bytes,
             Ok(None) => return Err(io::Error::from(ErrorKind::Other)),

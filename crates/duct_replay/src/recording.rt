@@ -49,6 +49,18 @@ impl Recording {
         }
     }
 
+    /// Adds an entry behind the others. Fails at an allocation failure, and leaves the recording as it
+    /// was.
+    pub fn push_entry(&mut self, entry: Entry) -> Result<(), AllocError>
+        ensures ok { OnOk result (self.new ≡ record self.old {
+          entries = self.old.entries ++ entry_view entry ∷ [];
+        }) }
+        ensures err { OnErr result (self.new ≡ self.old) }
+    {
+        self.entries.push(entry)?;
+        Ok(())
+    }
+
     /// Sets how the child with this number ended. Only the first call for a number counts. Fails at
     /// an allocation failure, and leaves the recording as it was.
     pub fn ends_with(&mut self, number: u64, status: ExitStatus) -> Result<(), AllocError>
@@ -78,6 +90,32 @@ impl Recording {
         ensures { map entry_view result.now ≡ self.now.entries }
     {
         self.entries.as_slice()
+    }
+
+    /// Returns the entries, oldest first, without the rest.
+    pub fn into_entries(self) -> Vec<Entry>
+        ensures { map entry_view result.items ≡ self.entries }
+    {
+        let Recording {
+            entries,
+            endings: _,
+            outputs: _,
+        } = self;
+        entries
+    }
+
+    /// Returns the numbers of children with the exit statuses that were set, in their order.
+    pub fn endings(&self) -> &[(u64, ExitStatus)]
+        ensures { result.now ≡ self.now.endings }
+    {
+        self.endings.as_slice()
+    }
+
+    /// Returns the numbers of ends with the bytes that were set, in their order.
+    pub fn outputs(&self) -> &[(u64, Arc<Vec<u8>>)]
+        ensures { result.now ≡ self.now.outputs }
+    {
+        self.outputs.as_slice()
     }
 
     /// Returns how the child with this number ended, or `None` if that isn't recorded.

@@ -241,7 +241,7 @@ impl System for Replay {
     ghost use Rattle.duct_system.specs.Streams.{stream_of, ends_of};
     ghost use Rattle.std.proofs.Common.{lit<};
     ghost use Rattle.duct_replay.specs.Answers.{Fits, FitsNumber, FitsPipe, FitsChild};
-    ghost use Rattle.duct_replay.specs.Left.{IsUnread, left_of};
+    ghost use Rattle.duct_replay.specs.Left.{HasFound, IsUnread};
     ghost use Rattle.duct_replay.specs.RecordingView.{status_of, output_of};
     ghost use Rattle.duct_replay.specs.Replays.{Replays, MayReplay, Steps};
     ghost use Rattle.duct_replay.specs.Same.{bytes_of};
@@ -503,8 +503,7 @@ impl System for Replay {
             self.new.journal }
         ensures told { IsUnread end.number result }
         ensures steps { Steps self.old self.new }
-        ensures read { IfSome (left_of result)
-            (λ bytes. Some bytes ≡ output_of end.number self.old.recording) }
+        ensures read { HasFound (output_of end.number self.old.recording) result.bytes }
     {
         let agrees = is_reader(self.next(), end.number);
         self.note(Entry::Reader(end.number), agrees);

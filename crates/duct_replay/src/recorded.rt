@@ -1,0 +1,212 @@
+//! The children, workers and readers of a recorder.
+ghost use Rattle.std.specs.Prelude.{◌≡◌};
+ghost use Rattle.std.specs.Io.{ReadsAtMost};
+ghost use Rattle.std.specs.Io.KnownBytes.{ReadConsumes};
+ghost use Rattle.std.specs.Option.{ForSome};
+ghost use Rattle.duct_replay.specs.Noted.{HasGiven, HasGivenAll, KeepsMore};
+
+use crate::notes::{Ending, Note, Output, note_ending, note_output};
+use duct_system::system::{Child, ExitStatus, Fault, Job, Numbered, Said, System};
+use std::alloc::Global;
+use std::io;
+use std::io::{ErrorKind, Read};
+use std::sync::Arc;
+
+/// A child that a recorder started. It is the child of the system below, and the exit status that a
+/// poll returns is noted.
+#[derive(Drop)]
+pub struct RecordedChild<C: Child> {
+    inner: C,
+    note: Option<Note<Ending<C>>>,
+}
+
+impl<C: Child> RecordedChild<C> {
+    // Returns the child that notes its end there.
+    pub(crate) fn new(inner: C, note: Option<Note<Ending<C>>>) -> RecordedChild<C>
+        ensures { result.inner ≡ inner }
+    {
+        RecordedChild { inner, note }
+    }
+}
+
+impl<C: Child> Numbered for RecordedChild<C> {
+    ghost number_of = { λ child. C.number_of child.inner };
+
+    fn number(&self) -> u64 {
+        self.inner.number()
+    }
+}
+
+impl<C: Child> Child for RecordedChild<C> {
+    ghost may_answer = { C.may_answer };
+
+    ghost may_obey = { C.may_obey };
+
+    ghost child_view = { λ child. C.child_view child.inner };
+
+    ghost has_number = { λ child. C.has_number child.inner };
+
+    fn poll(&mut self) -> Result<Option<ExitStatus>, Fault> {
+        let answer = self.inner.poll();
+        if let (Ok(Some(status)), Some(note)) = (answer, &self.note) {
+            note_ending(note, self.inner.number(), status);
+        }
+        answer
+    }
+
+    fn kill(&mut self) -> Result<(), Fault> {
+        self.inner.kill()
+    }
+
+    fn signal(&mut self, signal: i32) -> Result<(), Fault> {
+        self.inner.signal(signal)
+    }
+
+    fn id(&self) -> u32 {
+        self.inner.id()
+    }
+}
+
+/// A worker that a recorder started, and that reads. It is the worker of the system below, and the
+/// bytes that a poll returns are noted.
+#[derive(Drop)]
+pub struct RecordedDrain<S: System> {
+    inner: S::Drain,
+    note: Option<Note<Output<S>>>,
+}
+
+impl<S: System> RecordedDrain<S> {
+    // Returns the worker that notes its bytes there.
+    pub(crate) fn new(inner: S::Drain, note: Option<Note<Output<S>>>) -> RecordedDrain<S>
+        ensures { result.inner ≡ inner }
+    {
+        RecordedDrain { inner, note }
+    }
+}
+
+impl<S: System> Numbered for RecordedDrain<S> {
+    ghost number_of = { λ drain. S.Drain.number_of drain.inner };
+
+    fn number(&self) -> u64 {
+        self.inner.number()
+    }
+}
+
+impl<S: System> Job for RecordedDrain<S> {
+    type Result = Arc<Vec<u8>>;
+
+    ghost same = { S.Drain.same };
+
+    ghost refusable = { S.Drain.refusable };
+
+    ghost may_say = { S.Drain.may_say };
+
+    ghost job_view = { λ drain. S.Drain.job_view drain.inner };
+
+    ghost has_number = { λ drain. S.Drain.has_number drain.inner };
+
+    fn poll(&mut self) -> Said<Arc<Vec<u8>>> {
+        let said = self.inner.poll();
+        if let (Said::Done(bytes), Some(note)) = (&said, &self.note) {
+            if let Ok(shared) = Arc::try_clone(bytes) {
+                note_output(note, self.inner.number(), shared);
+            }
+        }
+        said
+    }
+}
+
+// What was read so far of an end, for its note.
+type Kept<S> = (Note<Output<S>>, Vec<u8>);
+
+/// A reader that a recorder returned. It is the reader of the system below, and what it read is
+/// noted at EOF: where a read fails before, other than by an interruption, or there is no memory to
+/// keep the bytes, nothing is.
+#[derive(Drop)]
+pub struct RecordedReader<S: System> {
+    inner: S::Reader,
+    number: u64,
+    kept: Option<Kept<S>>,
+    ghost given: { ForSome kept (λ kept. ∥ HasGiven S.may_read S.Reader.remaining number
+        kept.1.items inner ∥₁) },
+}
+
+impl<S: System> RecordedReader<S> {
+    // Returns the reader of the end with this number, which notes its bytes there.
+    pub(crate) fn new(
+        alloc: Global,
+        inner: S::Reader,
+        number: u64,
+        note: Option<Note<Output<S>>>,
+    ) -> RecordedReader<S>
+        requires { S.may_read number inner }
+        ensures { result.inner ≡ inner }
+    {
+        RecordedReader {
+            inner,
+            number,
+            kept: note.map(|note| (note, Vec::new(alloc))),
+        }
+    }
+}
+
+// Reads once. Returns what the reader did, and what is then kept of the end with this number.
+fn read_kept<S: System>(
+    inner: &mut S::Reader,
+    number: u64,
+    kept: Option<Kept<S>>,
+    buf: &mut [u8],
+) -> (io::Result<usize>, Option<Kept<S>>)
+    requires { ForSome kept (λ kept. ∥ HasGiven S.may_read S.Reader.remaining number
+        kept.1.items inner.old ∥₁) }
+    ensures bound { ReadsAtMost result.0 buf.new }
+    ensures bytes { ReadConsumes (S.Reader.remaining inner.old) (S.Reader.remaining inner.new)
+        result.0 buf.new }
+    ensures given { ForSome result.1 (λ kept. ∥ HasGiven S.may_read S.Reader.remaining number
+        kept.1.items inner.new ∥₁) }
+{
+    match inner.read(buf) {
+        Ok(count) => {
+            if count == 0 && !buf.is_empty() {
+                note_all(kept, number);
+                (Ok(count), None)
+            } else {
+                (Ok(count), more_kept(kept, &buf[..count]))
+            }
+        }
+        Err(error) if error.kind() == ErrorKind::Interrupted => (Err(error), kept),
+        Err(error) => (Err(error), None),
+    }
+}
+
+// Keeps these bytes behind those that were kept, or nothing any more where there is no memory.
+fn more_kept<S: System>(kept: Option<Kept<S>>, bytes: &[u8]) -> Option<Kept<S>>
+    ensures { KeepsMore kept bytes.now result }
+{
+    let (note, mut all) = kept?;
+    all.extend_from_slice(bytes).ok()?;
+    Some((note, all))
+}
+
+// Notes the bytes that were kept of the end with this number, if there is memory for it.
+fn note_all<S: System>(kept: Option<Kept<S>>, number: u64)
+    requires { ForSome kept (λ kept.
+        ∥ HasGivenAll S.may_read S.Reader.remaining number kept.1.items ∥₁) }
+{
+    if let Some((note, bytes)) = kept {
+        if let Ok(shared) = Arc::new(*bytes.allocator(), bytes) {
+            note_output(&note, number, shared);
+        }
+    }
+}
+
+impl<S: System> Read for RecordedReader<S> {
+    ghost remaining = { λ reader. S.Reader.remaining reader.inner };
+
+    fn read(&mut self, buf: &mut [u8]) -> io::Result<usize> {
+        let kept = self.kept.take();
+        let (answer, kept) = read_kept(&mut self.inner, self.number, kept, buf);
+        self.kept = kept;
+        answer
+    }
+}

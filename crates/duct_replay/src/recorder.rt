@@ -1,0 +1,209 @@
+//! A system that is recorded.
+ghost use Rattle.std.specs.Prelude.{◌≡◌, IfOk};
+ghost use Rattle.std.specs.List.{All};
+ghost use Rattle.duct_replay.specs.Noted.{MayEnd, MayGive};
+ghost use Rattle.duct_replay.specs.Same.{bytes_of};
+
+use crate::notes::{Ending, Notes, Output, add_note, note_of, record_endings, record_outputs};
+use crate::recorded::{RecordedChild, RecordedDrain, RecordedReader};
+use crate::recording::Recording;
+use duct_system::copy::copies_of_entries;
+use duct_system::spec::CommandSpec;
+use duct_system::system::{Entry, Fault, Numbered, Side, Stdio, System};
+use std::alloc::{AllocError, Global};
+use std::sync::Arc;
+
+/// A system over another one that notes what no journal has: how children ended, and which bytes
+/// were read, by a worker or by a reader to EOF, of ends that `pipe`, `open_read` and `duplicate`
+/// returned. So a replay of its `recording` returns what was returned here.
+///
+/// Each request is passed on as it is, once, and returns what the system below returns; so does
+/// each poll, order and read. The journal is that of the system below. No request fails by a note
+/// for which there is no memory: its child's end or its bytes aren't recorded then.
+#[derive(Drop)]
+pub struct Recorder<S: System> {
+    inner: S,
+    alloc: Global,
+    endings: Notes<Ending<S::Child>>,
+    outputs: Notes<Output<S>>,
+}
+
+impl<S: System> Recorder<S> {
+    /// Returns a recorder over a system, which should be new: what was requested of it before is in
+    /// the recording only as the entries of its journal.
+    ///
+    /// Example: `let mut recorder = Recorder::new(alloc, Host::new(&rt, alloc));`
+    pub fn new(alloc: Global, inner: S) -> Recorder<S>
+        ensures { result.inner ≡ inner }
+    {
+        Recorder {
+            inner,
+            alloc,
+            endings: Vec::new(alloc),
+            outputs: Vec::new(alloc),
+        }
+    }
+
+    /// Returns the system below.
+    pub fn inner(&self) -> &S
+        ensures { result.now ≡ self.now.inner }
+    {
+        &self.inner
+    }
+
+    /// Returns the system below. What was noted is dropped.
+    pub fn into_inner(self) -> S
+        ensures { result ≡ self.inner }
+    {
+        let Recorder {
+            inner,
+            alloc: _,
+            endings: _,
+            outputs: _,
+        } = self;
+        inner
+    }
+
+    /// Returns the journal so far with the endings and the bytes that are noted so far. A child has
+    /// no ending there before a poll has returned its exit status, and an end has no bytes before
+    /// they were read to EOF. Fails only at an allocation failure, and changes nothing.
+    pub fn recording(&self) -> Result<Recording, AllocError>
+        ensures entries { IfOk result (λ recording.
+            recording.entries ≡ (S.journal_view self.now.inner).entries) }
+        ensures endings { IfOk result (λ recording.
+            All (λ pair. ∥ MayEnd S.Child.may_answer pair.0 pair.1 ∥₁) recording.endings) }
+        ensures outputs { IfOk result (λ recording.
+            All (λ pair. ∥ MayGive S.may_read S.Reader.remaining S.Drain.may_say pair.0
+            (bytes_of pair.1) ∥₁) recording.outputs) }
+    {
+        let entries = copies_of_entries(self.alloc, self.inner.journal())?;
+        let mut recording = Recording::new(self.alloc, entries);
+        record_endings(&self.endings, &mut recording)?;
+        record_outputs(&self.outputs, &mut recording)?;
+        Ok(recording)
+    }
+
+    // Makes a note for what will be read of an end, if there is memory for it.
+    fn expect(&mut self, number: u64)
+        ensures { self.new.inner ≡ self.old.inner }
+    {
+        let _ = add_note(self.alloc, &mut self.outputs, number);
+    }
+}
+
+/// Each request is that of the system below, with its result.
+impl<S: System> System for Recorder<S> {
+    ghost use Rattle.std.specs.Prelude.{◌≤◌, min, length, map, Ok, Err, IfErr};
+    ghost use Rattle.duct_system.specs.Child.{IsUnasked};
+    ghost use Rattle.duct_system.specs.EntryView.{Spawn};
+    ghost use Rattle.duct_system.specs.Journal.{GivesEnds, IsNew, IsRefused};
+    ghost use Rattle.duct_system.specs.Streams.{stream_of, ends_of};
+
+    type End = S::End;
+
+    type Child = RecordedChild<S::Child>;
+
+    type Feed = S::Feed;
+
+    type Drain = RecordedDrain<S>;
+
+    type Reader = RecordedReader<S>;
+
+    ghost journal_view = { λ recorder. S.journal_view recorder.inner };
+
+    ghost may_read = { λ number reader. S.may_read number reader.inner };
+
+    ghost streams_fit = { S.streams_fit };
+
+    ghost same_bytes = { S.same_bytes };
+
+    ghost feeds_say_again = { S.feeds_say_again };
+
+    fn environment(&mut self) -> Result<Vec<(String, String)>, Fault> {
+        self.inner.environment()
+    }
+
+    fn pipe(&mut self) -> Result<(S::End, S::End), Fault> {
+        let (reader, writer) = self.inner.pipe()?;
+        self.expect(reader.number());
+        Ok((reader, writer))
+    }
+
+    fn open_read(&mut self, path: &str) -> Result<S::End, Fault> {
+        let end = self.inner.open_read(path)?;
+        self.expect(end.number());
+        Ok(end)
+    }
+
+    fn create(&mut self, path: &str) -> Result<S::End, Fault> {
+        self.inner.create(path)
+    }
+
+    fn duplicate(&mut self, end: &S::End) -> Result<S::End, Fault> {
+        let made = self.inner.duplicate(end)?;
+        self.expect(made.number());
+        Ok(made)
+    }
+
+    fn parent(&mut self, side: Side) -> Result<S::End, Fault> {
+        self.inner.parent(side)
+    }
+
+    fn canonicalize(&mut self, path: &str) -> Result<String, Fault> {
+        self.inner.canonicalize(path)
+    }
+
+    fn spawn(
+        &mut self,
+        spec: CommandSpec,
+        io: [Stdio<S::End>; 3],
+    ) -> Result<RecordedChild<S::Child>, Fault>
+        requires { min 1 (length (ends_of io)) ≤ (S.journal_view self.old.inner).room }
+        ensures ok { IfOk result (λ child.
+            let number = S.Child.number_of child.inner in
+            let entry = Spawn spec (map (stream_of S.End.number_of) io) (Ok number) in
+            GivesEnds entry (length (ends_of io)) (S.journal_view self.old.inner)
+            (S.journal_view self.new.inner)
+            × IsNew (S.journal_view self.old.inner) (S.journal_view self.new.inner) number) }
+        ensures unasked { IfOk result (λ child. IsUnasked (S.Child.child_view child.inner)) }
+        ensures err { IfErr result (λ fault.
+            let entry = Spawn spec (map (stream_of S.End.number_of) io) (Err fault) in
+            IsRefused entry (length (ends_of io)) fault (S.journal_view self.old.inner)
+            (S.journal_view self.new.inner)) }
+    {
+        let child = self.inner.spawn(spec, io)?;
+        let note = add_note(self.alloc, &mut self.endings, child.number());
+        Ok(RecordedChild::new(child, note))
+    }
+
+    fn start_feed(&mut self, end: S::End, bytes: Arc<Vec<u8>>) -> Result<S::Feed, Fault> {
+        self.inner.start_feed(end, bytes)
+    }
+
+    fn start_drain(&mut self, end: S::End) -> Result<RecordedDrain<S>, Fault> {
+        let note = note_of(&self.outputs, end.number());
+        Ok(RecordedDrain::new(self.inner.start_drain(end)?, note))
+    }
+
+    // It allocates nothing: the note was made when the end was returned.
+    fn reader(&mut self, end: S::End) -> RecordedReader<S> {
+        let number = end.number();
+        let note = note_of(&self.outputs, number);
+        RecordedReader::new(self.alloc, self.inner.reader(end), number, note)
+    }
+
+    fn close(&mut self, end: S::End) {
+        self.inner.close(end);
+    }
+
+    fn journal(&self) -> &[Entry] {
+        self.inner.journal()
+    }
+
+    // What was noted is dropped too.
+    fn clear_journal(&mut self) {
+        self.inner.clear_journal();
+        self.endings.clear();
+        self.outputs.clear();
+    }
+}
