@@ -1,13 +1,17 @@
 -- What an entry is written as means that entry.
-use Rattle.std.proofs.Common.{◌≡◌, ℕ, suc, ◌<◌, List, [], ◌∷◌, ◌++◌, map, length, Bool, true, false, Some, None, Ok, Err, if◌then◌else◌, refl, ap, ◌∙◌, arith, rules}
+use Rattle.std.proofs.Common.{◌≡◌, ℕ, suc, ◌<◌, List, [], ◌∷◌, ◌++◌, map, length, Bool, true, false, Some, None, Ok, Err, if◌then◌else◌, refl, ap, sym, ◌∙◌, arith, rules}
+use Rattle.std.specs.Prelude.{ℤ, pos, negsuc, codes}
 use Rattle.std.specs.Str.{is_utf8}
 use Rattle.std.specs.declared.option.Option.{Option}
 use Rattle.std.specs.declared.result.Result.{Result}
-use Rattle.serde_json.specs.Data.{Data, string}
+use Rattle.serde_json.specs.Data.{Data, number, string}
+use Rattle.serde_json.specs.Find.{of_integer}
 use Rattle.duct_system.specs.EntryView.{EntryView, Environment, Pipe, OpenRead, Create, Duplicate, Parent, Canonicalize, Spawn, Feed, Drain, Reader, Close}
 use Rattle.duct_system.specs.SpecView.{SpecView, Vars, AreOrdered}
 use Rattle.duct_system.specs.declared.spec.Port.{Port}
 use Rattle.duct_system.specs.declared.spec.Port.TheVariants as ports
+use Rattle.duct_system.specs.declared.system.ExitStatus.{ExitStatus}
+use Rattle.duct_system.specs.declared.system.ExitStatus.TheVariants.{Code, Signal}
 use Rattle.duct_system.specs.declared.system.Fault.{Fault}
 use Rattle.duct_system.specs.declared.system.Kind.{Kind}
 use Rattle.duct_system.specs.declared.system.Kind.TheVariants.{NotFound, PermissionDenied, BrokenPipe, WriteZero, InvalidInput, Unsupported, OutOfMemory, Other}
@@ -16,10 +20,13 @@ use Rattle.duct_system.specs.declared.system.Side.TheVariants as sides
 use Rattle.duct_system.specs.declared.system.Stdio.{Stdio}
 use Rattle.duct_system.specs.declared.system.Stdio.TheVariants.{Inherit, Null, End}
 use Rattle.duct_record.specs.EntryData.{answer_data, bytes_data, entry_data, folder_data, kind_name, list_data, number_answer_data, number_data, port_data, ports_data, refused_data, request_data, result_data, side_name, stream_data, variable_data, variables_data}
+use Rattle.duct_record.specs.ItemData.{ItemView, Noted, Ended, Read, ending_data, output_data, status_data}
+use Rattle.duct_record.specs.ItemMeant.{ending_meant, integer_meant, item_meant, item_named, output_meant, status_named}
 use Rattle.duct_record.specs.Meant.{all_meant, answer_meant, byte_meant, bytes_meant, canonicalize_meant, close_meant, create_meant, drain_meant, duplicate_meant, ends_answer, ends_meant, entry_meant, environment_meant, fault_meant, feed_meant, first_meant, folder_meant, kind_named, list_meant, named_meant, number_answer, number_meant, only_meant, open_read_meant, pair_meant, parent_meant, pipe_meant, port_meant, port_named, ports_meant, reader_meant, side_named, spawn_meant, spec_meant, stream_meant, stream_named, streams_meant, text_answer, text_meant, unit_answer, unit_meant, value_meant, variable_meant, variables_answer, variables_meant, words_meant}
 use Rattle.duct_record.specs.Parsed.{◌>>=◌}
-use Rattle.duct_record.specs.Writable.{IsWritable, AreBytes}
+use Rattle.duct_record.specs.Writable.{IsWritable, AreBytes, IsSmall, IsSmallStatus}
 use Rattle.duct_record.specs.declared.error.Refusal.{Refusal}
+use Rattle.duct_record.specs.declared.write.Variables.{Variables}
 use Rattle.duct_record.specs.declared.write.Variables.TheVariants.{Shown}
 use Rattle.duct_record.proofs.Lists.{list_of_items}
 use Rattle.duct_record.proofs.Ordered.{set_again}
@@ -219,3 +226,73 @@ pub entry_back : (entry : EntryView) → IsWritable entry
 unfolding entry_data
 entry_back entry writable =
     opened (request_data Shown entry ++ answer_data Shown entry) ∙ meant_back entry writable
+
+-- ---- items of a recording
+
+-- what an array of these items means there
+items_item : List Data → Result ItemView Refusal
+items_item items =
+    first_meant items >>= λ parts. text_meant parts.0 >>= λ name. item_named name parts.1
+
+opened_item : (items : List Data) → item_meant (list_data items) ≡ items_item items
+unfolding item_meant items_item
+opened_item items =
+    ap (λ read. read >>= first_meant >>= λ parts. text_meant parts.0 >>= λ name. item_named name parts.1) (list_back items)
+
+noted : (variables : Variables) (entry : EntryView)
+    → items_meant (request_data variables entry ++ answer_data variables entry) ≡ Ok entry
+    → items_item (request_data variables entry ++ answer_data variables entry) ≡ Ok (Noted entry)
+unfolding items_meant items_item request_data first_meant text_meant item_named
+noted variables (Environment answer) is = after (λ entry. Ok (Noted entry)) is
+noted variables (Pipe answer) is = after (λ entry. Ok (Noted entry)) is
+noted variables (OpenRead path answer) is = after (λ entry. Ok (Noted entry)) is
+noted variables (Create path answer) is = after (λ entry. Ok (Noted entry)) is
+noted variables (Duplicate end answer) is = after (λ entry. Ok (Noted entry)) is
+noted variables (Parent side answer) is = after (λ entry. Ok (Noted entry)) is
+noted variables (Canonicalize path answer) is = after (λ entry. Ok (Noted entry)) is
+noted variables (Spawn spec streams answer) is = after (λ entry. Ok (Noted entry)) is
+noted variables (Feed end bytes answer) is = after (λ entry. Ok (Noted entry)) is
+noted variables (Drain end answer) is = after (λ entry. Ok (Noted entry)) is
+noted variables (Reader end) is = after (λ entry. Ok (Noted entry)) is
+noted variables (Close end) is = after (λ entry. Ok (Noted entry)) is
+
+-- what means an entry is an item that is this entry
+pub noted_back : (variables : Variables) (entry : EntryView)
+    → entry_meant (entry_data variables entry) ≡ Ok entry
+    → item_meant (entry_data variables entry) ≡ Ok (Noted entry)
+unfolding entry_data
+noted_back variables entry is =
+    let items = request_data variables entry ++ answer_data variables entry in
+    opened_item items ∙ noted variables entry (sym (opened items) ∙ is)
+
+integer_back : (n : ℤ) → IsSmall n → integer_meant (number (of_integer n)) ≡ Ok n
+unfolding integer_meant
+integer_back (pos n) small = search rules
+integer_back (negsuc n) small = rw small.least refl
+
+ending_there : (child : ℕ) (status : ExitStatus) → IsSmallStatus status
+    → items_item (string (codes "ended") ∷ number_data child ∷ status_data status)
+    ≡ Ok (Ended (child, status))
+unfolding items_item first_meant text_meant item_named ending_meant number_meant only_meant status_named
+ending_there child (Code code) small = rw (integer_back code small) refl
+ending_there child (Signal signal) small = rw (integer_back signal small) refl
+
+pub ending_back : (ending : ℕ × ExitStatus) → IsSmallStatus ending.1
+    → item_meant (ending_data ending) ≡ Ok (Ended ending)
+unfolding ending_data
+ending_back (child, status) small =
+    opened_item (string (codes "ended") ∷ number_data child ∷ status_data status)
+    ∙ ending_there child status small
+
+output_there : (end : ℕ) (bytes : List ℕ) → AreBytes bytes
+    → items_item (string (codes "read") ∷ number_data end ∷ bytes_data bytes ∷ [])
+    ≡ Ok (Read (end, bytes))
+unfolding items_item first_meant text_meant item_named output_meant number_meant only_meant
+output_there end bytes are = rw (bytes_back bytes are) refl
+
+pub output_back : (output : ℕ × List ℕ) → AreBytes output.1
+    → item_meant (output_data output) ≡ Ok (Read output)
+unfolding output_data
+output_back (end, bytes) are =
+    opened_item (string (codes "read") ∷ number_data end ∷ bytes_data bytes ∷ [])
+    ∙ output_there end bytes are

@@ -1,21 +1,26 @@
--- What an entry is written as nests no deeper than three, and has no float.
+-- What an item is written as nests no deeper than three, and has no float.
 use Rattle.std.proofs.Common.{◌≡◌, ℕ, suc, ◌≤◌, List, [], ◌∷◌, ◌++◌, map, Bool, true, false, Some, None, Ok, Err, if◌then◌else◌, refl, arith}
+use Rattle.std.specs.Prelude.{ℤ, pos, negsuc, codes}
 use Rattle.std.specs.Str.{is_utf8}
 use Rattle.std.specs.declared.option.Option.{Option}
 use Rattle.std.specs.declared.result.Result.{Result}
 use Rattle.std.specs.List.{AllByRecursion}
-use Rattle.serde_json.specs.Data.{Data, string, depth}
+use Rattle.serde_json.specs.Data.{Data, number, string, depth}
+use Rattle.serde_json.specs.Find.{of_integer}
 use Rattle.serde_json.specs.Written.{has_float}
 use Rattle.duct_system.specs.EntryView.{EntryView, Environment, Pipe, OpenRead, Create, Duplicate, Parent, Canonicalize, Spawn, Feed, Drain, Reader, Close}
 use Rattle.duct_system.specs.SpecView.{SpecView, Vars}
 use Rattle.duct_system.specs.declared.spec.Port.{Port}
 use Rattle.duct_system.specs.declared.spec.Port.TheVariants as ports
+use Rattle.duct_system.specs.declared.system.ExitStatus.{ExitStatus}
+use Rattle.duct_system.specs.declared.system.ExitStatus.TheVariants.{Code, Signal}
 use Rattle.duct_system.specs.declared.system.Fault.{Fault}
 use Rattle.duct_system.specs.declared.system.Stdio.{Stdio}
 use Rattle.duct_system.specs.declared.system.Stdio.TheVariants.{Inherit, Null, End}
 use Rattle.duct_record.specs.declared.write.Variables.{Variables}
 use Rattle.duct_record.specs.declared.write.Variables.TheVariants.{Shown, Hidden}
 use Rattle.duct_record.specs.EntryData.{answer_data, bytes_data, entry_data, folder_data, list_data, number_answer_data, number_data, port_data, ports_data, refused_data, request_data, result_data, side_name, stream_data, value_data, variable_data, variables_data}
+use Rattle.duct_record.specs.ItemData.{ending_data, output_data, status_data}
 
 -- it nests no deeper than this, and has no float
 pub record IsPlain (n : ℕ) (json : Data) : Type 0 where
@@ -48,8 +53,8 @@ joined n (item ∷ one) other plain more = (plain.0, joined n one other plain.1 
 text_plain : (n : ℕ) (text : List ℕ) → IsPlain n (string text)
 text_plain n text = record { shallow = omega arith; exact = refl }
 
-number_plain : (n number : ℕ) → IsPlain n (number_data number)
-number_plain n number = record { shallow = omega arith; exact = refl }
+number_plain : (n value : ℕ) → IsPlain n (number_data value)
+number_plain n value = record { shallow = omega arith; exact = refl }
 
 value_plain : (n : ℕ) (variables : Variables) (value : List ℕ) → IsPlain n (value_data variables value)
 value_plain n Shown value = text_plain n value
@@ -158,3 +163,21 @@ pub entry_plain : (variables : Variables) (entry : EntryView)
 unfolding entry_data
 entry_plain variables entry =
     list_plain 2 (request_data variables entry ++ answer_data variables entry) (joined 2 (request_data variables entry) (answer_data variables entry) (request_plain variables entry) (answer_plain variables entry))
+
+integer_plain : (n : ℕ) (code : ℤ) → IsPlain n (number (of_integer code))
+integer_plain n (pos code) = record { shallow = omega arith; exact = refl }
+integer_plain n (negsuc code) = record { shallow = omega arith; exact = refl }
+
+status_plain : (status : ExitStatus) → ArePlain 2 (status_data status)
+status_plain (Code code) = (text_plain 2 _, (integer_plain 2 code, tt))
+status_plain (Signal signal) = (text_plain 2 _, (integer_plain 2 signal, tt))
+
+pub ending_plain : (ending : ℕ × ExitStatus) → IsPlain 3 (ending_data ending)
+unfolding ending_data
+ending_plain (child, status) =
+    list_plain 2 (string (codes "ended") ∷ number_data child ∷ status_data status) (text_plain 2 _, (number_plain 2 child, status_plain status))
+
+pub output_plain : (output : ℕ × List ℕ) → IsPlain 3 (output_data output)
+unfolding output_data
+output_plain (end, bytes) =
+    list_plain 2 (string (codes "read") ∷ number_data end ∷ bytes_data bytes ∷ []) (text_plain 2 _, (number_plain 2 end, (bytes_plain bytes, tt)))

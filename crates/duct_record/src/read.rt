@@ -46,7 +46,7 @@ pub(crate) fn entry(alloc: Global, line: &Value) -> Result<Entry, Refusal>
 
 // The entry of the request with this name.
 #[tactic(auto, unfolding(crate::specs::Meant::named_meant))]
-fn named(alloc: Global, name: &str, items: &[Value]) -> Result<Entry, Refusal>
+pub(crate) fn named(alloc: Global, name: &str, items: &[Value]) -> Result<Entry, Refusal>
     ensures { ParsesAs entry_view result (named_meant name.now (map view items.now)) }
 {
     match name {

@@ -112,7 +112,7 @@ fn spawn(
 
 // Bytes, as text or as numbers.
 #[tactic(auto, unfolding(crate::specs::EntryData::bytes_data))]
-fn input(alloc: Global, bytes: &[u8]) -> Result<Value, AllocError>
+pub(crate) fn input(alloc: Global, bytes: &[u8]) -> Result<Value, AllocError>
     ensures value { IfOk result (λ value. view value ≡ bytes_data bytes.now) }
     ensures bytes { AreBytes bytes.now }
 {
@@ -346,7 +346,7 @@ fn kind_name(kind: Kind) -> &'static str
 // ---- items
 
 // A text.
-fn text(alloc: Global, text: &str) -> Result<Value, AllocError>
+pub(crate) fn text(alloc: Global, text: &str) -> Result<Value, AllocError>
     ensures { IfOk result (λ value. view value ≡ string text.now) }
 {
     Value::try_from_str(alloc, text)

@@ -7,4 +7,4 @@ use Rattle.duct_record.proofs.journal.ended_line.Goals as goal
 pub returns-clause-shown : goal.returns-clause-shown
 returns-clause-shown c shown =
     let line = c.in_ok-line in
-    line_reads c.args.variables (entry_view c.args.entry.now) (string_bytes line.line) line.ensures.text (line.ensures.shown shown)
+    line_reads c.args.variables (entry_view c.args.entry.now) (string_bytes line.line) line.ensures.text line.ensures.json (line.ensures.shown shown)

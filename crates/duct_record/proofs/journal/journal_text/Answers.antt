@@ -1,8 +1,10 @@
 -- The text of all means all.
-use Rattle.std.proofs.Common.{string_bytes}
-use Rattle.duct_record.proofs.JournalLines.{all_written}
+use Rattle.std.proofs.Common.{map, string_bytes}
+use Rattle.duct_system.specs.EntryView.{entry_view}
+use Rattle.duct_record.proofs.JournalLines.{journal_back}
 use Rattle.duct_record.proofs.journal.journal_text.Goals as goal
 
 pub returns-clause-shown : goal.returns-clause-shown
 returns-clause-shown c shown =
-    all_written c.args.variables c.args.entries.now c.loop-entry.rest.now (string_bytes c.loop-entry.text) c.in_default.ensures.cases c.loop-entry.invariant.text (c.loop-entry.invariant.shown shown)
+    let pushed = c.in_ok-push_entries.ensures in
+    journal_back c.args.variables (map entry_view c.args.entries.now) (string_bytes c.push_entries.new.text) (pushed.shown shown) cc
