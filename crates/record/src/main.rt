@@ -1,6 +1,6 @@
-//! The program `record`: does what `host` does for its arguments, and writes the journal of the
-//! start to a file. `record [--hide] JOURNAL -- WORD..` makes the file before anything starts, and
-//! writes it when everything has ended.
+//! The program `record`: does what `host` does for its arguments, and writes the recording of the
+//! start to a file: the journal, how children ended, and what was read. `record [--hide] JOURNAL --
+//! WORD..` makes the file before anything starts, and writes it when everything has ended.
 #![tactic(auto)]
 
 mod journal;
@@ -10,6 +10,7 @@ use duct::System;
 use duct_host::Host;
 use duct_main::{Program, arguments};
 use duct_record::Variables;
+use duct_replay::Recorder;
 use std::fs::{OpenFile, OpenOptions, Permissions};
 use std::io;
 use std::io::Write;
@@ -59,7 +60,7 @@ fn journal_file<R: Files>(rt: &R, path: &str) -> io::Result<R::File> {
 /// Does what the arguments ask for. Returns the status.
 fn recorded<R: Files + Wait + AllocGlobal, S: System, O: Write, E: Write>(
     rt: &R,
-    sys: &mut S,
+    sys: &mut Recorder<S>,
     arguments: &[String],
     out: &mut O,
     err: &mut E,
@@ -79,8 +80,8 @@ fn main(rt: HostRuntime) -> ExitCode {
     let status = match arguments(&rt) {
         Ok(words) => {
             // Before the file, which would else take the place of a closed standard stream.
-            let mut host = Host::new(&rt, rt.alloc());
-            recorded(&rt, &mut host, words.as_slice(), &mut out, &mut err)
+            let mut recorder = Recorder::new(rt.alloc(), Host::new(&rt, rt.alloc()));
+            recorded(&rt, &mut recorder, words.as_slice(), &mut out, &mut err)
         }
         Err(error) => PROGRAM.tell_error(&mut err, &error, 2, "record: argument is not UTF-8\n"),
     };
