@@ -1,5 +1,5 @@
-"""Runs the program whose name the calling script has: bin/host, bin/plan, bin/judge and bin/record
-are alike.
+"""Runs the program whose name the calling script has: bin/host, bin/plan, bin/judge, bin/record and
+bin/replay are alike.
 
 usage: bin/NAME WORD..
        bin/NAME --prove [WORD..]
