@@ -11,12 +11,12 @@ use duct_deadline::Until;
 use duct_plan::is_balanced;
 use duct_shell::Shell;
 use rows_runs::{
-    Machine, Performed, TURNS, by_shell, limits, push_done, push_line, push_polled, push_read,
-    push_run, read, run, run_traced,
+    Machine, Performed, TURNS, by_shell, keep_running, limits, push_done, push_line, push_polled,
+    push_read, push_run, read, run, run_tasks, run_traced,
 };
 use rows_table::{
-    Table, TableError, Tree, children_started, first_word, push_journal, push_pool, push_spec,
-    push_trace, written_with,
+    Table, TableError, Tree, Writing, children_started, first_word, push_journal, push_pool,
+    push_spec, push_trace, written_with,
 };
 use std::alloc::{AllocError, Global};
 use std::mem;
@@ -39,9 +39,13 @@ pub struct Calls<'t, 'r, R, M> {
     expression: &'t str,
     arguments: &'t str,
     answers: String,
+    /// What was told of the starts and ends of tasks.
+    told: String,
     performed: Option<Performed>,
     /// Whether the call of the line gives no child that it started to the pool.
     is_kept: bool,
+    /// How many of the children that it started it keeps, if it gives others to the pool.
+    kept: u64,
     /// Whether the pool was given another number of children than it had to be.
     is_lost: bool,
     /// Whether a shell keeps the journal.
@@ -58,8 +62,10 @@ impl<'t, 'r, R: Wait + Threads, M: Machine> Calls<'t, 'r, R, M> {
             expression: "",
             arguments: "",
             answers: String::new(alloc),
+            told: String::new(alloc),
             performed: None,
             is_kept: false,
+            kept: 0,
             is_lost: false,
             keeps_journal: false,
         }
@@ -79,7 +85,8 @@ impl<'t, 'r, R: Wait + Threads, M: Machine> Calls<'t, 'r, R, M> {
     /// started, or was given one although the call keeps them.
     fn call(&mut self, key: &str, text: &str) -> Result<(), TableError> {
         self.answers.clear();
-        self.is_kept = false;
+        self.told.clear();
+        (self.is_kept, self.kept) = (false, 0);
         let shell_call = key.strip_prefix("shell_");
         if shell_call.is_some() && !self.keeps_journal {
             self.machine.stage().0.clear_journal(); // as the shell does it
@@ -91,12 +98,14 @@ impl<'t, 'r, R: Wait + Threads, M: Machine> Calls<'t, 'r, R, M> {
             ("run" | "run_until", None) => self.run(text),
             ("read" | "read_until", None) => self.read(text),
             ("run_traced", None) => self.run_traced(text),
+            ("tasks" | "keep", None) => self.tasks(key, text),
             ("perform", None) => self.perform(text),
             (_, None) => self.start(key, text),
         };
         let after = self.counts();
         let started = after.0.saturating_sub(before.0);
-        let owed = if self.is_kept { 0 } else { started };
+        let kept = if self.is_kept { started } else { self.kept };
+        let owed = started.saturating_sub(kept);
         self.is_lost = self.is_lost || after.1.saturating_sub(before.1) != owed;
         made
     }
@@ -128,6 +137,25 @@ impl<'t, 'r, R: Wait + Threads, M: Machine> Calls<'t, 'r, R, M> {
         *system = own;
         self.is_kept = is_kept;
         Ok(pushed?)
+    }
+
+    /// Runs the expressions of the row as tasks, or starts the only one again each time that it
+    /// ends.
+    fn tasks(&mut self, key: &str, text: &str) -> Result<(), TableError> {
+        let mut writing = Writing::new(self.alloc, &mut self.machine);
+        writing.write(self.expression)?;
+        let trees = mem::replace(&mut writing.built, Vec::new(self.alloc));
+        let (system, pool, clock) = self.machine.stage();
+        let (rt, alloc, answers) = (self.rt, self.alloc, &mut self.answers);
+        let (kept, told) = match (key, trees.as_slice()) {
+            ("keep", [tree]) => {
+                keep_running(rt, alloc, clock, tree, text, system, pool, answers)?
+            }
+            (_, trees) => run_tasks(rt, alloc, trees, text, system, pool, answers)?,
+        };
+        self.kept = kept;
+        self.told = told?;
+        Ok(())
     }
 
     /// Starts the expression of the row, and makes these calls on what was started. The last one
@@ -313,6 +341,7 @@ impl<'t, 'r, R: Wait + Threads, M: Machine> Calls<'t, 'r, R, M> {
         match key {
             "answers" if self.answers.is_empty() => out.push_str("started.")?,
             "answers" => out.push_str(self.answers.as_str())?,
+            "told" => out.push_str(self.told.as_str())?,
             "line" => push_line(out, self.alloc, self.arguments)?,
             "status" | "out" | "err" | "writes" => {
                 self.performed.as_ref().ok_or(UNPERFORMED)?.push(out, key)?;
@@ -352,7 +381,7 @@ impl<'t, R: Wait + Threads, M: Machine> Table<'t> for Calls<'t, '_, R, M> {
             "clear" => self.machine.stage().0.clear_journal(),
             "launch" | "launch_reader" | "handle" | "reader" => self.call(key, text)?,
             "run" | "run_until" | "read" | "read_until" | "perform" => self.call(key, text)?,
-            "run_traced" => self.call(key, text)?,
+            "run_traced" | "tasks" | "keep" => self.call(key, text)?,
             "keep_journal" => self.keeps_journal = true,
             _ if key.starts_with("shell_") => self.call(key, text)?,
             _ => return self.found(key, text, out),

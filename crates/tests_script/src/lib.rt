@@ -3,11 +3,7 @@
 #![tactic(auto)]
 
 #[cfg(test)]
-mod keeper;
-#[cfg(test)]
 mod readers;
-#[cfg(test)]
-mod tasks;
 #[cfg(test)]
 mod threads;
 #[cfg(test)]
