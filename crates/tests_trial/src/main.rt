@@ -4,17 +4,14 @@
 //! first. `bin/test-program` runs it at the machine's limits, and `bin/soak` with random lines.
 //!
 //! A line has the arguments of the program `host`, separated by blanks, and its expression is run
-//! by `read`. The line `= 4` runs tree 4 of `trees`. After `+ ` a line has an expression as
-//! `rows_table::written_with` reads it, where `stdin_file=4` is the file named `4`.
+//! by `read`. After `+ ` a line has an expression in the notation of rows (`docs/ROWS.md`), which is
+//! run by `run`. In it `stdin_file=4` is the file named `4`, open for reading.
 #![tactic(auto)]
 
-mod trees;
-
-use crate::trees::{TREES_WITH_ENDS, Wires, tree};
-use duct::{Error, Expression, Fault, Hook, Pool, System};
+use duct::{Expression, Fault, Hook, Pool, System};
 use duct_host::{Child, End, Host};
 use duct_program::line;
-use rows_table::{Left, Lender, Real, TableError, Tree, count_left, written_with};
+use rows_table::{Left, Lender, Real, TableError, count_left, written_with};
 use std::alloc::{AllocError, Global};
 use std::fs::File;
 use std::io::Read;
@@ -81,103 +78,48 @@ fn run_text<S: System, H: Hook>(
     }
 }
 
-/// Opens `/dev/null` twice, and returns both ends.
-fn two_ends<R: Real>(rt: &R, host: &mut Host<R>) -> Result<Vec<End>, Error> {
-    let mut ends = Vec::new(rt.alloc());
-    for _ in 0..2 {
-        let file = File::open(rt, "/dev/null").map_err(Fault::from)?;
-        ends.push(host.adopt_file(file)?)?;
-    }
-    Ok(ends)
-}
-
-/// The tree of a number, with its ends.
-fn tree_of<R: Real>(
-    rt: &R,
-    host: &mut Host<R>,
-    number: u32,
-) -> Result<Expression<End, Wires>, Error> {
-    let ends = if TREES_WITH_ENDS.contains(&number) {
-        two_ends(rt, host)?
-    } else {
-        Vec::new(rt.alloc())
-    };
-    tree(rt.alloc(), number, ends)
-}
-
-/// Lends one end, once, under the number 4.
+/// A host with its runtime and its pool. The end with a number is the file of that name, open for
+/// reading.
 #[derive(Drop)]
-struct EndFour {
-    end: Option<End>,
+struct Machine<R: Real>
+where
+    Host<R>: System,
+{
+    rt: R,
+    host: Host<R>,
+    pool: Pool<Child<R>>,
 }
 
-impl Lender for EndFour {
+impl<R: Real> Lender for Machine<R> {
     type End = End;
 
     fn lend(&mut self, number: u64) -> Result<End, TableError> {
-        match (number, self.end.take()) {
-            (4, Some(end)) => Ok(end),
-            _ => Err(TableError::from("no such end")),
+        let name = format!(in self.rt.alloc(); "{number}")?;
+        let file = File::open(&self.rt, name.as_str()).map_err(Fault::from)?;
+        Ok(self.host.adopt_file(file)?)
+    }
+}
+
+impl<R: Real + Wait> Machine<R> {
+    /// Runs the expression of a text. Returns its output or its error as text.
+    fn tree_text(&mut self, text: &str) -> Result<String, AllocError> {
+        let alloc = self.rt.alloc();
+        match written_with(alloc, self, text) {
+            Ok(tree) => run_text(&self.rt, alloc, &mut self.host, &mut self.pool, &tree),
+            Err(stop) => format!(in alloc; "{stop}"),
         }
     }
-}
 
-/// The file named `4` as an end, open for reading, if it is there.
-fn file_four<R: Real>(rt: &R, host: &mut Host<R>) -> Result<Option<End>, Fault> {
-    match File::open(rt, "4") {
-        Ok(file) => Ok(Some(host.adopt_file(file)?)),
-        Err(_) => Ok(None),
+    /// Does what a line says. Returns the result or the error as text.
+    fn told(&mut self, line: &str) -> Result<String, AllocError> {
+        match line.strip_prefix("+ ") {
+            Some(text) => self.tree_text(text),
+            None => {
+                let alloc = self.rt.alloc();
+                line_text(&self.rt, alloc, &mut self.host, &mut self.pool, line)
+            }
+        }
     }
-}
-
-/// The expression of a text.
-fn written<R: Real>(rt: &R, host: &mut Host<R>, text: &str) -> Result<Tree<End>, TableError> {
-    let mut lender = EndFour {
-        end: file_four(rt, host)?,
-    };
-    written_with(rt.alloc(), &mut lender, text)
-}
-
-/// Runs the tree of a number. Returns its output or its error as text.
-fn number_text<R: Real + Wait>(
-    rt: &R,
-    host: &mut Host<R>,
-    pool: &mut Pool<Child<R>>,
-    number: u32,
-) -> Result<String, AllocError> {
-    match tree_of(rt, host, number) {
-        Ok(tree) => run_text(rt, rt.alloc(), host, pool, &tree),
-        Err(error) => format!(in rt.alloc(); "{error}"),
-    }
-}
-
-/// Runs the expression of a text. Returns its output or its error as text.
-fn steps_text<R: Real + Wait>(
-    rt: &R,
-    host: &mut Host<R>,
-    pool: &mut Pool<Child<R>>,
-    steps: &str,
-) -> Result<String, AllocError> {
-    match written(rt, host, steps) {
-        Ok(tree) => run_text(rt, rt.alloc(), host, pool, &tree),
-        Err(stop) => format!(in rt.alloc(); "{stop}"),
-    }
-}
-
-/// Does what a line says. Returns the result or the error as text.
-fn told<R: Real + Wait>(
-    rt: &R,
-    host: &mut Host<R>,
-    pool: &mut Pool<Child<R>>,
-    line: &str,
-) -> Result<String, AllocError> {
-    if let Some(number) = line.strip_prefix("= ") {
-        return number_text(rt, host, pool, number.parse().unwrap_or(0));
-    }
-    if let Some(steps) = line.strip_prefix("+ ") {
-        return steps_text(rt, host, pool, steps);
-    }
-    line_text(rt, rt.alloc(), host, pool, line)
 }
 
 /// Waits until what is left is what there was before, for at most `LOOKS` checks. Returns how much
@@ -202,12 +144,15 @@ fn main(rt: HostRuntime) -> io::Result<()> {
     let mut input = String::new(rt.alloc());
     rt.stdin().read_to_string(&mut input)?;
     let before = count_left(&rt)?;
-    let mut host = Host::new(&rt, rt.alloc());
-    let mut pool = Pool::new(rt.alloc());
+    let mut machine = Machine {
+        rt: rt.clone()?,
+        host: Host::new(rt.clone()?, rt.alloc()),
+        pool: Pool::new(rt.alloc()),
+    };
     for line in input.lines() {
-        println!(rt; "{}", told(&&rt, &mut host, &mut pool, line)?)?;
-        host.clear_journal();
+        println!(rt; "{}", machine.told(line)?)?;
+        machine.host.clear_journal();
     }
-    let left = rest(&&rt, &mut pool, before)?;
+    let left = rest(&rt, &mut machine.pool, before)?;
     println!(rt; "left {} {}", left.descriptors, left.children)
 }
