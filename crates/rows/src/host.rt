@@ -111,10 +111,11 @@ impl<R: Real> HostMachine<R> {
                 drop(taken(&mut self.requests.adopted, text.parse()?)?);
                 return Ok(true);
             }
-            "returns" => {
+            "returns" | "shown" => {
                 self.script.as_ref().ok_or(UNSCRIPTED)?.begin();
                 return Ok(true);
             }
+            "entries" if self.script.is_some() => return Ok(true),
             _ => return arrange(rt, key, text),
         };
         self.requests.adopt(adopted)?;

@@ -1,5 +1,5 @@
 //! A runtime that wraps another one. Its results for processes and the entries of its environment
-//! come from texts (`docs/ROWS.md`). It passes the rest to the other runtime.
+//! come from the text of a file of rows (`docs/ROWS.md`). It passes the rest to the other runtime.
 ghost use Rattle.std.specs.Io.{WritesAtMost};
 
 use crate::words::{ERROR_KINDS, first_word, named};
@@ -53,12 +53,17 @@ impl Script {
         self.answers.given.store(0, Ordering::SeqCst);
     }
 
-    /// The results of the current row.
-    fn row(&self) -> &str {
+    /// The text of the current row after this key, where each row has a line that begins with it.
+    fn line(&self, key: &str) -> &str {
         let begun = self.answers.begun.load(Ordering::SeqCst);
         let lines = self.answers.rows.as_str().lines();
-        let mut rows = lines.filter_map(|line| line.strip_prefix("returns: "));
-        rows.nth(begun.saturating_sub(1)).unwrap_or("")
+        let mut texts = lines.filter_map(|line| line.strip_prefix(key));
+        texts.nth(begun.saturating_sub(1)).unwrap_or("").trim()
+    }
+
+    /// The results of the current row.
+    fn row(&self) -> &str {
+        self.line("returns:")
     }
 
     /// Returns how many calls asked for a result in the current row.
@@ -113,27 +118,20 @@ impl OpenProcess for Script {
     }
 }
 
-/// A runtime with these results, and with the entries of an environment, each followed by a NUL:
-/// those in `entries` where it is read one by one, and those in `shown` where it is read at once.
-/// It doesn't start a shell that would get the parent's variables, or one whose streams aren't all
-/// null.
+/// A runtime with these results, and with the entries of an environment: those of the current row's
+/// line `entries` where it is read one by one, and those of its line `shown` where it is read at
+/// once. It doesn't start a shell that would get the parent's variables, or one whose streams aren't
+/// all null.
 #[derive(Clone, Drop)]
 pub struct Odd<R> {
     real: R,
     script: Script,
-    pub shown: &'static str,
-    pub entries: &'static str,
 }
 
 impl<R> Odd<R> {
-    /// Returns a runtime whose environment has no entry.
+    /// Returns a runtime over this one.
     pub fn new(real: R, script: Script) -> Odd<R> {
-        Odd {
-            real,
-            script,
-            shown: "",
-            entries: "",
-        }
+        Odd { real, script }
     }
 
     /// Takes a result if the path is `/dev/zero`.
@@ -204,7 +202,12 @@ impl<R: Parents> Parents for Odd<R> {
     }
 
     fn environment(&self, alloc: Global) -> io::Result<Vec<u8>> {
-        Ok(Vec::from_slice(alloc, self.shown.as_bytes())?)
+        let mut entries = Vec::new(alloc);
+        for entry in self.script.line("shown:").split_whitespace() {
+            entries.extend_from_slice(entry.as_bytes())?;
+            entries.push(0)?;
+        }
+        Ok(entries)
     }
 }
 
@@ -240,9 +243,9 @@ impl<R: Env> Env for Odd<R> {
     }
 
     fn var_at(&self, i: usize, buf: &mut [u8]) -> Result<usize, FillError> {
-        match self.entries.split('\0').nth(i) {
-            Some(entry) if !entry.is_empty() => fill(buf, entry.as_bytes()),
-            _ => Err(FillError::NotPresent),
+        match self.script.line("entries:").split_whitespace().nth(i) {
+            Some(entry) => fill(buf, entry.as_bytes()),
+            None => Err(FillError::NotPresent),
         }
     }
 }

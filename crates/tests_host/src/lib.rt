@@ -1,9 +1,6 @@
-//! Tests over the real machine that no row of data can express: threads, allocation failures, and a
-//! runtime that shows other variables than it has.
+//! Tests over the real machine that no row of data can express: threads and allocation failures.
 #![tactic(auto)]
 
-#[cfg(test)]
-mod entries;
 #[cfg(test)]
 mod memory;
 #[cfg(test)]
