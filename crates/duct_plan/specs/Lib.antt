@@ -4,7 +4,7 @@ pub mod Commands
 pub mod DotForm
 pub mod EntryViews
 pub mod Found
-pub mod PathView
+pub mod Inside
 pub mod PlanForm
 pub mod PlanView
 pub mod Previewed

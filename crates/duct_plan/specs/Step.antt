@@ -3,6 +3,7 @@ use Rattle.std.specs.Prelude.{ℕ, List, [], ◌∷◌, ◌≡◌, Some, None}
 use Rattle.std.specs.Borrow.{Bor}
 use Rattle.std.specs.Option.{option_copied}
 use Rattle.std.specs.declared.option.Option.{Option}
+use Rattle.duct_system.specs.declared.spec.Stream.{Stream}
 use Rattle.duct_system.specs.declared.spec.Stream.TheVariants.{In, Out, Err}
 use Rattle.duct_start.specs.Surroundings as outwards
 use Rattle.duct_start.specs.Step as node
@@ -56,3 +57,20 @@ pub record IsStep {E H : Type 0} (step : node.NodeStep E H) (answer : NodeStep E
   pub folder_is : option_copied answer.folder ≡ step.folder
   pub changes_are : changes_of answer.change ≡ step.changes
   pub hooks_are : hooks_of answer.hook ≡ step.hooks
+
+-- where a stream goes inside a node that does this, by the node's place
+abbrev pub turn_in : {E H : Type 0} → NodeStep E H → ℕ → Stream → node.Turn E
+turn_in step place In = turn_of step.input place
+turn_in step place Out = turn_of step.output place
+turn_in step place Err = turn_of step.error place
+
+-- what a node does
+abbrev pub step_view : {E H : Type 0} → NodeStep E H → node.NodeStep E H
+step_view step = record {
+  opening = node.opening_of (opening_view step.opening);
+  closing = λ place. node.closing_of (opening_view step.opening) place;
+  turn = λ place stream. turn_in step place stream;
+  folder = option_copied step.folder;
+  changes = changes_of step.change;
+  hooks = hooks_of step.hook;
+}

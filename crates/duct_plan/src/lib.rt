@@ -1,15 +1,13 @@
-//! The requests of a start of an expression, computed by plain, slow programs from the tree alone:
-//! the plan, what a command finds on its path to the root, and the spec and the streams that the
-//! tree gives it.
+//! The requests of a start of an expression, computed from the tree alone: the plan, what a command
+//! finds on its path to the root, and the spec and the streams that the tree gives it.
 #![tactic(auto)]
 
 mod checker;
 mod command;
 mod dot;
 mod found;
+mod inside;
 mod items;
-mod lookup;
-mod path;
 mod program;
 mod requests;
 mod returned;

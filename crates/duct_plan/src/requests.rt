@@ -1,20 +1,19 @@
 //! The requests of a start, computed from the tree alone.
-ghost use Rattle.std.specs.Prelude.{◌≡◌, IfOk, map, string_bytes};
+ghost use Rattle.std.specs.Prelude.{◌≡◌, ◌+◌, ◌<◌, IfOk, OnOk, map, string_bytes};
 ghost use Rattle.duct_system.specs.declared.system.Side.TheVariants as side;
-ghost use Rattle.duct_start.specs.Plan.{with_item, with_capture, with_opening, place_for, with_closing, program_of, is_canonical, with_command, plan_of_subtree, initial_plan, with_drain, with_reader, plan_of, plan_of_reader};
+ghost use Rattle.duct_start.specs.Plan.{with_item, with_capture, with_opening, place_for, with_closing, program_of, is_canonical, with_command, initial_plan, with_drain, with_reader, plan_of, plan_of_reader};
 ghost use Rattle.duct_start.specs.Step.{opening_of, closing_of};
 ghost use Rattle.duct_tree.specs.EffectView.{opening_view};
 ghost use Rattle.duct_tree.specs.NodeView.{node_view};
 ghost use Rattle.duct.specs.TreeView.{tree_view};
 ghost use Rattle.duct_plan.specs.Found.{found_of};
 ghost use Rattle.duct_plan.specs.PlanView.{item_of, plan_view};
-ghost use Rattle.duct_plan.specs.PathView.{path_of};
+ghost use Rattle.duct_plan.specs.Inside.{after_tasks, plan_inside, tasks_left, tasks_of_tree};
 
 use crate::found::Surroundings;
+use crate::inside::{at_root, inside};
 use crate::items::{Item, Plan};
-use crate::lookup::surroundings_on;
-use crate::path::{PathSegment, below};
-use crate::step::modifier_step;
+use crate::step::{capture_step, left_step, modifier_step, right_step};
 use duct::tree::Node;
 use duct::{Expression, Side, asks_canonical};
 use duct_tree::effect::Opening;
@@ -28,7 +27,8 @@ pub fn plan<'t, E: Drop, H: Drop>(
 ) -> Result<Plan<'t, E, H>, AllocError>
     ensures { IfOk result (λ plan. plan_view plan ≡ plan_of (tree_view expression.now)) }
 {
-    let plan = plan_of_subtree(alloc, &[], expression.root(), initial_plan(alloc)?)?;
+    let first = initial_plan(alloc)?;
+    let plan = plan_of_subtree(alloc, at_root(alloc), expression.root(), first)?;
     let (out, err) = (plan.out, plan.err);
     with_drain(err, with_drain(out, plan)?)
 }
@@ -44,12 +44,8 @@ pub fn plan_of_reader<'t, E: Drop, H: Drop>(
     let first = initial_plan(alloc)?;
     let place = first.items.len();
     let plan = with_output_capture(first)?;
-    let plan = plan_of_subtree(
-        alloc,
-        &[PathSegment::Captured(place)],
-        expression.root(),
-        plan,
-    )?;
+    let found = inside(alloc, capture_step(), place, &at_root(alloc))?;
+    let plan = plan_of_subtree(alloc, found, expression.root(), plan)?;
     let (out, err) = (plan.out, plan.err);
     with_reader(out, with_drain(err, plan)?)
 }
@@ -157,40 +153,76 @@ pub(crate) fn is_canonical<E, H>(found: &Surroundings<'_, E, H>, words: &[String
     asks_canonical(program_of(words), found.folder.is_some())
 }
 
-/// Adds the requests of a tree to the plan. `path` leads from the tree to the root. A node's
-/// first request comes before those of its inner expression, and the left side of a pipe before the
-/// right.
+/// What is left to do for the plan of a tree.
+#[derive(Drop)]
+enum Task<'t, E, H> {
+    /// Adds the requests of a tree. Its commands find this, and what the tree's own nodes set.
+    Visit(Surroundings<'t, E, H>, &'t Node<E, H>),
+    /// Adds the request that a node at this place which opens this makes after its inner
+    /// expression's.
+    Close(Opening<'t>, usize),
+}
+
+/// Adds the requests of a tree to the plan. Its commands find this, and what the tree's own nodes
+/// set. A node's first request comes before those of its inner expression, and the left side of a
+/// pipe before the right.
+#[tactic(auto, using(crate::proofs::Planned::after_last, crate::proofs::Planned::left_with))]
 fn plan_of_subtree<'t, E: Drop, H: Drop>(
     alloc: Global,
-    path: &[PathSegment<'t, E, H>],
+    found: Surroundings<'t, E, H>,
     node: &'t Node<E, H>,
     plan: Plan<'t, E, H>,
 ) -> Result<Plan<'t, E, H>, AllocError>
     ensures { IfOk result
         (λ after. plan_view after
-        ≡ plan_of_subtree (path_of path.now) (node_view node.now) (plan_view plan.entry)) }
+        ≡ plan_inside (found_of found.entry) (node_view node.now) (plan_view plan.entry)) }
+{
+    let mut tasks = Vec::new(alloc);
+    tasks.push(Task::Visit(found, node))?;
+    let mut plan = plan;
+    while let Some(task) = tasks.pop() {
+        plan = match task {
+            Task::Visit(found, node) => with_visited(&mut tasks, alloc, found, node, plan)?,
+            Task::Close(opening, place) => with_closing(opening, place, plan)?,
+        };
+    }
+    Ok(plan)
+}
+
+/// Adds the first request of a tree to the plan, and to the tasks what is left to do for the tree.
+#[tactic(auto, using(crate::proofs::Planned::after_last, crate::proofs::Planned::left_with))]
+fn with_visited<'t, E: Drop, H: Drop>(
+    tasks: &mut Vec<Task<'t, E, H>>,
+    alloc: Global,
+    found: Surroundings<'t, E, H>,
+    node: &'t Node<E, H>,
+    plan: Plan<'t, E, H>,
+) -> Result<Plan<'t, E, H>, AllocError>
+    ensures plan { IfOk result
+        (λ after. after_tasks tasks.new.items (plan_view after)
+        ≡ after_tasks tasks.old.items
+        (plan_inside (found_of found.entry) (node_view node.now) (plan_view plan.entry))) }
+    ensures fewer { OnOk result
+        (tasks_left tasks.new.items < tasks_left tasks.old.items + tasks_of_tree
+        (node_view node.now)) }
 {
     match node {
-        Node::Cmd(words) => with_command(surroundings_on(alloc, path)?, words.as_slice(), plan),
+        Node::Cmd(words) => with_command(found, words.as_slice(), plan),
         Node::Pipe(left, right) => {
             let place = plan.items.len();
-            let left_path = below(alloc, PathSegment::LeftOf(place), path)?;
-            let right_path = below(alloc, PathSegment::RightOf(place), path)?;
-            let plan = plan_of_subtree(
-                alloc,
-                left_path.as_slice(),
-                left,
-                with_item(Item::Pipe, plan)?,
-            )?;
-            plan_of_subtree(alloc, right_path.as_slice(), right, plan)
+            let right_found = inside(alloc, right_step(), place, &found)?;
+            tasks.push(Task::Visit(right_found, right))?;
+            let left_found = inside(alloc, left_step(), place, &found)?;
+            tasks.push(Task::Visit(left_found, left))?;
+            with_item(Item::Pipe, plan)
         }
         Node::Io(modifier, inner) => {
             let step = modifier_step(modifier);
             let place = place_for(step.opening, &plan);
-            let inner_path = below(alloc, PathSegment::Within(place, modifier), path)?;
-            let plan = with_opening(step.opening, plan)?;
-            let plan = plan_of_subtree(alloc, inner_path.as_slice(), inner, plan)?;
-            with_closing(step.opening, place, plan)
+            tasks.push(Task::Close(step.opening, place))?;
+            let inner_found = inside(alloc, step, place, &found)?;
+            tasks.push(Task::Visit(inner_found, inner))?;
+            with_opening(step.opening, plan)
         }
     }
 }

@@ -3,7 +3,8 @@
 ghost use Rattle.std.specs.Prelude.{ℕ, ◌≡◌, Some};
 ghost use Rattle.duct_system.specs.declared.spec.Stream.TheVariants.{In};
 ghost use Rattle.duct_start.specs.Step as node;
-ghost use Rattle.duct_start.specs.Step.{step, step_if_setting, step_of_row};
+ghost use Rattle.duct_start.specs.Step.{left_step, right_step, step, step_if_setting, step_of_row};
+ghost use Rattle.duct_start.specs.TreeView.{stdout_capture};
 ghost use Rattle.duct_tree.specs.EffectView.{effect_view, input_route_view, opening_view, output_route_view, says_view};
 ghost use Rattle.duct_tree.specs.NodeView.{modifier_view};
 ghost use Rattle.duct_plan.specs.Step.{idle, turn_of, IsStep};
@@ -64,15 +65,32 @@ fn idle<'t, E, H>() -> NodeStep<'t, E, H>
     }
 }
 
-/// Returns the step of a node that only sends stdin there.
-pub(crate) fn at_stdin<'t, E, H>(input: Turn<'t, E>) -> NodeStep<'t, E, H>
-    ensures { result ≡ record idle { input = input.entry } }
+/// Returns what a pipe does to its left side.
+pub(crate) fn left_step<'t, E, H>() -> NodeStep<'t, E, H>
+    ensures { IsStep left_step result }
 {
-    NodeStep { input, ..idle() }
+    at_stdout(Opening::Nothing, Turn::Writes)
+}
+
+/// Returns what a pipe does to its right side.
+pub(crate) fn right_step<'t, E, H>() -> NodeStep<'t, E, H>
+    ensures { IsStep right_step result }
+{
+    NodeStep {
+        input: Turn::Reads,
+        ..idle()
+    }
+}
+
+/// Returns what the capture of stdout does that a reader's start puts around the whole tree.
+pub(crate) fn capture_step<'t, E, H>() -> NodeStep<'t, E, H>
+    ensures { IsStep (step stdout_capture) result }
+{
+    at_stdout(Opening::Capture(Side::Out), Turn::Writes)
 }
 
 /// Returns the step of a node that opens this and sends stdout there.
-pub(crate) fn at_stdout<'t, E, H>(opening: Opening<'t>, output: Turn<'t, E>) -> NodeStep<'t, E, H>
+fn at_stdout<'t, E, H>(opening: Opening<'t>, output: Turn<'t, E>) -> NodeStep<'t, E, H>
     ensures { result ≡ record idle { opening = opening.entry; output = output.entry } }
 {
     NodeStep {
