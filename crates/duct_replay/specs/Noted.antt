@@ -1,6 +1,7 @@
 -- What a recorder notes of children and of ends.
 use Rattle.std.specs.Prelude.{ℕ, List, ◌≡◌, ◌++◌, Ok, Some, None, IfSome}
 use Rattle.std.specs.Io.KnownBytes.{Consumes}
+use Rattle.std.specs.List.{All}
 use Rattle.std.specs.declared.alloc.Global.{Global}
 use Rattle.std.specs.declared.option.Option.{Option}
 use Rattle.std.specs.declared.vec.Vec.{Vec}
@@ -8,6 +9,7 @@ use Rattle.duct_system.specs.Child.{Answer}
 use Rattle.duct_system.specs.declared.system.ExitStatus.{ExitStatus}
 use Rattle.duct_system.specs.declared.system.Said.{Said}
 use Rattle.duct_system.specs.declared.system.Said.TheVariants.{Done}
+use Rattle.duct_replay.specs.RecordingView.{RecordingView}
 use Rattle.duct_replay.specs.Same.{Shared, bytes_of}
 
 -- a poll of the child with this number may have returned this exit status
@@ -36,6 +38,15 @@ pub data MayGive {R : Type 0} (may_read : ℕ → R → Type 0) (remaining : R �
       → MayGive may_read remaining may_say number bytes
   ByWorker : (shared : Shared) → may_say number (Done shared) → bytes_of shared ≡ bytes
       → MayGive may_read remaining may_say number bytes
+
+-- behind its entries this recording has nothing but what may have been noted: exit statuses, and the
+-- bytes of ends
+pub record NotesOnly {R : Type 0} (may_answer : ℕ → Answer → Type 0) (may_read : ℕ → R → Type 0)
+    (remaining : R → Option (List ℕ)) (may_say : ℕ → Said Shared → Type 0)
+    (recording : RecordingView) : Type 0 where
+  pub endings : All (λ pair. ∥ MayEnd may_answer pair.0 pair.1 ∥₁) recording.endings
+  pub outputs : All (λ pair. ∥ MayGive may_read remaining may_say pair.0 (bytes_of pair.1) ∥₁)
+      recording.outputs
 
 -- what is kept, if anything is, is what was kept before, followed by these bytes
 abbrev pub KeepsMore : {N : Type 0} → Option (N × Vec ℕ Global) → List ℕ

@@ -10,6 +10,7 @@ mod reader;
 mod recorded;
 mod recorder;
 mod recording;
+mod records;
 mod replay;
 mod worker;
 
@@ -18,5 +19,6 @@ pub use reader::ReplayReader;
 pub use recorded::{RecordedChild, RecordedDrain, RecordedReader};
 pub use recorder::Recorder;
 pub use recording::Recording;
+pub use records::Records;
 pub use replay::{Replay, ReplayEnd};
 pub use worker::{ReplayDrain, ReplayFeed};

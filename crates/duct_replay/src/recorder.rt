@@ -1,12 +1,10 @@
 //! A system that is recorded.
 ghost use Rattle.std.specs.Prelude.{◌≡◌, IfOk};
-ghost use Rattle.std.specs.List.{All};
-ghost use Rattle.duct_replay.specs.Noted.{MayEnd, MayGive};
-ghost use Rattle.duct_replay.specs.Same.{bytes_of};
 
 use crate::notes::{Ending, Notes, Output, add_note, note_of, record_endings, record_outputs};
 use crate::recorded::{RecordedChild, RecordedDrain, RecordedReader};
 use crate::recording::Recording;
+use crate::records::Records;
 use duct_system::copy::copies_of_entries;
 use duct_system::spec::CommandSpec;
 use duct_system::system::{Entry, Fault, Numbered, Side, Stdio, System};
@@ -62,25 +60,6 @@ impl<S: System> Recorder<S> {
             outputs: _,
         } = self;
         inner
-    }
-
-    /// Returns the journal so far with the endings and the bytes that are noted so far. A child has
-    /// no ending there before a poll has returned its exit status, and an end has no bytes before
-    /// they were read to EOF. Fails only at an allocation failure, and changes nothing.
-    pub fn recording(&self) -> Result<Recording, AllocError>
-        ensures entries { IfOk result (λ recording.
-            recording.entries ≡ (S.journal_view self.now.inner).entries) }
-        ensures endings { IfOk result (λ recording.
-            All (λ pair. ∥ MayEnd S.Child.may_answer pair.0 pair.1 ∥₁) recording.endings) }
-        ensures outputs { IfOk result (λ recording.
-            All (λ pair. ∥ MayGive S.may_read S.Reader.remaining S.Drain.may_say pair.0
-            (bytes_of pair.1) ∥₁) recording.outputs) }
-    {
-        let entries = copies_of_entries(self.alloc, self.inner.journal())?;
-        let mut recording = Recording::new(self.alloc, entries);
-        record_endings(&self.endings, &mut recording)?;
-        record_outputs(&self.outputs, &mut recording)?;
-        Ok(recording)
     }
 
     // Makes a note for what will be read of an end, if there is memory for it.
@@ -205,5 +184,22 @@ impl<S: System> System for Recorder<S> {
         self.inner.clear_journal();
         self.endings.clear();
         self.outputs.clear();
+    }
+}
+
+/// Each exit status in a recording was returned by a poll of this child, and the bytes of an end by
+/// a poll of its worker, or they were all that its reader had.
+impl<S: System> Records for Recorder<S> {
+    ghost use Rattle.duct_replay.specs.Noted.{NotesOnly};
+
+    ghost may_record = { λ _ recording. NotesOnly S.Child.may_answer S.may_read S.Reader.remaining
+        S.Drain.may_say recording };
+
+    fn recording(&self) -> Result<Recording, AllocError> {
+        let entries = copies_of_entries(self.alloc, self.inner.journal())?;
+        let mut recording = Recording::new(self.alloc, entries);
+        record_endings(&self.endings, &mut recording)?;
+        record_outputs(&self.outputs, &mut recording)?;
+        Ok(recording)
     }
 }

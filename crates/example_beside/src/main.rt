@@ -65,7 +65,7 @@ where
     let lent = host.adopt_file(file.map_err(Fault::from)?)?;
     let makes_room = makes_room(alloc, host, lent)?;
     write!(text, "a lent end that is closed makes room: {makes_room}\n")?;
-    text.push_str(replays(rt, alloc, &mut Host::new(rt.clone()?, alloc))?.as_str())?;
+    text.push_str(replays(rt, alloc, Host::new(rt.clone()?, alloc))?.as_str())?;
     let failed = failed_step(rt, alloc, Host::new(rt.clone()?, alloc))?;
     write!(text, "{failed}\n")?;
     Ok(text)

@@ -1,17 +1,14 @@
 //! A pipeline that fails, what its start will request, a recording of how it went, and replays of
 //! that with no process.
-ghost use Rattle.std.specs.Prelude.{◌≡◌, map, IfOk};
-ghost use Rattle.duct_system.specs.EntryView.{entry_view};
 
-use duct::{Entry, Error, ExitStatus, Expression, Output, Pool, System, cmd};
+use duct::{Error, Expression, Output, Pool, System, cmd};
 use duct_host::End;
 use duct_plan::{PlanText, plan};
-use duct_record::{Variables, journal_text, read_journal};
-use duct_replay::{Recording, Replay};
+use duct_record::{Variables, read_recording, recording_text};
+use duct_replay::{Recorder, Recording, Records, Replay};
 use duct_report::EntryText;
-use duct_system::copy::copies_of_entries;
 use std::alloc::{AllocError, Global};
-use std::sync::{Arc, Wait};
+use std::sync::Wait;
 
 /// A script that copies its input, and fails.
 const FAILS: &str = "cat; exit 3";
@@ -29,44 +26,25 @@ fn previewed(alloc: Global, command: &Expression<End>) -> Result<String, AllocEr
     PlanText(&plan).to_string(alloc)
 }
 
-// Runs a command. Returns its output, and the system's journal, written as text and read back.
-fn recorded<S: System>(
+// Runs a command over a recorder. Returns its output, and the text of the recording.
+fn recorded<S: System + Drop>(
     rt: &impl Wait,
     alloc: Global,
-    system: &mut S,
+    system: S,
     command: &Expression<S::End>,
-) -> Result<(Output, Vec<Entry>), Error> {
-    let output = command.run(rt, system, &mut Pool::new(alloc))?;
-    let journal = journal_text(alloc, system.journal(), Variables::Shown)?;
-    match read_journal(alloc, journal.as_str()) {
-        Ok(entries) => Ok((output, entries)),
-        Err(_refusal) => Err(Error::Memory), // what was written with all values is read back
-    }
+) -> Result<(Output, String), Error> {
+    let mut recorder = Recorder::new(alloc, system);
+    let output = command.run(rt, &mut recorder, &mut Pool::new(alloc))?;
+    let text = recording_text(alloc, &recorder.recording()?, Variables::Shown)?;
+    Ok((output, text))
 }
 
-// Returns the recording of a journal in which each worker read this output's bytes, the last child
-// ended with its status, and the others with code 0.
-fn recording_of(alloc: Global, entries: &[Entry], output: &Output) -> Result<Recording, AllocError>
-    ensures { IfOk result (λ recording. recording.entries ≡ map entry_view entries.now) }
-{
-    let mut recording = Recording::new(alloc, copies_of_entries(alloc, entries)?);
-    let mut last = None;
-    for entry in entries {
-        if let Entry::Drain(end, _) = entry {
-            let bytes = Vec::from_slice(alloc, output.stdout.as_slice())?;
-            recording.reads(*end, Arc::new(alloc, bytes)?)?;
-        }
-        if let Entry::Spawn(_, _, Ok(child)) = entry {
-            if let Some(earlier) = last {
-                recording.ends_with(earlier, ExitStatus::Code(0))?;
-            }
-            last = Some(*child);
-        }
+// Returns the recording that was written as this text.
+fn read_back(alloc: Global, text: &str) -> Result<Recording, Error> {
+    match read_recording(alloc, text) {
+        Ok(recording) => Ok(recording),
+        Err(_refusal) => Err(Error::Memory), // what was written with all values is read back
     }
-    if let Some(child) = last {
-        recording.ends_with(child, output.status)?;
-    }
-    Ok(recording)
 }
 
 // Returns the text of where a replay differs from its recording.
@@ -106,21 +84,26 @@ fn replayed_text(
 /// Runs a pipeline that fails, and then over its recording, with no process; then another pipeline
 /// over the same recording, and the first one over its journal alone. Returns what its start will
 /// request, what each comes to, and the first entry that differs.
-pub fn replays<S: System>(rt: &impl Wait, alloc: Global, system: &mut S) -> Result<String, Error> {
+pub fn replays<S: System + Drop>(
+    rt: &impl Wait,
+    alloc: Global,
+    system: S,
+) -> Result<String, Error> {
     let command = pipeline(alloc, FAILS)?;
     let mut text = previewed(alloc, &pipeline(alloc, FAILS)?)?;
-    let (output, entries) = recorded(rt, alloc, system, &command)?;
+    let (output, lines) = recorded(rt, alloc, system, &command)?;
     write!(
         text,
         "{FAILS} on the machine: {}\n",
         output_text(alloc, &output)?
     )?;
     for script in [FAILS, "tail -n 1"] {
-        let recording = recording_of(alloc, entries.as_slice(), &output)?;
+        let recording = read_back(alloc, lines.as_str())?;
         text.push_str(replayed_text(rt, alloc, recording, script)?.as_str())?;
     }
     text.push_str("with no ending recorded: ")?;
-    let journal = Recording::new(alloc, copies_of_entries(alloc, entries.as_slice())?);
+    let entries = read_back(alloc, lines.as_str())?.into_entries();
+    let journal = Recording::new(alloc, entries);
     text.push_str(replayed_text(rt, alloc, journal, FAILS)?.as_str())?;
     Ok(text)
 }

@@ -6,40 +6,39 @@ ghost use Rattle.duct_record.specs.JournalMeant.{recorded_text, recorded_view};
 ghost use Rattle.duct_replay.specs.RecordingView.{RecordingView};
 
 use crate::PROGRAM;
-use duct::{Hook, System};
+use duct::Hook;
 use duct_program::{NoHook, perform};
 use duct_record::{Variables, recording_text};
-use duct_replay::{RecordedReader, Recorder};
+use duct_replay::Records;
 use duct_run::views::Viewed;
 use std::alloc::Global;
 use std::io;
-use std::io::{Read, Write};
+use std::io::Write;
 use std::sync::Wait;
 
 /// Does the work of `host` by `perform`, and returns its status. Whatever that is, the text of the
 /// recording is then written to `journal`. If that can't be written, or memory runs out for it,
 /// that is said on `err`, and the status is 3; a part of it may be written. It blocks as `perform`
 /// and the writers do.
-pub fn record<S: System, J: Write, O: Write, E: Write>(
+pub fn record<S: Records, J: Write, O: Write, E: Write>(
     rt: &impl Wait,
     alloc: Global,
-    sys: &mut Recorder<S>,
+    sys: &mut S,
     args: &[String],
     variables: Variables,
     journal: &mut J,
     out: &mut O,
     err: &mut E,
 ) -> u8
-    ensures text { result ≡ 0 → WritesText ⟦<Recorder<S> as Viewed>⟧.views
-        ⟦<NoHook as Hook>⟧.allows ⟦<Recorder<S> as System>⟧.may_read
-        ⟦<RecordedReader<S> as Read>⟧.remaining O.contents (map string_bytes args.now) sys.old
-        sys.new out.old out.new err.old err.new }
-    ensures usage { result ≡ 2 → WritesUsage ⟦<Recorder<S> as Viewed>⟧.views
-        ⟦<NoHook as Hook>⟧.allows ⟦<Recorder<S> as System>⟧.may_read
-        ⟦<RecordedReader<S> as Read>⟧.remaining E.contents (map string_bytes args.now) sys.old
-        sys.new out.old out.new err.old err.new }
+    ensures text { result ≡ 0 → WritesText ⟦<S as Viewed>⟧.views ⟦<NoHook as Hook>⟧.allows
+        S.may_read S.Reader.remaining O.contents (map string_bytes args.now) sys.old sys.new
+        out.old out.new err.old err.new }
+    ensures usage { result ≡ 2 → WritesUsage ⟦<S as Viewed>⟧.views ⟦<NoHook as Hook>⟧.allows
+        S.may_read S.Reader.remaining E.contents (map string_bytes args.now) sys.old sys.new
+        out.old out.new err.old err.new }
     ensures journal { result ≤ 2 → (recording : RecordingView)
-        × (recording.entries ≡ (S.journal_view sys.new.inner).entries)
+        × (recording.entries ≡ (S.journal_view sys.new).entries)
+        × S.may_record sys.new recording
         × Appends (J.contents journal.old) (J.contents journal.new)
         (recorded_text variables (recorded_view recording)) }
     ensures one { result ≤ 2 → (out.new ≡ out.old) ⊎ (err.new ≡ err.old) }
@@ -53,14 +52,15 @@ pub fn record<S: System, J: Write, O: Write, E: Write>(
 }
 
 // Writes the text of a recording.
-fn write_recording<S: System, J: Write>(
+fn write_recording<S: Records, J: Write>(
     alloc: Global,
-    sys: &Recorder<S>,
+    sys: &S,
     variables: Variables,
     journal: &mut J,
 ) -> io::Result<()>
     ensures { IfOk result (λ _. (recording : RecordingView)
-        × (recording.entries ≡ (S.journal_view sys.now.inner).entries)
+        × (recording.entries ≡ (S.journal_view sys.now).entries)
+        × S.may_record sys.now recording
         × Appends (J.contents journal.old) (J.contents journal.new)
         (recorded_text variables (recorded_view recording))) }
 {

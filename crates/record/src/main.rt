@@ -6,11 +6,10 @@
 mod journal;
 
 use crate::journal::record;
-use duct::System;
 use duct_host::Host;
 use duct_main::{Program, arguments};
 use duct_record::Variables;
-use duct_replay::Recorder;
+use duct_replay::{Recorder, Records};
 use std::fs::{OpenFile, OpenOptions, Permissions};
 use std::io;
 use std::io::Write;
@@ -58,9 +57,9 @@ fn journal_file<R: Files>(rt: &R, path: &str) -> io::Result<R::File> {
 }
 
 /// Does what the arguments ask for. Returns the status.
-fn recorded<R: Files + Wait + AllocGlobal, S: System, O: Write, E: Write>(
+fn recorded<R: Files + Wait + AllocGlobal, S: Records, O: Write, E: Write>(
     rt: &R,
-    sys: &mut Recorder<S>,
+    sys: &mut S,
     arguments: &[String],
     out: &mut O,
     err: &mut E,
