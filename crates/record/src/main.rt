@@ -7,7 +7,7 @@ mod journal;
 
 use crate::journal::record;
 use duct_host::Host;
-use duct_main::{Program, arguments};
+use duct_main::{Program, arguments, path_and_words};
 use duct_record::Variables;
 use duct_replay::{Recorder, Records};
 use std::fs::{OpenFile, OpenOptions, Permissions};
@@ -36,12 +36,8 @@ fn asked(arguments: &[String]) -> Option<(Variables, &str, &[String])> {
         Some((first, others)) if first.as_str() == "--hide" => (Variables::Hidden, others),
         Some(_) | None => (Variables::Shown, arguments),
     };
-    match arguments {
-        [path, mark, words @ ..] if mark.as_str() == "--" => {
-            Some((variables, path.as_str(), words))
-        }
-        _ => None,
-    }
+    let (path, words) = path_and_words(arguments)?;
+    Some((variables, path, words))
 }
 
 /// Makes the file of a journal, or empties it if it is there. If it is a regular file, it is then

@@ -48,8 +48,6 @@ pub fn replay<O: Write, E: Write>(
 fn tell_place<E: Write>(alloc: Global, place: usize, err: &mut E) -> u8
     ensures { result ≡ 3 }
 {
-    match format!(in alloc; "replay: entry {place} differs from the recorded one\n") {
-        Ok(line) => PROGRAM.tell(err, 3, line.as_str()),
-        Err(_) => PROGRAM.tell(err, 3, PROGRAM.no_memory),
-    }
+    let line = format!(in alloc; "replay: entry {place} differs from the recorded one\n");
+    PROGRAM.tell_made(err, 3, line)
 }
