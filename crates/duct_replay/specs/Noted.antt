@@ -39,8 +39,8 @@ pub data MayGive {R : Type 0} (may_read : ℕ → R → Type 0) (remaining : R �
   ByWorker : (shared : Shared) → may_say number (Done shared) → bytes_of shared ≡ bytes
       → MayGive may_read remaining may_say number bytes
 
--- behind its entries this recording has nothing but what may have been noted: exit statuses, and the
--- bytes of ends
+-- behind its entries this recording has nothing but what may have been noted: exit statuses of
+-- children, and bytes of ends
 pub record NotesOnly {R : Type 0} (may_answer : ℕ → Answer → Type 0) (may_read : ℕ → R → Type 0)
     (remaining : R → Option (List ℕ)) (may_say : ℕ → Said Shared → Type 0)
     (recording : RecordingView) : Type 0 where
