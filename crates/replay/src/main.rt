@@ -1,5 +1,6 @@
-//! The program `replay`: does what `host` did for its arguments, from a file that `record` wrote and
-//! with no process. `replay FILE -- WORD..` reads the file, or standard input where it is named `-`.
+//! The program `replay`: does what `host` did for its arguments, from a file that `record` wrote
+//! and with no process. `replay FILE -- WORD..` reads the file, or standard input where it is named
+//! `-`.
 #![tactic(auto)]
 
 mod replayed;

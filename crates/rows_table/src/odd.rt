@@ -120,8 +120,8 @@ impl OpenProcess for Script {
 
 /// A runtime with these results, and with the entries of an environment: those of the current row's
 /// line `entries` where it is read one by one, and those of its line `shown` where it is read at
-/// once. It doesn't start a shell that would get the parent's variables, or one whose streams aren't
-/// all null.
+/// once. It doesn't start a shell that would get the parent's variables, or one whose streams
+/// aren't all null.
 #[derive(Clone, Drop)]
 pub struct Odd<R> {
     real: R,

@@ -4,8 +4,8 @@
 //! first. `bin/test-program` runs it at the machine's limits, and `bin/soak` with random lines.
 //!
 //! A line has the arguments of the program `host`, separated by blanks, and its expression is run
-//! by `read`. After `+ ` a line has an expression in the notation of rows (`docs/ROWS.md`), which is
-//! run by `run`. In it `stdin_file=4` is the file named `4`, open for reading.
+//! by `read`. After `+ ` a line has an expression in the notation of rows (`docs/ROWS.md`), which
+//! is run by `run`. In it `stdin_file=4` is the file named `4`, open for reading.
 #![tactic(auto)]
 
 use duct::{Expression, Fault, Hook, Pool, System};
