@@ -10,7 +10,6 @@ GHOST = re.compile(r"\s*ghost (?!use\b)")
 WORD = re.compile(r"[A-Za-z_][A-Za-z_0-9']*(?:\.[A-Za-z_][A-Za-z_0-9']*)*")
 NAMED = re.compile(rf"({WORD.pattern})(?: as (\w+))?")
 IMPORT = re.compile(r"^\s*(?:ghost |pub )?use Rattle\.(\w+)\.specs\.([\w.]+?)(?:\.\{([^}]*)\}| as (\w+));?$", re.MULTILINE)
-EXPORT = re.compile(r"^\s*pub use (\w+)((?:::\w+)*?)::(?:(\w+)|\{([^}]*)\});$", re.MULTILINE)
 
 
 def read(*path):
@@ -66,31 +65,3 @@ def sources(crate):
     """The paths of a crate's files of code."""
     for folder, _, names in os.walk(os.path.join(crates.ROOT, "crates", crate, "src")):
         yield from (os.path.join(folder, name) for name in names if name.endswith(".rt"))
-
-
-def exported():
-    """What `duct` re-exports of the library: for each crate, the names that are taken from it."""
-    found = {}
-    for crate, way, name, names in EXPORT.findall(read("duct", "src", "lib.rt")):
-        if crate not in crates.under(crates.LIBRARY):
-            continue
-        first = [*way.split("::")[1:], name][0]
-        homes = [crate, "duct_system", "duct_status"] if crate == "duct_base" else [crate]
-        home = next((it for it in homes if re.search(rf"^pub mod {first};", read(it, "src", "lib.rt"), re.MULTILINE)), None)
-        if home:
-            found.setdefault(home, set()).update(re.findall(r"\w+", names or name))
-    return found
-
-
-def of_callers():
-    """The contracts of `duct` and of what it re-exports: the words of each, and what they may be
-    imported as."""
-    for crate, names in {"duct": None, **exported()}.items():
-        for path in sources(crate):
-            with open(path, encoding="utf-8") as it:
-                text = it.read()
-            is_there = names is None or re.search(rf"^(?:pub )?(?:impl|trait)\b.*\b(?:{'|'.join(names)})\b", text, re.MULTILINE)
-            for contract in contracts(text):
-                free = re.match(r"pub (?:const )?fn (\w+)", contract)
-                if names is None or (free.group(1) in names if free else is_there):
-                    yield WORD.findall(contract), imports(text)
