@@ -92,8 +92,9 @@ impl Program {
             _ => self.tell(err, status, line),
         }
     }
-    /// Tells of a line that was made, as `tell` does: by this line and status, or where memory ran out
-    /// by those that the program has for that.
+
+    /// Tells of a line that was made, as `tell` does: by this line and status, or where memory ran
+    /// out by those that the program has for that.
     pub fn tell_made<E: Write>(
         &self,
         err: &mut E,
