@@ -75,6 +75,13 @@ impl<'t, 'r, R: Wait + Threads, M: Machine> Calls<'t, 'r, R, M> {
         written_with(self.alloc, &mut self.machine, self.expression)
     }
 
+    /// Returns all expressions of the row's line.
+    fn trees(&mut self) -> Result<Vec<Tree<M::End>>, TableError> {
+        let mut writing = Writing::new(self.alloc, &mut self.machine);
+        writing.write(self.expression)?;
+        Ok(mem::replace(&mut writing.built, Vec::new(self.alloc)))
+    }
+
     /// Returns how many children the journal shows as started, and how many the pool was given.
     fn counts(&mut self) -> (u64, u64) {
         let (system, pool, _) = self.machine.stage();
@@ -142,9 +149,7 @@ impl<'t, 'r, R: Wait + Threads, M: Machine> Calls<'t, 'r, R, M> {
     /// Runs the expressions of the row as tasks, or starts the only one again each time that it
     /// ends.
     fn tasks(&mut self, key: &str, text: &str) -> Result<(), TableError> {
-        let mut writing = Writing::new(self.alloc, &mut self.machine);
-        writing.write(self.expression)?;
-        let trees = mem::replace(&mut writing.built, Vec::new(self.alloc));
+        let trees = self.trees()?;
         let (system, pool, clock) = self.machine.stage();
         let (rt, alloc, answers) = (self.rt, self.alloc, &mut self.answers);
         let (kept, told) = match (key, trees.as_slice()) {
