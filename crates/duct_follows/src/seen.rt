@@ -5,7 +5,7 @@ ghost use Rattle.duct_plan.specs.Source.{origin_of};
 ghost use Rattle.duct_follows.specs.Seen.{IsSeenIn, TellsOrigins, origin_by};
 
 use duct_base::system::Entry;
-use duct_plan::{Source, trace};
+use duct_plan::{Source, in_trace};
 use std::alloc::{AllocError, Global};
 use std::collections::BTreeMap;
 
@@ -20,9 +20,33 @@ pub(crate) struct Seen<'t> {
 pub(crate) fn seen_in(alloc: Global, entries: &[Entry]) -> Result<Seen<'_>, AllocError>
     ensures { IfOk result (λ seen. IsSeenIn seen (map entry_view entries.now)) }
 {
-    let trace = trace(alloc, entries)?;
-    let origins = origins(alloc, entries)?;
-    Ok(Seen { trace, origins })
+    let mut seen = nothing_seen(alloc);
+    for entry in entries {
+        see(&mut seen, entry)?;
+    }
+    Ok(seen)
+}
+
+/// Returns what no entries show.
+pub(crate) fn nothing_seen<'t>(alloc: Global) -> Seen<'t>
+    ensures { IsSeenIn result [] }
+{
+    Seen {
+        trace: Vec::new(alloc),
+        origins: BTreeMap::new(alloc),
+    }
+}
+
+/// Adds what one more entry shows. Fails only on allocation failure.
+pub(crate) fn see<'t>(seen: &mut Seen<'t>, entry: &'t Entry) -> Result<(), AllocError>
+    ensures { OnOk result ((entries : List EntryView) → IsSeenIn seen.old entries
+        → IsSeenIn seen.new (entries ++ entry_view entry.now ∷ [])) }
+{
+    tell(&mut seen.origins, entry)?;
+    if in_trace(entry) {
+        seen.trace.push(entry)?;
+    }
+    Ok(())
 }
 
 /// Returns where the end with this number comes from.
@@ -30,17 +54,6 @@ pub(crate) fn origin_in(seen: &Seen<'_>, number: u64) -> Source
     ensures { origin_of result ≡ origin_by seen.now.origins number }
 {
     source(&seen.origins, number)
-}
-
-/// Returns a table of where the ends of the entries come from.
-fn origins(alloc: Global, entries: &[Entry]) -> Result<BTreeMap<u64, Source>, AllocError>
-    ensures { IfOk result (λ origins. TellsOrigins origins (map entry_view entries.now)) }
-{
-    let mut origins = BTreeMap::new(alloc);
-    for entry in entries {
-        tell(&mut origins, entry)?;
-    }
-    Ok(origins)
 }
 
 /// Adds what one more entry tells about where ends come from.
