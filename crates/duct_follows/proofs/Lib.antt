@@ -1,3 +1,4 @@
+pub mod Appended
 pub mod Balance
 pub mod Chains
 pub mod Closes

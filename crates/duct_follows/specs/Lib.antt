@@ -1,5 +1,6 @@
 pub mod Cause
 pub mod Flaws
+pub mod Front
 pub mod Given
 pub mod Judgement
 pub mod Numbers
@@ -7,6 +8,7 @@ pub mod Printed
 pub mod ScriptHooks
 pub mod Seen
 pub mod Sources
+pub mod Stays
 pub mod Unbalanced
 pub mod Verdict
 pub mod VerdictForm

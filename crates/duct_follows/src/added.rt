@@ -1,5 +1,5 @@
 //! Whether what a start added to the journal follows a plan, for hooks of the scripted system.
-ghost use Rattle.std.specs.Prelude.{◌≡◌, ◌↔◌, ◌≤◌, length, map, string_bytes, IfOk, IfErr, IsTrue, List};
+ghost use Rattle.std.specs.Prelude.{◌≡◌, ◌↔◌, ◌≤◌, drop, length, map, string_bytes, IfOk, IfErr, IsTrue, List};
 ghost use Rattle.duct_system.specs.EntryView.{EntryView, entry_view};
 ghost use Rattle.duct_system.specs.Origin.{Origin, origin, Opened};
 ghost use Rattle.duct_system.specs.SpecView.{SpecView};
@@ -44,7 +44,7 @@ pub fn follows<E: Numbered>(
 {
     let seen = seen_in(alloc, added)?;
     let ends = CallerEnds::ByOrigin;
-    let answered = answers_all(alloc, ends, added, &seen, plan.items.as_slice())?;
+    let answered = answers_from(alloc, ends, added, &seen, 0, plan.items.as_slice())?;
     Ok(answered && stops_at_fault(added))
 }
 
@@ -79,24 +79,27 @@ pub fn asks_plan<E: Numbered>(
 {
     let seen = seen_in(alloc, added)?;
     let ends = CallerEnds::ByNumber;
-    answers_all(alloc, ends, added, &seen, plan.items.as_slice())
+    answers_from(alloc, ends, added, &seen, 0, plan.items.as_slice())
 }
 
-/// Returns whether the entries of the trace match the items, as far as there are entries.
-fn answers_all<E: Numbered>(
+/// Returns whether the entries of the trace from this place on match the items from there on, as
+/// far as there are entries.
+pub(crate) fn answers_from<E: Numbered>(
     alloc: Global,
     ends: CallerEnds,
     added: &[Entry],
     seen: &Seen<'_>,
+    from: usize,
     items: &[Item<'_, E, ScriptHook>],
 ) -> Result<bool, Untold>
     requires { IsSeenIn seen.now (map entry_view added.now) }
     ensures { IfOk result (λ yes. IsTrue yes
         ↔ AnswersFromBy (gives ends (map entry_view added.now)) allows E.number_of
-        (map entry_view added.now) 0 (map item_of items.now) (trace (map entry_view added.now))) }
+        (map entry_view added.now) from (drop from (map item_of items.now))
+        (drop from (trace (map entry_view added.now)))) }
 {
     let trace = seen.trace.as_slice();
-    for place in 0..trace.len() {
+    for place in from..trace.len() {
         if place >= items.len() {
             return Ok(false);
         }

@@ -7,6 +7,7 @@ ghost use Rattle.duct_follows.specs.Verdict.{IsDue, IsJudged, IsVerdict, verdict
 ghost use Rattle.duct_follows.specs.declared.verdict.Verdict.TheVariants as verdicts;
 
 use crate::added::follows;
+use crate::differs::first_difference;
 use crate::flaws::first_flaw;
 use crate::stops::is_clean;
 use crate::unbalanced::unbalanced;
@@ -32,7 +33,7 @@ pub fn judge<E: Numbered>(
         (map entry_view entries.now)) }
 {
     if !follows(alloc, plan, entries)? {
-        return first_difference(alloc, plan, entries);
+        return judge_difference(alloc, plan, entries);
     }
     let due = due_after(alloc, plan, entries)?;
     let unbalanced = unbalanced(alloc, entries)?;
@@ -53,8 +54,8 @@ fn verdict_by(due: Due, unbalanced: Option<u64>, flaw: Option<(usize, Flaw)>) ->
     }
 }
 
-/// Returns the first entry with which the entries don't follow the plan.
-fn first_difference<E: Numbered>(
+/// Returns the verdict on entries that don't follow the plan.
+fn judge_difference<E: Numbered>(
     alloc: Global,
     plan: &Plan<'_, E, ScriptHook>,
     entries: &[Entry],
@@ -64,13 +65,9 @@ fn first_difference<E: Numbered>(
     ensures { IfOk result (λ verdict. IsVerdict ⟦<ScriptHook as Hook>⟧.allows E.number_of
         (plan_view plan.now) (map entry_view entries.now) verdict) }
 {
-    for entry in 0..entries.len() {
-        if !follows(alloc, plan, &entries[..entry + 1])? {
-            let due = due_after(alloc, plan, &entries[..entry])?;
-            return Ok(Verdict::Differs { entry, due });
-        }
-    }
-    unreachable!()
+    let entry = first_difference(alloc, plan, entries)?;
+    let due = due_after(alloc, plan, &entries[..entry])?;
+    Ok(Verdict::Differs { entry, due })
 }
 
 /// Returns what is due after entries that follow the plan.

@@ -122,7 +122,7 @@ fn first_not_open(
 }
 
 /// Returns the numbers of the ends that an entry's request took.
-fn spent_by(alloc: Global, entry: &Entry) -> Result<Vec<u64>, AllocError>
+pub(crate) fn spent_by(alloc: Global, entry: &Entry) -> Result<Vec<u64>, AllocError>
     ensures { IfOk result (λ numbers. numbers.items ≡ spent_by (entry_view entry.now)) }
 {
     spent_numbers(alloc, from_ref(entry))

@@ -4,6 +4,7 @@
 mod added;
 mod causes;
 mod chain;
+mod differs;
 mod entries;
 mod flaws;
 mod judgement;
