@@ -11,11 +11,9 @@
 //! Nth allocation of the process fails, `--spend` chooses which one of a row that is.
 #![tactic(auto)]
 
-mod host;
-
-use crate::host::HostMachine;
 use rows_calls::Calls;
-use rows_parts::{Parts, Scripts};
+use rows_parts::Parts;
+use rows_requests::{HostMachine, Scripts};
 use rows_runs::{Machine, Scripted};
 use rows_table::{Counts, File, Odd, Real, Script, TableError, compare, filled, untried};
 use std::alloc::Global;

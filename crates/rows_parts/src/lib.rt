@@ -1,6 +1,5 @@
-//! The tables `parts`, of parts of the library that make no request and of journals and plans as
-//! they stand, and `scripts`, of requests of the scripted system; and single requests over any
-//! system (`docs/ROWS.md`).
+//! The table `parts`, of parts of the library that make no request and of journals and plans as they
+//! stand (`docs/ROWS.md`).
 //! Test support: the code is proved safe, and each function that can't block is proved to return.
 #![tactic(auto)]
 
@@ -8,16 +7,12 @@ mod checks;
 mod follows;
 mod journals;
 mod names;
-mod requests;
-mod scripts;
 mod statuses;
 mod texts;
 mod transfers;
 mod words;
 
-pub use requests::{Requests, taken};
 use rows_table::{Strangers, Table, TableError, Writing, first_word};
-pub use scripts::Scripts;
 use std::alloc::Global;
 
 /// The keys of the lines that set something up.

@@ -1,10 +1,10 @@
 //! The real machine for the tables of calls and of single requests (`docs/ROWS.md`). Each row has a
 //! host of its own.
 
+use crate::requests::{Requests, taken};
 use duct::{Clock, Entry, Place, Pool, System};
 use duct_base::pool::pool_take;
 use duct_host::{Child, End, Host};
-use rows_parts::{Requests, taken};
 use rows_runs::{Machine, PartsOf, PoolOf, TURNS};
 use rows_table::{
     Bytes, Lender, Real, Script, Table, TableError, first_word, named, open_descriptors,
