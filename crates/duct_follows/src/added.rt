@@ -30,9 +30,9 @@ use std::alloc::{AllocError, Global};
 
 /// Returns whether the added entries follow a prefix of the plan: each entry of their trace matches
 /// the item of the plan at its place, and only closes come after an entry with a fault. To check
-/// this, the hooks of the commands are run again, on specs of their own. Fails with
-/// `Untold::HookOutOfMemory` if a hook refuses with `OutOfMemory`, and with `Untold::Memory` on
-/// allocation failure.
+/// this, the hooks of the commands are run again, on specs of their own, up to the first entry that
+/// doesn't match. Fails with `Untold::HookOutOfMemory` if one of these hooks refuses with
+/// `OutOfMemory`, and with `Untold::Memory` on allocation failure.
 pub fn follows<E: Numbered>(
     alloc: Global,
     plan: &Plan<'_, E, ScriptHook>,
@@ -48,9 +48,8 @@ pub fn follows<E: Numbered>(
     Ok(answered && stops_at_fault(added))
 }
 
-/// Returns whether the added entries follow the whole plan, without a fault. To check this, the
-/// hooks of the commands are run again, on specs of their own. Fails with `Untold::HookOutOfMemory`
-/// if a hook refuses with `OutOfMemory`, and with `Untold::Memory` on allocation failure.
+/// Returns whether the added entries follow the whole plan, without a fault. Fails as `follows`
+/// does.
 pub fn follows_whole<E: Numbered>(
     alloc: Global,
     plan: &Plan<'_, E, ScriptHook>,

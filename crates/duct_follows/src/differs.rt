@@ -40,7 +40,7 @@ struct Front<'t> {
 
 /// Returns the first entry with which the entries don't follow the plan. Each entry is judged once,
 /// and those before it again only if it gives the number of a used end to an end from elsewhere.
-/// The hooks of the commands are run again. Fails as `crate::follows::follows` does.
+/// The hooks of the commands are run again. Fails as `follows` does.
 pub(crate) fn first_difference<E: Numbered>(
     alloc: Global,
     plan: &Plan<'_, E, ScriptHook>,

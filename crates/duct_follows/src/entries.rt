@@ -20,7 +20,7 @@ use duct_script::ScriptHook;
 use std::alloc::{AllocError, Global};
 
 /// Judges the entries that a start added to the journal by its plan. To do so, the hooks of the
-/// commands are run again, on specs of their own. Fails as `crate::follows::follows` does.
+/// commands are run again, on specs of their own. Fails as `follows` does.
 pub fn judge<E: Numbered>(
     alloc: Global,
     plan: &Plan<'_, E, ScriptHook>,
