@@ -1,7 +1,8 @@
 //! Tests of allocation failures. Whichever single allocation of the process fails, the test
 //! `memory_..` checks that the results are the same as with ample memory, or the fault
 //! `OutOfMemory`. After that fault a file is as it was, a child still runs, and no descriptor stays
-//! open.
+//! open. So if the Nth allocation of the process fails, the variable `SPEND` chooses which one of
+//! the test's calls that is.
 use duct::{Error, Worker};
 use duct_base::spec::{CommandSpec, Port, spec_of};
 use duct_base::system::{Child, ExitStatus, Fault, Job, Kind, Stdio, System};
@@ -12,7 +13,21 @@ use std::collections::BTreeMap;
 use std::os::fd::AsRawFd;
 use std::rt::{Clock, Files};
 use std::sync::Arc;
-use std::{fs, io};
+use std::{env, fs, io};
+
+/// Makes as many allocations as the variable `SPEND` says, or none without it. Each is freed at
+/// once. Stops at one that fails.
+fn spend<R: Real>(rt: &R) {
+    let Ok(text) = env::var(rt, "SPEND") else {
+        return;
+    };
+    let count: u64 = text.parse().unwrap_or(0);
+    for _ in 0..count {
+        if Box::new(rt.alloc(), 0_u8).is_err() {
+            return;
+        }
+    }
+}
 
 /// Writes a text to this file, and creates it. Returns whether it is then empty. Fails with the
 /// fault of the create if the file has its text, and returns false if it hasn't.
@@ -146,11 +161,13 @@ fn are_right<R: Real>(rt: &R) -> (bool, bool, bool, bool) {
 
 #[test]
 fn memory_of_requests(rt: HostRuntime) {
+    spend(&rt);
     assert_eq!(rt; are_right(&rt), (true, true, true, true));
 }
 
 /// Checks that all succeed if no allocation fails.
 #[test]
 fn all_memory_is_there(rt: HostRuntime) {
+    spend(&rt);
     assert_eq!(rt; all_made(&rt), Ok(true));
 }
